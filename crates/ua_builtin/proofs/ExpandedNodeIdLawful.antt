@@ -3,14 +3,14 @@ use Rattle.std.specs.Prelude.{IsTrue, ◌&&◌, ◌^◌, not, nat_lt, is_some}
 use Rattle.std.proofs.Common.{◌≡◌, ◌<◌, ◌+◌, ◌*◌, ◌/◌, ◌%◌, ℕ, zero, suc, Bool, true, false, List, ◌∷◌, ◌++◌, refl, sym, ap, subst, ◌∙◌, arith, bit_and}
 use Rattle.std.proofs.lemmas.Bool.{eqb-true, ltb-true}
 use Rattle.std.proofs.lemmas.Nat.{and_mask}
-use Rattle.ua_octets.specs.Exact.{Follows}
-use Rattle.ua_octets.specs.Number.{number_octets, number_at, IsNumber}
-use Rattle.ua_octets.specs.Format.{Flat, flat, IsSound, IsLawful}
-use Rattle.ua_octets.specs.Join.{number, both, made}
-use Rattle.ua_octets.proofs.Readers.{both_true, exact_same, exact_bind}
-use Rattle.ua_octets.proofs.NumbersRead.{one_octet, octet_front, front_octet, exact_number}
-use Rattle.ua_octets.proofs.Lawfulness.{sound_number, sound_made, sound_both, lawful_flat}
-use Rattle.ua_octets.proofs.Leasts.{least_starts}
+use Rattle.ua_wire.specs.Exact.{Follows}
+use Rattle.ua_wire.specs.Number.{number_octets, number_at, IsNumber}
+use Rattle.ua_wire.specs.Format.{Flat, flat, IsSound, IsLawful}
+use Rattle.ua_wire.specs.Join.{number, both, made}
+use Rattle.ua_wire.proofs.Readers.{both_true, exact_same, exact_bind}
+use Rattle.ua_wire.proofs.NumbersRead.{one_octet, octet_front, front_octet, exact_number}
+use Rattle.ua_wire.proofs.Lawfulness.{sound_number, sound_made, sound_both, lawful_flat}
+use Rattle.ua_wire.proofs.Leasts.{least_starts}
 use Rattle.ua_builtin.specs.Flags.{has, flag_bit, flagged_text, EncodesFlagged}
 use Rattle.ua_builtin.specs.NodeId.{in_form, form_of, EncodesNodeId}
 use Rattle.ua_builtin.specs.ExpandedNodeId.{expanded, expanded_node_id, expanded_fits, expanded_octets, octet_of, is_here, behind_octet, flagged_index, EncodesIndex, EncodesExpanded}

@@ -2,15 +2,15 @@
 use Rattle.std.specs.Prelude.{IsTrue, OnOk, Result, Ok, Err}
 use Rattle.std.proofs.Common.{◌≡◌, ◌<◌, ℕ, nat_eq, List, [], ◌∷◌, ◌++◌, refl, sym, ap, subst, ◌∙◌, arith, lit<}
 use Rattle.std.proofs.lemmas.Bool.{eqb-true, eqb-false}
-use Rattle.ua_octets.specs.Exact.{Exact, Follows, IsOnly, only_read, Image, image_read, Never, never_read}
-use Rattle.ua_octets.specs.Number.{number_octets, number_at, IsNumber}
-use Rattle.ua_octets.specs.Format.{flat, IsSound, IsLawful}
-use Rattle.ua_octets.specs.Counted.{counted}
-use Rattle.ua_octets.proofs.Readers.{exact_same, exact_bind, exact_only, exact_image, exact_never, exact_chosen}
-use Rattle.ua_octets.proofs.NumbersRead.{one_octet, octet_front, front_octet, exact_number}
-use Rattle.ua_octets.proofs.Lawfulness.{sound_made, sound_both, lawful_flat}
-use Rattle.ua_octets.proofs.CountedLawful.{sound_counted}
-use Rattle.ua_octets.proofs.Leasts.{least_starts}
+use Rattle.ua_wire.specs.Exact.{Exact, Follows, IsOnly, only_read, Image, image_read, Never, never_read}
+use Rattle.ua_wire.specs.Number.{number_octets, number_at, IsNumber}
+use Rattle.ua_wire.specs.Format.{flat, IsSound, IsLawful}
+use Rattle.ua_wire.specs.Counted.{counted}
+use Rattle.ua_wire.proofs.Readers.{exact_same, exact_bind, exact_only, exact_image, exact_never, exact_chosen}
+use Rattle.ua_wire.proofs.NumbersRead.{one_octet, octet_front, front_octet, exact_number}
+use Rattle.ua_wire.proofs.Lawfulness.{sound_made, sound_both, lawful_flat}
+use Rattle.ua_wire.proofs.CountedLawful.{sound_counted}
+use Rattle.ua_wire.proofs.Leasts.{least_starts}
 use Rattle.ua_builtin.specs.XmlElement.{xml_element}
 use Rattle.ua_builtin.specs.ExtensionObject.{extension_object, body, EncodesBody, body_fits, body_octets, body_at, behind_kind}
 use Rattle.ua_builtin.specs.declared.extension_object.ExtensionBody.{ExtensionBody}

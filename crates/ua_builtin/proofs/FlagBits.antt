@@ -4,12 +4,12 @@ use Rattle.std.proofs.Common.{refl, ap, ◌∙◌, arith}
 use Rattle.std.proofs.lemmas.Bool.{ne_eqb}
 use Rattle.std.proofs.lemmas.Nat.{pow_pos}
 use Rattle.std.proofs.lemmas.Nat.Bits.{and_pow}
-use Rattle.ua_octets.specs.Format.{Flat, IsSound}
-use Rattle.ua_octets.specs.Join.{only}
-use Rattle.ua_octets.specs.Counted.{text}
-use Rattle.ua_octets.proofs.Readers.{not_false}
-use Rattle.ua_octets.proofs.Lawfulness.{sound_chosen, sound_only}
-use Rattle.ua_octets.proofs.CountedLawful.{sound_text}
+use Rattle.ua_wire.specs.Format.{Flat, IsSound}
+use Rattle.ua_wire.specs.Join.{only}
+use Rattle.ua_wire.specs.Counted.{text}
+use Rattle.ua_wire.proofs.Readers.{not_false}
+use Rattle.ua_wire.proofs.Lawfulness.{sound_chosen, sound_only}
+use Rattle.ua_wire.proofs.CountedLawful.{sound_text}
 use Rattle.ua_builtin.specs.Flags.{has, flag_bit, flagged, flagged_text, is_null, EncodesFlagged}
 
 -- ---- bits

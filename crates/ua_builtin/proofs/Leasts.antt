@@ -2,13 +2,13 @@
 use Rattle.std.specs.Prelude.{◌≡◌, ℕ, ◌≤◌, List, ◌∷◌, ◌++◌, length}
 use Rattle.std.proofs.Common.{ap, arith, length-append}
 use Rattle.std.specs.Int.{w64}
-use Rattle.ua_octets.specs.Number.{IsNumber, number_octets}
-use Rattle.ua_octets.specs.Join.{number, both}
-use Rattle.ua_octets.specs.Counted.{text, counted, AreOctets}
-use Rattle.ua_octets.specs.Signed.{signed}
-use Rattle.ua_octets.specs.Least.{TakesLeast}
-use Rattle.ua_octets.proofs.NumbersRead.{length-number_octets}
-use Rattle.ua_octets.proofs.Leasts.{number_least, octets_least, pair_least, image_least, signed_least, counted_least, text_least}
+use Rattle.ua_wire.specs.Number.{IsNumber, number_octets}
+use Rattle.ua_wire.specs.Join.{number, both}
+use Rattle.ua_wire.specs.Counted.{text, counted, AreOctets}
+use Rattle.ua_wire.specs.Signed.{signed}
+use Rattle.ua_wire.specs.Least.{TakesLeast}
+use Rattle.ua_wire.proofs.NumbersRead.{length-number_octets}
+use Rattle.ua_wire.proofs.Leasts.{number_least, octets_least, pair_least, image_least, signed_least, counted_least, text_least}
 use Rattle.ua_builtin.specs.DateTime.{date_time, of_ticks}
 use Rattle.ua_builtin.specs.Guid.{guid, swapped}
 use Rattle.ua_builtin.specs.XmlElement.{xml_element, of_octets}

@@ -2,14 +2,14 @@
 use Rattle.std.specs.Prelude.{IsTrue, ◌^◌, is_some}
 use Rattle.std.proofs.Common.{◌≡◌, ◌<◌, ◌≤◌, ◌+◌, inl, inr, ℕ, zero, suc, Bool, true, false, cond, nat_lt, List, ◌∷◌, ◌++◌, refl, sym, ap, subst, ◌∙◌, arith, lit<}
 use Rattle.std.proofs.lemmas.Bool.{ltb-false}
-use Rattle.ua_octets.specs.Exact.{Follows}
-use Rattle.ua_octets.specs.Number.{number_octets, number_at, IsNumber}
-use Rattle.ua_octets.specs.Format.{Flat, flat, IsSound, IsLawful}
-use Rattle.ua_octets.specs.Join.{nothing, both, made}
-use Rattle.ua_octets.proofs.Readers.{both_true, exact_same, exact_bind}
-use Rattle.ua_octets.proofs.NumbersRead.{one_octet, octet_front, front_octet, exact_number}
-use Rattle.ua_octets.proofs.Lawfulness.{sound_nothing, sound_made, sound_both, sound_chosen, lawful_flat}
-use Rattle.ua_octets.proofs.Leasts.{least_starts}
+use Rattle.ua_wire.specs.Exact.{Follows}
+use Rattle.ua_wire.specs.Number.{number_octets, number_at, IsNumber}
+use Rattle.ua_wire.specs.Format.{Flat, flat, IsSound, IsLawful}
+use Rattle.ua_wire.specs.Join.{nothing, both, made}
+use Rattle.ua_wire.proofs.Readers.{both_true, exact_same, exact_bind}
+use Rattle.ua_wire.proofs.NumbersRead.{one_octet, octet_front, front_octet, exact_number}
+use Rattle.ua_wire.proofs.Lawfulness.{sound_nothing, sound_made, sound_both, sound_chosen, lawful_flat}
+use Rattle.ua_wire.proofs.Leasts.{least_starts}
 use Rattle.ua_builtin.specs.Flags.{has, flag_bit, flagged_text, EncodesFlagged}
 use Rattle.ua_builtin.specs.LocalizedText.{localized, localized_text, localized_text_fits, localized_text_octets, mask_of, behind_mask, EncodesLocalizedText}
 use Rattle.ua_builtin.specs.declared.localized_text.LocalizedText.{LocalizedText}

@@ -2,15 +2,15 @@
 use Rattle.std.specs.Prelude.{IsTrue, nat_lt, ◌&&◌, List, [], ◌∷◌, ◌++◌}
 use Rattle.std.proofs.Common.{◌≡◌, ◌<◌, ◌⊎◌, inl, inr, ℕ, Bool, true, false, cond, nat_eq, refl, sym, ap, subst, ◌∙◌, arith, lit<}
 use Rattle.std.proofs.lemmas.Bool.{eqb-true}
-use Rattle.ua_octets.specs.Exact.{Follows}
-use Rattle.ua_octets.specs.Number.{number_octets, number_at, IsNumber}
-use Rattle.ua_octets.specs.Format.{Flat, flat, IsSound, IsLawful}
-use Rattle.ua_octets.specs.Join.{nothing}
-use Rattle.ua_octets.proofs.Readers.{both_true, not_false, exact_same, exact_bind}
-use Rattle.ua_octets.proofs.NumbersRead.{one_octet, octet_front, front_octet, exact_number}
-use Rattle.ua_octets.proofs.Lawfulness.{sound_number, sound_nothing, sound_image, sound_both, sound_chosen, lawful_flat}
-use Rattle.ua_octets.proofs.CountedLawful.{sound_text, sound_counted}
-use Rattle.ua_octets.proofs.Leasts.{least_starts}
+use Rattle.ua_wire.specs.Exact.{Follows}
+use Rattle.ua_wire.specs.Number.{number_octets, number_at, IsNumber}
+use Rattle.ua_wire.specs.Format.{Flat, flat, IsSound, IsLawful}
+use Rattle.ua_wire.specs.Join.{nothing}
+use Rattle.ua_wire.proofs.Readers.{both_true, not_false, exact_same, exact_bind}
+use Rattle.ua_wire.proofs.NumbersRead.{one_octet, octet_front, front_octet, exact_number}
+use Rattle.ua_wire.proofs.Lawfulness.{sound_number, sound_nothing, sound_image, sound_both, sound_chosen, lawful_flat}
+use Rattle.ua_wire.proofs.CountedLawful.{sound_text, sound_counted}
+use Rattle.ua_wire.proofs.Leasts.{least_starts}
 use Rattle.ua_builtin.specs.NodeId.{node, node_id, in_form, form_of, is_short, two_octets, numeric, textual, by_guid, opaque, is_numeric, is_textual, is_guid, is_opaque, number_of, text_of, guid_of, octets_of, TwoOctet, FourOctet, NumericForm, StringForm, GuidForm, OpaqueForm, EncodesNodeId, two_octet, four_octet, numeric_form, string_form, guid_form, opaque_form}
 use Rattle.ua_builtin.specs.declared.node_id.NodeId.{NodeId}
 use Rattle.ua_builtin.specs.declared.node_id.Identifier.{Identifier}

@@ -1,6 +1,6 @@
 -- The encoding of the object that holds nothing.
 use Rattle.std.proofs.Common.{◌≡◌, [], ◌∷◌, refl, ◌∙◌, ap}
-use Rattle.ua_octets.specs.Number.{number_octets}
+use Rattle.ua_wire.specs.Number.{number_octets}
 use Rattle.ua_builtin.specs.NodeId.{node_id}
 use Rattle.ua_builtin.specs.ExtensionObject.{extension_object, null_object}
 use Rattle.ua_builtin.specs.declared.extension_object.ExtensionObject.{ExtensionObject}

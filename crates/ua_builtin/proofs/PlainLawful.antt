@@ -5,11 +5,11 @@ use Rattle.std.proofs.lemmas.Bool.{eqb-true}
 use Rattle.std.specs.Int.{w64}
 use Rattle.uuid.specs.Parts.{swap_fields}
 use Rattle.uuid.proofs.RoundTrips.{swap_twice}
-use Rattle.ua_octets.specs.Format.{flat, IsSound, IsLawful}
-use Rattle.ua_octets.proofs.Lawfulness.{sound_number, sound_both, sound_image, sound_made, lawful_flat}
-use Rattle.ua_octets.proofs.ScalarsLawful.{sound_signed}
-use Rattle.ua_octets.proofs.CountedLawful.{sound_octets, sound_counted, sound_text}
-use Rattle.ua_octets.proofs.Leasts.{least_starts}
+use Rattle.ua_wire.specs.Format.{flat, IsSound, IsLawful}
+use Rattle.ua_wire.proofs.Lawfulness.{sound_number, sound_both, sound_image, sound_made, lawful_flat}
+use Rattle.ua_wire.proofs.ScalarsLawful.{sound_signed}
+use Rattle.ua_wire.proofs.CountedLawful.{sound_octets, sound_counted, sound_text}
+use Rattle.ua_wire.proofs.Leasts.{least_starts}
 use Rattle.ua_builtin.specs.DateTime.{date_time}
 use Rattle.ua_builtin.specs.Guid.{guid, swapped, has_16}
 use Rattle.ua_builtin.specs.Status.{status_code}

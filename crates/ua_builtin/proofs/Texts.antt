@@ -11,7 +11,7 @@ use Rattle.std.specs.Prelude.{codes}
 use Rattle.std.specs.Fmt.{decimal}
 use Rattle.std.proofs.lemmas.Str.Parse.{digit_at}
 use Rattle.std.proofs.lemmas.Fmt.{decimal_is_IsNumeral}
-use Rattle.ua_octets.proofs.Readers.{some_is}
+use Rattle.ua_wire.proofs.Readers.{some_is}
 use Rattle.ua_builtin.specs.NodeText.{list_of, semicolon, namespace_text, identifier_text, node_text, IsDecimal, IsGuidText, NamesIdentifier, NamesNamespace, NamesNode, filled, filled_identifier, HasNoSemicolon, IsCutAtSemicolon, IsRest}
 use Rattle.ua_builtin.specs.declared.guid.Guid.{Guid}
 use Rattle.ua_builtin.specs.declared.node_id.NodeId.{NodeId}

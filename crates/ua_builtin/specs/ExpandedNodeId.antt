@@ -1,10 +1,10 @@
 -- ExpandedNodeIds (OPC 10000-6, 5.2.2.10): NodeIds with the URI of their namespace, or the index of another server.
 -- The node 72 of the server itself is 00 48; on the server 1 it is 40 48 01 00 00 00.
 use Rattle.std.specs.Prelude.{◌≡◌, ◌+◌, ◌<◌, ◌^◌, ◌&&◌, ℕ, List, [], ◌∷◌, ◌++◌, Bool, true, false, not, Option, nat_eq, bit_and, is_some}
-use Rattle.ua_octets.specs.Exact.{then_read}
-use Rattle.ua_octets.specs.Number.{number_at, number_octets}
-use Rattle.ua_octets.specs.Format.{Flat}
-use Rattle.ua_octets.specs.Join.{number, both, made}
+use Rattle.ua_wire.specs.Exact.{then_read}
+use Rattle.ua_wire.specs.Number.{number_at, number_octets}
+use Rattle.ua_wire.specs.Format.{Flat}
+use Rattle.ua_wire.specs.Join.{number, both, made}
 use Rattle.ua_builtin.specs.Flags.{has, flag_bit, flagged, flagged_text, EncodesFlagged}
 use Rattle.ua_builtin.specs.NodeId.{in_form, form_of, EncodesNodeId}
 use Rattle.ua_builtin.specs.declared.node_id.NodeId.{NodeId}

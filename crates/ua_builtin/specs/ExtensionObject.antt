@@ -1,11 +1,11 @@
 -- ExtensionObjects (OPC 10000-6, 5.2.2.15): a structure of any type, kept as its octets.
 -- The node 321 and the ByteString 07 are 01 00 41 01 01 01 00 00 00 07; without a body it ends in 00.
 use Rattle.std.specs.Prelude.{◌≡◌, ℕ, List, [], ◌∷◌, Bool, true, Some, None, cond, nat_eq, Option}
-use Rattle.ua_octets.specs.Exact.{◌>>=◌, image_read}
-use Rattle.ua_octets.specs.Number.{number_at}
-use Rattle.ua_octets.specs.Format.{Flat}
-use Rattle.ua_octets.specs.Join.{both, made}
-use Rattle.ua_octets.specs.Counted.{counted}
+use Rattle.ua_wire.specs.Exact.{◌>>=◌, image_read}
+use Rattle.ua_wire.specs.Number.{number_at}
+use Rattle.ua_wire.specs.Format.{Flat}
+use Rattle.ua_wire.specs.Join.{both, made}
+use Rattle.ua_wire.specs.Counted.{counted}
 use Rattle.ua_builtin.specs.XmlElement.{xml_element}
 use Rattle.ua_builtin.specs.NodeId.{node_id, null_id}
 use Rattle.ua_builtin.specs.declared.node_id.NodeId.{NodeId}

@@ -1,8 +1,8 @@
 -- Parts that are there where a mask flags them.
 use Rattle.std.specs.Prelude.{◌≡◌, ℕ, List, [], Bool, true, false, Option, Some, None, cond, not, nat_eq, bit_and}
-use Rattle.ua_octets.specs.Format.{Flat}
-use Rattle.ua_octets.specs.Join.{only}
-use Rattle.ua_octets.specs.Counted.{text}
+use Rattle.ua_wire.specs.Format.{Flat}
+use Rattle.ua_wire.specs.Join.{only}
+use Rattle.ua_wire.specs.Counted.{text}
 
 -- the mask has this bit
 abbrev pub has : ℕ → ℕ → Bool

@@ -1,9 +1,9 @@
 -- Guids (OPC 10000-6, 5.2.2.6): 72962B91-FA75-4AE6-8D28-B404DC7DAF63 is 91 2B 96 72 75 FA E6 4A 8D 28 B4 04 DC 7D AF 63.
 use Rattle.std.specs.Prelude.{ℕ, List, Bool, length, nat_eq}
 use Rattle.uuid.specs.Parts.{swap_fields}
-use Rattle.ua_octets.specs.Format.{Flat}
-use Rattle.ua_octets.specs.Join.{image}
-use Rattle.ua_octets.specs.Counted.{octets}
+use Rattle.ua_wire.specs.Format.{Flat}
+use Rattle.ua_wire.specs.Join.{image}
+use Rattle.ua_wire.specs.Counted.{octets}
 use Rattle.ua_builtin.specs.declared.guid.Guid.{Guid}
 
 -- the Guid of these octets: those of its text, but for the order within the first 4, the next 2 and the next 2

@@ -1,9 +1,9 @@
 -- LocalizedTexts (OPC 10000-6, 5.2.2.14): "Hi" without a locale is 02 02 00 00 00 48 69.
 use Rattle.std.specs.Prelude.{◌≡◌, ◌+◌, ◌&&◌, ℕ, List, ◌∷◌, ◌++◌, Bool, Option, cond, nat_lt, is_some}
-use Rattle.ua_octets.specs.Exact.{then_read}
-use Rattle.ua_octets.specs.Number.{number_at, number_octets}
-use Rattle.ua_octets.specs.Format.{Flat}
-use Rattle.ua_octets.specs.Join.{nothing, both, made}
+use Rattle.ua_wire.specs.Exact.{then_read}
+use Rattle.ua_wire.specs.Number.{number_at, number_octets}
+use Rattle.ua_wire.specs.Format.{Flat}
+use Rattle.ua_wire.specs.Join.{nothing, both, made}
 use Rattle.ua_builtin.specs.Flags.{has, flag_bit, flagged_text, EncodesFlagged}
 use Rattle.ua_builtin.specs.declared.localized_text.LocalizedText.{LocalizedText}
 

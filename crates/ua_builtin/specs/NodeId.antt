@@ -1,11 +1,11 @@
 -- NodeIds (OPC 10000-6, 5.2.2.9): what names a node, and the forms in which it is encoded.
 -- The node 72 of the namespace 0 is 00 48; "Hot" of the namespace 1 is 03 01 00 03 00 00 00 48 6F 74.
 use Rattle.std.specs.Prelude.{◌≡◌, ◌<◌, ◌^◌, ℕ, List, [], ◌∷◌, ◌++◌, Bool, true, false, ◌&&◌, cond, Option, None, nat_eq, nat_lt}
-use Rattle.ua_octets.specs.Exact.{then_read}
-use Rattle.ua_octets.specs.Number.{number_at, number_octets}
-use Rattle.ua_octets.specs.Format.{Flat}
-use Rattle.ua_octets.specs.Join.{number, nothing, both, image}
-use Rattle.ua_octets.specs.Counted.{text, counted}
+use Rattle.ua_wire.specs.Exact.{then_read}
+use Rattle.ua_wire.specs.Number.{number_at, number_octets}
+use Rattle.ua_wire.specs.Format.{Flat}
+use Rattle.ua_wire.specs.Join.{number, nothing, both, image}
+use Rattle.ua_wire.specs.Counted.{text, counted}
 use Rattle.ua_builtin.specs.Guid.{guid}
 use Rattle.ua_builtin.specs.declared.guid.Guid.{Guid}
 use Rattle.ua_builtin.specs.declared.node_id.NodeId.{NodeId}

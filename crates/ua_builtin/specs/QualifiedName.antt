@@ -1,8 +1,8 @@
 -- QualifiedNames (OPC 10000-6, 5.2.2.13): "Hot" in the namespace 1 is 01 00 03 00 00 00 48 6F 74.
 use Rattle.std.specs.Prelude.{ℕ, List, Option}
-use Rattle.ua_octets.specs.Format.{Flat}
-use Rattle.ua_octets.specs.Join.{number, both, made}
-use Rattle.ua_octets.specs.Counted.{text}
+use Rattle.ua_wire.specs.Format.{Flat}
+use Rattle.ua_wire.specs.Join.{number, both, made}
+use Rattle.ua_wire.specs.Counted.{text}
 use Rattle.ua_builtin.specs.declared.qualified_name.QualifiedName.{QualifiedName}
 
 -- the QualifiedName of a namespace and a name

@@ -1,7 +1,7 @@
 -- StatusCodes (OPC 10000-6, 5.2.2.11): Bad_DecodingError, 0x80070000, is 00 00 07 80.
 use Rattle.std.specs.Prelude.{ℕ, Bool, leb}
-use Rattle.ua_octets.specs.Format.{Flat}
-use Rattle.ua_octets.specs.Join.{number, made}
+use Rattle.ua_wire.specs.Format.{Flat}
+use Rattle.ua_wire.specs.Join.{number, made}
 use Rattle.ua_builtin.specs.declared.status_code.StatusCode.{StatusCode}
 
 -- the StatusCode of this number

@@ -1,8 +1,8 @@
 -- XmlElements (OPC 10000-6, 5.2.2.8): <a/> is 04 00 00 00 3C 61 2F 3E.
 use Rattle.std.specs.Prelude.{ℕ, List, Option}
-use Rattle.ua_octets.specs.Format.{Flat}
-use Rattle.ua_octets.specs.Join.{made}
-use Rattle.ua_octets.specs.Counted.{counted}
+use Rattle.ua_wire.specs.Format.{Flat}
+use Rattle.ua_wire.specs.Join.{made}
+use Rattle.ua_wire.specs.Counted.{counted}
 use Rattle.ua_builtin.specs.declared.xml_element.XmlElement.{XmlElement}
 
 -- the XmlElement of these octets, or the null one

@@ -1,7 +1,7 @@
 //! DateTime.
 
 use std::alloc::{AllocError, Global};
-use ua_octets::{ReadFault, Skip, Source, Wire};
+use ua_wire::{ReadFault, Skip, Source, Wire};
 
 /// A moment, in units of 100 nanoseconds since 1601-01-01 00:00 UTC: every number is kept
 /// (OPC 10000-6, 5.2.2.5).
@@ -11,7 +11,7 @@ pub struct DateTime {
 }
 
 impl Wire for DateTime {
-    ghost use Rattle.ua_octets.specs.Format.{flat};
+    ghost use Rattle.ua_wire.specs.Format.{flat};
     ghost use Rattle.ua_builtin.specs.DateTime.{date_time};
 
     ghost format = { flat date_time };

@@ -3,7 +3,7 @@
 use crate::flags;
 use crate::node_id::NodeId;
 use std::alloc::{AllocError, Global};
-use ua_octets::{ReadFault, Source, UaString, Wire};
+use ua_wire::{ReadFault, Source, UaString, Wire};
 
 /// The name of a node that may be on another server: with the URI of its namespace, unless that is
 /// null, and the index of its server, where 0 is the server itself (OPC 10000-6, 5.2.2.10).
@@ -24,7 +24,7 @@ const HAS_NAMESPACE_URI: u8 = 0x80;
 
 impl ExpandedNodeId {
     ghost use Rattle.std.specs.Prelude.{◌≡◌, ◌++◌, IsTrue, is_some, not, IfOk, OnOk, OnErr};
-    ghost use Rattle.ua_octets.specs.Format.{Extends};
+    ghost use Rattle.ua_wire.specs.Format.{Extends};
     ghost use Rattle.ua_builtin.specs.Flags.{flagged_text};
     ghost use Rattle.ua_builtin.specs.ExpandedNodeId.{octet_of, flagged_index, is_here};
 
@@ -71,7 +71,7 @@ impl ExpandedNodeId {
 }
 
 impl Wire for ExpandedNodeId {
-    ghost use Rattle.ua_octets.specs.Format.{flat};
+    ghost use Rattle.ua_wire.specs.Format.{flat};
     ghost use Rattle.ua_builtin.specs.ExpandedNodeId.{expanded_node_id};
 
     ghost format = { flat expanded_node_id };

@@ -3,7 +3,7 @@
 use crate::node_id::{Identifier, NodeId};
 use crate::xml_element::XmlElement;
 use std::alloc::{AllocError, Global};
-use ua_octets::{ReadFault, Skip, Source, UaBytes, Wire, append_two};
+use ua_wire::{ReadFault, Skip, Source, UaBytes, Wire, append_two};
 
 /// The encoding of the object that holds nothing: the NodeId of two octets, and no body.
 const NULL_OBJECT: [u8; 3] = [0x00, 0x00, 0x00];
@@ -79,7 +79,7 @@ impl ExtensionObject {
 
 impl ExtensionBody {
     ghost use Rattle.std.specs.Prelude.{◌≡◌, ◌++◌, IsTrue, OnOk, OnErr};
-    ghost use Rattle.ua_octets.specs.Format.{Extends};
+    ghost use Rattle.ua_wire.specs.Format.{Extends};
     ghost use Rattle.ua_builtin.specs.ExtensionObject.{body_fits, body_octets};
 
     // Adds the octet for the kind of body, and the body.
@@ -97,7 +97,7 @@ impl ExtensionBody {
 }
 
 impl Wire for ExtensionObject {
-    ghost use Rattle.ua_octets.specs.Format.{flat};
+    ghost use Rattle.ua_wire.specs.Format.{flat};
     ghost use Rattle.ua_builtin.specs.ExtensionObject.{extension_object};
 
     ghost format = { flat extension_object };

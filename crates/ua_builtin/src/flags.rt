@@ -1,11 +1,11 @@
 //! What a mask flags: the bit of a part that is there, and texts that are there where it is set.
 
 ghost use Rattle.std.specs.Prelude.{◌≡◌, ◌≤◌, ◌++◌, IsTrue, OnOk, OnErr, is_some};
-ghost use Rattle.ua_octets.specs.Format.{most_levels, Gives, StaysBehind, Extends};
+ghost use Rattle.ua_wire.specs.Format.{most_levels, Gives, StaysBehind, Extends};
 ghost use Rattle.ua_builtin.specs.Flags.{flag_bit, flagged_text};
 
 use std::alloc::{AllocError, Global};
-use ua_octets::{ReadFault, Source, UaString, Wire};
+use ua_wire::{ReadFault, Source, UaString, Wire};
 
 /// The bit of a part that is there, else 0.
 #[inline]

@@ -1,7 +1,7 @@
 //! Guid.
 
 use std::alloc::{AllocError, Global};
-use ua_octets::{ReadFault, Skip, Source, Wire, fill_octets};
+use ua_wire::{ReadFault, Skip, Source, Wire, fill_octets};
 use uuid::Uuid;
 
 /// A Guid, which the crate `uuid` reads and prints: its first three fields are encoded with the
@@ -12,7 +12,7 @@ pub struct Guid {
 }
 
 impl Wire for Guid {
-    ghost use Rattle.ua_octets.specs.Format.{flat};
+    ghost use Rattle.ua_wire.specs.Format.{flat};
     ghost use Rattle.ua_builtin.specs.Guid.{guid};
 
     ghost format = { flat guid };

@@ -1,5 +1,5 @@
 //! Laws that a caller may rely on, each the contract of a function that does nothing at run time:
-//! of the built-in types, of tables of reasons (`first_reasons`), and from `ua_octets` those of every
+//! of the built-in types, of tables of reasons (`first_reasons`), and from `ua_wire` those of every
 //! value that octets encode.
 
 ghost use Rattle.std.specs.Prelude.{◌≡◌, ◌++◌, IsTrue, List, [], ◌∷◌, ℕ, Bool, false, Some, None, map, option_map};
@@ -13,7 +13,7 @@ ghost use Rattle.ua_builtin.specs.Status.{status_code};
 use crate::date_time::DateTime;
 use crate::node_id::NodeId;
 use crate::status_code::StatusCode;
-pub use ua_octets::laws::{
+pub use ua_wire::laws::{
     canonical_encodes, counts_within_octets, encodes_in_octets, encodes_once, reads_back,
 };
 

@@ -39,7 +39,7 @@ pub use localized_text::LocalizedText;
 pub use node_id::{Identifier, NodeId};
 pub use qualified_name::QualifiedName;
 pub use status_code::StatusCode;
-pub use ua_octets::{
+pub use ua_wire::{
     DoubleBits, FIRST_NEGATIVE, FloatBits, MOST_LEVELS, NULL_COUNT, Octets, Parts, ReadFault, Skip,
     Source, UaBytes, UaString, Wire, WriteFault,
 };

@@ -2,7 +2,7 @@
 
 use crate::flags;
 use std::alloc::{AllocError, Global};
-use ua_octets::{ReadFault, Source, UaString, Wire};
+use ua_wire::{ReadFault, Source, UaString, Wire};
 
 /// A text for people, and the locale of its language; either may be null
 /// (OPC 10000-6, 5.2.2.14; OPC 10000-3, 8.5).
@@ -31,7 +31,7 @@ impl LocalizedText {
 }
 
 impl Wire for LocalizedText {
-    ghost use Rattle.ua_octets.specs.Format.{flat};
+    ghost use Rattle.ua_wire.specs.Format.{flat};
     ghost use Rattle.ua_builtin.specs.LocalizedText.{localized_text};
 
     ghost format = { flat localized_text };

@@ -1,13 +1,13 @@
 //! NodeId.
 
 ghost use Rattle.std.specs.Prelude.{◌≡◌, ◌++◌, OnOk, OnErr};
-ghost use Rattle.ua_octets.specs.Format.{Extends};
+ghost use Rattle.ua_wire.specs.Format.{Extends};
 ghost use Rattle.ua_builtin.specs.NodeId.{node, in_form, shortest_form};
 ghost use Rattle.ua_builtin.specs.declared.node_id.Identifier.TheVariants.{Numeric};
 
 use crate::guid::Guid;
 use std::alloc::{AllocError, Global};
-use ua_octets::{ReadFault, Skip, Source, UaBytes, UaString, Wire, append_two};
+use ua_wire::{ReadFault, Skip, Source, UaBytes, UaString, Wire, append_two};
 
 const TWO_OCTET: u8 = 0x00;
 
@@ -56,8 +56,8 @@ impl Identifier {
 
 impl NodeId {
     ghost use Rattle.std.specs.Prelude.{◌≡◌, ◌≤◌, ◌++◌, IsTrue, IfOk, OnOk, OnErr};
-    ghost use Rattle.ua_octets.specs.Exact.{skipped};
-    ghost use Rattle.ua_octets.specs.Format.{most_levels, Gives, StaysBehind, Extends};
+    ghost use Rattle.ua_wire.specs.Exact.{skipped};
+    ghost use Rattle.ua_wire.specs.Format.{most_levels, Gives, StaysBehind, Extends};
     ghost use Rattle.ua_builtin.specs.NodeId.{node, null_id, in_form, form_of};
 
     /// A node's name of these parts.
@@ -214,7 +214,7 @@ fn append_numeric(namespace: u16, number: u32, out: &mut Vec<u8>) -> Result<(), 
 }
 
 impl Wire for NodeId {
-    ghost use Rattle.ua_octets.specs.Format.{flat};
+    ghost use Rattle.ua_wire.specs.Format.{flat};
     ghost use Rattle.ua_builtin.specs.NodeId.{node_id};
 
     ghost format = { flat node_id };

@@ -15,7 +15,7 @@ use crate::node_id::{Identifier, NodeId};
 use base64::DecodeAllocError;
 use base64::engine::general_purpose::STANDARD;
 use std::alloc::{AllocError, Global};
-use ua_octets::{UaBytes, UaString};
+use ua_wire::{UaBytes, UaString};
 use uuid::Uuid;
 
 impl NodeId {

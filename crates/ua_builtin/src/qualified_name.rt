@@ -1,7 +1,7 @@
 //! QualifiedName.
 
 use std::alloc::{AllocError, Global};
-use ua_octets::{ReadFault, Skip, Source, UaString, Wire, append_two};
+use ua_wire::{ReadFault, Skip, Source, UaString, Wire, append_two};
 
 /// A name within a namespace, which is an index into the server's table of namespaces
 /// (OPC 10000-6, 5.2.2.13).
@@ -26,7 +26,7 @@ impl QualifiedName {
 }
 
 impl Wire for QualifiedName {
-    ghost use Rattle.ua_octets.specs.Format.{flat};
+    ghost use Rattle.ua_wire.specs.Format.{flat};
     ghost use Rattle.ua_builtin.specs.QualifiedName.{qualified_name};
 
     ghost format = { flat qualified_name };

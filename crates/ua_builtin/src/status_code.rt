@@ -3,7 +3,7 @@
 ghost use Rattle.std.specs.Prelude.{◌≡◌};
 
 use std::alloc::{AllocError, Global};
-use ua_octets::{ReadFault, Source, Wire};
+use ua_wire::{ReadFault, Source, Wire};
 
 /// A StatusCode, as a number of 32 bits: the top bit is set where it is bad
 /// (OPC 10000-6, 5.2.2.11; OPC 10000-4, 7.39).
@@ -131,7 +131,7 @@ impl StatusCode {
 }
 
 impl Wire for StatusCode {
-    ghost use Rattle.ua_octets.specs.Format.{flat};
+    ghost use Rattle.ua_wire.specs.Format.{flat};
     ghost use Rattle.ua_builtin.specs.Status.{status_code};
 
     ghost format = { flat status_code };

@@ -1,7 +1,7 @@
 //! XmlElement.
 
 use std::alloc::{AllocError, Global};
-use ua_octets::{ReadFault, Skip, Source, UaBytes, Wire};
+use ua_wire::{ReadFault, Skip, Source, UaBytes, Wire};
 
 /// An XML element as octets, which are never looked at, or null (OPC 10000-6, 5.2.2.8).
 #[derive(PartialEq, Eq, Debug, Drop)]
@@ -23,7 +23,7 @@ impl XmlElement {
 }
 
 impl Wire for XmlElement {
-    ghost use Rattle.ua_octets.specs.Format.{flat};
+    ghost use Rattle.ua_wire.specs.Format.{flat};
     ghost use Rattle.ua_builtin.specs.XmlElement.{xml_element};
 
     ghost format = { flat xml_element };

@@ -3,7 +3,7 @@ use Rattle.std.proofs.Common.{◌≡◌, ◌∙◌, ℕ, List, [], Option, Some,
 use Rattle.ua_channel.specs.Client.{ClientStands, client_limits, client_next, url_of}
 use Rattle.ua_channel.specs.declared.client.channel.ClientChannel.{ClientChannel}
 use Rattle.ua_frame.specs.declared.limits.Limits.{Limits}
-use Rattle.ua_octets.specs.Counted.{text}
+use Rattle.ua_wire.specs.Counted.{text}
 use Rattle.ua_c.specs.Limits.{AreEnough, AreThese}
 use Rattle.ua_c.specs.Making.{IsStation, IsUrlOf, MakesClient, MakesServer, Seats}
 use Rattle.ua_c.specs.declared.holding.Holding.{Holding}

@@ -6,7 +6,7 @@ use Rattle.ua_frame.specs.declared.limits.Limits.{Limits}
 use Rattle.ua_nodes.specs.NodeFile.{IsFirstBad, WriteNodes, node_lines}
 use Rattle.ua_nodes.specs.Table.{Nodes}
 use Rattle.ua_nodes.specs.declared.fault.LineReason.{LineReason}
-use Rattle.ua_octets.specs.Counted.{text}
+use Rattle.ua_wire.specs.Counted.{text}
 use Rattle.ua_server.specs.State.{fresh}
 use Rattle.ua_server.specs.declared.endpoint.Endpoint.{Endpoint}
 use Rattle.ua_c.specs.Asking.{IsNewClient}

@@ -5,7 +5,7 @@ use Rattle.std.specs.Str.{IsUtf8}
 use Rattle.ua_builtin.specs.NodeText.{NamesNode}
 use Rattle.ua_builtin.specs.declared.date_time.DateTime.{DateTime}
 use Rattle.ua_builtin.specs.declared.node_id.NodeId.{NodeId}
-use Rattle.ua_requests.specs.Requests.{part_of_node, read, value_alone, write}
+use Rattle.ua_services.specs.SessionRequests.{part_of_node, read, value_alone, write}
 use Rattle.ua_services.specs.Request.{request}
 use Rattle.ua_services.specs.declared.request.Request.{Request}
 use Rattle.ua_structures.specs.Plain.{value_for_node}

@@ -3,7 +3,7 @@ use Rattle.std.specs.Prelude.{◌≡◌, ◌⊎◌, ◌≤◌, ◌<◌, ℕ, Lis
 use Rattle.std.specs.Str.{IsUtf8}
 use Rattle.ua_nodes.specs.TypeName.{type_denoted}
 use Rattle.ua_nodes.specs.ValueText.{value_denoted}
-use Rattle.ua_octets.specs.Format.{IsWhole, Within, most_levels}
+use Rattle.ua_wire.specs.Format.{IsWhole, Within, most_levels}
 use Rattle.ua_pair.specs.Dissected.{AreLines, plain}
 use Rattle.ua_pair.specs.declared.side.Side.{Side}
 use Rattle.ua_pair.specs.declared.side.Side.TheVariants.{Client, Server}

@@ -5,7 +5,7 @@ ghost use Rattle.std.specs.declared.option.Option.{Option as Maybe};
 ghost use Rattle.std.specs.Str.{IsUtf8};
 ghost use Rattle.ua_nodes.specs.NodeFile.{WriteNodes, node_lines};
 ghost use Rattle.ua_nodes.specs.Sound.{IsSound};
-ghost use Rattle.ua_octets.specs.Counted.{text};
+ghost use Rattle.ua_wire.specs.Counted.{text};
 ghost use Rattle.ua_server.specs.State.{fresh};
 ghost use Rattle.ua_c.specs.Making.{IsNoUrl, IsUrlOf, MakesClient, MakesServer, MakesStation, RefusesNodes, Seats, endpoint_of};
 ghost use Rattle.ua_c.specs.Status.{no_memory};

@@ -1,7 +1,7 @@
 //! Requests from texts.
 
 ghost use Rattle.std.specs.Prelude.{◌≡◌, IfOk, IfErr};
-ghost use Rattle.ua_requests.specs.Requests.{activate_session, close_session, create_session, get_endpoints};
+ghost use Rattle.ua_services.specs.SessionRequests.{activate_session, close_session, create_session, get_endpoints};
 ghost use Rattle.ua_c.specs.Requests.{AreNamed, AreNoNodes, AreNodeTexts, AreUnnamed, IsNoNode, IsNoRange, IsNodeText, IsRangeText, IsUnnamed, Makes, MakesOfUrl, MakesRead, MakesUnder, MakesWrite, Names, PutsBody, PutsMade, items_of};
 
 use crate::making::url_of;
@@ -10,7 +10,7 @@ use crate::texts::{put, value_of};
 use std::alloc::{AllocError, Global};
 use std::str;
 use ua_builtin::{DateTime, NodeId, TextFault, UaString, WriteFault};
-use ua_requests::{
+use ua_services::session_requests::{
     activate_session_request, close_session_request, create_session_request, get_endpoints_request,
     read_item, read_request, write_item, write_request,
 };

@@ -1,9 +1,9 @@
 -- The frames that a client sends, as what stands in front of them and what is in them.
 use Rattle.std.proofs.Common.{◌≡◌, ℕ, ◌<◌, ◌+◌, ◌^◌, Bool, true, false, ◌&&◌, List, ◌∷◌, ◌++◌, Option, Some, None, IsTrue, length, sym, ◌∙◌, ap, arith, ltb, append_assoc, length-append}
 use Rattle.std.specs.Str.{is_utf8}
-use Rattle.ua_octets.specs.Counted.{counted, text, null_count}
-use Rattle.ua_octets.specs.Number.{number_octets}
-use Rattle.ua_octets.proofs.NumbersRead.{length-number_octets}
+use Rattle.ua_wire.specs.Counted.{counted, text, null_count}
+use Rattle.ua_wire.specs.Number.{number_octets}
+use Rattle.ua_wire.proofs.NumbersRead.{length-number_octets}
 use Rattle.ua_frame.specs.declared.limits.Limits.{Limits}
 use Rattle.ua_frame.specs.declared.kind.Kind.TheVariants.{Hel}
 use Rattle.ua_frame.specs.Agreement.{url_length}

@@ -6,7 +6,7 @@ use Rattle.ua_builtin.specs.NodeId.{node_id}
 use Rattle.ua_builtin.specs.Reasons.{first_reason}
 use Rattle.ua_builtin.specs.Status.{of_code, status_code}
 use Rattle.ua_builtin.specs.declared.status_code.StatusCode.{StatusCode}
-use Rattle.ua_octets.specs.Counted.{counted, text}
+use Rattle.ua_wire.specs.Counted.{counted, text}
 use Rattle.ua_builtin.specs.declared.date_time.DateTime.{DateTime}
 use Rattle.ua_frame.specs.declared.ack.Ack.{Ack}
 use Rattle.ua_frame.specs.declared.frame.Frame.{Frame}
@@ -21,8 +21,8 @@ use Rattle.ua_frame.specs.Run.{Going, Run}
 use Rattle.ua_frame.proofs.MessagesLawful.{sound_ack}
 use Rattle.ua_frame.proofs.Streams.{events-push, run_nil}
 use Rattle.ua_frame.proofs.Wholes.{whole_encodes}
-use Rattle.ua_octets.specs.Number.{number_octets}
-use Rattle.ua_octets.proofs.NumbersRead.{length-number_octets}
+use Rattle.ua_wire.specs.Number.{number_octets}
+use Rattle.ua_wire.proofs.NumbersRead.{length-number_octets}
 use Rattle.ua_services.specs.Message.{message, standard}
 use Rattle.ua_services.specs.Open.{answer_read}
 use Rattle.ua_services.specs.declared.open.OpenAnswer.TheVariants.{Open}

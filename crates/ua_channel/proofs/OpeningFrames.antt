@@ -1,7 +1,7 @@
 -- The octets of an OPN frame that are written one behind the other.
 use Rattle.std.proofs.Common.{◌≡◌, ℕ, ◌+◌, List, ◌∷◌, ◌++◌, sym, ◌∙◌, ap, arith, length, append_assoc}
-use Rattle.ua_octets.specs.Counted.{counted, null_count}
-use Rattle.ua_octets.specs.Number.{number_octets}
+use Rattle.ua_wire.specs.Counted.{counted, null_count}
+use Rattle.ua_wire.specs.Number.{number_octets}
 use Rattle.ua_frame.specs.Frames.{frame_octets}
 use Rattle.ua_frame.specs.Kinds.{kind_octets}
 use Rattle.ua_frame.specs.declared.kind.Kind.TheVariants.{Opn}

@@ -1,6 +1,6 @@
 -- What a server makes of an OPN.
 use Rattle.std.proofs.Common.{◌≡◌, ℕ, ◌+◌, Bool, true, false, not, ◌&&◌, eqb, ltb, pos, int_eq, List, [], ◌∷◌, ◌++◌, Option, Some, None, Err, refl, sym, ◌∙◌, ap, subst}
-use Rattle.ua_octets.proofs.Readers.{some_is}
+use Rattle.ua_wire.proofs.Readers.{some_is}
 use Rattle.ua_builtin.specs.Reasons.{first_reason}
 use Rattle.ua_builtin.proofs.FirstReasons.{first_among, first_behind}
 use Rattle.ua_frame.specs.declared.frame.Frame.{Frame}

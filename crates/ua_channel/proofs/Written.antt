@@ -3,9 +3,9 @@ use Rattle.std.proofs.Common.{◌≡◌, ℕ, ◌+◌, ◌<◌, ◌≤◌, ◌^�
 use Rattle.std.specs.List.{AllByRecursion}
 use Rattle.std.proofs.lemmas.Bool.{and_from, lt-ltb}
 use Rattle.std.proofs.lemmas.Slice.Eq.{bytes_eq-Decides}
-use Rattle.ua_octets.specs.Counted.{counted}
-use Rattle.ua_octets.specs.Number.{number_octets}
-use Rattle.ua_octets.proofs.NumbersRead.{length-number_octets}
+use Rattle.ua_wire.specs.Counted.{counted}
+use Rattle.ua_wire.specs.Number.{number_octets}
+use Rattle.ua_wire.proofs.NumbersRead.{length-number_octets}
 use Rattle.ua_frame.specs.declared.kind.Kind.TheVariants.{Msg, Opn}
 use Rattle.ua_frame.specs.Frames.{frame_size, LetsIn}
 use Rattle.ua_frame.specs.Kinds.{has_flag, least_size, lets_in}

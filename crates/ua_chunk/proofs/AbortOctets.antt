@@ -3,9 +3,9 @@ use Rattle.std.proofs.Common.{◌≡◌, ℕ, List, [], ◌∷◌, ◌++◌, ref
 use Rattle.std.specs.List.{flat_map}
 use borrow.Rule.Slice.PartMut.{put_mid}
 use Rattle.byteorder.specs.Endian.{little_bytes}
-use Rattle.ua_octets.specs.Number.{number_octets}
-use Rattle.ua_octets.proofs.NumbersRead.{little_bytes-is}
-use Rattle.ua_octets.specs.Counted.{text, counted}
+use Rattle.ua_wire.specs.Number.{number_octets}
+use Rattle.ua_wire.proofs.NumbersRead.{little_bytes-is}
+use Rattle.ua_wire.specs.Counted.{text, counted}
 use Rattle.ua_builtin.specs.Status.{status_code}
 use Rattle.ua_builtin.specs.declared.status_code.StatusCode.{StatusCode}
 use Rattle.ua_frame.specs.Frames.{frame_octets}

@@ -1,14 +1,14 @@
 -- The bodies of aborts.
 use Rattle.std.proofs.Common.{◌≡◌, ℕ, Bool, true, false, cond, ◌&&◌, nat_eq, Option, Some, None, List, [], ◌∷◌, refl, sym, ap, arith, length, is_some}
 use Rattle.std.proofs.lemmas.Bool.{ne_eqb}
-use Rattle.ua_octets.specs.Counted.{counted, text, is_text}
-use Rattle.ua_octets.specs.Exact.{◌>>=◌}
-use Rattle.ua_octets.specs.Format.{flat}
-use Rattle.ua_octets.specs.Join.{pair}
-use Rattle.ua_octets.specs.Number.{number_at}
+use Rattle.ua_wire.specs.Counted.{counted, text, is_text}
+use Rattle.ua_wire.specs.Exact.{◌>>=◌}
+use Rattle.ua_wire.specs.Format.{flat}
+use Rattle.ua_wire.specs.Join.{pair}
+use Rattle.ua_wire.specs.Number.{number_at}
 use Rattle.ua_builtin.specs.Status.{status_code, of_code}
 use Rattle.ua_builtin.specs.declared.status_code.StatusCode.{StatusCode}
-use Rattle.ua_octets.specs.Format.{IsWhole}
+use Rattle.ua_wire.specs.Format.{IsWhole}
 use Rattle.ua_frame.specs.Whole.{if_nothing_left, whole_of}
 use Rattle.ua_frame.proofs.Wholes.{whole_read}
 use Rattle.ua_chunk.proofs.HeadersLawful.{sound_abort_body}

@@ -3,8 +3,8 @@ use Rattle.std.proofs.Common.{◌≡◌, ℕ, Bool, true, false, cond, ◌↔◌
 use Rattle.std.proofs.lemmas.Bool.{eqb-true}
 use Rattle.std.proofs.lemmas.Slice.Eq.{bytes_eq-Decides}
 use Rattle.std.specs.Option.{is_none}
-use Rattle.ua_octets.specs.Exact.{Begins}
-use Rattle.ua_octets.proofs.Readers.{some_is}
+use Rattle.ua_wire.specs.Exact.{Begins}
+use Rattle.ua_wire.proofs.Readers.{some_is}
 use Rattle.ua_frame.specs.declared.frame.Frame.{Frame}
 use Rattle.ua_chunk.specs.declared.chunk.Chunk.{Chunk}
 use Rattle.ua_chunk.specs.declared.flag.Flag.{Flag}

@@ -1,7 +1,7 @@
 -- The headers and the bodies of aborts: reading finds just what is encoded.
-use Rattle.ua_octets.specs.Format.{IsSound}
-use Rattle.ua_octets.proofs.CountedLawful.{sound_counted, sound_text}
-use Rattle.ua_octets.proofs.Lawfulness.{sound_number, sound_both}
+use Rattle.ua_wire.specs.Format.{IsSound}
+use Rattle.ua_wire.proofs.CountedLawful.{sound_counted, sound_text}
+use Rattle.ua_wire.proofs.Lawfulness.{sound_number, sound_both}
 use Rattle.ua_builtin.proofs.PlainLawful.{sound_status_code}
 use Rattle.ua_chunk.specs.Abort.{abort_body}
 use Rattle.ua_chunk.specs.Layout.{token_header, sequence_header}

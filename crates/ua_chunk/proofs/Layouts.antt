@@ -2,8 +2,8 @@
 use Rattle.std.proofs.Common.{◌≡◌, ℕ, ◌-◌, ◌≤◌, Bool, true, Option, Some, None, List, ◌++◌, refl, sym, ◌∙◌, ap, subst, arith, length, drop, length-append, append_assoc}
 use Rattle.std.proofs.lemmas.List.{drop_at, drop-drop}
 use Rattle.std.proofs.lemmas.Slice.Eq.{bytes_eq-Decides}
-use Rattle.ua_octets.specs.Exact.{Begins}
-use Rattle.ua_octets.specs.Number.{number_at}
+use Rattle.ua_wire.specs.Exact.{Begins}
+use Rattle.ua_wire.specs.Number.{number_at}
 use Rattle.ua_frame.specs.declared.frame.Frame.{Frame}
 use Rattle.ua_chunk.specs.declared.flag.Flag.{Flag}
 use Rattle.ua_chunk.specs.Flag.{flag_octet}

@@ -2,8 +2,8 @@
 use Rattle.std.proofs.Common.{◌≡◌, ℕ, ◌<◌, ◌^◌, Bool, true, false, cond, not, ◌&&◌, ◌||◌, ◌↔◌, eqb, ltb, Option, Some, None, List, [], ◌∷◌, refl, sym, ◌∙◌, ap, subst}
 use Rattle.std.proofs.lemmas.Bool.{or_parts, and_from, eqb-true, lt-ltb, false_from_ne_true}
 use Rattle.std.specs.List.{list_any, filter}
-use Rattle.ua_octets.specs.Counted.{text, counted}
-use Rattle.ua_octets.proofs.Readers.{some_is}
+use Rattle.ua_wire.specs.Counted.{text, counted}
+use Rattle.ua_wire.proofs.Readers.{some_is}
 use Rattle.ua_builtin.specs.Status.{status_code}
 use Rattle.ua_builtin.specs.declared.status_code.StatusCode.{StatusCode}
 use Rattle.ua_frame.specs.declared.frame.Frame.{Frame}

@@ -1,9 +1,9 @@
 -- The bodies of A chunks (OPC 10000-6, 6.7.3): the code of the error, a UInt32, and a String that says why. So 00 00 02 80 FF FF FF FF
 -- is BadInternalError with a null reason.
 use Rattle.std.specs.Prelude.{ℕ, Bool, List, Option, is_some}
-use Rattle.ua_octets.specs.Counted.{text}
-use Rattle.ua_octets.specs.Format.{Flat}
-use Rattle.ua_octets.specs.Join.{both}
+use Rattle.ua_wire.specs.Counted.{text}
+use Rattle.ua_wire.specs.Format.{Flat}
+use Rattle.ua_wire.specs.Join.{both}
 use Rattle.ua_builtin.specs.Status.{status_code}
 use Rattle.ua_builtin.specs.declared.status_code.StatusCode.{StatusCode}
 use Rattle.ua_frame.specs.Whole.{whole_of}

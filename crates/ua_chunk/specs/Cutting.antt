@@ -1,8 +1,8 @@
 -- The chunks of a body (OPC 10000-6, 6.7.2): consecutive pieces of it, each but the last as long as there is room for, under C but the
 -- last under F, numbered on. So 01 02 03 04 05 with room for 2 is C 01 02, C 03 04, F 05.
 use Rattle.std.specs.Prelude.{◌≡◌, ◌≤◌, ◌<◌, ◌*◌, ℕ, zero, suc, nat_eq, nat_lt, if◌then◌else◌, length, take, drop, map, Option, Some, None, List, [], ◌∷◌, ◌++◌}
-use Rattle.ua_octets.specs.Format.{Extends}
-use Rattle.ua_octets.specs.Number.{number_octets}
+use Rattle.ua_wire.specs.Format.{Extends}
+use Rattle.ua_wire.specs.Number.{number_octets}
 use Rattle.ua_frame.specs.Frames.{frames_octets}
 use Rattle.ua_frame.specs.Kinds.{kind_octets}
 use Rattle.ua_frame.specs.declared.kind.Kind.TheVariants.{Msg}

@@ -3,8 +3,8 @@
 --   4D 53 47 46 1B 00 00 00  05 00 00 00  07 00 00 00  34 00 00 00  03 00 00 00  AA BB CC
 -- is an F chunk of channel 5 under token 7, of sequence number 52 and request id 3, with a body of three octets.
 use Rattle.std.specs.Prelude.{◌≡◌, ℕ, List, ◌++◌, Option, Some, None}
-use Rattle.ua_octets.specs.Format.{Flat}
-use Rattle.ua_octets.specs.Join.{number, both}
+use Rattle.ua_wire.specs.Format.{Flat}
+use Rattle.ua_wire.specs.Join.{number, both}
 use Rattle.ua_frame.specs.declared.frame.Frame.{Frame}
 use Rattle.ua_frame.specs.declared.kind.Kind.TheVariants.{Msg}
 use Rattle.ua_chunk.specs.declared.chunk.Chunk.{Chunk}

@@ -3,9 +3,9 @@
 -- the body of the chunk.
 use Rattle.std.specs.Prelude.{◌≡◌, ◌≤◌, ℕ, length, drop, Bool, true, false, List, ◌++◌, Option, Some, None, codes}
 use Rattle.std.specs.Str.{bytes_eq}
-use Rattle.ua_octets.specs.Counted.{counted}
-use Rattle.ua_octets.specs.Format.{Flat}
-use Rattle.ua_octets.specs.Join.{number, both}
+use Rattle.ua_wire.specs.Counted.{counted}
+use Rattle.ua_wire.specs.Format.{Flat}
+use Rattle.ua_wire.specs.Join.{number, both}
 use Rattle.ua_frame.specs.declared.frame.Frame.{Frame}
 use Rattle.ua_chunk.specs.declared.open_chunk.OpenChunk.{OpenChunk}
 use Rattle.ua_chunk.specs.declared.fault.OpenFault.{OpenFault}

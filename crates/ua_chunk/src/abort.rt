@@ -11,7 +11,7 @@ use byteorder::{ByteOrder, LittleEndian};
 use std::alloc::{AllocError, Global};
 use ua_builtin::{StatusCode, UaString, Wire};
 use ua_frame::{HEADER_LEN, Kind, header_octets};
-use ua_octets::{NULL_COUNT, is_text, split_counted, split_number};
+use ua_wire::{NULL_COUNT, is_text, split_counted, split_number};
 
 /// The status code and the reason that the body of an abort holds, if it is just these.
 pub fn read(alloc: Global, body: &[u8]) -> Result<Option<(StatusCode, UaString)>, AllocError>

@@ -8,7 +8,7 @@ ghost use Rattle.ua_chunk.specs.Layout.{IsChunkOf, chunk_in};
 use crate::flag::Flag;
 use bytes::Bytes;
 use ua_frame::Frame;
-use ua_octets::front_number;
+use ua_wire::front_number;
 
 /// The octets of a chunk's headers, behind the header of its frame.
 const HEADERS: usize = 16;

@@ -1,7 +1,7 @@
 //! Cuts bodies into chunks.
 
 ghost use Rattle.std.specs.Prelude.{◌≡◌, ◌≤◌, ◌<◌, ◌+◌, ◌^◌, ◌++◌, length, OnOk, OnErr, IfOk, MatchResult, None};
-ghost use Rattle.ua_octets.specs.Format.{Extends};
+ghost use Rattle.ua_wire.specs.Format.{Extends};
 ghost use Rattle.ua_frame.specs.Frames.{frame_octets};
 ghost use Rattle.ua_chunk.specs.Cutting.{pieces, front_octets, chunk_of, chunks_of, chunks_octets, number_after, cut_refusal, IsCutFor};
 ghost use Rattle.ua_chunk.specs.Layout.{frame_of};

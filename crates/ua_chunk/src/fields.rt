@@ -3,7 +3,7 @@
 ghost use Rattle.std.specs.Prelude.{◌≡◌, Some, None, MatchOption};
 ghost use Rattle.ua_chunk.specs.Layout.{sequence_header};
 
-use ua_octets::split_number;
+use ua_wire::split_number;
 
 /// A sequence number and a request id, and the octets behind them.
 #[inline]

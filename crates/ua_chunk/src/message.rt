@@ -4,7 +4,7 @@ use crate::held_parts::HeldParts;
 use bytes::Bytes;
 use std::alloc::{AllocError, Global};
 use std::marker::Model;
-use ua_octets::Parts;
+use ua_wire::Parts;
 
 /// A message: the bodies of its chunks that are not empty, in order and as they came. Its octets
 /// are these, joined.

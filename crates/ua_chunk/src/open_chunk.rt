@@ -7,7 +7,7 @@ use crate::fault::OpenFault;
 use crate::fields::split_sequence;
 use bytes::Bytes;
 use ua_frame::Frame;
-use ua_octets::{split_counted, split_number};
+use ua_wire::{split_counted, split_number};
 
 /// The URI of the security policy None.
 pub const NONE_POLICY: &str = "http://opcfoundation.org/UA/SecurityPolicy#None";

@@ -1,10 +1,10 @@
 //! The program `ua`: OPC UA Binary on the command line. `main` hands its words and streams to
-//! [`ua_commands::run`], which the rows of `ua_program_rows` call with writers over memory.
+//! [`ua_program::run`], which the rows of `test_program` call with writers over memory.
 #![tactic(auto)]
 
 use std::process::ExitCode;
 use std::{env, io};
-use ua_commands::{refuse_words, run};
+use ua_program::{refuse_words, run};
 
 fn main(rt: HostRuntime) -> ExitCode {
     let mut err = rt.stderr();

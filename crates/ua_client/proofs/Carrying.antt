@@ -3,7 +3,7 @@ use Rattle.std.specs.Prelude.{◌≡◌, ℕ, ◌+◌, ◌-◌, ◌≤◌, ◌<�
 use Rattle.std.proofs.Common.{refl, sym, ◌∙◌, ap, subst, append_assoc, append-nil, arith}
 use Rattle.std.proofs.Math.Seq.{take-add, take-length}
 use Rattle.std.proofs.lemmas.List.{length-append, length-drop, take-append-drop}
-use Rattle.ua_octets.specs.Format.{Extends}
+use Rattle.ua_wire.specs.Format.{Extends}
 use Rattle.ua_channel.specs.Line.{Traffic, HandsOut, Takes, WhereTold}
 use Rattle.ua_channel.specs.declared.line.LineFault.{LineFault}
 use Rattle.ua_client.specs.Carried.{Carries, IsAtEnd, IsPart, WritesFront}

@@ -1,7 +1,7 @@
 -- What a client's calls come to: groups of 64, the last of which may have fewer, each judged whole, written and then answered.
 use Rattle.std.specs.Prelude.{◌≡◌, ◌⊎◌, ◌+◌, ◌<◌, ◌≤◌, ◌++◌, ℕ, List, [], ◌∷◌, map, length, is_none, true, false, Option, Some, None, Result, Ok, Err}
 use Rattle.std.specs.List.{AllByRecursion, list_any}
-use Rattle.ua_octets.specs.Format.{Extends}
+use Rattle.ua_wire.specs.Format.{Extends}
 use Rattle.ua_builtin.specs.Reasons.{first_reason}
 use Rattle.ua_frame.specs.Frames.{IsSized, frames_octets}
 use Rattle.ua_frame.specs.declared.frame.Frame.{Frame}

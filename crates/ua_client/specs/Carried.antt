@@ -1,6 +1,6 @@
 -- What calls of a client read from a line and write to it.
 use Rattle.std.specs.Prelude.{◌≡◌, ◌<◌, ◌++◌, ℕ, List, [], length, Option, Some, None, Result, Ok, Err}
-use Rattle.ua_octets.specs.Format.{Extends}
+use Rattle.ua_wire.specs.Format.{Extends}
 use Rattle.ua_channel.specs.Line.{Traffic}
 
 -- these octets were read and these were written, between two moments

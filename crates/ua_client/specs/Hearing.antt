@@ -1,7 +1,7 @@
 -- What a client hears: what it reads from its line, what of that its channel takes, and what that tells.
 use Rattle.std.specs.Prelude.{◌≡◌, ◌⊎◌, ◌+◌, ◌*◌, ◌<◌, ◌≤◌, ◌++◌, ℕ, Bool, true, false, cond, List, [], length, Option, Some, None, Result, Ok, Err, IfOk, IfErr}
 use Rattle.std.specs.List.{concat}
-use Rattle.ua_octets.specs.Format.{Extends}
+use Rattle.ua_wire.specs.Format.{Extends}
 use Rattle.ua_builtin.specs.declared.date_time.DateTime.{DateTime}
 use Rattle.ua_builtin.specs.declared.status_code.StatusCode.{StatusCode}
 use Rattle.ua_channel.specs.Asks.{Placed}

@@ -11,7 +11,7 @@ use Rattle.ua_services.specs.declared.response.Response.{Response}
 use Rattle.ua_services.specs.declared.response.Response.TheVariants.{CreateSession}
 use Rattle.ua_services.specs.declared.response.ResponseKind.{ResponseKind}
 use Rattle.ua_services.specs.declared.response.ResponseKind.TheVariants as response_kind
-use Rattle.ua_requests.specs.Requests.{create_session, activate_session_as, anonymous_id}
+use Rattle.ua_services.specs.SessionRequests.{create_session, activate_session_as, anonymous_id}
 use Rattle.ua_channel.specs.Client.{SameClient, url_of}
 use Rattle.ua_channel.specs.Line.{Traffic}
 use Rattle.ua_channel.specs.declared.client.channel.ClientChannel.{ClientChannel}

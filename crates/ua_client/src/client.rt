@@ -34,7 +34,7 @@ pub struct Client {
 
 impl Client {
     ghost use Rattle.std.specs.Prelude.{◌≡◌, ◌⊎◌, ◌+◌, ◌<◌, ◌∷◌, [], length, None, IsTrue, IfOk, IfErr, OnOk, Err};
-    ghost use Rattle.ua_octets.specs.Counted.{text};
+    ghost use Rattle.ua_wire.specs.Counted.{text};
     ghost use Rattle.ua_client.specs.Calls.{CallsAll};
     ghost use Rattle.ua_client.specs.Client.{OpensNothing, OpensClient, IsDone, IsReady, IsLeft, Closes, client_channel, connection_of};
     ghost use Rattle.ua_client.specs.Hearing.{failures_behind, fault_alone};

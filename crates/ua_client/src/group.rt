@@ -1,7 +1,7 @@
 //! Groups of calls: judged whole, and then asked.
 
 ghost use Rattle.std.specs.Prelude.{◌≡◌, ◌<◌, ◌++◌, ◌↔◌, ℕ, List, Some, None, length, map, IfOk, IfErr, OnOk, IsTrue, IsFalse, IsErrOf};
-ghost use Rattle.ua_octets.specs.declared.fault.WriteFault.TheVariants.{NotWritable};
+ghost use Rattle.ua_wire.specs.declared.fault.WriteFault.TheVariants.{NotWritable};
 ghost use Rattle.ua_frame.specs.declared.frame.Frame.{Frame};
 ghost use Rattle.ua_services.specs.Request.{request};
 ghost use Rattle.ua_channel.specs.Asks.{Placed};

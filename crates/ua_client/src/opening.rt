@@ -1,7 +1,7 @@
 //! The beginning and the end of a connection over a line.
 
 ghost use Rattle.std.specs.Prelude.{◌≡◌, [], IsTrue, IfOk, OnErr, Err};
-ghost use Rattle.ua_octets.specs.Counted.{text};
+ghost use Rattle.ua_wire.specs.Counted.{text};
 ghost use Rattle.ua_channel.specs.Client.{ClientStands, client_limits, url_of, client_next};
 ghost use Rattle.ua_client.specs.Client.{Closes};
 ghost use Rattle.ua_client.specs.Hearing.{channel_of, untaken_of, failures_behind};

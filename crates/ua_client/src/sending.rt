@@ -6,7 +6,7 @@ ghost use Rattle.ua_client.specs.Carried.{Writes};
 
 use ua_channel::{Line, LineFault};
 use ua_frame::HEADER_LEN;
-use ua_octets::front_number;
+use ua_wire::front_number;
 
 /// Writes octets whole: by one write where the line takes them so, and where it takes fewer, on from
 /// where it stopped.

@@ -15,7 +15,7 @@ use std::alloc::{AllocError, Global};
 use std::slice;
 use ua_builtin::{DateTime, NodeId, StatusCode, UaString, WriteFault};
 use ua_channel::Line;
-use ua_requests::{activate_session_request_as, create_session_request};
+use ua_services::session_requests::{activate_session_request_as, create_session_request};
 use ua_services::{Request, Response, ResponseKind};
 
 /// Why the service that a response answers failed, if it did.

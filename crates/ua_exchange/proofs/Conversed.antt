@@ -14,11 +14,11 @@ use Rattle.ua_server.specs.State.{State}
 use Rattle.ua_server.specs.declared.endpoint.Endpoint.{Endpoint}
 use Rattle.ua_client.specs.declared.fault.ClientFault.{ClientFault}
 use Rattle.ua_client.specs.declared.reply.Reply.{Reply}
-use Rattle.ua_served.specs.Accepted as judged
-use Rattle.ua_served.specs.Says.{spent}
-use Rattle.ua_served.specs.declared.conversation.Transcript.{Transcript}
-use Rattle.ua_served.proofs.Conversing.{conversation_read}
-use Rattle.ua_served.proofs.Saying.{said_by_run}
+use Rattle.ua_loopback.specs.Accepted as judged
+use Rattle.ua_loopback.specs.Says.{spent}
+use Rattle.ua_loopback.specs.declared.conversation.Transcript.{Transcript}
+use Rattle.ua_loopback.proofs.Conversing.{conversation_read}
+use Rattle.ua_loopback.proofs.Saying.{said_by_run}
 use Rattle.ua_exchange.specs.Accepted.{AreAccepted, fault_at}
 use Rattle.ua_exchange.specs.Exchanged.{IsRefusedFor, all_said}
 use Rattle.ua_exchange.specs.Programs.{acknowledged, beginning, channel, endpoint, program_limits, url}

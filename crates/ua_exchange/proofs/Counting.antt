@@ -7,8 +7,8 @@ use Rattle.std.specs.List.{list_any}
 use Rattle.ua_channel.specs.ClientAsks.{most_pending, most_tokens}
 use Rattle.ua_chunk.proofs.Lists.{after_last_push}
 use Rattle.ua_services.specs.declared.request.Request.{Request}
-use Rattle.ua_served.specs.Accepted.{held_behind, tokens_held}
-use Rattle.ua_served.proofs.Pushes.{held_push}
+use Rattle.ua_loopback.specs.Accepted.{held_behind, tokens_held}
+use Rattle.ua_loopback.proofs.Pushes.{held_push}
 use Rattle.ua_exchange.specs.Accepted.{before_group, is_renewal, last_calls, tokens_counted}
 use Rattle.ua_exchange.specs.Turns.{served_turn, served_turns}
 use Rattle.ua_exchange.specs.declared.turn.Turn.{Turn}

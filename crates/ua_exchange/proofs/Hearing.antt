@@ -25,10 +25,10 @@ use Rattle.ua_services.specs.Request.{request}
 use Rattle.ua_services.specs.Response.{response}
 use Rattle.ua_services.specs.declared.request.Request.{Request}
 use Rattle.ua_server.specs.State.{State}
-use Rattle.ua_served.proofs.Answering.{all_held, latest_in}
-use Rattle.ua_served.proofs.Opened.{answer_read}
-use Rattle.ua_served.proofs.Reaching.{none_parts}
-use Rattle.ua_served.proofs.Renewed.{none_past}
+use Rattle.ua_loopback.proofs.Answering.{all_held, latest_in}
+use Rattle.ua_loopback.proofs.Opened.{answer_read}
+use Rattle.ua_loopback.proofs.Reaching.{none_parts}
+use Rattle.ua_loopback.proofs.Renewed.{none_past}
 use Rattle.ua_exchange.specs.Accepted.{IsAccepted, tokens_counted}
 use Rattle.ua_exchange.specs.Programs.{acknowledged, beginning, channel, program_limits, url}
 use Rattle.ua_exchange.specs.Reading.{EndsAtRenewal, all_heard, asked_behind, heard_behind, said_to, turns_heard}

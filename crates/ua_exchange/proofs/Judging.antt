@@ -11,8 +11,8 @@ use Rattle.ua_channel.specs.declared.client.fault.AskFault.TheVariants.{TooManyT
 use Rattle.ua_services.specs.declared.request.Request.{Request as Message}
 use Rattle.ua_client.specs.declared.fault.ClientFault.{ClientFault}
 use Rattle.ua_client.specs.declared.fault.ClientFault.TheVariants as client
-use Rattle.ua_served.specs.Accepted as judged
-use Rattle.ua_served.proofs.Reaching.{none_parts}
+use Rattle.ua_loopback.specs.Accepted as judged
+use Rattle.ua_loopback.proofs.Reaching.{none_parts}
 use Rattle.ua_exchange.specs.Accepted.{AreAccepted, FirstRefused, IsAccepted, fault_at, is_crowded, tokens_counted, turn_refusal}
 use Rattle.ua_exchange.specs.Exchanged.{IsRefusedFor}
 use Rattle.ua_exchange.specs.Programs.{acknowledged}
@@ -28,7 +28,7 @@ use Rattle.ua_exchange.proofs.Words.{served-push}
 
 -- ---- one turn
 
--- a client of `ua_served` takes a turn behind others, or this is why it does not
+-- a client of `ua_loopback` takes a turn behind others, or this is why it does not
 abbrev refusal_served : List Turn → Turn → Option ClientFault
 refusal_served before t = judged.turn_refusal acknowledged (served_turns before) (served_turn t)
 

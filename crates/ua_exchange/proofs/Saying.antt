@@ -14,9 +14,9 @@ use Rattle.ua_services.specs.declared.request.Request.{Request}
 use Rattle.ua_server.specs.Reply.{answered}
 use Rattle.ua_server.specs.Said.{Course, left, left_by, reply_with, said, said_of, with_more}
 use Rattle.ua_server.specs.State.{State}
-use Rattle.ua_served.specs.Says.{spent}
-use Rattle.ua_served.proofs.Replying.{answered_is}
-use Rattle.ua_served.proofs.Saying.{left_on, said_on, said_over}
+use Rattle.ua_loopback.specs.Says.{spent}
+use Rattle.ua_loopback.proofs.Replying.{answered_is}
+use Rattle.ua_loopback.proofs.Saying.{left_on, said_on, said_over}
 use Rattle.ua_exchange.specs.Exchanged.{all_said}
 use Rattle.ua_exchange.specs.Programs.{acknowledged, agreement, beginning, channel}
 use Rattle.ua_exchange.specs.Reading.{said_to}

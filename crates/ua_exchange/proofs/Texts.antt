@@ -7,7 +7,7 @@ use Rattle.std.proofs.lemmas.Bool.{ltb-true}
 use Rattle.std.proofs.lemmas.Str.{is_utf8-from_IsUtf8, IsUtf8-from_ascii}
 use Rattle.ua_builtin.specs.Counted.{text, counted, first_negative}
 use Rattle.ua_nodes.proofs.Fits.{both_are}
-use Rattle.ua_octets.proofs.Readers.{both_true}
+use Rattle.ua_wire.proofs.Readers.{both_true}
 
 -- each octet is ASCII
 abbrev pub are_ascii : List ℕ → Bool

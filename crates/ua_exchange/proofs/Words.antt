@@ -2,7 +2,7 @@
 use Rattle.std.proofs.Common.{◌≡◌, ℕ, suc, ◌+◌, ◌<◌, ◌≤◌, IsTrue, List, [], ◌∷◌, ◌++◌, Some, length, refl, sym, ◌∙◌, ap, subst, arith, append_assoc}
 use Rattle.std.proofs.Math.Bridge.{le_prop}
 use Rattle.std.proofs.lemmas.List.{map-append}
-use Rattle.ua_octets.specs.Counted.{text}
+use Rattle.ua_wire.specs.Counted.{text}
 use Rattle.ua_builtin.specs.declared.date_time.DateTime.{DateTime}
 use Rattle.ua_frame.specs.Messages.{ack, hello}
 use Rattle.ua_frame.specs.declared.limits.Limits.{Limits}
@@ -10,9 +10,9 @@ use Rattle.ua_channel.specs.ClientSends.{hello_to}
 use Rattle.ua_channel.specs.ServerTold.{Told}
 use Rattle.ua_services.specs.declared.request.Request.{Request}
 use Rattle.ua_server.specs.State.{State}
-use Rattle.ua_served.specs.Replies.{turn_state, turns_state}
-use Rattle.ua_served.specs.Turns.{ids_behind, opening_told, tokens_behind, turn_told, turns_told}
-use Rattle.ua_served.proofs.Pushes.{state_push, tokens_push, told_push}
+use Rattle.ua_loopback.specs.Replies.{turn_state, turns_state}
+use Rattle.ua_loopback.specs.Turns.{ids_behind, opening_told, tokens_behind, turn_told, turns_told}
+use Rattle.ua_loopback.proofs.Pushes.{state_push, tokens_push, told_push}
 use Rattle.ua_exchange.specs.Programs.{AreOurs, acknowledged, program_limits, url}
 use Rattle.ua_exchange.specs.Replies.{state_behind}
 use Rattle.ua_exchange.specs.Turns.{asking_told, id_behind, served_turn, served_turns, token_behind}

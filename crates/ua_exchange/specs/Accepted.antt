@@ -7,7 +7,7 @@ use Rattle.ua_channel.specs.ClientAsks.{most_pending, most_tokens}
 use Rattle.ua_channel.specs.declared.client.fault.AskFault.TheVariants.{TooManyTokens, Exhausted, RequestTooLarge}
 use Rattle.ua_client.specs.declared.fault.ClientFault.{ClientFault}
 use Rattle.ua_client.specs.declared.fault.ClientFault.TheVariants as client
-use Rattle.ua_served.specs.Accepted as judged
+use Rattle.ua_loopback.specs.Accepted as judged
 use Rattle.ua_exchange.specs.Programs.{acknowledged}
 use Rattle.ua_exchange.specs.Turns.{id_behind, served_turn, served_turns}
 use Rattle.ua_exchange.specs.declared.fault.PairFault.{PairFault}

@@ -5,7 +5,7 @@ use Rattle.ua_frame.specs.Run.{Over}
 use Rattle.ua_nodes.specs.Table.{Nodes}
 use Rattle.ua_server.specs.Said.{said}
 use Rattle.ua_server.specs.State.{State}
-use Rattle.ua_served.specs.Says.{spent}
+use Rattle.ua_loopback.specs.Says.{spent}
 use Rattle.ua_exchange.specs.Accepted.{FirstRefused}
 use Rattle.ua_exchange.specs.Programs.{begun_over, channel}
 use Rattle.ua_exchange.specs.Turns.{all_told}

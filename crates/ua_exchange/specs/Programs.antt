@@ -10,8 +10,8 @@ use Rattle.ua_channel.specs.ClientSends.{hello_to}
 use Rattle.ua_nodes.specs.Table.{Nodes}
 use Rattle.ua_server.specs.State.{State, fresh}
 use Rattle.ua_server.specs.declared.endpoint.Endpoint.{Endpoint}
-use Rattle.ua_served.specs.Accepted as judged
-use Rattle.ua_served.specs.Beginning.{Beginning}
+use Rattle.ua_loopback.specs.Accepted as judged
+use Rattle.ua_loopback.specs.Beginning.{Beginning}
 
 -- the limits of both: frames of 65535 octets each way, messages of 1048576 octets and 256 chunks
 abbrev pub program_limits : Limits

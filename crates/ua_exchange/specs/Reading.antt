@@ -14,7 +14,7 @@ use Rattle.ua_channel.specs.ClientTold.{ClientTold as Heard, ClientTold as heard
 use Rattle.ua_services.specs.Response.{response}
 use Rattle.ua_server.specs.Said.{said}
 use Rattle.ua_server.specs.State.{State}
-use Rattle.ua_served.specs.Says.{spent}
+use Rattle.ua_loopback.specs.Says.{spent}
 use Rattle.ua_exchange.specs.Programs.{acknowledged, channel}
 use Rattle.ua_exchange.specs.Replies.{lane_back, response_behind}
 use Rattle.ua_exchange.specs.Turns.{asking_told, id_behind, token_behind}

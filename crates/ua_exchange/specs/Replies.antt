@@ -1,4 +1,4 @@
--- What becomes of requests, by `ua_served`: each is answered in the state that those before it left, and its reply comes back under its own
+-- What becomes of requests, by `ua_loopback`: each is answered in the state that those before it left, and its reply comes back under its own
 -- request id.
 use Rattle.std.specs.Prelude.{List, Option, Some}
 use Rattle.ua_builtin.specs.declared.date_time.DateTime.{DateTime}
@@ -9,7 +9,7 @@ use Rattle.ua_services.specs.declared.response.Response.{Response}
 use Rattle.ua_server.specs.Answer.{answer}
 use Rattle.ua_server.specs.State.{State}
 use Rattle.ua_client.specs.declared.reply.Reply.{Reply}
-use Rattle.ua_served.specs.Replies as served
+use Rattle.ua_loopback.specs.Replies as served
 use Rattle.ua_exchange.specs.Programs.{agreement, beginning, channel, program_limits, url}
 use Rattle.ua_exchange.specs.Turns.{served_turns, token_behind}
 use Rattle.ua_exchange.specs.declared.turn.Turn.{Turn}

@@ -1,10 +1,10 @@
--- What a client sends of its turns, and what that tells a server: what `ua_served` says of turns that ask one request each, or renew.
+-- What a client sends of its turns, and what that tells a server: what `ua_loopback` says of turns that ask one request each, or renew.
 use Rattle.std.specs.Prelude.{ℕ, map, List, [], ◌∷◌, ◌++◌, Option, Some, None}
 use Rattle.ua_builtin.specs.declared.date_time.DateTime.{DateTime}
 use Rattle.ua_channel.specs.ServerTold.{Told}
 use Rattle.ua_services.specs.declared.request.Request.{Request}
-use Rattle.ua_served.specs.Sends.{conversation_octets}
-use Rattle.ua_served.specs.Turns.{conversation_told, ids_behind, opening_told, tokens_behind, turns_told}
+use Rattle.ua_loopback.specs.Sends.{conversation_octets}
+use Rattle.ua_loopback.specs.Turns.{conversation_told, ids_behind, opening_told, tokens_behind, turns_told}
 use Rattle.ua_exchange.specs.Programs.{channel, program_limits, url}
 use Rattle.ua_exchange.specs.declared.turn.Turn.{Turn}
 use Rattle.ua_exchange.specs.declared.turn.Turn.TheVariants.{Ask, Renew}

@@ -20,8 +20,8 @@ use crate::turn::Turn;
 use std::alloc::{AllocError, Global};
 use ua_builtin::DateTime;
 use ua_channel::AskFault;
+use ua_loopback::{Stage, Transcript as Conversed, converse};
 use ua_nodes::NodeTable;
-use ua_served::{Stage, Transcript as Conversed, converse};
 use ua_server::Services;
 
 /// The id of the channel.
@@ -80,7 +80,7 @@ fn conversed(
 /// services as they are left. No clause mentions the cuts: all of it is the same for all of them.
 ///
 /// The client is a [`ua_client::Client`], the server a [`ua_server::Server`], and between them is a
-/// [`ua_served::ServedLine`]. Both are those of the program `ua`: channel 1, the port 4840, frames of
+/// [`ua_loopback::ServedLine`]. Both are those of the program `ua`: channel 1, the port 4840, frames of
 /// 65535 octets, messages of 1048576 octets and 256 chunks. The server takes what the client writes, and
 /// the client what the server says, in pieces of at most these lengths, in turn and again from the first;
 /// 0 counts as 1, and none sets no limit. The client writes a frame at a time, and reads at most 4096

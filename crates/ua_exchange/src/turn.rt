@@ -1,7 +1,7 @@
 //! What a client does next.
 
 use std::slice;
-use ua_served::AsTurn;
+use ua_loopback::AsTurn;
 use ua_services::Request;
 
 /// What a client does next on an open channel.

@@ -3,9 +3,9 @@ use Rattle.std.proofs.Common.{◌≡◌, ℕ, ◌+◌, ◌<◌, ◌≤◌, ◌^�
 use Rattle.std.specs.Prelude.{slice_index, find, if◌then◌else◌}
 use Rattle.std.proofs.lemmas.Bool.{eqb-true, ltb-false, le-ltb}
 use Rattle.std.proofs.lemmas.List.{take_at, nil_from_length}
-use Rattle.ua_octets.proofs.Readers.{both_true, some_is}
-use Rattle.ua_octets.specs.Number.{number_octets, number_at}
-use Rattle.ua_octets.proofs.NumbersRead.{exact_number, length-number_octets}
+use Rattle.ua_wire.proofs.Readers.{both_true, some_is}
+use Rattle.ua_wire.specs.Number.{number_octets, number_at}
+use Rattle.ua_wire.proofs.NumbersRead.{exact_number, length-number_octets}
 use Rattle.ua_frame.specs.declared.fault.FrameFault.{FrameFault}
 use Rattle.ua_frame.specs.declared.fault.FrameFault.TheVariants.{UnknownType, OutOfPlace, TooLarge, TooSmall}
 use Rattle.ua_frame.specs.declared.frame.Frame.{Frame}

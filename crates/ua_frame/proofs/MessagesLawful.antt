@@ -1,12 +1,12 @@
 -- The formats of Hello, Acknowledge and Error are sound and lawful.
 use Rattle.std.proofs.Common.{refl}
-use Rattle.ua_octets.specs.Format.{flat, IsSound, IsLawful, TakesSome}
-use Rattle.ua_octets.specs.Number.{IsNumber}
-use Rattle.ua_octets.specs.Join.{number, both}
-use Rattle.ua_octets.specs.Counted.{text}
-use Rattle.ua_octets.proofs.Lawfulness.{number_starts, pair_starts, image_starts, sound_number, sound_both, sound_made, lawful_flat}
-use Rattle.ua_octets.proofs.CountedLawful.{sound_text}
-use Rattle.ua_octets.proofs.Leasts.{least_starts}
+use Rattle.ua_wire.specs.Format.{flat, IsSound, IsLawful, TakesSome}
+use Rattle.ua_wire.specs.Number.{IsNumber}
+use Rattle.ua_wire.specs.Join.{number, both}
+use Rattle.ua_wire.specs.Counted.{text}
+use Rattle.ua_wire.proofs.Lawfulness.{number_starts, pair_starts, image_starts, sound_number, sound_both, sound_made, lawful_flat}
+use Rattle.ua_wire.proofs.CountedLawful.{sound_text}
+use Rattle.ua_wire.proofs.Leasts.{least_starts}
 use Rattle.ua_builtin.specs.Status.{status_code}
 use Rattle.ua_builtin.proofs.Leasts.{status_code_least}
 use Rattle.ua_builtin.proofs.PlainLawful.{sound_status_code}

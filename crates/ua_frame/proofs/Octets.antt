@@ -4,8 +4,8 @@ use Rattle.std.specs.Prelude.{slice_index}
 use Rattle.std.specs.List.{flat_map}
 use borrow.Rule.Slice.PartMut.{put_mid}
 use Rattle.byteorder.specs.Endian.{little_bytes}
-use Rattle.ua_octets.specs.Number.{number_octets}
-use Rattle.ua_octets.proofs.NumbersRead.{length-number_octets, little_bytes-is}
+use Rattle.ua_wire.specs.Number.{number_octets}
+use Rattle.ua_wire.proofs.NumbersRead.{length-number_octets, little_bytes-is}
 use Rattle.ua_builtin.specs.Counted.{text, counted}
 use Rattle.ua_builtin.specs.Status.{status_code, of_code}
 use Rattle.ua_frame.specs.declared.ack.Ack.{Ack}

@@ -1,9 +1,9 @@
 -- A stream has one reading.
 use Rattle.std.proofs.Common.{◌≡◌, ℕ, ◌+◌, ◌⊎◌, inl, inr, List, [], ◌∷◌, ◌++◌, Bool, false, true, Option, Some, None, length, take, drop, refl, sym, ◌∙◌, ap, subst, arith, append_assoc, append-nil, length-append}
 use Rattle.std.proofs.lemmas.List.{take_at, drop_at, drop-drop, append_cancel_left}
-use Rattle.ua_octets.specs.Number.{number_octets}
-use Rattle.ua_octets.proofs.Readers.{some_is}
-use Rattle.ua_octets.proofs.NumbersRead.{length-number_octets}
+use Rattle.ua_wire.specs.Number.{number_octets}
+use Rattle.ua_wire.proofs.Readers.{some_is}
+use Rattle.ua_wire.proofs.NumbersRead.{length-number_octets}
 use Rattle.ua_frame.specs.declared.fault.FrameFault.{FrameFault}
 use Rattle.ua_frame.specs.declared.frame.Frame.{Frame}
 use Rattle.ua_frame.specs.declared.gate.Gate.{Gate}

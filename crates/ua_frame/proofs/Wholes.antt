@@ -1,8 +1,8 @@
 -- Values whose encoding is the whole of some octets.
 use Rattle.std.proofs.Common.{◌≡◌, ℕ, ◌≤◌, List, [], ◌∷◌, Option, Some, None, refl, sym, ◌∙◌, ap, subst, arith, append-nil}
-use Rattle.ua_octets.specs.Exact.{Exact}
-use Rattle.ua_octets.specs.Format.{Flat, Format, flat, most_levels, Within, IsSound, IsLawful, IsWhole}
-use Rattle.ua_octets.proofs.Readers.{some_is}
+use Rattle.ua_wire.specs.Exact.{Exact}
+use Rattle.ua_wire.specs.Format.{Flat, Format, flat, most_levels, Within, IsSound, IsLawful, IsWhole}
+use Rattle.ua_wire.proofs.Readers.{some_is}
 use Rattle.ua_frame.specs.Whole.{if_nothing_left, whole_of, body_of}
 
 -- ---- by an exact reader

@@ -10,7 +10,7 @@ use crate::frame::Frame;
 use crate::gate::Gate;
 use crate::kind::Kind;
 use bytes::Bytes;
-use ua_octets::front_number;
+use ua_wire::front_number;
 
 /// The number of octets of a header.
 pub const HEADER_LEN: usize = 8;

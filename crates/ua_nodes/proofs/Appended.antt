@@ -3,11 +3,11 @@ use Rattle.std.proofs.Common.{◌≡◌, ◌⊎◌, inl, inr, ℕ, zero, suc, �
 use Rattle.std.proofs.lemmas.Bool.{le-leb, leb-true}
 use Rattle.std.specs.List.{flat_map}
 use Rattle.ua_builtin.specs.Flags.{flag_bit}
-use Rattle.ua_octets.specs.Format.{Extends}
+use Rattle.ua_wire.specs.Format.{Extends}
 use Rattle.ua_builtin.specs.Reasons.{first_reason}
 use Rattle.ua_builtin.specs.declared.date_time.DateTime.{DateTime}
 use Rattle.ua_builtin.specs.declared.status_code.StatusCode.{StatusCode}
-use Rattle.ua_octets.proofs.Readers.{both_true}
+use Rattle.ua_wire.proofs.Readers.{both_true}
 use Rattle.ua_structures.specs.declared.attribute.ReadValueId.{ReadValueId}
 use Rattle.ua_variant.specs.Data.{DataFields, VariantData, bare, valued}
 use Rattle.ua_variant.specs.Encodable.{data_fields_encodable, data_value_encodable, variant_encodable, variant_fits}

@@ -4,7 +4,7 @@ use Rattle.ua_builtin.specs.DateTime.{date_time}
 use Rattle.ua_builtin.specs.Status.{status_code}
 use Rattle.ua_variant.specs.Data.{DataFields}
 use Rattle.ua_variant.specs.Encodable.{data_fields_encodable}
-use Rattle.ua_octets.proofs.Readers.{both_true}
+use Rattle.ua_wire.proofs.Readers.{both_true}
 use Rattle.ua_nodes.proofs.Fits.{both_are}
 
 -- a field that is there passes the test

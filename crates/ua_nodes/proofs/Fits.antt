@@ -18,7 +18,7 @@ use Rattle.uuid.specs.Text.{parsed, parsed_hyphenated, parsed_simple, parsed_bra
 use Rattle.uuid.proofs.TextLemmas.{by_index_length}
 use Rattle.ua_builtin.specs.Signed.{signed, in_range, octets_of}
 use Rattle.ua_builtin.specs.Counted.{text, counted}
-use Rattle.ua_octets.proofs.Readers.{both_true}
+use Rattle.ua_wire.proofs.Readers.{both_true}
 use Rattle.ua_nodes.specs.ValueText.{is_numeral, number_below, signed_denoted, negative}
 use mir.Val.{bits, hbits}
 

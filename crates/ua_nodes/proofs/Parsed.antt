@@ -10,7 +10,7 @@ use Rattle.std.proofs.lemmas.Str.Parse.{without_leading_plus_none, IsNumeralMode
 use Rattle.std.proofs.Math.Nat.{pow-le-pow_right}
 use Rattle.std.proofs.lemmas.Int.Digits.{digits_value-lt}
 use Rattle.ua_nodes.specs.ValueText.{all_digits, is_numeral, number_below, unsigned_denoted, signed_denoted, negative, pattern_denoted}
-use Rattle.ua_octets.proofs.Readers.{both_true}
+use Rattle.ua_wire.proofs.Readers.{both_true}
 use Rattle.ua_nodes.proofs.Fits.{both_are}
 use mir.Syntax.{Width}
 use mir.Val.{hbits}

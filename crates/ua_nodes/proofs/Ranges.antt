@@ -12,7 +12,7 @@ use Rattle.ua_variant.specs.View.{row, row_list, many_of}
 use Rattle.ua_nodes.specs.Range.{places, single, between, range, range_between, ranged_from, ranged, list_in, elements_of, part_of}
 use Rattle.ua_nodes.specs.ValueText.{all_digits, is_numeral, unsigned_denoted}
 use Rattle.ua_nodes.proofs.Pieces.{pieces, pieces_none, at_least_one}
-use Rattle.ua_octets.proofs.Readers.{both_true}
+use Rattle.ua_wire.proofs.Readers.{both_true}
 
 -- ---- texts
 

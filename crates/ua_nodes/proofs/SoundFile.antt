@@ -13,7 +13,7 @@ use Rattle.ua_nodes.specs.NodeFile.{FileLine, lines_of, numbered, is_read, node_
 use Rattle.ua_nodes.specs.Sound.{held, IsSoundNode, IsSound}
 use Rattle.ua_nodes.specs.Table.{Nodes}
 use Rattle.ua_nodes.specs.ValueText.{most_octets}
-use Rattle.ua_octets.proofs.Readers.{both_true}
+use Rattle.ua_wire.proofs.Readers.{both_true}
 use Rattle.ua_nodes.proofs.Fits.{text_fits}
 use Rattle.ua_nodes.proofs.IdFits.{node_fits}
 use Rattle.ua_nodes.proofs.Pieces.{pieces}

@@ -32,7 +32,7 @@ use Rattle.ua_nodes.specs.Status.{bad_node_id_unknown, bad_attribute_id_invalid,
 use Rattle.ua_nodes.specs.Table.{Nodes, node_at, same_id}
 use Rattle.ua_nodes.specs.Write.{has_none, is_of_type}
 use Rattle.ua_nodes.proofs.FieldsFit.{field_fits, parts_of, fields_from}
-use Rattle.ua_octets.proofs.Readers.{both_true}
+use Rattle.ua_wire.proofs.Readers.{both_true}
 use Rattle.ua_nodes.proofs.Fits.{both_are}
 use Rattle.ua_nodes.proofs.IdFits.{numeric_fits}
 use Rattle.ua_nodes.proofs.Writes.{same_id_is}

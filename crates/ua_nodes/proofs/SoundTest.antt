@@ -9,10 +9,10 @@ use Rattle.ua_builtin.specs.Join.{number}
 use Rattle.ua_builtin.specs.NodeId.{node_id}
 use Rattle.ua_builtin.specs.Status.{status_code}
 use Rattle.ua_builtin.specs.declared.node_id.NodeId.{NodeId}
-use Rattle.ua_parts.specs.Parts.{optional_fits}
+use Rattle.ua_diagnostic.specs.Parts.{optional_fits}
 use Rattle.ua_variant.specs.Encodable.{variant_fits, variant_encodable, data_fields_encodable}
 use Rattle.ua_variant.specs.Measure.{variant_depth}
-use Rattle.ua_octets.proofs.Readers.{both_true}
+use Rattle.ua_wire.proofs.Readers.{both_true}
 use Rattle.ua_nodes.specs.Sound.{held_fields, IsSoundNode, is_sound_node}
 use Rattle.ua_nodes.specs.Write.{is_of_type}
 use Rattle.ua_nodes.specs.declared.node.Variable.{Variable}

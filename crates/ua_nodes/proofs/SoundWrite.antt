@@ -19,7 +19,7 @@ use Rattle.ua_builtin.specs.Reasons.{first_reason}
 use Rattle.ua_nodes.specs.Status.{bad_attribute_id_invalid, bad_not_writable, bad_write_not_supported, bad_type_mismatch}
 use Rattle.ua_nodes.specs.Table.{Nodes}
 use Rattle.ua_nodes.specs.Write.{is_of_type, holds_type, write_item_reasons, or_else, time_of, picoseconds_of, stored, written_by, is_good_for, later, last_good, after_write}
-use Rattle.ua_octets.proofs.Readers.{both_true}
+use Rattle.ua_wire.proofs.Readers.{both_true}
 use Rattle.ua_nodes.proofs.Fits.{both_are}
 use Rattle.ua_nodes.proofs.FieldsFit.{field_fits, parts_of, fields_from}
 

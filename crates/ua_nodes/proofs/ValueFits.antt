@@ -20,7 +20,7 @@ use Rattle.ua_variant.specs.View.{row}
 use Rattle.ua_nodes.specs.Write.{is_of_type}
 use Rattle.ua_nodes.specs.ValueText.{number_below, unsigned_denoted, signed_denoted, pattern_denoted, boolean_denoted, octets_denoted, guid_denoted, leaf_denoted, elements, leaves_denoted, has_text_form, most_octets, scalar_denoted, array_denoted, value_denoted}
 use Rattle.uuid.specs.Text.{parsed}
-use Rattle.ua_octets.proofs.Readers.{both_true}
+use Rattle.ua_wire.proofs.Readers.{both_true}
 use Rattle.ua_nodes.proofs.Fits.{both_are, below, signed_fits, signed_range, text_fits, counted_fits, decoded_length, parsed_length, mapped_some}
 use Rattle.ua_nodes.proofs.IdFits.{guid_fits}
 use Rattle.ua_nodes.proofs.Pieces.{pieces}

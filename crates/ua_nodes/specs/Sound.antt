@@ -11,7 +11,7 @@ use Rattle.ua_builtin.specs.declared.node_id.NodeId.{NodeId}
 use Rattle.ua_variant.specs.Data.{DataFields, DataValueData, valued}
 use Rattle.ua_variant.specs.Encodable.{data_value_encodable, variant_encodable}
 use Rattle.ua_variant.specs.Measure.{variant_depth}
-use Rattle.ua_parts.specs.Parts.{optional_fits}
+use Rattle.ua_diagnostic.specs.Parts.{optional_fits}
 use Rattle.ua_nodes.specs.declared.node.Variable.{Variable}
 use Rattle.ua_nodes.specs.Table.{Nodes}
 use Rattle.ua_nodes.specs.Write.{is_of_type}

@@ -10,7 +10,7 @@ ghost use Rattle.ua_variant.specs.View.{variant_of};
 use crate::node::{Node, Variable};
 use crate::write::is_value_of;
 use ua_builtin::{MOST_LEVELS, NodeId, Wire};
-use ua_parts::field::field_fits;
+use ua_diagnostic::field::field_fits;
 use ua_variant::Variant;
 
 impl Node {

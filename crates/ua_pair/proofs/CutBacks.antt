@@ -3,7 +3,7 @@ use Rattle.std.proofs.Common.{◌≡◌, ◌≤◌, ℕ, Result, Ok, Err, OnErr,
 use Rattle.std.proofs.Math.Seq.{take-append_seam}
 use Rattle.std.proofs.lemmas.Str.{IsUtf8-string_bytes, IsCharBoundary-from_take}
 use Rattle.std.specs.String.Boundary.{IsSplitPoint}
-use Rattle.ua_octets.specs.Format.{Extends}
+use Rattle.ua_wire.specs.Format.{Extends}
 
 -- it may be cut where it went on
 pub cut_back : {Z : Type 0} (old new : String Z) → Extends (string_bytes old) (string_bytes new) → IsSplitPoint (string_bytes new) (string_len old)

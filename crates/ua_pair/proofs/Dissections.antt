@@ -4,7 +4,7 @@ use Rattle.std.proofs.Math.Seq.{take-add, take-length}
 use Rattle.std.proofs.lemmas.List.{take_all}
 use Rattle.ua_builtin.specs.declared.status_code.StatusCode.{StatusCode}
 use Rattle.ua_builtin.specs.Status.{of_code}
-use Rattle.ua_octets.specs.Format.{Extends}
+use Rattle.ua_wire.specs.Format.{Extends}
 use Rattle.ua_frame.specs.declared.fault.FrameFault.{FrameFault}
 use Rattle.ua_frame.specs.declared.fault.FrameFault.TheVariants.{UnknownType, OutOfPlace, TooLarge, TooSmall, OutOfMemory, Closed}
 use Rattle.ua_frame.specs.declared.frame.Frame.{Frame}

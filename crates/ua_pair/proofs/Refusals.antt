@@ -4,7 +4,7 @@ use Rattle.std.specs.List.{flat_map}
 use Rattle.ua_builtin.specs.Reasons.{first_reason}
 use Rattle.ua_builtin.proofs.FirstReasons.{first_reason-map}
 use Rattle.ua_frame.specs.declared.frame.Frame.{Frame}
-use Rattle.ua_octets.specs.Format.{Flat}
+use Rattle.ua_wire.specs.Format.{Flat}
 use Rattle.ua_frame.specs.declared.kind.Kind.{Kind}
 use Rattle.ua_frame.specs.declared.kind.Kind.TheVariants.{Msg}
 use Rattle.ua_frame.specs.Frames.{frame_size}

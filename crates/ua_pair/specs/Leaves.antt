@@ -2,8 +2,8 @@
 use Rattle.std.specs.Prelude.{ℕ, Bool, true, false, ◌&&◌, cond, nat_eq, List, Option, Some, None, is_none, codes}
 use Rattle.std.specs.Fmt.{decimal, signed_decimal}
 use lib.IntN.{ℤ}
-use Rattle.ua_octets.specs.Format.{flat}
-use Rattle.ua_octets.specs.declared.double_bits.DoubleBits.{DoubleBits}
+use Rattle.ua_wire.specs.Format.{flat}
+use Rattle.ua_wire.specs.declared.double_bits.DoubleBits.{DoubleBits}
 use Rattle.ua_builtin.specs.ExtensionObject.{extension_object as object_format}
 use Rattle.ua_builtin.specs.Format.{Format}
 use Rattle.ua_builtin.specs.LocalizedText.{localized_text as localized_format}
@@ -19,10 +19,10 @@ use Rattle.ua_builtin.specs.declared.node_id.Identifier.TheVariants.{Numeric, Te
 use Rattle.ua_builtin.specs.declared.node_id.NodeId.{NodeId}
 use Rattle.ua_builtin.specs.declared.qualified_name.QualifiedName.{QualifiedName}
 use Rattle.ua_builtin.specs.declared.status_code.StatusCode.{StatusCode}
-use Rattle.ua_parts.specs.Diagnostic.{DiagnosticFields, DiagnosticData, innermost, around}
-use Rattle.ua_parts.specs.Formats.{diagnostic_format}
-use Rattle.ua_parts.specs.View.{diagnostic_of}
-use Rattle.ua_parts.specs.declared.diagnostic_info.DiagnosticInfo.{DiagnosticInfo}
+use Rattle.ua_diagnostic.specs.Diagnostic.{DiagnosticFields, DiagnosticData, innermost, around}
+use Rattle.ua_diagnostic.specs.Formats.{diagnostic_format}
+use Rattle.ua_diagnostic.specs.View.{diagnostic_of}
+use Rattle.ua_diagnostic.specs.declared.diagnostic_info.DiagnosticInfo.{DiagnosticInfo}
 use Rattle.ua_texts.specs.Names.{named_code}
 use Rattle.ua_texts.specs.Shown.{shown, shown_string, pattern_text, base64_text, written_text}
 use Rattle.ua_texts.specs.Values.{boolean_text}

@@ -1,7 +1,7 @@
 //! The dissector of the octets that one side sent.
 
 ghost use Rattle.std.specs.Prelude.{◌≡◌, ◌++◌, ◌≤◌, [], ℕ, List, IsErr, OnOk, OnErr, IfOk, string_bytes};
-ghost use Rattle.ua_octets.specs.Format.{Extends};
+ghost use Rattle.ua_wire.specs.Format.{Extends};
 ghost use Rattle.ua_frame.specs.declared.frame.Frame.{Frame};
 ghost use Rattle.ua_frame.specs.Frames.{IsSized, LetsIn};
 ghost use Rattle.ua_pair.specs.Dissected.{every_frame as open_gate};

@@ -1,7 +1,7 @@
 //! The octets that one side sent, as lines.
 
 ghost use Rattle.std.specs.Prelude.{◌≡◌, OnOk, OnErr, string_bytes};
-ghost use Rattle.ua_octets.specs.Format.{Extends};
+ghost use Rattle.ua_wire.specs.Format.{Extends};
 ghost use Rattle.ua_pair.specs.Dissected.{AddsLines, plain};
 
 use crate::dissector::Dissector;

@@ -9,7 +9,7 @@ use Rattle.ua_builtin.specs.Status.{status_code}
 use Rattle.ua_variant.specs.Formats.{diagnostic_format}
 use Rattle.ua_nodes.proofs.Fits.{both_are}
 use Rattle.ua_nodes.proofs.IdFits.{numeric_fits}
-use Rattle.ua_octets.specs.declared.double_bits.DoubleBits.{DoubleBits}
+use Rattle.ua_wire.specs.declared.double_bits.DoubleBits.{DoubleBits}
 use Rattle.ua_services.proofs.ByKind.{response-encodable}
 use Rattle.ua_services.specs.Response.{response}
 use Rattle.ua_builtin.specs.declared.date_time.DateTime.{DateTime}

@@ -9,7 +9,7 @@ use Rattle.ua_builtin.specs.Counted.{text, counted, first_negative}
 use Rattle.ua_builtin.specs.Format.{Format}
 use Rattle.ua_builtin.specs.LocalizedText.{localized_text}
 use Rattle.ua_nodes.proofs.Fits.{both_are}
-use Rattle.ua_octets.proofs.Readers.{both_true}
+use Rattle.ua_wire.proofs.Readers.{both_true}
 use Rattle.ua_structures.specs.Array.{array}
 use Rattle.ua_structures.specs.Discovery.{application_description, user_token_policy, endpoint_description}
 use Rattle.ua_structures.specs.Field.{byte_string, int32, string}

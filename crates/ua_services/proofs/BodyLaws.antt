@@ -1,7 +1,7 @@
 -- The laws of bodies.
 use Rattle.std.specs.Prelude.{◌≡◌, ℕ, List, []}
 use Rattle.std.proofs.Common.{sym, ◌∙◌, ap}
-use Rattle.ua_octets.proofs.Readers.{some_is}
+use Rattle.ua_wire.proofs.Readers.{some_is}
 use Rattle.ua_builtin.specs.Format.{Format, IsLawful}
 use Rattle.ua_services.specs.Message.{IsBody}
 use Rattle.ua_services.specs.Laws.{BodyReadsBack, OneMessage}

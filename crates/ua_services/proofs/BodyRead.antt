@@ -4,10 +4,10 @@ use Rattle.std.proofs.lemmas.Result.{err_from_is_err_and}
 use Rattle.std.proofs.Common.{refl, sym, ◌∙◌, ap, subst, arith, inl, inr}
 use Rattle.std.proofs.lemmas.List.{append-nil}
 use Rattle.ua_builtin.specs.Exact.{◌>>=◌, image_read}
-use Rattle.ua_octets.proofs.Readers.{some_is, bind_some}
+use Rattle.ua_wire.proofs.Readers.{some_is, bind_some}
 use Rattle.ua_builtin.specs.Format.{Format, IsLawful, Within, Gives, GivesBy, most_levels}
-use Rattle.ua_octets.specs.declared.fault.ReadFault.{ReadFault}
-use Rattle.ua_octets.specs.declared.fault.ReadFault.TheVariants.{NoValue, OutOfMemory}
+use Rattle.ua_wire.specs.declared.fault.ReadFault.{ReadFault}
+use Rattle.ua_wire.specs.declared.fault.ReadFault.TheVariants.{NoValue, OutOfMemory}
 use Rattle.ua_services.specs.Message.{IsBody, IsNoBody, if_last, body_of, found_or}
 
 empty_is : (octets : List ℕ) → length octets ≤ 0 → octets ≡ []

@@ -1,7 +1,7 @@
 -- How many octets the bodies have that open and close a channel; and that no response is empty.
 use Rattle.std.specs.Prelude.{◌≡◌, ◌<◌, ℕ, ℤ, List, ◌++◌, length}
 use Rattle.std.proofs.Common.{arith, length-append}
-use Rattle.ua_octets.proofs.NumbersRead.{length-number_octets}
+use Rattle.ua_wire.proofs.NumbersRead.{length-number_octets}
 use Rattle.ua_builtin.specs.NodeId.{node_id, form_of, in_form}
 use Rattle.ua_builtin.specs.Number.{number_octets}
 use Rattle.ua_builtin.specs.declared.date_time.DateTime.{DateTime}

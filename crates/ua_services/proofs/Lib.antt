@@ -13,3 +13,5 @@ mod RequestSkipped
 mod RequestThinned
 mod ThinCounted
 mod NumberWritten
+pub mod Words
+pub mod Asked

@@ -4,8 +4,8 @@ use Rattle.std.proofs.Common.{refl, sym, ◌∙◌, ap, subst, arith, eq-eqb, le
 use Rattle.ua_builtin.specs.Exact.{Exact, Follows, Image}
 use Rattle.ua_builtin.specs.Format.{Format, IsLawful, Within, most_levels}
 use Rattle.ua_builtin.specs.NodeId.{node_id}
-use Rattle.ua_octets.proofs.Readers.{both_true, exact_never, exact_bind, exact_image, exact_same}
-use Rattle.ua_octets.proofs.Lawfulness.{bind_starts}
+use Rattle.ua_wire.proofs.Readers.{both_true, exact_never, exact_bind, exact_image, exact_same}
+use Rattle.ua_wire.proofs.Lawfulness.{bind_starts}
 use Rattle.ua_builtin.proofs.NodeIdLawful.{sound_node_id, lawful_node_id}
 use Rattle.ua_structures.proofs.FormatsBack.{AllWriteBack}
 use Rattle.ua_structures.proofs.Sound.{Sound}

@@ -2,7 +2,7 @@
 use Rattle.std.specs.Prelude.{◌≡◌, ◌<◌, ◌≤◌, ◌%◌, ◌/◌, ℕ, [], ◌∷◌, ◌++◌, Bool, true, false, cond, nat_lt}
 use Rattle.std.proofs.Common.{refl, sym, ◌∙◌, ap, arith}
 use Rattle.std.proofs.lemmas.Bool.{le-ltb, lt-ltb}
-use Rattle.ua_octets.specs.Number.{number_octets}
+use Rattle.ua_wire.specs.Number.{number_octets}
 use Rattle.ua_builtin.specs.NodeId.{node_id, in_form}
 use Rattle.ua_services.specs.Message.{standard}
 

@@ -3,9 +3,9 @@ use Rattle.std.specs.Prelude.{◌≡◌, ℕ, ◌<◌, ◌≤◌, List, length, 
 use Rattle.std.proofs.Common.{refl, sym, ◌∙◌, ap, subst, inl, inr}
 use Rattle.ua_builtin.specs.Exact.{◌>>=◌, image_read, skipped}
 use Rattle.ua_builtin.specs.Format.{Gives, most_levels}
-use Rattle.ua_octets.specs.declared.fault.ReadFault.{ReadFault}
-use Rattle.ua_octets.specs.declared.fault.ReadFault.TheVariants.{NoValue, OutOfMemory as NoMemory}
-use Rattle.ua_octets.proofs.Readers.{some_is}
+use Rattle.ua_wire.specs.declared.fault.ReadFault.{ReadFault}
+use Rattle.ua_wire.specs.declared.fault.ReadFault.TheVariants.{NoValue, OutOfMemory as NoMemory}
+use Rattle.ua_wire.proofs.Readers.{some_is}
 use Rattle.ua_services.specs.Message.{kind_at}
 use Rattle.ua_services.specs.Request.{requests, kind_of, kind_read, kind_alone, Structure}
 use Rattle.ua_services.specs.declared.request.Request.{Request}

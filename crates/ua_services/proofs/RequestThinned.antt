@@ -4,8 +4,8 @@ use Rattle.std.proofs.Common.{refl, sym, ◌∙◌, ap, inl, inr}
 use Rattle.ua_builtin.specs.Exact.{◌>>=◌, image_read}
 use Rattle.ua_builtin.specs.Format.{Gives, most_levels}
 use Rattle.ua_builtin.specs.declared.node_id.NodeId.{NodeId}
-use Rattle.ua_octets.specs.declared.fault.ReadFault.{ReadFault}
-use Rattle.ua_octets.specs.declared.fault.ReadFault.TheVariants.{NoValue}
+use Rattle.ua_wire.specs.declared.fault.ReadFault.{ReadFault}
+use Rattle.ua_wire.specs.declared.fault.ReadFault.TheVariants.{NoValue}
 use Rattle.ua_structures.specs.Attribute.{write_request}
 use Rattle.ua_structures.specs.Thin.{thinned_request}
 use Rattle.ua_structures.specs.declared.attribute.WriteRequest.{WriteRequest}

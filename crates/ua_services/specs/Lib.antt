@@ -4,3 +4,4 @@ pub mod Message
 pub mod Open
 pub mod Request
 pub mod Response
+pub mod SessionRequests

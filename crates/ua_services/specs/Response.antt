@@ -15,8 +15,8 @@ use Rattle.ua_structures.specs.declared.attribute.ReadResponse.{ReadResponse}
 use Rattle.ua_structures.specs.declared.attribute.WriteResponse.{WriteResponse}
 use Rattle.ua_structures.specs.declared.header.ResponseHeader.{ResponseHeader}
 use Rattle.ua_structures.specs.declared.header.ServiceFault.{ServiceFault}
-use Rattle.ua_octets.specs.declared.fault.ReadFault.{ReadFault}
-use Rattle.ua_octets.specs.declared.fault.ReadFault.TheVariants.{NoValue}
+use Rattle.ua_wire.specs.declared.fault.ReadFault.{ReadFault}
+use Rattle.ua_wire.specs.declared.fault.ReadFault.TheVariants.{NoValue}
 use Rattle.ua_services.specs.Message.{Kind, Kinds, announced, message_of, with_number, IsNoBody, body_of, id_of, found_or, kind_at, if_last}
 use Rattle.ua_services.specs.declared.request.RequestKind.{RequestKind}
 use Rattle.ua_services.specs.declared.response.Response.{Response}

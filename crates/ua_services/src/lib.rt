@@ -24,6 +24,7 @@ mod message;
 mod open;
 mod request;
 mod response;
+pub mod session_requests;
 
 pub use fault::{RequestFault, ResponseFault};
 pub use identity::{read_identity, write_identity};

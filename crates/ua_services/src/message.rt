@@ -4,8 +4,8 @@ ghost use Rattle.std.specs.Prelude.{◌≡◌, ◌≤◌, ◌++◌, ◌<◌, ◌
 ghost use Rattle.ua_builtin.specs.Exact.{image_read};
 ghost use Rattle.ua_builtin.specs.Format.{most_levels, Extends, Gives, StaysBehind};
 ghost use Rattle.ua_builtin.specs.NodeId.{node_id};
-ghost use Rattle.ua_octets.specs.declared.fault.ReadFault.TheVariants.{NoValue};
-ghost use Rattle.ua_octets.specs.declared.fault.WriteFault.TheVariants.{NotWritable};
+ghost use Rattle.ua_wire.specs.declared.fault.ReadFault.TheVariants.{NoValue};
+ghost use Rattle.ua_wire.specs.declared.fault.WriteFault.TheVariants.{NotWritable};
 ghost use Rattle.ua_services.specs.Message.{IsBody, IsNoBody, message, standard, standard_number as number_of_id};
 
 use std::alloc::{AllocError, Global};

@@ -1,8 +1,8 @@
 //! The messages of the secure channel.
 
 ghost use Rattle.std.specs.Prelude.{◌≡◌, ◌++◌, ◌↔◌, ◌⊎◌, IfOk, IsErrOf, OnOk, OnErr, IsFalse};
-ghost use Rattle.ua_octets.specs.declared.fault.ReadFault.TheVariants.{NoValue};
-ghost use Rattle.ua_octets.specs.declared.fault.WriteFault.TheVariants.{NotWritable};
+ghost use Rattle.ua_wire.specs.declared.fault.ReadFault.TheVariants.{NoValue};
+ghost use Rattle.ua_wire.specs.declared.fault.WriteFault.TheVariants.{NotWritable};
 ghost use Rattle.ua_structures.specs.SecureChannel.{open_request, open_response, close_request};
 ghost use Rattle.ua_services.specs.Message.{IsBody, IsNoBody, message, body_of, found_or};
 ghost use Rattle.ua_services.specs.Open.{IsAnswer, IsNoAnswer, answer_read};

@@ -3,7 +3,7 @@
 ghost use Rattle.std.specs.Prelude.{◌≡◌, ◌≤◌, ◌++◌, ◌⊎◌, ℕ, List, length, IfOk, IfErr, OnOk, OnErr, IsErrOf, IsFalse, ◌↔◌};
 ghost use Rattle.ua_builtin.specs.Exact.{image_read};
 ghost use Rattle.ua_builtin.specs.Format.{most_levels, Gives, StaysBehind};
-ghost use Rattle.ua_octets.specs.declared.fault.WriteFault.TheVariants.{NotWritable};
+ghost use Rattle.ua_wire.specs.declared.fault.WriteFault.TheVariants.{NotWritable};
 ghost use Rattle.ua_services.specs.Message.{IsBody};
 ghost use Rattle.ua_services.specs.Response.{response, responses, response_kind, response_of_kind, unread_by, kind_read, own_answer, response_read, Misread};
 

@@ -3,7 +3,7 @@ use Rattle.std.specs.Prelude.{◌≡◌, ℕ, ◌%◌, ◌<◌, ◌≤◌, Bool,
 use Rattle.std.proofs.Common.{refl, sym, ◌∙◌, ap, arith}
 use Rattle.std.proofs.lemmas.Grind.{common_steps}
 use Rattle.ua_builtin.specs.Flags.{has}
-use Rattle.ua_parts.specs.Parts.{IsOctet}
+use Rattle.ua_diagnostic.specs.Parts.{IsOctet}
 use Rattle.ua_variant.specs.Data.{VariantData, null, one, absent, many, DataFields}
 use Rattle.ua_variant.specs.Encodable.{kind_of}
 use Rattle.ua_variant.specs.Encoding.{EncodesVariant, EncodesDataValue, array_octet}

@@ -7,9 +7,9 @@ use Rattle.ua_builtin.specs.Counted.{first_negative, null_count}
 use Rattle.ua_builtin.specs.Exact.{Exact}
 use Rattle.ua_builtin.specs.Format.{Format, IsLawful, Within, TakesSome, most_levels}
 use Rattle.ua_builtin.specs.Number.{number_octets}
-use Rattle.ua_octets.proofs.NumbersRead.{length-number_octets}
-use Rattle.ua_octets.proofs.Leasts.{number_least}
-use Rattle.ua_octets.proofs.Readers.{both_true, exact_same}
+use Rattle.ua_wire.proofs.NumbersRead.{length-number_octets}
+use Rattle.ua_wire.proofs.Leasts.{number_least}
+use Rattle.ua_wire.proofs.Readers.{both_true, exact_same}
 use Rattle.ua_structures.specs.Array.{EachEncoded, items_depth, items_count, EncodesArray, array_depth, array_count, array_fits, array_octets, array_at, array}
 use Rattle.ua_structures.proofs.ArrayRead.{exact_array}
 

@@ -5,8 +5,8 @@ use Rattle.std.proofs.lemmas.Bool.{ltb-false, ltb-true}
 use Rattle.ua_builtin.specs.Counted.{first_negative}
 use Rattle.ua_builtin.specs.Exact.{Begins, Exact, ◌>>=◌, IsOnly, Follows, Image, image_read}
 use Rattle.ua_builtin.specs.Number.{IsNumber, number_at, number_octets}
-use Rattle.ua_octets.proofs.Readers.{bind_some, some_is, exact_same, exact_image, exact_only, exact_bind}
-use Rattle.ua_octets.proofs.NumbersRead.{exact_number}
+use Rattle.ua_wire.proofs.Readers.{bind_some, some_is, exact_same, exact_image, exact_only, exact_bind}
+use Rattle.ua_wire.proofs.NumbersRead.{exact_number}
 use Rattle.ua_structures.specs.Array.{EachEncoded, items_at, EncodesArray, behind_count, array_at}
 
 -- ---- values, one behind the other

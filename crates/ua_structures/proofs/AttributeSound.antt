@@ -5,9 +5,9 @@ use Rattle.ua_builtin.specs.Format.{IsLawful}
 use Rattle.ua_structures.specs.Attribute.{read_value_id, read_request, read_response, write_value, write_request, write_response}
 use Rattle.ua_structures.specs.WrittenBack.{data_value_unreserved, write_unreserved, results_unreserved}
 use Rattle.ua_builtin.proofs.NodeIdLawful.{lawful_node_id}
-use Rattle.ua_octets.proofs.CountedLawful.{lawful_text}
-use Rattle.ua_octets.proofs.Lawfulness.{lawful_32, lawful_pair, lawful_struct}
-use Rattle.ua_parts.proofs.DiagnosticsLawful.{lawful_diagnostic}
+use Rattle.ua_wire.proofs.CountedLawful.{lawful_text}
+use Rattle.ua_wire.proofs.Lawfulness.{lawful_32, lawful_pair, lawful_struct}
+use Rattle.ua_diagnostic.proofs.DiagnosticsLawful.{lawful_diagnostic}
 use Rattle.ua_variant.proofs.VariantsLawful.{lawful_data_value}
 use Rattle.ua_structures.proofs.ArrayLawful.{lawful_array}
 use Rattle.ua_structures.proofs.FlatsBack.{back_node_id}

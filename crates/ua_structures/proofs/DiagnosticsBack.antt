@@ -2,12 +2,12 @@
 use Rattle.std.specs.Prelude.{◌≡◌, ℕ, List, Bool, true, false, Option, Some, None, is_some}
 use Rattle.std.specs.Int.{w32}
 use Rattle.std.proofs.Common.{refl, ap, ◌∙◌}
-use Rattle.ua_octets.specs.Format.{Flat}
-use Rattle.ua_octets.specs.Signed.{signed}
+use Rattle.ua_wire.specs.Format.{Flat}
+use Rattle.ua_wire.specs.Signed.{signed}
 use Rattle.ua_builtin.specs.Flags.{has, flagged_text}
 use Rattle.ua_builtin.proofs.FlagBits.{text_back}
-use Rattle.ua_parts.specs.Parts.{Optional, optional_fits}
-use Rattle.ua_parts.specs.Diagnostic.{DiagnosticFields, DiagnosticData, innermost, around, diagnostic_fields, diagnostic_fields_encodable, diagnostic_fits, EncodesDiagnostic}
+use Rattle.ua_diagnostic.specs.Parts.{Optional, optional_fits}
+use Rattle.ua_diagnostic.specs.Diagnostic.{DiagnosticFields, DiagnosticData, innermost, around, diagnostic_fields, diagnostic_fields_encodable, diagnostic_fits, EncodesDiagnostic}
 use Rattle.ua_structures.proofs.FlatsBack.{WritesBack, and_true, back_signed_32, back_status_code, text_flagged}
 
 -- a value where it is announced

@@ -7,14 +7,14 @@ use Rattle.std.proofs.lemmas.Bool.{lt-ltb}
 use Rattle.std.proofs.lemmas.Int.{of_z-to_z}
 use Rattle.std.proofs.Math.Facts.{sfits_to_z}
 use mir.Val.{bits, hbits}
-use Rattle.ua_octets.specs.Format.{Flat}
-use Rattle.ua_octets.specs.Join.{number, both, image, made, such}
-use Rattle.ua_octets.specs.Boolean.{boolean}
-use Rattle.ua_octets.specs.Signed.{signed, in_range, octets_of}
-use Rattle.ua_octets.specs.FloatBits.{float_bits}
-use Rattle.ua_octets.specs.DoubleBits.{double_bits}
-use Rattle.ua_octets.specs.Counted.{text, is_text, counted, EncodesCounted, counted_fits, first_negative}
-use Rattle.ua_octets.proofs.Readers.{both_true}
+use Rattle.ua_wire.specs.Format.{Flat}
+use Rattle.ua_wire.specs.Join.{number, both, image, made, such}
+use Rattle.ua_wire.specs.Boolean.{boolean}
+use Rattle.ua_wire.specs.Signed.{signed, in_range, octets_of}
+use Rattle.ua_wire.specs.FloatBits.{float_bits}
+use Rattle.ua_wire.specs.DoubleBits.{double_bits}
+use Rattle.ua_wire.specs.Counted.{text, is_text, counted, EncodesCounted, counted_fits, first_negative}
+use Rattle.ua_wire.proofs.Readers.{both_true}
 use Rattle.ua_builtin.specs.DateTime.{date_time, of_ticks}
 use Rattle.ua_builtin.specs.Guid.{guid}
 use Rattle.ua_builtin.specs.Status.{status_code}

@@ -6,9 +6,9 @@ use Rattle.std.proofs.lemmas.Bool.{lt-ltb, le-leb}
 use Rattle.ua_builtin.specs.Counted.{first_negative}
 use Rattle.ua_builtin.specs.Format.{Flat, Format, flat, IsLawful, Within, most_levels}
 use Rattle.ua_builtin.specs.Join.{pair, struct}
-use Rattle.ua_parts.specs.Diagnostic.{diagnostic_depth}
-use Rattle.ua_parts.specs.View.{diagnostic_of}
-use Rattle.ua_parts.specs.Formats.{diagnostic_format}
+use Rattle.ua_diagnostic.specs.Diagnostic.{diagnostic_depth}
+use Rattle.ua_diagnostic.specs.View.{diagnostic_of}
+use Rattle.ua_diagnostic.specs.Formats.{diagnostic_format}
 use Rattle.ua_variant.specs.Formats.{variant_format, data_value_format}
 use Rattle.ua_variant.specs.Measure.{variant_depth, data_value_depth}
 use Rattle.ua_variant.specs.View.{variant_of, data_value_of}

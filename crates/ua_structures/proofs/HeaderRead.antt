@@ -1,15 +1,15 @@
 -- The end of a header that says no more is read as nothing.
 use Rattle.std.specs.Prelude.{◌≡◌, ◌<◌, ℕ, zero, suc, List, [], ◌++◌, cond, Option, Some, None}
 use Rattle.std.proofs.Common.{refl, sym, ◌∙◌, ap, arith}
-use Rattle.ua_octets.proofs.NumbersRead.{exact_number}
+use Rattle.ua_wire.proofs.NumbersRead.{exact_number}
 use Rattle.ua_builtin.specs.Counted.{counted, text, behind_count, is_text}
 use Rattle.ua_builtin.specs.Exact.{◌>>=◌, pair_read}
 use Rattle.ua_builtin.specs.ExtensionObject.{extension_object, null_object}
 use Rattle.ua_builtin.specs.NodeId.{node_id}
 use Rattle.ua_builtin.specs.Number.{number_at, number_octets}
-use Rattle.ua_parts.specs.Diagnostic.{diagnostic_at, diagnostic_step, diagnostic_fields}
-use Rattle.ua_parts.specs.Formats.{diagnostic_format}
-use Rattle.ua_parts.specs.View.{no_diagnostics}
+use Rattle.ua_diagnostic.specs.Diagnostic.{diagnostic_at, diagnostic_step, diagnostic_fields}
+use Rattle.ua_diagnostic.specs.Formats.{diagnostic_format}
+use Rattle.ua_diagnostic.specs.View.{no_diagnostics}
 use Rattle.ua_structures.specs.Array.{array, items_at}
 use Rattle.ua_structures.specs.inside.HeaderEnds.{behind_diagnostics, behind_result}
 

@@ -17,10 +17,10 @@ use Rattle.ua_builtin.specs.declared.date_time.DateTime.{DateTime}
 use Rattle.ua_builtin.specs.declared.node_id.NodeId.{NodeId}
 use Rattle.ua_builtin.specs.declared.status_code.StatusCode.{StatusCode}
 use Rattle.ua_builtin.specs.declared.extension_object.ExtensionObject.{ExtensionObject}
-use Rattle.ua_octets.specs.declared.double_bits.DoubleBits.{DoubleBits}
-use Rattle.ua_parts.specs.Diagnostic.{diagnostic_fields_encodable}
-use Rattle.ua_parts.specs.View.{no_diagnostics}
-use Rattle.ua_parts.specs.Formats.{diagnostic_format}
+use Rattle.ua_wire.specs.declared.double_bits.DoubleBits.{DoubleBits}
+use Rattle.ua_diagnostic.specs.Diagnostic.{diagnostic_fields_encodable}
+use Rattle.ua_diagnostic.specs.View.{no_diagnostics}
+use Rattle.ua_diagnostic.specs.Formats.{diagnostic_format}
 use Rattle.ua_variant.specs.Formats.{data_value_format}
 use Rattle.ua_variant.specs.declared.values.DataValue.{DataValue}
 use Rattle.ua_structures.specs.Array.{array}

@@ -1,16 +1,16 @@
 -- How many octets the structures have that open and close a channel, with nothing in them but what they are made for.
 use Rattle.std.specs.Prelude.{◌≡◌, ℕ, ℤ, pos, ◌+◌, List, ◌++◌, length, None}
 use Rattle.std.proofs.Common.{refl, arith, length-append}
-use Rattle.ua_octets.proofs.NumbersRead.{length-number_octets}
+use Rattle.ua_wire.proofs.NumbersRead.{length-number_octets}
 use Rattle.ua_builtin.specs.Counted.{text, counted}
 use Rattle.ua_builtin.specs.DateTime.{date_time}
 use Rattle.ua_builtin.specs.ExtensionObject.{extension_object, null_object}
 use Rattle.ua_builtin.specs.NodeId.{node_id, null_id}
 use Rattle.ua_builtin.specs.Status.{status_code, of_code}
 use Rattle.ua_builtin.specs.declared.date_time.DateTime.{DateTime}
-use Rattle.ua_parts.specs.Formats.{diagnostic_format}
-use Rattle.ua_parts.specs.Diagnostic.{diagnostic_fields_canonical}
-use Rattle.ua_parts.specs.View.{no_diagnostics}
+use Rattle.ua_diagnostic.specs.Formats.{diagnostic_format}
+use Rattle.ua_diagnostic.specs.Diagnostic.{diagnostic_fields_canonical}
+use Rattle.ua_diagnostic.specs.View.{no_diagnostics}
 use Rattle.ua_structures.specs.Array.{array}
 use Rattle.ua_structures.specs.Field.{byte_string, int32, string, uint32}
 use Rattle.ua_structures.specs.Header.{request_header, response_header}

@@ -3,9 +3,9 @@ use Rattle.std.proofs.Common.{refl}
 use Rattle.ua_builtin.specs.Format.{IsLawful}
 use Rattle.ua_structures.specs.SecureChannel.{open_request, open_response, close_request}
 use Rattle.ua_builtin.proofs.PlainLawful.{lawful_date_time}
-use Rattle.ua_octets.proofs.CountedLawful.{lawful_counted}
-use Rattle.ua_octets.proofs.Lawfulness.{lawful_32, lawful_pair, lawful_struct}
-use Rattle.ua_octets.proofs.ScalarsLawful.{lawful_signed_32}
+use Rattle.ua_wire.proofs.CountedLawful.{lawful_counted}
+use Rattle.ua_wire.proofs.Lawfulness.{lawful_32, lawful_pair, lawful_struct}
+use Rattle.ua_wire.proofs.ScalarsLawful.{lawful_signed_32}
 use Rattle.ua_structures.proofs.HeaderSound.{sound_request_header, sound_response_header}
 
 pub lawful_open_request : IsLawful open_request

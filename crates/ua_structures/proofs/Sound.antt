@@ -15,10 +15,10 @@ use Rattle.ua_builtin.proofs.ExtensionObjectLawful.{lawful_extension_object}
 use Rattle.ua_builtin.proofs.LocalizedTextLawful.{lawful_localized_text}
 use Rattle.ua_builtin.proofs.NodeIdLawful.{lawful_node_id}
 use Rattle.ua_builtin.proofs.PlainLawful.{lawful_date_time, lawful_qualified_name, lawful_status_code}
-use Rattle.ua_octets.proofs.CountedLawful.{lawful_counted, lawful_text}
-use Rattle.ua_octets.proofs.Lawfulness.{lawful_8, lawful_32, lawful_pair, lawful_struct}
-use Rattle.ua_octets.proofs.ScalarsLawful.{lawful_boolean, lawful_double_bits, lawful_signed_32}
-use Rattle.ua_parts.proofs.DiagnosticsLawful.{lawful_diagnostic}
+use Rattle.ua_wire.proofs.CountedLawful.{lawful_counted, lawful_text}
+use Rattle.ua_wire.proofs.Lawfulness.{lawful_8, lawful_32, lawful_pair, lawful_struct}
+use Rattle.ua_wire.proofs.ScalarsLawful.{lawful_boolean, lawful_double_bits, lawful_signed_32}
+use Rattle.ua_diagnostic.proofs.DiagnosticsLawful.{lawful_diagnostic}
 use Rattle.ua_structures.specs.Array.{array}
 use Rattle.ua_structures.specs.Field.{byte, byte_string, int32, string, uint32}
 use Rattle.ua_structures.proofs.ArrayLawful.{lawful_array}

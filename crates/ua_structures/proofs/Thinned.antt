@@ -1,9 +1,9 @@
 -- Items that are read without the values that their nodes could not take, against what is kept of those that are read whole.
 use Rattle.std.specs.Prelude.{◌≡◌, ℕ, zero, suc, ◌<◌, Bool, true, false, cond, nat_lt, List, ◌∷◌, map, length, Option, Some, None, option_map, Result, Ok, Err}
 use Rattle.std.proofs.Common.{refl, sym, ◌∙◌, ap}
-use Rattle.ua_octets.specs.declared.fault.ReadFault.{ReadFault}
-use Rattle.ua_octets.specs.declared.fault.ReadFault.TheVariants.{NoValue, OutOfMemory}
-use Rattle.ua_octets.proofs.Readers.{some_is}
+use Rattle.ua_wire.specs.declared.fault.ReadFault.{ReadFault}
+use Rattle.ua_wire.specs.declared.fault.ReadFault.TheVariants.{NoValue, OutOfMemory}
+use Rattle.ua_wire.proofs.Readers.{some_is}
 use Rattle.ua_builtin.specs.Counted.{first_negative}
 use Rattle.ua_builtin.specs.Exact.{◌>>=◌, image_read, pair_read, skipped}
 use Rattle.ua_builtin.specs.Format.{Gives}

@@ -7,7 +7,7 @@ use Rattle.std.proofs.lemmas.Bool.{le-leb}
 use Rattle.std.proofs.lemmas.Grind.{common_steps}
 use Rattle.std.proofs.lemmas.List.Folds.{list_all-append}
 use Rattle.ua_builtin.specs.Flags.{has}
-use Rattle.ua_parts.specs.Dimensions.{product, IsSize, EncodesSizes, EncodesDims, is_count, is_size, are_sizes, dims_encodable}
+use Rattle.ua_diagnostic.specs.Dimensions.{product, IsSize, EncodesSizes, EncodesDims, is_count, is_size, are_sizes, dims_encodable}
 use Rattle.ua_variant.specs.Data.{LeafData, boolean, sbyte, byte, int16, uint16, int32, uint32, int64, uint64, float, double, string, date_time, guid, byte_string, xml_element, node_id, expanded_node_id, status_code, qualified_name, localized_text, extension_object, reserved, DataFields, VariantData, null, one, absent, many, ScalarData, leaf, data_value, variant, diagnostic, ScalarsData, no_scalars, scalar, DataValueData, bare, valued}
 use Rattle.ua_variant.specs.Leaf.{leaf_kind, is_reserved, EncodesLeaf, leaf_encodable}
 use Rattle.ua_variant.specs.Fields.{data_fields}

@@ -5,7 +5,7 @@ ghost use Rattle.std.specs.List.{flat_map, list_all};
 ghost use Rattle.ua_builtin.specs.Counted.{IsOverlong};
 ghost use Rattle.ua_builtin.specs.Exact.{Begins, skipped};
 ghost use Rattle.ua_builtin.specs.Format.{most_levels, Gives, GivesBy, Behind, StaysBehind, Extends};
-ghost use Rattle.ua_octets.specs.declared.fault.ReadFault.TheVariants.{NoValue};
+ghost use Rattle.ua_wire.specs.declared.fault.ReadFault.TheVariants.{NoValue};
 ghost use Rattle.ua_structures.specs.Array.{array, items_at};
 
 use std::alloc::{AllocError, Global};

@@ -18,8 +18,8 @@ use std::alloc::{AllocError, Global};
 use ua_builtin::{
     DoubleBits, NodeId, QualifiedName, ReadFault, Skip, Source, StatusCode, UaString, Wire,
 };
-use ua_octets::{append_three, append_two};
 use ua_variant::{DataValue, DiagnosticInfo};
+use ua_wire::{append_three, append_two};
 
 /// What is to be read: an attribute of a node, or a part of it (OPC 10000-4, 7.29).
 #[derive(Drop)]

@@ -3,7 +3,7 @@
 ghost use Rattle.std.specs.Prelude.{◌≡◌, ◌≤◌, IsErrOf};
 ghost use Rattle.ua_builtin.specs.Counted.{IsOverlong};
 ghost use Rattle.ua_builtin.specs.Format.{most_levels, Gives, GivesBy, StaysBehind};
-ghost use Rattle.ua_octets.specs.declared.fault.ReadFault.TheVariants.{NoValue};
+ghost use Rattle.ua_wire.specs.declared.fault.ReadFault.TheVariants.{NoValue};
 ghost use Rattle.ua_structures.specs.Array.{array, items_at};
 ghost use Rattle.ua_variant.specs.Formats.{data_value_format};
 

@@ -12,7 +12,7 @@ use crate::fields::{append_fields, are_encodable, read_fields};
 use crate::header::{RequestHeader, ResponseHeader};
 use std::alloc::{AllocError, Global};
 use ua_builtin::{LocalizedText, ReadFault, Source, UaBytes, UaString, Wire};
-use ua_octets::{append_three, append_two};
+use ua_wire::{append_three, append_two};
 
 /// A server or a client (OPC 10000-4, 7.2).
 #[derive(Drop)]

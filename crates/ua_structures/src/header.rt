@@ -4,7 +4,7 @@ ghost use Rattle.std.specs.Prelude.{◌≡◌, Some, None, IsTrue, MatchOption};
 ghost use Rattle.ua_builtin.specs.ExtensionObject.{null_object};
 ghost use Rattle.ua_builtin.specs.Format.{StaysBehind};
 ghost use Rattle.ua_builtin.specs.NodeId.{node_id};
-ghost use Rattle.ua_parts.specs.View.{no_diagnostics};
+ghost use Rattle.ua_diagnostic.specs.View.{no_diagnostics};
 ghost use Rattle.ua_structures.specs.Header.{request_header, response_header, service_fault};
 ghost use Rattle.ua_structures.specs.Plain.{empty_request_header, empty_response_header, request_header_of, response_header_of, service_fault_of};
 ghost use Rattle.ua_structures.specs.inside.HeaderEnds.{behind_diagnostics, behind_result};
@@ -17,8 +17,8 @@ use ua_builtin::{
     DateTime, ExtensionObject, NULL_COUNT, NodeId, ReadFault, Skip, Source, StatusCode, UaString,
     Wire,
 };
-use ua_octets::{append_three, append_two};
 use ua_variant::DiagnosticInfo;
+use ua_wire::{append_three, append_two};
 
 /// What stands behind the ServiceResult of nearly each response, as a number, the least octet first: 00 of
 /// a DiagnosticInfo without fields (OPC 10000-6, 5.2.2.12), FF FF FF FF of a null array of texts (5.2.5),

@@ -9,7 +9,7 @@ use crate::header::{RequestHeader, ResponseHeader};
 use std::alloc::{AllocError, Global};
 use ua_builtin::laws::moment_is_encodable;
 use ua_builtin::{DateTime, NodeId, ReadFault, Source, StatusCode, UaBytes, Wire};
-use ua_octets::{append_three, append_two};
+use ua_wire::{append_three, append_two};
 
 /// OpenSecureChannel: asks for a secure channel, or for a new token of one (OPC 10000-4, 5.6.2).
 #[derive(Drop)]

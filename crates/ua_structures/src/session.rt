@@ -20,12 +20,12 @@ use std::alloc::{AllocError, Global};
 use ua_builtin::{
     DoubleBits, ExtensionObject, NodeId, ReadFault, Source, StatusCode, UaBytes, UaString, Wire,
 };
-use ua_octets::{append_three, append_two};
 use ua_variant::DiagnosticInfo;
+use ua_wire::{append_three, append_two};
 
 /// Every timeout can be written: its bits are within the range of their type once they are read.
 #[inline]
-#[tactic(auto, unfolding(ua_octets::specs::DoubleBits::double_bits))]
+#[tactic(auto, unfolding(ua_wire::specs::DoubleBits::double_bits))]
 fn timeout_is_encodable(timeout: &DoubleBits)
     ensures { IsTrue (double_bits.encodable timeout.now) }
 {

@@ -3,7 +3,7 @@ use Rattle.std.specs.Prelude.{ℕ, zero, suc, Bool, true, false, cond, nat_eq, m
 use Rattle.std.specs.Fmt.{decimal, signed_decimal}
 use Rattle.std.specs.List.{flat_map}
 use Rattle.uuid.specs.Text.{hyphenated_text, lower}
-use Rattle.ua_parts.specs.Diagnostic.{diagnostic_canonical}
+use Rattle.ua_diagnostic.specs.Diagnostic.{diagnostic_canonical}
 use Rattle.ua_variant.specs.Canonical.{variant_canonical, data_value_canonical}
 use Rattle.ua_variant.specs.Data.{LeafData, boolean, sbyte, byte, int16, uint16, int32, uint32, int64, uint64, float, double, string, date_time, guid, byte_string, xml_element, node_id, expanded_node_id, status_code, qualified_name, localized_text, extension_object, reserved, VariantData, null, one, absent, many, ScalarData, leaf, data_value, variant, diagnostic}
 use Rattle.ua_variant.specs.Encodable.{kind_of, variant_encodable, data_value_encodable, diagnostic_encodable}

@@ -25,7 +25,7 @@ use json::Writer;
 use std::alloc::{AllocError, Global};
 use std::str;
 use ua_builtin::{DateTime, NodeId, StatusCode, UaBytes, UaString};
-use ua_parts::Dimensions;
+use ua_diagnostic::Dimensions;
 use ua_structures::{EndpointDescription, UaArray, UserTokenPolicy};
 use ua_variant::{DataValue, Elements, HeldVariant, Packed, Scalar, Scalars, Variant};
 

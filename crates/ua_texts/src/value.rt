@@ -214,7 +214,7 @@ fn push_variant_octets(
 }
 
 /// Adds the octets of a DiagnosticInfo among Variants.
-#[tactic(auto, unfolding(ua_parts::specs::Formats::diagnostic_format))]
+#[tactic(auto, unfolding(ua_diagnostic::specs::Formats::diagnostic_format))]
 fn push_diagnostic_octets(
     alloc: Global,
     out: &mut String,

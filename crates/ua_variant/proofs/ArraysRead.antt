@@ -2,20 +2,20 @@
 use Rattle.std.specs.Prelude.{◌≡◌, ℕ, zero, suc, ◌+◌, ◌<◌, ◌≤◌, ◌⊎◌, max, Bool, true, false, cond, List, ◌++◌, Some}
 use lib.IntN.{ℤ}
 use Rattle.std.proofs.Common.{inl, inr, refl, sym, subst, arith}
-use Rattle.ua_octets.specs.Exact.{Exact, ◌>>=◌}
-use Rattle.ua_octets.proofs.Readers.{exact_only}
-use Rattle.ua_octets.specs.Number.{IsNumber}
-use Rattle.ua_octets.proofs.NumbersRead.{exact_number}
+use Rattle.ua_wire.specs.Exact.{Exact, ◌>>=◌}
+use Rattle.ua_wire.proofs.Readers.{exact_only}
+use Rattle.ua_wire.specs.Number.{IsNumber}
+use Rattle.ua_wire.proofs.NumbersRead.{exact_number}
 use Rattle.ua_variant.specs.Data.{VariantData, absent, many, ScalarData, ScalarsData, no_scalars, scalar}
 use Rattle.ua_variant.specs.Measure.{scalar_depth, scalars_depth}
-use Rattle.ua_parts.specs.Parts.{Reader, Joins, Nothing, IsCount, IsNegative}
-use Rattle.ua_parts.proofs.PartsRead.{exact_then, exact_map, exact_as, exact_if}
+use Rattle.ua_diagnostic.specs.Parts.{Reader, Joins, Nothing, IsCount, IsNegative}
+use Rattle.ua_diagnostic.proofs.PartsRead.{exact_then, exact_map, exact_as, exact_if}
 use Rattle.ua_variant.specs.Encodable.{row_length}
-use Rattle.ua_parts.specs.Dimensions.{EncodesDims, is_negative, dims_at, no_dims_at}
+use Rattle.ua_diagnostic.specs.Dimensions.{EncodesDims, is_negative, dims_at, no_dims_at}
 use Rattle.ua_variant.specs.Encoding.{EncodesRow}
 use Rattle.ua_variant.specs.Decoding.{row_at, array_at}
 use Rattle.ua_variant.proofs.ScalarsRead.{ShallowS}
-use Rattle.ua_parts.proofs.DimensionsRead.{NoDims, exact_no_dims, exact_dims, negative_is, is_negative_at, not_negative, not_negative_at}
+use Rattle.ua_diagnostic.proofs.DimensionsRead.{NoDims, exact_no_dims, exact_dims, negative_is, is_negative_at, not_negative, not_negative_at}
 
 -- ---- elements
 

@@ -3,26 +3,26 @@ use Rattle.std.proofs.Common.{◌≡◌, ℕ, zero, suc, ◌+◌, ◌-◌, ◌*�
 use Rattle.std.proofs.lemmas.Grind.{common_steps}
 use Rattle.std.proofs.lemmas.List.{map-append}
 use Rattle.std.proofs.Math.Seq.{take-append_seam}
-use Rattle.ua_octets.specs.Exact.{Exact, ◌>>=◌, image_read}
-use Rattle.ua_octets.specs.Number.{IsNumber}
-use Rattle.ua_octets.specs.Boolean.{boolean as boolean_format}
-use Rattle.ua_octets.specs.FloatBits.{float_bits}
-use Rattle.ua_octets.specs.DoubleBits.{double_bits}
-use Rattle.ua_octets.proofs.NumbersRead.{length-number_octets}
-use Rattle.ua_octets.proofs.Readers.{bind_some, some_is}
+use Rattle.ua_wire.specs.Exact.{Exact, ◌>>=◌, image_read}
+use Rattle.ua_wire.specs.Number.{IsNumber}
+use Rattle.ua_wire.specs.Boolean.{boolean as boolean_format}
+use Rattle.ua_wire.specs.FloatBits.{float_bits}
+use Rattle.ua_wire.specs.DoubleBits.{double_bits}
+use Rattle.ua_wire.proofs.NumbersRead.{length-number_octets}
+use Rattle.ua_wire.proofs.Readers.{bind_some, some_is}
 use Rattle.ua_builtin.specs.DateTime.{date_time as date_time_format}
 use Rattle.ua_builtin.specs.Guid.{guid as guid_format}
 use Rattle.ua_builtin.specs.Status.{status_code as status_code_format}
-use Rattle.ua_parts.specs.Parts.{Reader}
-use Rattle.ua_parts.proofs.Extents.{never_some}
-use Rattle.ua_octets.specs.Format.{GivesBy}
-use Rattle.ua_octets.specs.declared.fault.ReadFault.{ReadFault}
-use Rattle.ua_octets.specs.declared.fault.ReadFault.TheVariants.{NoValue, OutOfMemory}
+use Rattle.ua_diagnostic.specs.Parts.{Reader}
+use Rattle.ua_diagnostic.proofs.Extents.{never_some}
+use Rattle.ua_wire.specs.Format.{GivesBy}
+use Rattle.ua_wire.specs.declared.fault.ReadFault.{ReadFault}
+use Rattle.ua_wire.specs.declared.fault.ReadFault.TheVariants.{NoValue, OutOfMemory}
 use Rattle.std.specs.Prelude.{Result, Ok, Err}
 use Rattle.ua_variant.specs.Blocks.{before, with_front, row_behind, leaf_row_at, GoesOn}
 use Rattle.ua_variant.specs.Data.{LeafData, boolean, sbyte, byte, int16, uint16, int32, uint32, int64, uint64, float, double, string, date_time, guid, byte_string, xml_element, node_id, expanded_node_id, status_code, qualified_name, localized_text, extension_object, reserved, ScalarData, leaf, data_value, variant, diagnostic, ScalarsData, no_scalars, scalar}
 use Rattle.ua_variant.specs.Decoding.{row_at, scalar_at, scalars_at, data_value_at, variant_at}
-use Rattle.ua_parts.specs.Diagnostic.{diagnostic_at}
+use Rattle.ua_diagnostic.specs.Diagnostic.{diagnostic_at}
 use Rattle.ua_variant.specs.Encodable.{kind_of, row_length}
 use Rattle.ua_variant.specs.Encoding.{EncodesScalar, EncodesRow}
 use Rattle.ua_variant.specs.Leaf.{EncodesLeaf, holds_values, is_reserved, leaf_at, leaf_kind}

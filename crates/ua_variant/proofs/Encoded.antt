@@ -2,24 +2,24 @@
 use Rattle.std.specs.Prelude.{◌≡◌, ℕ, ◌<◌, ◌≤◌, Bool, true, false, ◌&&◌, not, IsTrue, leb, eqb, List, [], ◌∷◌, ◌++◌}
 use Rattle.std.proofs.Common.{refl, sym, subst, ap, ◌∙◌, append-nil, arith}
 use Rattle.std.proofs.lemmas.Grind.{common_steps}
-use Rattle.ua_octets.specs.Format.{most_levels}
-use Rattle.ua_octets.proofs.Readers.{both_true, not_false}
+use Rattle.ua_wire.specs.Format.{most_levels}
+use Rattle.ua_wire.proofs.Readers.{both_true, not_false}
 use Rattle.ua_builtin.specs.Number.{number_octets}
 use Rattle.ua_variant.specs.Data.{DataFields, VariantData, null, one, absent, many, ScalarData, leaf, data_value, variant, diagnostic, ScalarsData, no_scalars, scalar, DataValueData, bare, valued}
 use Rattle.ua_variant.specs.Measure.{variant_depth, data_value_depth}
 use Rattle.ua_builtin.specs.Flags.{has}
-use Rattle.ua_parts.specs.Parts.{IsOctet}
-use Rattle.ua_parts.proofs.PartsLawful.{fits_second, depth_first}
+use Rattle.ua_diagnostic.specs.Parts.{IsOctet}
+use Rattle.ua_diagnostic.proofs.PartsLawful.{fits_second, depth_first}
 use Rattle.ua_variant.specs.Leaf.{holds_values}
 use Rattle.ua_variant.proofs.LeavesRead.{leaf_canonical_encodes, leaf_apart}
 use Rattle.ua_variant.specs.Fields.{data_fields, data_flags}
 use Rattle.ua_variant.proofs.FieldFlags.{data_mask, data_mask_low, data_mask_value, data_fields_encodable_as}
 use Rattle.ua_variant.specs.Encodable.{data_fields_encodable, kind_of, is_kind, is_read_kind, is_variant, row_length, variant_fits, scalar_fits, scalars_fit, data_value_fits, variant_encodable, data_value_encodable}
-use Rattle.ua_parts.proofs.DiagnosticsWritten.{diagnostic_encodes}
-use Rattle.ua_parts.specs.Dimensions.{is_count, dims_encodable, null_count, has_dims, dims_canonical}
+use Rattle.ua_diagnostic.proofs.DiagnosticsWritten.{diagnostic_encodes}
+use Rattle.ua_diagnostic.specs.Dimensions.{is_count, dims_encodable, null_count, has_dims, dims_canonical}
 use Rattle.ua_variant.specs.Encoding.{array_octet, EncodesVariant, EncodesScalar, EncodesRow, EncodesDataValue}
 use Rattle.ua_variant.specs.Canonical.{data_fields_canonical, variant_canonical, scalar_canonical, row_canonical, data_value_canonical}
-use Rattle.ua_parts.proofs.DimensionsRead.{eqb_to, count_encodes, null_encodes, dims_encode}
+use Rattle.ua_diagnostic.proofs.DimensionsRead.{eqb_to, count_encodes, null_encodes, dims_encode}
 use Rattle.ua_variant.proofs.ScalarsRead.{sound_data_fields}
 use Rattle.ua_variant.proofs.VariantsRead.{kind_within}
 

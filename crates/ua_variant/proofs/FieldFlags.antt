@@ -7,9 +7,9 @@ use Rattle.ua_builtin.specs.Status.{status_code as status_code_format}
 use Rattle.ua_variant.specs.Data.{DataFields}
 use Rattle.ua_builtin.specs.Flags.{has}
 use Rattle.ua_builtin.proofs.FlagBits.{has_bit}
-use Rattle.ua_parts.specs.Parts.{there}
+use Rattle.ua_diagnostic.specs.Parts.{there}
 use Rattle.ua_variant.specs.Fields.{data_fields, data_flags}
-use Rattle.ua_parts.proofs.Masks.{bit_is, there_within, flag_there, optional_at, bits_of}
+use Rattle.ua_diagnostic.proofs.Masks.{bit_is, there_within, flag_there, optional_at, bits_of}
 use Rattle.ua_variant.specs.Encodable.{data_fields_encodable}
 
 -- ---- DataValue: with the flag of the value, v

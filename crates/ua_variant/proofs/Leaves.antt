@@ -4,7 +4,7 @@ use Rattle.std.proofs.lemmas.Grind.{common_steps}
 use Rattle.ua_builtin.specs.Exact.{◌>>=◌, image_read}
 use Rattle.ua_builtin.specs.Counted.{counted}
 use Rattle.ua_variant.specs.Data.{LeafData, reserved, leaf}
-use Rattle.ua_parts.proofs.Extents.{never_some}
+use Rattle.ua_diagnostic.proofs.Extents.{never_some}
 use Rattle.ua_variant.specs.Leaf.{is_reserved, leaf_kind, leaf_at, holds_values}
 use Rattle.ua_variant.proofs.LeavesRead.{if_true, exact_leaf, leaf_apart, leaf_kind_within}
 

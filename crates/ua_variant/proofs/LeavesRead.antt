@@ -3,18 +3,18 @@ use Rattle.std.specs.Prelude.{◌≡◌, ℕ, ◌<◌, Bool, true, false, cond, 
 use Rattle.std.proofs.Common.{refl, sym, subst, ◌∙◌, arith}
 use Rattle.std.proofs.lemmas.Grind.{common_steps}
 use Rattle.std.specs.Int.{w8, w16, w32, w64}
-use Rattle.ua_octets.specs.Exact.{Begins, Exact, Image, image_read}
-use Rattle.ua_octets.specs.Format.{Flat, flat, IsLawful, Within}
-use Rattle.ua_octets.specs.Join.{number}
-use Rattle.ua_octets.specs.Boolean.{boolean as boolean_format}
-use Rattle.ua_octets.specs.Signed.{signed}
-use Rattle.ua_octets.specs.FloatBits.{float_bits}
-use Rattle.ua_octets.specs.DoubleBits.{double_bits}
-use Rattle.ua_octets.specs.Counted.{text, counted}
-use Rattle.ua_octets.proofs.Readers.{exact_same, exact_image, not_false}
-use Rattle.ua_octets.proofs.Lawfulness.{sound_such, lawful_flat, lawful_8, lawful_16, lawful_32, lawful_64}
-use Rattle.ua_octets.proofs.ScalarsLawful.{lawful_boolean, lawful_signed_8, lawful_signed_16, lawful_signed_32, lawful_signed_64, lawful_float_bits, lawful_double_bits}
-use Rattle.ua_octets.proofs.CountedLawful.{sound_counted, counted_starts, lawful_counted, lawful_text}
+use Rattle.ua_wire.specs.Exact.{Begins, Exact, Image, image_read}
+use Rattle.ua_wire.specs.Format.{Flat, flat, IsLawful, Within}
+use Rattle.ua_wire.specs.Join.{number}
+use Rattle.ua_wire.specs.Boolean.{boolean as boolean_format}
+use Rattle.ua_wire.specs.Signed.{signed}
+use Rattle.ua_wire.specs.FloatBits.{float_bits}
+use Rattle.ua_wire.specs.DoubleBits.{double_bits}
+use Rattle.ua_wire.specs.Counted.{text, counted}
+use Rattle.ua_wire.proofs.Readers.{exact_same, exact_image, not_false}
+use Rattle.ua_wire.proofs.Lawfulness.{sound_such, lawful_flat, lawful_8, lawful_16, lawful_32, lawful_64}
+use Rattle.ua_wire.proofs.ScalarsLawful.{lawful_boolean, lawful_signed_8, lawful_signed_16, lawful_signed_32, lawful_signed_64, lawful_float_bits, lawful_double_bits}
+use Rattle.ua_wire.proofs.CountedLawful.{sound_counted, counted_starts, lawful_counted, lawful_text}
 use Rattle.ua_builtin.specs.DateTime.{date_time as date_time_format}
 use Rattle.ua_builtin.specs.Guid.{guid as guid_format}
 use Rattle.ua_builtin.specs.XmlElement.{xml_element as xml_element_format}
@@ -29,8 +29,8 @@ use Rattle.ua_builtin.proofs.NodeIdLawful.{lawful_node_id}
 use Rattle.ua_builtin.proofs.ExpandedNodeIdLawful.{lawful_expanded_node_id}
 use Rattle.ua_builtin.proofs.LocalizedTextLawful.{lawful_localized_text}
 use Rattle.ua_builtin.proofs.ExtensionObjectLawful.{lawful_extension_object}
-use Rattle.ua_parts.specs.Parts.{Reader}
-use Rattle.ua_parts.proofs.PartsLawful.{sound_unwritten}
+use Rattle.ua_diagnostic.specs.Parts.{Reader}
+use Rattle.ua_diagnostic.proofs.PartsLawful.{sound_unwritten}
 use Rattle.ua_variant.specs.Data.{LeafData, boolean, sbyte, byte, int16, uint16, int32, uint32, int64, uint64, float, double, string, date_time, guid, byte_string, xml_element, node_id, expanded_node_id, status_code, qualified_name, localized_text, extension_object, reserved}
 use Rattle.ua_variant.specs.Leaf.{leaf_kind, is_reserved, holds_values, reserved_octets, leaf_typed, EncodesLeaf, leaf_encodable, leaf_canonical, leaf_at}
 

@@ -2,15 +2,15 @@
 use Rattle.std.specs.Prelude.{ℕ, ◌*◌, ◌≤◌, List, [], ◌∷◌, length}
 use Rattle.std.specs.Int.{w16, w32, w64}
 use Rattle.std.proofs.Common.{sym, subst, ap, arith}
-use Rattle.ua_octets.specs.Join.{number}
-use Rattle.ua_octets.proofs.Lawfulness.{number_starts}
+use Rattle.ua_wire.specs.Join.{number}
+use Rattle.ua_wire.proofs.Lawfulness.{number_starts}
 use Rattle.ua_builtin.specs.DateTime.{date_time as date_time_format}
 use Rattle.ua_builtin.specs.Status.{status_code as status_code_format}
 use Rattle.ua_builtin.proofs.PlainLawful.{lawful_date_time, lawful_status_code}
-use Rattle.ua_octets.proofs.Leasts.{number_least, signed_least, float_bits_least, double_bits_least, counted_least, text_least}
+use Rattle.ua_wire.proofs.Leasts.{number_least, signed_least, float_bits_least, double_bits_least, counted_least, text_least}
 use Rattle.ua_builtin.proofs.Leasts.{date_time_least, guid_least, xml_element_least, node_id_least, expanded_node_id_least, status_code_least, qualified_name_least, extension_object_least}
 use Rattle.ua_variant.specs.Data.{LeafData, boolean, sbyte, byte, int16, uint16, int32, uint32, int64, uint64, float, double, string, date_time, guid, byte_string, xml_element, node_id, expanded_node_id, status_code, qualified_name, localized_text, extension_object, reserved, DataFields, VariantData, null, one, absent, many, ScalarData, leaf, data_value, variant, diagnostic, ScalarsData, no_scalars, scalar, DataValueData, bare, valued}
-use Rattle.ua_parts.specs.Diagnostic.{innermost, around}
+use Rattle.ua_diagnostic.specs.Diagnostic.{innermost, around}
 use Rattle.ua_builtin.specs.Flags.{has}
 use Rattle.ua_variant.specs.Measure.{data_fields_count, variant_count, scalar_count, scalars_count, data_value_count}
 use Rattle.ua_variant.specs.Leaf.{EncodesLeaf, leaf_kind, is_reserved}
@@ -19,7 +19,7 @@ use Rattle.ua_variant.specs.Least.{least_octets}
 use Rattle.ua_variant.specs.Fields.{data_fields}
 use Rattle.ua_variant.specs.Encodable.{kind_of, row_length}
 use Rattle.ua_variant.specs.Encoding.{EncodesVariant, EncodesScalar, EncodesRow, EncodesDataValue}
-use Rattle.ua_parts.proofs.Lengths.{optional_takes, both_take, octet_takes, diagnostic_takes, dims_take}
+use Rattle.ua_diagnostic.proofs.Lengths.{optional_takes, both_take, octet_takes, diagnostic_takes, dims_take}
 
 pub data_fields_take : (m : ℕ) (f : DataFields) (b : List ℕ) → (data_fields m).encodes f b → data_fields_count f ≤ length b
 unfolding data_fields

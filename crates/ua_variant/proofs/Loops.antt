@@ -2,21 +2,21 @@
 use Rattle.std.proofs.Common.{Bool, ◌≡◌, ℕ, suc, ◌+◌, ◌-◌, ◌<◌, ◌*◌, ◌/◌, List, [], ◌∷◌, ◌++◌, length, Option, Some, None, map, refl, sym, ap, ◌∙◌, arith, length-append}
 use Rattle.std.proofs.lemmas.List.{map-append}
 use Rattle.std.proofs.Math.Nat.{div-lt_iff_lt-mul}
-use Rattle.ua_octets.specs.Exact.{◌>>=◌}
-use Rattle.ua_octets.specs.Number.{number_at}
+use Rattle.ua_wire.specs.Exact.{◌>>=◌}
+use Rattle.ua_wire.specs.Number.{number_at}
 use Rattle.ua_variant.specs.Data.{ScalarData, ScalarsData, no_scalars, scalar}
 use Rattle.ua_variant.specs.View.{row, scalar_of}
 use Rattle.ua_variant.specs.declared.values.Scalar.{Scalar}
-use Rattle.ua_parts.specs.Parts.{Reader}
+use Rattle.ua_diagnostic.specs.Parts.{Reader}
 use Rattle.ua_variant.specs.Encodable.{row_length}
 use Rattle.ua_variant.specs.Least.{least_octets}
-use Rattle.ua_parts.proofs.DimensionsRead.{not_negative_at}
+use Rattle.ua_diagnostic.proofs.DimensionsRead.{not_negative_at}
 use Rattle.ua_variant.specs.Decoding.{array_at, row_at, scalars_at}
 use Rattle.ua_variant.specs.Blocks.{before, with_front}
 use Rattle.ua_variant.proofs.ArraysRead.{exact_row}
 use Rattle.ua_variant.proofs.VariantsRead.{exact_scalars}
 use Rattle.ua_variant.proofs.Lengths.{row_takes}
-use Rattle.ua_parts.proofs.Extents.{never_some}
+use Rattle.ua_diagnostic.proofs.Extents.{never_some}
 
 pub before_row : (ss : List ScalarData) → before ss no_scalars ≡ row ss
 before_row [] = refl

@@ -1,11 +1,11 @@
 -- The loops that pass over the elements of an array, against what stands behind them all.
 use Rattle.std.proofs.Common.{◌≡◌, ℕ, zero, suc, ◌+◌, ◌-◌, ◌<◌, ◌≤◌, List, Option, Some, None, Err, refl, sym, ap, ◌∙◌, arith}
-use Rattle.ua_octets.specs.Exact.{◌>>=◌, skipped}
-use Rattle.ua_octets.specs.Format.{Gives, GivesBy}
-use Rattle.ua_octets.specs.declared.fault.ReadFault.{ReadFault}
-use Rattle.ua_octets.specs.declared.fault.ReadFault.TheVariants.{NoValue, OutOfMemory}
-use Rattle.ua_parts.specs.Parts.{Reader}
-use Rattle.ua_parts.proofs.Skipped.{rest, skipped_then}
+use Rattle.ua_wire.specs.Exact.{◌>>=◌, skipped}
+use Rattle.ua_wire.specs.Format.{Gives, GivesBy}
+use Rattle.ua_wire.specs.declared.fault.ReadFault.{ReadFault}
+use Rattle.ua_wire.specs.declared.fault.ReadFault.TheVariants.{NoValue, OutOfMemory}
+use Rattle.ua_diagnostic.specs.Parts.{Reader}
+use Rattle.ua_diagnostic.proofs.Skipped.{rest, skipped_then}
 use Rattle.ua_variant.specs.Data.{ScalarData, ScalarsData, scalar}
 use Rattle.ua_variant.specs.Decoding.{row_at}
 

@@ -2,25 +2,25 @@
 use Rattle.std.specs.Prelude.{◌≡◌, ℕ, suc, ◌+◌, ◌≤◌, Bool, true, false, cond, IsTrue, leb, eqb, List, [], ◌++◌, Option, Some, None}
 use Rattle.std.proofs.Common.{refl, sym, subst, ap, ◌∙◌, arith}
 use Rattle.std.proofs.lemmas.Grind.{common_steps}
-use Rattle.ua_octets.specs.Exact.{Exact, ◌>>=◌}
-use Rattle.ua_octets.specs.Format.{IsSound, Within}
-use Rattle.ua_octets.proofs.Lawfulness.{sound_made, sound_both, sound_number}
+use Rattle.ua_wire.specs.Exact.{Exact, ◌>>=◌}
+use Rattle.ua_wire.specs.Format.{IsSound, Within}
+use Rattle.ua_wire.proofs.Lawfulness.{sound_made, sound_both, sound_number}
 use Rattle.ua_builtin.proofs.PlainLawful.{sound_date_time, sound_status_code}
-use Rattle.ua_parts.proofs.PartsLawful.{sound_optional}
+use Rattle.ua_diagnostic.proofs.PartsLawful.{sound_optional}
 use Rattle.ua_variant.specs.Data.{DataFields, VariantData, ScalarData, leaf, data_value, variant, diagnostic, DataValueData, bare, valued}
-use Rattle.ua_parts.specs.Diagnostic.{DiagnosticData}
+use Rattle.ua_diagnostic.specs.Diagnostic.{DiagnosticData}
 use Rattle.ua_variant.specs.Measure.{variant_depth, scalar_depth, data_value_depth}
 use Rattle.ua_variant.specs.View.{value_within}
 use Rattle.ua_builtin.specs.Flags.{has}
-use Rattle.ua_parts.specs.Parts.{Reader, when, Joins, Nothing, IsOctet, Optional, optional_read}
-use Rattle.ua_parts.proofs.PartsRead.{exact_octet, exact_then, exact_map, exact_as, exact_when, exact_optional}
+use Rattle.ua_diagnostic.specs.Parts.{Reader, when, Joins, Nothing, IsOctet, Optional, optional_read}
+use Rattle.ua_diagnostic.proofs.PartsRead.{exact_octet, exact_then, exact_map, exact_as, exact_when, exact_optional}
 use Rattle.ua_variant.specs.Leaf.{leaf_kind, leaf_at, holds_values}
 use Rattle.ua_variant.proofs.LeavesRead.{exact_leaf, leaf_apart, Sound, sound_if, eqb_is}
 use Rattle.ua_variant.specs.Fields.{data_fields}
 use Rattle.ua_variant.specs.Encodable.{kind_of}
 use Rattle.ua_variant.specs.Encoding.{EncodesVariant, EncodesScalar, EncodesDataValue}
 use Rattle.ua_variant.specs.Decoding.{data_value_step, scalar_at}
-use Rattle.ua_parts.proofs.DiagnosticsRead.{Shallow}
+use Rattle.ua_diagnostic.proofs.DiagnosticsRead.{Shallow}
 
 pub sound_data_fields : (m : ℕ) → IsSound (data_fields m)
 unfolding data_fields

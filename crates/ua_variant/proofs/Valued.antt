@@ -1,6 +1,6 @@
 -- What the parts of a value know from the whole.
 use Rattle.std.proofs.Common.{◌≡◌, ◌<◌, true, Option, Some, None, [], ◌∷◌, refl, subst, ap, arith}
-use Rattle.ua_octets.proofs.Readers.{both_true}
+use Rattle.ua_wire.proofs.Readers.{both_true}
 use Rattle.ua_variant.specs.Canonical.{data_fields_canonical, data_value_canonical}
 use Rattle.ua_variant.specs.Data.{VariantData, DataFields, bare}
 use Rattle.ua_variant.specs.declared.values.DataValue.{DataValue}

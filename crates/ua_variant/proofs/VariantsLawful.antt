@@ -1,8 +1,8 @@
 -- The formats of Variant and DataValue are lawful.
 use Rattle.std.specs.Prelude.{ℕ, []}
-use Rattle.ua_octets.specs.Exact.{Exact, image_read}
-use Rattle.ua_octets.specs.Format.{IsLawful, Within}
-use Rattle.ua_parts.proofs.DiagnosticsLawful.{exact_made, no_octet}
+use Rattle.ua_wire.specs.Exact.{Exact, image_read}
+use Rattle.ua_wire.specs.Format.{IsLawful, Within}
+use Rattle.ua_diagnostic.proofs.DiagnosticsLawful.{exact_made, no_octet}
 use Rattle.ua_variant.specs.Data.{DataValueData, bare, valued}
 use Rattle.ua_variant.specs.View.{variant_of, data_value_of}
 use Rattle.ua_variant.specs.Values.{variant_value, data_value_value}

@@ -2,20 +2,20 @@
 use Rattle.std.specs.Prelude.{◌≡◌, ℕ, zero, suc, ◌+◌, ◌-◌, ◌/◌, ◌%◌, ◌<◌, ◌≤◌, Bool, true, false, ◌&&◌, not, IsTrue, leb, eqb, List, [], ◌∷◌, ◌++◌, None}
 use Rattle.std.proofs.Common.{inl, inr, refl, sym, subst, ap, ap₂, ◌∙◌, arith}
 use Rattle.std.proofs.lemmas.Grind.{common_steps}
-use Rattle.ua_octets.specs.Exact.{Exact}
-use Rattle.ua_octets.proofs.Readers.{exact_only}
-use Rattle.ua_parts.specs.Diagnostic.{diagnostic_at}
+use Rattle.ua_wire.specs.Exact.{Exact}
+use Rattle.ua_wire.proofs.Readers.{exact_only}
+use Rattle.ua_diagnostic.specs.Diagnostic.{diagnostic_at}
 use Rattle.ua_variant.specs.Data.{VariantData, null, one, absent, many, ScalarData, leaf, data_value, variant, diagnostic, DataValueData, bare, valued}
 use Rattle.ua_variant.specs.Measure.{variant_depth, scalar_depth, scalars_depth}
 use Rattle.ua_builtin.specs.Flags.{has}
 use Rattle.ua_builtin.proofs.FlagBits.{has_bit, flag_has}
-use Rattle.ua_parts.specs.Parts.{Reader, Joins, Nothing, IsOctet}
-use Rattle.ua_parts.proofs.PartsRead.{exact_octet, exact_then, exact_map, exact_as, exact_if, exact_when, exact_none}
+use Rattle.ua_diagnostic.specs.Parts.{Reader, Joins, Nothing, IsOctet}
+use Rattle.ua_diagnostic.proofs.PartsRead.{exact_octet, exact_then, exact_map, exact_as, exact_if, exact_when, exact_none}
 use Rattle.ua_variant.proofs.LeavesRead.{leaf_kind_within, eqb_is}
 use Rattle.ua_variant.specs.Encodable.{kind_of, is_read_kind}
 use Rattle.ua_variant.specs.Encoding.{EncodesVariant, EncodesScalar, array_octet}
 use Rattle.ua_variant.specs.Decoding.{variant_after, variant_step, variant_at, data_value_at, data_value_step, scalar_at, scalars_at}
-use Rattle.ua_parts.proofs.DiagnosticsRead.{exact_diagnostic}
+use Rattle.ua_diagnostic.proofs.DiagnosticsRead.{exact_diagnostic}
 use Rattle.ua_variant.proofs.ScalarsRead.{ShallowV, ShallowD, ShallowS, exact_scalar, exact_data_value_step}
 use Rattle.ua_variant.proofs.ArraysRead.{ArrayOf, exact_array}
 

@@ -2,20 +2,20 @@
 use Rattle.std.proofs.Common.{◌≡◌, ℕ, ◌+◌, ◌<◌, true, ◌&&◌, IsTrue, List, [], ◌∷◌, ◌++◌, length, get_or, take, sym, ap, ◌∙◌, append_assoc, append-nil, arith}
 use lib.IntN.{ℤ}
 use Rattle.std.proofs.lemmas.Grind.{common_steps}
-use Rattle.ua_octets.specs.Format.{most_levels}
-use Rattle.ua_octets.proofs.Readers.{both_true}
+use Rattle.ua_wire.specs.Format.{most_levels}
+use Rattle.ua_wire.proofs.Readers.{both_true}
 use Rattle.ua_variant.specs.Data.{DataFields, VariantData, DataValueData, ScalarData, ScalarsData, many}
 use Rattle.ua_variant.specs.View.{scalar_of, row}
 use Rattle.std.specs.Prelude.{leb}
 use Rattle.ua_builtin.specs.DateTime.{date_time}
 use Rattle.ua_builtin.specs.Join.{number}
 use Rattle.ua_builtin.specs.Status.{status_code}
-use Rattle.ua_parts.specs.Parts.{optional_fits}
+use Rattle.ua_diagnostic.specs.Parts.{optional_fits}
 use Rattle.ua_variant.specs.Measure.{variant_depth, data_value_depth}
 use Rattle.ua_variant.specs.Encodable.{data_fields_encodable, variant_encodable, data_value_encodable, data_value_fits, variant_fits, scalars_fit, row_length, is_kind}
-use Rattle.ua_parts.specs.Dimensions.{dims_encodable, is_count}
+use Rattle.ua_diagnostic.specs.Dimensions.{dims_encodable, is_count}
 use Rattle.ua_variant.specs.Canonical.{row_canonical, scalar_canonical}
-use Rattle.ua_parts.proofs.DimensionsRead.{count_is}
+use Rattle.ua_diagnostic.proofs.DimensionsRead.{count_is}
 use Rattle.ua_variant.specs.declared.values.Scalar.{Scalar}
 use Rattle.ua_variant.proofs.Rows.{seen, seen_next}
 

@@ -1,9 +1,9 @@
 -- Rows of an array that are read part by part.
 use Rattle.std.specs.Prelude.{◌≡◌, ℕ, List, [], ◌∷◌, Option, Some, None, Result, Ok, Err}
-use Rattle.ua_octets.specs.declared.fault.ReadFault.{ReadFault}
-use Rattle.ua_octets.specs.declared.fault.ReadFault.TheVariants.{NoValue, OutOfMemory}
+use Rattle.ua_wire.specs.declared.fault.ReadFault.{ReadFault}
+use Rattle.ua_wire.specs.declared.fault.ReadFault.TheVariants.{NoValue, OutOfMemory}
 use Rattle.ua_builtin.specs.Exact.{◌>>=◌, image_read}
-use Rattle.ua_parts.specs.Parts.{Reader}
+use Rattle.ua_diagnostic.specs.Parts.{Reader}
 use Rattle.ua_variant.specs.Data.{ScalarData, leaf, ScalarsData, scalar}
 use Rattle.ua_variant.specs.Decoding.{row_at}
 use Rattle.ua_variant.specs.Leaf.{leaf_at}

@@ -6,8 +6,8 @@ use Rattle.ua_variant.specs.Leaf.{leaf_canonical}
 use Rattle.ua_variant.specs.Fields.{data_fields, data_flags}
 use Rattle.ua_variant.specs.Encodable.{kind_of, row_length}
 use Rattle.ua_variant.specs.Encoding.{array_octet}
-use Rattle.ua_parts.specs.Dimensions.{null_count, has_dims, dims_canonical}
-use Rattle.ua_parts.specs.Diagnostic.{diagnostic_canonical}
+use Rattle.ua_diagnostic.specs.Dimensions.{null_count, has_dims, dims_canonical}
+use Rattle.ua_diagnostic.specs.Diagnostic.{diagnostic_canonical}
 
 -- the octets that are written for the fields of a DataValue but its value, behind the mask
 unfoldable pub data_fields_canonical : DataFields → List ℕ

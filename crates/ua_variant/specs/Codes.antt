@@ -1,12 +1,12 @@
 -- The codes of the data, which a model of them needs.
-pub use Rattle.ua_parts.specs.Codes.{coded_diagnostic}
+pub use Rattle.ua_diagnostic.specs.Codes.{coded_diagnostic}
 use Rattle.std.specs.Prelude.{◌≡◌, ℕ, List, [], None, refl}
 use lib.IntN.{ℤ}
 use Rattle.std.proofs.Common.{ap, ap₂}
 use Rattle.std.specs.Coded.{Coded, code_by, coded_list}
 use Rattle.ua_variant.specs.Trees.{Tree, tip, fork, coded_tree}
 use Rattle.ua_variant.specs.Data.{LeafData, DataFields, VariantData, null, one, absent, many, ScalarData, leaf, data_value, variant, diagnostic, ScalarsData, no_scalars, scalar, DataValueData, bare, valued}
-use Rattle.ua_parts.specs.Diagnostic.{DiagnosticData}
+use Rattle.ua_diagnostic.specs.Diagnostic.{DiagnosticData}
 
 -- what stands at the leaves of a tree
 pub data Mark : Type 0 where

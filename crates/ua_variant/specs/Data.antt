@@ -1,10 +1,10 @@
 -- What the values stand for, without capacities and pointers.
-pub use Rattle.ua_parts.specs.Diagnostic.{DiagnosticFields, DiagnosticData, innermost, around}
+pub use Rattle.ua_diagnostic.specs.Diagnostic.{DiagnosticFields, DiagnosticData, innermost, around}
 use Rattle.std.specs.Prelude.{ℕ, Bool, List, Option}
 use lib.IntN.{ℤ}
-use Rattle.ua_octets.specs.declared.float_bits.FloatBits.{FloatBits}
+use Rattle.ua_wire.specs.declared.float_bits.FloatBits.{FloatBits}
 use Rattle.ua_builtin.specs.declared.xml_element.XmlElement.{XmlElement}
-use Rattle.ua_octets.specs.declared.double_bits.DoubleBits.{DoubleBits}
+use Rattle.ua_wire.specs.declared.double_bits.DoubleBits.{DoubleBits}
 use Rattle.ua_builtin.specs.declared.date_time.DateTime.{DateTime}
 use Rattle.ua_builtin.specs.declared.guid.Guid.{Guid}
 use Rattle.ua_builtin.specs.declared.node_id.NodeId.{NodeId}

@@ -3,15 +3,15 @@ use Rattle.std.specs.Prelude.{ℕ, suc, zero, ◌%◌, Bool, cond, ◌&&◌, not
 use Rattle.ua_builtin.specs.Exact.{◌>>=◌}
 use Rattle.ua_builtin.specs.Number.{number_at}
 use Rattle.ua_variant.specs.Data.{VariantData, null, one, absent, many, ScalarData, leaf, data_value, variant, diagnostic, ScalarsData, no_scalars, scalar, DataValueData}
-use Rattle.ua_parts.specs.Diagnostic.{DiagnosticData}
+use Rattle.ua_diagnostic.specs.Diagnostic.{DiagnosticData}
 use Rattle.ua_variant.specs.View.{value_within}
 use Rattle.ua_builtin.specs.Flags.{has}
-use Rattle.ua_parts.specs.Parts.{Reader, when, optional_read}
+use Rattle.ua_diagnostic.specs.Parts.{Reader, when, optional_read}
 use Rattle.ua_variant.specs.Leaf.{leaf_at, holds_values}
 use Rattle.ua_variant.specs.Fields.{data_fields}
 use Rattle.ua_variant.specs.Encodable.{is_read_kind}
-use Rattle.ua_parts.specs.Dimensions.{is_negative, dims_at, no_dims_at}
-use Rattle.ua_parts.specs.Diagnostic.{diagnostic_at}
+use Rattle.ua_diagnostic.specs.Dimensions.{is_negative, dims_at, no_dims_at}
+use Rattle.ua_diagnostic.specs.Diagnostic.{diagnostic_at}
 
 -- a mask of at most 0x3F, where 0x01 is set a value, which inner reads, and the other fields that the mask announces
 unfoldable pub data_value_step : Reader VariantData → Reader DataValueData

@@ -1,6 +1,6 @@
 -- Which values can be written.
-pub use Rattle.ua_parts.specs.Diagnostic.{diagnostic_encodable}
-pub use Rattle.ua_parts.specs.Dimensions.{dims_encodable}
+pub use Rattle.ua_diagnostic.specs.Diagnostic.{diagnostic_encodable}
+pub use Rattle.ua_diagnostic.specs.Dimensions.{dims_encodable}
 use Rattle.std.specs.Prelude.{ℕ, ◌+◌, Bool, true, false, ◌&&◌, leb, eqb, not, [], ◌∷◌}
 use Rattle.ua_variant.specs.Data.{DataFields, VariantData, null, one, absent, many, ScalarData, leaf, data_value, variant, diagnostic, ScalarsData, no_scalars, scalar, DataValueData, bare, valued}
 use Rattle.ua_variant.specs.Leaf.{leaf_kind, leaf_encodable}
@@ -9,9 +9,9 @@ use Rattle.ua_builtin.specs.Format.{most_levels}
 use Rattle.ua_builtin.specs.Join.{number}
 use Rattle.ua_builtin.specs.DateTime.{date_time as date_time_format}
 use Rattle.ua_builtin.specs.Status.{status_code as status_code_format}
-use Rattle.ua_parts.specs.Parts.{optional_fits}
-use Rattle.ua_parts.specs.Dimensions.{is_count}
-use Rattle.ua_parts.specs.Diagnostic.{diagnostic_fits}
+use Rattle.ua_diagnostic.specs.Parts.{optional_fits}
+use Rattle.ua_diagnostic.specs.Dimensions.{is_count}
+use Rattle.ua_diagnostic.specs.Diagnostic.{diagnostic_fits}
 
 -- the type id
 abbrev pub kind_of : ScalarData → ℕ

@@ -1,11 +1,11 @@
 -- Which octets encode which Variants and DataValues (OPC 10000-6, 5.2.2.16 and 5.2.2.17).
 -- the Int32 7 as a Variant: 06 07 00 00 00; an array of the Int32s 7 and 8: 86 02 00 00 00 07 00 00 00 08 00 00 00
 -- a DataValue of the Int32 7 and the status 0x80000000: 03 06 07 00 00 00 00 00 00 80
-pub use Rattle.ua_parts.specs.Diagnostic.{EncodesDiagnostic}
-pub use Rattle.ua_parts.specs.Dimensions.{EncodesDims}
+pub use Rattle.ua_diagnostic.specs.Diagnostic.{EncodesDiagnostic}
+pub use Rattle.ua_diagnostic.specs.Dimensions.{EncodesDims}
 use Rattle.std.specs.Prelude.{◌≡◌, ℕ, ◌+◌, Bool, true, false, IsTrue, List, []}
 use Rattle.ua_variant.specs.Data.{VariantData, null, one, absent, many, ScalarData, leaf, data_value, variant, diagnostic, ScalarsData, no_scalars, scalar, DataValueData, bare, valued}
-use Rattle.ua_parts.specs.Parts.{Joins, Nothing, IsOctet, IsCount, IsNegative, Masked}
+use Rattle.ua_diagnostic.specs.Parts.{Joins, Nothing, IsOctet, IsCount, IsNegative, Masked}
 use Rattle.ua_builtin.specs.Flags.{has, flag_bit}
 use Rattle.ua_variant.specs.Leaf.{EncodesLeaf}
 use Rattle.ua_variant.specs.Fields.{data_fields}

@@ -6,7 +6,7 @@ use Rattle.ua_builtin.specs.DateTime.{date_time as date_time_format}
 use Rattle.ua_builtin.specs.Status.{status_code as status_code_format}
 use Rattle.ua_variant.specs.Data.{DataFields}
 use Rattle.ua_builtin.specs.Flags.{has, flag_bit}
-use Rattle.ua_parts.specs.Parts.{optional}
+use Rattle.ua_diagnostic.specs.Parts.{optional}
 
 -- status 0x02, source time 0x04, source picoseconds 0x10, server time 0x08, server picoseconds 0x20, in this order (OPC 10000-6, 5.2.2.17)
 unfoldable pub data_fields : ℕ → Flat DataFields

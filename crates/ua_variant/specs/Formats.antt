@@ -1,5 +1,5 @@
 -- The formats of Variant and DataValue, over the values of the code.
-pub use Rattle.ua_parts.specs.Formats.{diagnostic_format}
+pub use Rattle.ua_diagnostic.specs.Formats.{diagnostic_format}
 use Rattle.std.specs.Prelude.{◌≡◌, ℕ, ◌<◌, ◌≤◌, ◌*◌, ◌%◌, true, List, length, Some}
 use Rattle.ua_builtin.specs.Exact.{image_read}
 use Rattle.ua_builtin.specs.Number.{number_at}

@@ -1,7 +1,7 @@
 -- Whether a value can be written, judged in one walk: its levels, where it can be written but for these.
 use Rattle.std.specs.Prelude.{ℕ, Bool, false, leb, min, Option, Some, None}
 use Rattle.ua_builtin.specs.Format.{most_levels}
-use Rattle.ua_parts.specs.Parts.{when}
+use Rattle.ua_diagnostic.specs.Parts.{when}
 
 -- the levels of what can be written but for these, up to the greatest number of the code; none of what can't be
 abbrev pub levels_if : Bool → ℕ → Option ℕ

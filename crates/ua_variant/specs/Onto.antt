@@ -1,7 +1,7 @@
 -- Reading a DataValue to the end of others.
 use Rattle.std.specs.Prelude.{ℕ, Bool, List, [], ◌∷◌, ◌++◌, Some}
 use Rattle.ua_builtin.specs.Exact.{◌>>=◌, image_read}
-use Rattle.ua_parts.specs.Parts.{Reader, optional_read}
+use Rattle.ua_diagnostic.specs.Parts.{Reader, optional_read}
 use Rattle.ua_variant.specs.Data.{VariantData, one, leaf, DataValueData, valued}
 use Rattle.ua_variant.specs.declared.values.DataValue.{DataValue}
 use Rattle.ua_variant.specs.Fields.{data_fields}

@@ -2,7 +2,7 @@
 use Rattle.std.specs.Prelude.{List, [], ◌∷◌, Option, Some, None, map, option_map, length, ◌+◌, ◌*◌, ◌≤◌, max}
 use Rattle.std.proofs.Common.{Box, Global, zero-le, le_refl, le_trans}
 use Rattle.std.proofs.Math.Nat.{max-le}
-use Rattle.ua_parts.proofs.Weights.{twice_within, twice_more, twice_before, twice_first, twice_second}
+use Rattle.ua_diagnostic.proofs.Weights.{twice_within, twice_more, twice_before, twice_first, twice_second}
 use denote.Param.Weighed.{most}
 use Rattle.ua_variant.specs.Data.{DataFields, VariantData}
 use Rattle.ua_variant.specs.Measure.{data_fields_count, variant_count, scalar_count, scalars_count, data_value_count}

@@ -1,5 +1,5 @@
 -- The data that the values of the code stand for, and the values that stand for data.
-pub use Rattle.ua_parts.specs.View.{diagnostic_fields_of, diagnostic_of}
+pub use Rattle.ua_diagnostic.specs.View.{diagnostic_fields_of, diagnostic_of}
 use Rattle.std.specs.Prelude.{◌≡◌, ℕ, List, [], ◌∷◌, map, Option, Some, None}
 use lib.IntN.{ℤ}
 use Rattle.ua_variant.specs.Data.{boolean, sbyte, byte, int16, uint16, int32, uint32, int64, uint64, float, double, string, date_time, guid, byte_string, xml_element, node_id, expanded_node_id, status_code, qualified_name, localized_text, extension_object, reserved, DataFields, VariantData, null, one, absent, many, ScalarData, leaf, data_value, variant, diagnostic, ScalarsData, no_scalars, scalar, DataValueData, bare, valued}

@@ -8,9 +8,9 @@ ghost use Rattle.ua_variant.specs.View.{row, variant_of, scalar_of, data_value_o
 
 use crate::values::{BoxedDataValue, BoxedVariant, DataValue, Elements, Scalar, Scalars, Variant};
 use ua_builtin::Wire;
-use ua_octets::MOST_LEVELS;
-use ua_parts::field::field_fits;
-use ua_parts::{dims_fit, is_counted};
+use ua_diagnostic::field::field_fits;
+use ua_diagnostic::{dims_fit, is_counted};
+use ua_wire::MOST_LEVELS;
 
 impl Variant {
     /// Whether the value can be written: it has at most 100 levels, the elements of an array are

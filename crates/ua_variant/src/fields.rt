@@ -12,7 +12,7 @@ use crate::masks;
 use crate::values::{DataValue, HeldVariant};
 use std::alloc::Global;
 use ua_builtin::{DateTime, ReadFault, Source, StatusCode};
-use ua_parts::field::read_field;
+use ua_diagnostic::field::read_field;
 
 /// The fields of a DataValue but its value.
 #[derive(Clone, Copy)]

@@ -42,7 +42,7 @@ mod write;
 
 pub use boxed::Boxed;
 pub use packed::{Pack, Packed};
-pub use ua_parts::{BoxedDiagnostic, DiagnosticInfo, Dimensions};
+pub use ua_diagnostic::{BoxedDiagnostic, DiagnosticInfo, Dimensions};
 pub use values::{
     BoxedDataValue, BoxedVariant, DataValue, Elements, HeldVariant, Scalar, Scalars, Variant,
 };

@@ -5,7 +5,7 @@ ghost use Rattle.ua_variant.specs.Measure.{variant_depth, scalar_depth, scalars_
 ghost use Rattle.ua_variant.specs.View.{row, variant_of, scalar_of, data_value_of, data_fields_of};
 
 use crate::values::{DataValue, Elements, Scalar, Scalars, Variant};
-use ua_parts::field::count_of;
+use ua_diagnostic::field::count_of;
 
 impl Variant {
     /// How many levels the value has, or the greatest number.

@@ -17,7 +17,7 @@ use ua_builtin::{
     DateTime, ExpandedNodeId, ExtensionObject, Guid, LocalizedText, NodeId, QualifiedName,
     ReadFault, Source, StatusCode, UaBytes, UaString, Wire, XmlElement,
 };
-use ua_parts::{BoxedDiagnostic, read_diagnostic};
+use ua_diagnostic::{BoxedDiagnostic, read_diagnostic};
 
 /// For so many elements room is made at once; a longer array grows by what was read, so that
 /// nested arrays with false counts ask for room of so many elements a level, and for no more than a

@@ -5,8 +5,8 @@ ghost use Rattle.std.specs.Prelude.{◌≡◌, ◌<◌, ◌≤◌, ◌%◌, true
 ghost use Rattle.ua_builtin.specs.Counted.{first_negative};
 ghost use Rattle.ua_builtin.specs.Exact.{image_read, skipped};
 ghost use Rattle.ua_builtin.specs.Format.{most_levels, Gives, StaysBehind};
-ghost use Rattle.ua_octets.specs.declared.fault.ReadFault.TheVariants.{NoValue};
-ghost use Rattle.ua_parts.specs.Parts.{optional_read};
+ghost use Rattle.ua_wire.specs.declared.fault.ReadFault.TheVariants.{NoValue};
+ghost use Rattle.ua_diagnostic.specs.Parts.{optional_read};
 ghost use Rattle.ua_variant.specs.Data.{leaf};
 ghost use Rattle.ua_variant.specs.Decoding.{variant_at, variant_step, variant_after, data_value_at, data_value_step, scalars_at, array_at, elements_at, row_at};
 ghost use Rattle.ua_variant.specs.Encodable.{is_read_kind as read_kind};
@@ -22,8 +22,8 @@ use crate::read::{is_read_kind, read_leaf};
 use crate::values::{DataValue, Variant};
 use std::alloc::Global;
 use ua_builtin::{ReadFault, Skip, Source, Wire};
-use ua_octets::FIRST_NEGATIVE;
-use ua_parts::{read_no_dims, skip_diagnostic, skip_dims};
+use ua_diagnostic::{read_no_dims, skip_diagnostic, skip_dims};
+use ua_wire::FIRST_NEGATIVE;
 
 /// At most so many elements of a packed array are read at a time, which take 4 KiB or less.
 const PART: u32 = 256;

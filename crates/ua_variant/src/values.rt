@@ -13,7 +13,7 @@ use ua_builtin::{
     DateTime, DoubleBits, ExpandedNodeId, ExtensionObject, FloatBits, Guid, LocalizedText, NodeId,
     QualifiedName, StatusCode, UaBytes, UaString, XmlElement,
 };
-use ua_parts::{BoxedDiagnostic, Dimensions};
+use ua_diagnostic::{BoxedDiagnostic, Dimensions};
 
 /// A value of any built-in type, or an array of such (OPC 10000-6, 5.2.2.16).
 #[cycle(values)]

@@ -3,7 +3,7 @@
 ghost use Rattle.std.specs.Prelude.{◌≡◌, ◌<◌, ◌≤◌, ◌++◌, true, OnOk, OnErr};
 ghost use Rattle.ua_builtin.specs.Counted.{first_negative};
 ghost use Rattle.ua_builtin.specs.Format.{Extends};
-ghost use Rattle.ua_parts.specs.Dimensions.{dims_encodable, has_dims};
+ghost use Rattle.ua_diagnostic.specs.Dimensions.{dims_encodable, has_dims};
 ghost use Rattle.ua_variant.specs.Data.{many};
 ghost use Rattle.ua_variant.specs.Canonical.{data_fields_canonical, variant_canonical, scalar_canonical, row_canonical, data_value_canonical};
 ghost use Rattle.ua_variant.specs.Encoding.{array_octet};
@@ -17,9 +17,9 @@ use crate::values::{BoxedDataValue, BoxedVariant, DataValue, Elements, Scalar, S
 use std::alloc::AllocError;
 use ua_builtin::Wire;
 use ua_builtin::flags::flag_of;
-use ua_octets::NULL_COUNT;
-use ua_parts::field::{append_three, append_two};
-use ua_parts::{Dimensions, append_boxed_diagnostic, append_dims};
+use ua_diagnostic::field::{append_three, append_two};
+use ua_diagnostic::{Dimensions, append_boxed_diagnostic, append_dims};
+use ua_wire::NULL_COUNT;
 
 /// The flags of the fields that are there, but the value.
 #[tactic(auto, unfolding(crate::specs::Fields::data_flags))]

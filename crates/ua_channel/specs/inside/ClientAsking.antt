@@ -7,7 +7,7 @@ use Rattle.ua_channel.specs.declared.client.fault.AskFault.{AskFault}
 use Rattle.ua_channel.specs.declared.client.fault.AskFault.TheVariants.{TooManyPending, Exhausted, RequestTooLarge, OutOfMemory}
 use Rattle.ua_channel.specs.declared.client.talking.Talking.{Talking}
 use Rattle.ua_channel.specs.ClientAsks.{most_pending, no_id, ask_reasons, AnswersFor, JudgesBy}
-use Rattle.ua_octets.specs.Number.{number_octets}
+use Rattle.ua_wire.specs.Number.{number_octets}
 use Rattle.ua_frame.specs.declared.kind.Kind.TheVariants.{Clo}
 use Rattle.ua_frame.specs.Kinds.{kind_octets}
 use Rattle.ua_chunk.specs.Layout.{token_header, sequence_header}

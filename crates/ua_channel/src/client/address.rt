@@ -1,7 +1,7 @@
 //! The server that a client asks for.
 
 ghost use Rattle.std.specs.Prelude.{IsTrue};
-ghost use Rattle.ua_octets.specs.Counted.{text};
+ghost use Rattle.ua_wire.specs.Counted.{text};
 
 use ua_builtin::UaString;
 

@@ -1,7 +1,7 @@
 //! A client's channel.
 
 ghost use Rattle.std.specs.Prelude.{◌≡◌, ◌≤◌, ◌<◌, ◌++◌, ◌∷◌, [], List, ℕ, length, take, IsTrue, Some, Err, IfOk, IsErrOf, OnOk, OnErr};
-ghost use Rattle.ua_octets.specs.Counted.{text};
+ghost use Rattle.ua_wire.specs.Counted.{text};
 ghost use Rattle.ua_builtin.specs.Reasons.{first_reason};
 ghost use Rattle.ua_frame.specs.Frames.{frame_octets};
 ghost use Rattle.ua_frame.specs.declared.frame.Frame.{Frame};

@@ -1,7 +1,7 @@
 //! The frames that a client sends beside the chunks of calls.
 
 ghost use Rattle.std.specs.Prelude.{◌≡◌, ◌<◌, ◌^◌, ◌++◌, length, IsTrue, IfOk, OnOk};
-ghost use Rattle.ua_octets.specs.Counted.{text};
+ghost use Rattle.ua_wire.specs.Counted.{text};
 ghost use Rattle.ua_frame.specs.Agreement.{url_length};
 ghost use Rattle.ua_frame.specs.Frames.{frame_octets};
 ghost use Rattle.ua_frame.specs.Messages.{hello};

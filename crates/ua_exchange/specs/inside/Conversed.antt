@@ -6,14 +6,14 @@ use Rattle.ua_channel.specs.ServerReads.{ServerCloses}
 use Rattle.ua_server.specs.State.{State}
 use Rattle.ua_server.specs.declared.step.End.TheVariants.{Closed}
 use Rattle.ua_client.specs.declared.reply.Reply.{Reply}
-use Rattle.ua_served.specs.Accepted as judged
-use Rattle.ua_served.specs.Beginning.{Beginning}
-use Rattle.ua_served.specs.Replies.{turns_replies, turns_state}
-use Rattle.ua_served.specs.Says.{said_to}
-use Rattle.ua_served.specs.Sends.{conversation_octets}
-use Rattle.ua_served.specs.Turns.{conversation_told}
-use Rattle.ua_served.specs.declared.conversation.Transcript.{Transcript}
-use Rattle.ua_served.specs.declared.stage.Stage.TheVariants.{Ended}
+use Rattle.ua_loopback.specs.Accepted as judged
+use Rattle.ua_loopback.specs.Beginning.{Beginning}
+use Rattle.ua_loopback.specs.Replies.{turns_replies, turns_state}
+use Rattle.ua_loopback.specs.Says.{said_to}
+use Rattle.ua_loopback.specs.Sends.{conversation_octets}
+use Rattle.ua_loopback.specs.Turns.{conversation_told}
+use Rattle.ua_loopback.specs.declared.conversation.Transcript.{Transcript}
+use Rattle.ua_loopback.specs.declared.stage.Stage.TheVariants.{Ended}
 use Rattle.ua_exchange.specs.Programs.{channel, program_limits, url}
 use Rattle.ua_exchange.specs.Turns.{served_turns}
 use Rattle.ua_exchange.specs.declared.turn.Turn.{Turn}

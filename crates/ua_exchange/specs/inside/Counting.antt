@@ -1,7 +1,7 @@
 -- How the renewals are found that are not asked, since too many tokens count as held: turns are counted one by one.
 use Rattle.std.specs.Prelude.{◌≡◌, ℕ, ◌+◌, true, false, length, take, List, [], ◌∷◌, ◌++◌, Option, Some, None}
 use Rattle.ua_frame.specs.After.{AllAfter}
-use Rattle.ua_served.specs.Accepted.{tokens_held}
+use Rattle.ua_loopback.specs.Accepted.{tokens_held}
 use Rattle.ua_exchange.specs.Accepted.{is_crowded, last_calls}
 use Rattle.ua_exchange.specs.Turns.{served_turns}
 use Rattle.ua_exchange.specs.declared.turn.Turn.{Turn}

@@ -5,7 +5,7 @@ use Rattle.ua_builtin.specs.Exact.{pair_read}
 use Rattle.ua_builtin.specs.ExtensionObject.{extension_object}
 use Rattle.ua_builtin.specs.declared.extension_object.ExtensionObject.{ExtensionObject}
 use Rattle.ua_builtin.specs.Number.{number_at}
-use Rattle.ua_parts.specs.declared.diagnostic_info.DiagnosticInfo.{DiagnosticInfo}
+use Rattle.ua_diagnostic.specs.declared.diagnostic_info.DiagnosticInfo.{DiagnosticInfo}
 use Rattle.ua_variant.specs.Formats.{diagnostic_format}
 use Rattle.ua_structures.specs.Array.{array}
 use Rattle.ua_structures.specs.Field.{string}

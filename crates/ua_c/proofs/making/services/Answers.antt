@@ -1,5 +1,5 @@
 use Rattle.std.proofs.Common.{sym, subst}
-use Rattle.ua_requests.proofs.Words.{name_fits, server_uri_fits}
+use Rattle.ua_services.proofs.Words.{name_fits, server_uri_fits}
 use Rattle.ua_server.specs.Endpoint.{Fits}
 use Rattle.ua_c.proofs.making.services.Goals as goal
 

@@ -1,5 +1,5 @@
 use Rattle.std.proofs.Common.{sym, ◌∙◌, ap, drop}
-use Rattle.ua_octets.specs.Number.{number_at}
+use Rattle.ua_wire.specs.Number.{number_at}
 use Rattle.ua_chunk.proofs.Carried.{chunk_found}
 use Rattle.ua_chunk.proofs.Layouts.{sixteen, chunk_is}
 use Rattle.ua_chunk.proofs.chunk.read_chunk.Goals as goal

@@ -1,6 +1,6 @@
 use Rattle.std.proofs.Common.{rules, ◌≡◌}
 use Rattle.std.specs.Prelude.{IsErrOf}
-use Rattle.ua_octets.specs.declared.fault.ReadFault.TheVariants.{NoValue}
+use Rattle.ua_wire.specs.declared.fault.ReadFault.TheVariants.{NoValue}
 use Rattle.ua_builtin.specs.NodeId.{null_id}
 use Rattle.ua_server.proofs.Identities.{carried, not_carried}
 use Rattle.ua_server.proofs.sessions.is_nobody.Goals as goal

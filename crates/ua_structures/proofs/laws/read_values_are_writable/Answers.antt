@@ -2,8 +2,8 @@ use Rattle.ua_builtin.proofs.ExtensionObjectLawful.{lawful_extension_object}
 use Rattle.ua_builtin.proofs.LocalizedTextLawful.{lawful_localized_text}
 use Rattle.ua_builtin.proofs.NodeIdLawful.{lawful_node_id}
 use Rattle.ua_builtin.proofs.PlainLawful.{lawful_qualified_name}
-use Rattle.ua_octets.proofs.CountedLawful.{lawful_counted, lawful_text}
-use Rattle.ua_parts.proofs.DiagnosticsLawful.{lawful_diagnostic}
+use Rattle.ua_wire.proofs.CountedLawful.{lawful_counted, lawful_text}
+use Rattle.ua_diagnostic.proofs.DiagnosticsLawful.{lawful_diagnostic}
 use Rattle.ua_structures.proofs.FlatsBack.{back_extension_object, back_localized_text, back_node_id, back_qualified_name}
 use Rattle.ua_structures.proofs.FormatsBack.{back_byte_string, back_diagnostic, back_flat, back_string, read_writable}
 use Rattle.ua_structures.proofs.laws.read_values_are_writable.Goals as goal

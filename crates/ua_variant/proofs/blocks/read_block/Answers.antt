@@ -1,5 +1,5 @@
 use Rattle.std.proofs.Common.{◌≡◌, ◌<◌, ◌∙◌, length, map, subst, arith}
-use Rattle.ua_octets.proofs.Behind.{stays_behind}
+use Rattle.ua_wire.proofs.Behind.{stays_behind}
 use Rattle.ua_variant.specs.Data.{leaf}
 use Rattle.ua_variant.proofs.BlocksRead.{block_read, block_short}
 use Rattle.ua_variant.proofs.blocks.read_block.Goals as goal

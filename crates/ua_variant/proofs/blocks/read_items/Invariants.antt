@@ -1,5 +1,5 @@
 use Rattle.std.proofs.Common.{◌≡◌, ◌-◌, ◌≤◌, length, map}
-use Rattle.ua_octets.specs.Format.{StaysBehind}
+use Rattle.ua_wire.specs.Format.{StaysBehind}
 use Rattle.ua_variant.specs.Blocks.{row_behind}
 use Rattle.ua_variant.specs.Data.{leaf}
 use Rattle.ua_variant.specs.Decoding.{row_at}

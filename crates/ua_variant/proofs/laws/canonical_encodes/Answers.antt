@@ -1,5 +1,5 @@
 use Rattle.ua_variant.proofs.VariantsLawful.{lawful_variant, lawful_data_value}
-use Rattle.ua_parts.proofs.DiagnosticsLawful.{lawful_diagnostic}
+use Rattle.ua_diagnostic.proofs.DiagnosticsLawful.{lawful_diagnostic}
 use Rattle.ua_variant.proofs.laws.canonical_encodes.Goals as goal
 
 pub returns : goal.returns

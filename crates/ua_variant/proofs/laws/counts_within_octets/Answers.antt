@@ -1,5 +1,5 @@
 use Rattle.ua_variant.proofs.Lengths.{variant_takes, data_value_takes}
-use Rattle.ua_parts.proofs.Lengths.{diagnostic_takes}
+use Rattle.ua_diagnostic.proofs.Lengths.{diagnostic_takes}
 use Rattle.ua_variant.proofs.laws.counts_within_octets.Goals as goal
 
 pub returns : goal.returns

@@ -1,8 +1,8 @@
-use Rattle.ua_octets.proofs.FormatLaws.{encodes_once_of}
+use Rattle.ua_wire.proofs.FormatLaws.{encodes_once_of}
 use Rattle.ua_variant.specs.Formats.{variant_format, data_value_format}
-use Rattle.ua_parts.specs.Formats.{diagnostic_format}
+use Rattle.ua_diagnostic.specs.Formats.{diagnostic_format}
 use Rattle.ua_variant.proofs.VariantsLawful.{lawful_variant, lawful_data_value}
-use Rattle.ua_parts.proofs.DiagnosticsLawful.{lawful_diagnostic}
+use Rattle.ua_diagnostic.proofs.DiagnosticsLawful.{lawful_diagnostic}
 use Rattle.ua_variant.proofs.laws.encodes_once.Goals as goal
 
 pub returns : goal.returns

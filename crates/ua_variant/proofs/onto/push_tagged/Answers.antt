@@ -2,7 +2,7 @@ use Rattle.std.proofs.Common.{arith}
 use Rattle.ua_builtin.specs.Exact.{image_read}
 use Rattle.ua_variant.specs.Decoding.{variant_after, scalars_at}
 use Rattle.ua_variant.specs.Onto.{with_last, valued_at, leaf_valued_at}
-use Rattle.ua_parts.proofs.Extents.{gives_same}
+use Rattle.ua_diagnostic.proofs.Extents.{gives_same}
 use Rattle.ua_variant.proofs.OntoRead.{valued_number}
 use Rattle.ua_variant.proofs.onto.push_tagged.Goals as goal
 

@@ -2,7 +2,7 @@ use Rattle.std.proofs.Common.{◌-◌, arith}
 use Rattle.ua_builtin.specs.Exact.{image_read}
 use Rattle.ua_variant.specs.Decoding.{variant_at, variant_step, scalars_at}
 use Rattle.ua_variant.specs.Onto.{with_last, valued_at}
-use Rattle.ua_parts.proofs.Extents.{gives_same}
+use Rattle.ua_diagnostic.proofs.Extents.{gives_same}
 use Rattle.ua_variant.proofs.OntoRead.{valued_none, valued_level}
 use Rattle.ua_variant.proofs.onto.push_valued.Goals as goal
 

@@ -7,7 +7,7 @@ use Rattle.ua_variant.specs.declared.values.Scalar.{Scalar}
 use Rattle.ua_variant.specs.View.{row, scalar_of, variant_of, data_value_of}
 use Rattle.ua_variant.specs.Decoding.{row_at, variant_at, variant_step, data_value_at, data_value_step, scalars_at}
 use Rattle.ua_variant.proofs.VariantsRead.{variant_none, variant_level, data_value_none, data_value_level}
-use Rattle.ua_parts.proofs.Extents.{gives_same}
+use Rattle.ua_diagnostic.proofs.Extents.{gives_same}
 use Rattle.ua_variant.proofs.Loops.{row_so_far, row_done, array_short}
 use Rattle.ua_variant.specs.Blocks.{leaf_row_at}
 use Rattle.ua_variant.specs.Leaf.{holds_values}

@@ -1,5 +1,5 @@
 use Rattle.std.proofs.Common.{◌≡◌, ◌-◌, map}
-use Rattle.ua_octets.specs.Format.{StaysBehind}
+use Rattle.ua_wire.specs.Format.{StaysBehind}
 use Rattle.ua_variant.specs.View.{scalar_of}
 use Rattle.ua_variant.specs.Decoding.{row_at}
 use Rattle.ua_variant.specs.Blocks.{with_front}

@@ -1,7 +1,7 @@
 use Rattle.std.proofs.Common.{◌-◌, ap, ◌∙◌, sym, arith}
 use Rattle.std.proofs.lemmas.Result.{err_from_is_err_and}
-use Rattle.ua_octets.specs.Exact.{skipped}
-use Rattle.ua_parts.proofs.Skipped.{rest, gives_on}
+use Rattle.ua_wire.specs.Exact.{skipped}
+use Rattle.ua_diagnostic.proofs.Skipped.{rest, gives_on}
 use Rattle.ua_variant.specs.Decoding.{variant_at, variant_step, data_value_at, data_value_step, scalars_at, row_at}
 use Rattle.ua_variant.proofs.VariantsRead.{variant_none, variant_level, data_value_none, data_value_level}
 use Rattle.ua_variant.proofs.Loops.{array_short}

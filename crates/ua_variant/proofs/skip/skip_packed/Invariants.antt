@@ -1,6 +1,6 @@
 use Rattle.std.proofs.Common.{◌≡◌}
-use Rattle.ua_octets.specs.Exact.{skipped}
-use Rattle.ua_octets.specs.Format.{StaysBehind}
+use Rattle.ua_wire.specs.Exact.{skipped}
+use Rattle.ua_wire.specs.Format.{StaysBehind}
 use Rattle.ua_variant.specs.Decoding.{row_at}
 use Rattle.ua_variant.proofs.BlocksRead.{leaves_at}
 use Rattle.ua_variant.proofs.skip.skip_packed.Given as goal

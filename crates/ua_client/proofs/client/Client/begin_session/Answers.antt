@@ -1,6 +1,6 @@
 use Rattle.ua_client.specs.Client.{connection_of}
 use Rattle.ua_client.proofs.Sessions.{begins-unasked}
-use Rattle.ua_requests.specs.Requests.{anonymous_id}
+use Rattle.ua_services.specs.SessionRequests.{anonymous_id}
 use Rattle.ua_client.proofs.client.Client.begin_session.Goals as goal
 
 pub returns-in-Err-clause-begins : goal.returns-in-Err-clause-begins

@@ -1,5 +1,5 @@
-use Rattle.ua_octets.specs.Exact.{image_read, skipped}
-use Rattle.ua_parts.proofs.Skipped.{skipped_image, gives_on}
+use Rattle.ua_wire.specs.Exact.{image_read, skipped}
+use Rattle.ua_diagnostic.proofs.Skipped.{skipped_image, gives_on}
 use Rattle.ua_variant.specs.Decoding.{data_value_at}
 use Rattle.ua_variant.specs.Formats.{data_value_format}
 use Rattle.ua_variant.specs.Values.{data_value_value}

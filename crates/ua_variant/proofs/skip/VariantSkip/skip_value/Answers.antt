@@ -1,5 +1,5 @@
-use Rattle.ua_octets.specs.Exact.{image_read, skipped}
-use Rattle.ua_parts.proofs.Skipped.{skipped_image, gives_on}
+use Rattle.ua_wire.specs.Exact.{image_read, skipped}
+use Rattle.ua_diagnostic.proofs.Skipped.{skipped_image, gives_on}
 use Rattle.ua_variant.specs.Decoding.{variant_at}
 use Rattle.ua_variant.specs.Formats.{variant_format}
 use Rattle.ua_variant.specs.Values.{variant_value}

@@ -4,7 +4,7 @@ use Rattle.ua_variant.specs.Decoding.{variant_at, data_value_step}
 use Rattle.ua_variant.specs.Formats.{data_value_format}
 use Rattle.ua_variant.specs.Onto.{with_last}
 use Rattle.ua_variant.specs.declared.values.DataValue.{DataValue}
-use Rattle.ua_parts.proofs.Extents.{gives_same}
+use Rattle.ua_diagnostic.proofs.Extents.{gives_same}
 use Rattle.ua_variant.proofs.OntoRead.{onto_none, onto_level}
 use Rattle.ua_variant.proofs.values.DataValue.read_onto.Goals as goal
 

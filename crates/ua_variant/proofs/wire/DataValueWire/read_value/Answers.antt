@@ -3,7 +3,7 @@ use Rattle.ua_variant.specs.Values.{data_value_value}
 use Rattle.ua_variant.proofs.Viewed.{data_value_value_of}
 use Rattle.ua_variant.specs.Decoding.{data_value_at}
 use Rattle.ua_variant.specs.Formats.{data_value_format}
-use Rattle.ua_parts.proofs.DiagnosticsLawful.{gives_made}
+use Rattle.ua_diagnostic.proofs.DiagnosticsLawful.{gives_made}
 use Rattle.ua_variant.proofs.wire.DataValueWire.read_value.Goals as goal
 
 pub returns-clause-exact : goal.returns-clause-exact

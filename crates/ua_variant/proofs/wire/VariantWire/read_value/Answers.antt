@@ -3,7 +3,7 @@ use Rattle.ua_variant.specs.Values.{variant_value}
 use Rattle.ua_variant.proofs.Viewed.{variant_value_of}
 use Rattle.ua_variant.specs.Decoding.{variant_at}
 use Rattle.ua_variant.specs.Formats.{variant_format}
-use Rattle.ua_parts.proofs.DiagnosticsLawful.{gives_made}
+use Rattle.ua_diagnostic.proofs.DiagnosticsLawful.{gives_made}
 use Rattle.ua_variant.proofs.wire.VariantWire.read_value.Goals as goal
 
 pub returns-clause-exact : goal.returns-clause-exact

@@ -1,0 +1,34 @@
+-- What it is for two lines to be served alike.
+use Rattle.std.specs.Prelude.{◌≡◌, Bool, true, false, List, Option, Result, Ok, Err, IsErrOf}
+use Rattle.ua_channel.specs.Line.{Traffic}
+use Rattle.ua_server.specs.Happening.{Leads}
+use Rattle.ua_server.specs.declared.serve_fault.ServeFault.{ServeFault}
+use Rattle.ua_server.specs.declared.serve_fault.ServeFault.TheVariants as fault
+use Rattle.ua_server.specs.declared.step.End.{End}
+use Rattle.ua_server.specs.declared.watch.AnsweredRequest.{AnsweredRequest}
+use Rattle.test_determinism.specs.Lines.{ComeAlike, WroteAlike}
+
+-- a call of the line failed
+abbrev pub line_failed : Result End ServeFault → Bool
+line_failed (Ok end) = false
+line_failed (Err fault.Read) = true
+line_failed (Err (fault.Write n)) = true
+line_failed (Err fault.OutOfMemory) = false
+line_failed (Err fault.TooLong) = false
+
+-- a write failed
+abbrev pub IsWriteFault : Result End ServeFault → Type 0
+IsWriteFault (Err (fault.Write n)) = Unit {0}
+IsWriteFault other = ⊥
+
+-- the lines fail alike: no call of either fails; or a read of both fails, behind the same octets; or a write of both, behind the same octets
+pub data ServesAlike (a b : Result End ServeFault) (line after other later : Option Traffic) : Type 0 where
+  NoFault : line_failed a ≡ false → line_failed b ≡ false → ServesAlike a b line after other later
+  AtRead : IsErrOf a fault.Read → IsErrOf b fault.Read → ComeAlike after later → ServesAlike a b line after other later
+  AtWrite : IsWriteFault a → IsWriteFault b → WroteAlike line after other later → ServesAlike a b line after other later
+
+-- two watches were told of the same requests, in the same order
+pub record ToldAlike {W V : Type 0} (notes : W → AnsweredRequest → W → Type 0) (others : V → AnsweredRequest → V → Type 0) (before after : W) (again later : V) : Type 0 where
+  pub requests : List AnsweredRequest
+  pub first : Leads notes before requests after
+  pub second : Leads others again requests later

@@ -1,0 +1,77 @@
+//! Lines that are served twice.
+
+ghost use Rattle.std.specs.Prelude.{◌≡◌, ℕ, ℤ, List};
+ghost use Rattle.test_determinism.specs.Lines.{LinesAlike, WroteAlike};
+ghost use Rattle.test_determinism.specs.Pinned.{HadMemory};
+ghost use Rattle.test_determinism.specs.Serving.{ServesAlike, ToldAlike};
+ghost use Rattle.ua_server.specs.declared.serve_fault.ServeFault.TheVariants.{OutOfMemory};
+
+use std::alloc::Global;
+use ua_channel::{Line, Moments};
+use ua_frame::Limits;
+use ua_server::{End, ServeFault, Services, Watch, serve, serve_watched};
+
+/// Serves two lines that bring the same octets and fail alike, from services in the same state, at the
+/// same moments: the answers are one, the same octets are written, the services are left in one state,
+/// and as many moments were asked for.
+pub fn serve_twice<L: Line, K: Line, M: Moments>(
+    alloc: Global,
+    line: &mut L,
+    other: &mut K,
+    services: &mut Services,
+    others: &mut Services,
+    limits: Limits,
+    channel_id: u32,
+    moments: &mut M,
+    again: &mut M,
+) -> (Result<End, ServeFault>, Result<End, ServeFault>)
+    requires same { services.old ≡ others.old }
+    requires moments { moments.old ≡ again.old }
+    requires once { (m x y : M) (t u : ℤ) → M.gives m t x → M.gives m u y → (t ≡ u) × (x ≡ y) }
+    ensures answers { (coming : List ℕ) → LinesAlike (L.traffic line.old) (K.traffic other.old) coming → HadMemory OutOfMemory result.0 result.1
+        → ServesAlike result.0 result.1 (L.traffic line.old) (L.traffic line.new) (K.traffic other.old) (K.traffic other.new) → result.0 ≡ result.1 }
+    ensures written { (coming : List ℕ) → LinesAlike (L.traffic line.old) (K.traffic other.old) coming → HadMemory OutOfMemory result.0 result.1
+        → ServesAlike result.0 result.1 (L.traffic line.old) (L.traffic line.new) (K.traffic other.old) (K.traffic other.new) → WroteAlike (L.traffic line.old) (L.traffic line.new) (K.traffic other.old) (K.traffic other.new) }
+    ensures state { (coming : List ℕ) → LinesAlike (L.traffic line.old) (K.traffic other.old) coming → HadMemory OutOfMemory result.0 result.1
+        → ServesAlike result.0 result.1 (L.traffic line.old) (L.traffic line.new) (K.traffic other.old) (K.traffic other.new) → services.new ≡ others.new }
+    ensures left { (coming : List ℕ) → LinesAlike (L.traffic line.old) (K.traffic other.old) coming → HadMemory OutOfMemory result.0 result.1
+        → ServesAlike result.0 result.1 (L.traffic line.old) (L.traffic line.new) (K.traffic other.old) (K.traffic other.new) → moments.new ≡ again.new }
+{
+    let first = serve(alloc, line, services, limits, channel_id, moments);
+    let second = serve(alloc, other, others, limits, channel_id, again);
+    (first, second)
+}
+
+/// Serves two lines as [`serve_twice`] does, each with a watch of its own: what is said there holds, and
+/// both watches are told of the same requests, in the same order.
+pub fn serve_watched_twice<L: Line, K: Line, M: Moments, W: Watch, V: Watch>(
+    alloc: Global,
+    line: &mut L,
+    other: &mut K,
+    services: &mut Services,
+    others: &mut Services,
+    limits: Limits,
+    channel_id: u32,
+    moments: &mut M,
+    again: &mut M,
+    watch: &mut W,
+    beside: &mut V,
+) -> (Result<End, ServeFault>, Result<End, ServeFault>)
+    requires same { services.old ≡ others.old }
+    requires moments { moments.old ≡ again.old }
+    requires once { (m x y : M) (t u : ℤ) → M.gives m t x → M.gives m u y → (t ≡ u) × (x ≡ y) }
+    ensures answers { (coming : List ℕ) → LinesAlike (L.traffic line.old) (K.traffic other.old) coming → HadMemory OutOfMemory result.0 result.1
+        → ServesAlike result.0 result.1 (L.traffic line.old) (L.traffic line.new) (K.traffic other.old) (K.traffic other.new) → result.0 ≡ result.1 }
+    ensures written { (coming : List ℕ) → LinesAlike (L.traffic line.old) (K.traffic other.old) coming → HadMemory OutOfMemory result.0 result.1
+        → ServesAlike result.0 result.1 (L.traffic line.old) (L.traffic line.new) (K.traffic other.old) (K.traffic other.new) → WroteAlike (L.traffic line.old) (L.traffic line.new) (K.traffic other.old) (K.traffic other.new) }
+    ensures state { (coming : List ℕ) → LinesAlike (L.traffic line.old) (K.traffic other.old) coming → HadMemory OutOfMemory result.0 result.1
+        → ServesAlike result.0 result.1 (L.traffic line.old) (L.traffic line.new) (K.traffic other.old) (K.traffic other.new) → services.new ≡ others.new }
+    ensures left { (coming : List ℕ) → LinesAlike (L.traffic line.old) (K.traffic other.old) coming → HadMemory OutOfMemory result.0 result.1
+        → ServesAlike result.0 result.1 (L.traffic line.old) (L.traffic line.new) (K.traffic other.old) (K.traffic other.new) → moments.new ≡ again.new }
+    ensures told { (coming : List ℕ) → LinesAlike (L.traffic line.old) (K.traffic other.old) coming → HadMemory OutOfMemory result.0 result.1
+        → ServesAlike result.0 result.1 (L.traffic line.old) (L.traffic line.new) (K.traffic other.old) (K.traffic other.new) → ToldAlike W.notes V.notes watch.old watch.new beside.old beside.new }
+{
+    let first = serve_watched(alloc, line, services, limits, channel_id, moments, watch);
+    let second = serve_watched(alloc, other, others, limits, channel_id, again, beside);
+    (first, second)
+}

@@ -1,0 +1,74 @@
+//! Chunks that are assembled.
+
+ghost use Rattle.std.specs.Prelude.{◌≡◌, ◌++◌, ◌∷◌, [], List, None, IfOk, OnOk, MatchResult, IsTrue, IsFalse};
+ghost use Rattle.ua_chunk.specs.Assembling.{Stands, last_number, octet_limit, chunk_limit};
+ghost use Rattle.ua_chunk.specs.Delivered.{delivered};
+ghost use Rattle.ua_chunk.specs.Open.{open_octets};
+ghost use Rattle.ua_chunk.specs.Refusal.{refusal, IsFor};
+ghost use Rattle.ua_chunk.specs.Sequence.{may_follow};
+ghost use Rattle.ua_chunk.specs.Gathered.{bodies, gathered};
+ghost use Rattle.ua_chunk.specs.View.{items_of, HasParts};
+ghost use Rattle.ua_chunk.specs.declared.chunk.Chunk.{Chunk};
+
+use bytes::Bytes;
+use std::alloc::Global;
+use ua_chunk::{AssembleFault, Assembler, Chunk, Delivered, Flag};
+use ua_wire::Source;
+
+/// Takes the next chunk: what it delivers, and where the assembler then stands.
+pub fn accept_next(
+    assembler: &mut Assembler,
+    chunk: Chunk,
+) -> Result<Option<Delivered>, AssembleFault>
+    ensures given { (cs : List Chunk) → Stands assembler.old cs →
+        IfOk result (λ d. delivered (cs ++ chunk ∷ []) ≡ delivered cs ++ items_of d) }
+    ensures stands { (cs : List Chunk) → Stands assembler.old cs → OnOk result (Stands assembler.new (cs ++ chunk ∷ [])) }
+{
+    assembler.accept(chunk)
+}
+
+/// Takes the next chunk: a fault is the first reason that holds.
+pub fn accept_by_reason(
+    assembler: &mut Assembler,
+    chunk: Chunk,
+) -> Result<Option<Delivered>, AssembleFault>
+    ensures faults { (cs : List Chunk) → Stands assembler.old cs →
+        let reason = refusal (octet_limit assembler.old) (chunk_limit assembler.old) (last_number assembler.old) cs chunk in
+        MatchResult result (λ _. reason ≡ None) (IsFor reason) }
+{
+    let taken = assembler.accept(chunk);
+    taken
+}
+
+/// Takes a sequence number that follows the last one.
+pub fn step_next(assembler: &mut Assembler, sequence: u32) -> Result<(), AssembleFault>
+    ensures follows { (cs : List Chunk) → Stands assembler.old cs →
+        MatchResult result (λ _. IsTrue (may_follow (last_number assembler.old) sequence))
+        (λ fault. (fault ≡ AssembleFault.Sequence) × IsFalse (may_follow (last_number assembler.old) sequence)) }
+{
+    assembler.step(sequence)
+}
+
+/// How many octets are held of the unfinished messages.
+pub fn held_by(assembler: &Assembler) -> usize
+    ensures held { (cs : List Chunk) → Stands assembler.now cs → result ≡ open_octets cs }
+{
+    assembler.held()
+}
+
+/// Takes the next chunk: a message has the bodies of its chunks that are not empty as its parts,
+/// in order.
+pub fn accept_parts(
+    assembler: &mut Assembler,
+    alloc: Global,
+    chunk: Chunk,
+) -> Result<Option<Delivered>, AssembleFault>
+    ensures { (cs : List Chunk) → Stands assembler.old cs → IfOk result (λ d. HasParts d (bodies (gathered cs chunk))) }
+{
+    let _alloc = alloc;
+    match assembler.accept(chunk) {
+        Ok(Some(Delivered::Whole(id, message))) => Ok(Some(Delivered::Whole(id, message))),
+        Ok(given) => Ok(given),
+        Err(fault) => Err(fault),
+    }
+}

@@ -1,0 +1,15 @@
+//! Parts that are read as one list of octets.
+
+ghost use Rattle.std.specs.Prelude.{◌≡◌, ◌<◌, ◌^◌, length};
+ghost use Rattle.std.specs.List.{concat};
+
+use bytes::Bytes;
+use ua_wire::Parts;
+
+/// A source of the octets of all the parts, joined.
+pub fn source_of(parts: &[Bytes]) -> Parts<'_>
+    requires { length (concat parts.now) < 2 ^ 64 }
+    ensures { result ≡ concat parts.now }
+{
+    Parts::new(parts)
+}

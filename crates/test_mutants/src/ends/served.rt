@@ -1,0 +1,50 @@
+//! A client and a server in one process.
+
+ghost use Rattle.std.specs.Prelude.{◌≡◌, IsTrue, OnOk, Some};
+ghost use Rattle.ua_wire.specs.Counted.{text};
+ghost use Rattle.ua_channel.specs.Line.{Takes, WhereTold};
+ghost use Rattle.ua_loopback.specs.Beginning.{Beginning};
+ghost use Rattle.ua_loopback.specs.Kept.{LeavesAt, traffic_of};
+ghost use Rattle.ua_loopback.specs.Says.{left_by};
+ghost use Rattle.ua_loopback.specs.declared.stage.Stage.TheVariants.{Ended};
+ghost use Rattle.ua_server.specs.declared.step.End.TheVariants.{Closed};
+
+use std::alloc::Global;
+use ua_builtin::{DateTime, UaString};
+use ua_channel::{Line, LineFault};
+use ua_frame::Limits;
+use ua_loopback::{Began, ServedLine, Transcript, Turn, converse};
+use ua_server::Services;
+
+/// Writes octets to a line to a server.
+pub fn write_up<W: Began>(line: &mut ServedLine<W>, octets: &[u8]) -> Result<usize, LineFault>
+    ensures octets { WhereTold (Takes result octets.now) (Some (traffic_of W.beginning line.old)) (Some (traffic_of W.beginning line.new)) }
+{
+    line.write(octets)
+}
+
+/// What comes of a client's turns over a line to a server over these services. Others that are the same
+/// stand beside them.
+pub fn converse_over(
+    alloc: Global,
+    services: Services,
+    before: &mut Services,
+    limits: Limits,
+    channel_id: u32,
+    url: UaString,
+    turns: &[Turn],
+    moment: DateTime,
+    writes: Vec<usize>,
+    reads: Vec<usize>,
+) -> Transcript
+    requires url { IsTrue (text.encodable url) }
+    requires same { before.old ≡ services }
+    ensures services { LeavesAt result.stage (record { limits = limits; channel = channel_id; first = services; moment = moment }) result.up.items result.services }
+    ensures closed { OnOk result.outcome (result.stage ≡ Ended Closed) }
+    ensures left { OnOk result.outcome (result.services ≡ left_by (record { limits = limits; channel = channel_id; first = services; moment = moment }) result.up.items) }
+{
+    let _before = before;
+    converse(
+        alloc, services, limits, channel_id, url, turns, moment, writes, reads,
+    )
+}

@@ -1,0 +1,166 @@
+//! What a server is asked, and what is printed of its answers, where it has said all before.
+
+use crate::fault::{Fault, or_no_row};
+use crate::files::content;
+use crate::octets::digits;
+use crate::serve::moments;
+use crate::tcp::pair;
+use crate::texts::{first_word, marked};
+use std::alloc::Global;
+use std::io::{Read, Write};
+use std::net::Net;
+use std::rt::Files;
+use ua_channel::{Line, MemoryLine};
+use ua_program::{ListEndpoints, Task, limits, parse, policy_of, read_question, write_question};
+use ua_session::{AskFault, Question, TokenPolicy, Verdict, WordFault, ask_over, endpoints_over};
+use ua_texts::LineStyle;
+
+/// The port in the server's address.
+const PORT: u16 = 4840;
+
+/// `ask FILE QUESTION`: asks over a line from which the octets of a file come.
+pub fn ask<R: Files + AllocGlobal>(rt: &R, words: &str) -> Result<String, Fault> {
+    let alloc = rt.alloc();
+    let (file, question) = first_word(words);
+    let coming = content(rt, file)?;
+    let mut line = MemoryLine::new(alloc, coming, Vec::new(alloc), Vec::new(alloc), None, None);
+    let told = told(alloc, &mut line, question)?;
+    with_octets(alloc, &told, line.written())
+}
+
+/// `ask-tcp FILE QUESTION`: the same over a connection within this process.
+pub fn ask_tcp<R: Files + Net + AllocGlobal>(rt: &R, words: &str) -> Result<String, Fault> {
+    let (file, question) = first_word(words);
+    let (mut server, mut line) = pair(rt)?;
+    server.write_all(&content(rt, file)?)?;
+    let told = told(rt.alloc(), &mut line, question)?;
+    drop(line);
+    let mut asked = Vec::new(rt.alloc());
+    server.read_to_end(&mut asked)?;
+    with_octets(rt.alloc(), &told, &asked)
+}
+
+/// A text, and the octets that were sent behind it.
+pub fn with_octets(alloc: Global, told: &str, octets: &[u8]) -> Result<String, Fault> {
+    let digits = digits(alloc, octets)?;
+    Ok(format!(in alloc; "{told} sent {digits}")?)
+}
+
+/// What is printed of the answers, and how it ended: `done`, with `--strict` `bad` where a code is, or
+/// the fault that is told.
+fn told<L: Line>(alloc: Global, line: &mut L, question: &str) -> Result<String, Fault> {
+    let mut out = String::new(alloc);
+    let end = asked(alloc, line, question, &mut out)?;
+    let out = marked(alloc, out.as_bytes())?;
+    match end {
+        Ok(end) => Ok(format!(in alloc; "out \"{out}\" {end}")?),
+        Err(fault) => Ok(format!(in alloc; "out \"{out}\" fault \"{fault}\"")?),
+    }
+}
+
+/// Asks what the words of a command ask for, without its port, and gives what came of it.
+fn asked<L: Line>(
+    alloc: Global,
+    line: &mut L,
+    words: &str,
+    out: &mut String,
+) -> Result<Result<&'static str, AskFault>, Fault> {
+    let (command, rest) = first_word(words);
+    let mut list: Vec<&str> = Vec::new(alloc);
+    for word in ["ua", command, "4840"] {
+        list.push(word)?;
+    }
+    for word in rest.split_whitespace() {
+        list.push(word)?;
+    }
+    match task_of(alloc, &list)? {
+        Task::Endpoints(asked) => endpoints(alloc, line, &asked, out),
+        Task::Read(asked) => {
+            let question = read_question(alloc, &asked);
+            let asking = asking_of(alloc, question, asked.policy, asked.style, asked.strict)?;
+            answers(alloc, line, &asking, out)
+        }
+        Task::Write(asked) => {
+            let question = write_question(alloc, &asked);
+            let asking = asking_of(alloc, question, asked.policy, asked.style, asked.strict)?;
+            answers(alloc, line, &asking, out)
+        }
+        _ => Err(Fault::NoRow),
+    }
+}
+
+/// What words ask for.
+fn task_of<'a>(alloc: Global, words: &'a [&'a str]) -> Result<Task<'a>, Fault> {
+    match parse(alloc, words) {
+        Ok(parsed) => or_no_row(parsed.task),
+        Err(_) => Err(Fault::NoRow),
+    }
+}
+
+fn endpoints<L: Line>(
+    alloc: Global,
+    line: &mut L,
+    asked: &ListEndpoints,
+    out: &mut String,
+) -> Result<Result<&'static str, AskFault>, Fault> {
+    let mut moments = moments(alloc)?;
+    let ended = endpoints_over(
+        alloc,
+        line,
+        limits(),
+        asked.port,
+        asked.style,
+        &mut moments,
+        out,
+    );
+    Ok(ended.map(|()| "done"))
+}
+
+/// A question, and how it is asked.
+#[derive(Drop)]
+struct Asking {
+    question: Question,
+    policy: TokenPolicy,
+    style: LineStyle,
+    strict: bool,
+}
+
+fn asking_of(
+    alloc: Global,
+    question: Result<Question, WordFault>,
+    policy: &str,
+    style: LineStyle,
+    strict: bool,
+) -> Result<Asking, Fault> {
+    Ok(Asking {
+        question: or_no_row(question)?,
+        policy: policy_of(alloc, policy)?,
+        style,
+        strict,
+    })
+}
+
+fn answers<L: Line>(
+    alloc: Global,
+    line: &mut L,
+    asking: &Asking,
+    out: &mut String,
+) -> Result<Result<&'static str, AskFault>, Fault> {
+    let mut moments = moments(alloc)?;
+    let ended = ask_over(
+        alloc,
+        line,
+        limits(),
+        PORT,
+        &asking.question,
+        &asking.policy,
+        asking.style,
+        &mut moments,
+        out,
+    );
+    match ended {
+        Ok(Verdict::SomeBad) if asking.strict => Ok(Ok("bad")),
+        Ok(_) => Ok(Ok("done")),
+        Err(fault) => Ok(Err(fault)),
+    }
+}

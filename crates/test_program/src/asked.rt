@@ -1,0 +1,52 @@
+//! What the words of a command line ask for.
+
+use crate::fault::Fault;
+use crate::run::words_of;
+use std::net::Net;
+use ua_program::{Loop, Serve, Task, parse};
+
+/// `asked WORDS`: what these words ask for, with the values of those that are not given, too.
+pub fn asked<R: Net + AllocGlobal>(rt: &R, taken: u16, words: &str) -> Result<String, Fault> {
+    let words = words_of(rt, taken, words)?;
+    let Ok(parsed) = parse(rt.alloc(), &words) else {
+        return Err(Fault::NoRow);
+    };
+    match parsed.task {
+        Ok(task) => told(rt, &task),
+        Err(_) => Err(Fault::NoRow),
+    }
+}
+
+fn told<R: AllocGlobal>(rt: &R, task: &Task<'_>) -> Result<String, Fault> {
+    match task {
+        Task::Serve(asked) => {
+            let Serve {
+                port,
+                connections,
+                requests,
+                ..
+            } = *asked;
+            let mut told = format!(in rt.alloc(); "port {port} connections {connections}")?;
+            if requests {
+                told.push_str(" requests")?;
+            }
+            Ok(told)
+        }
+        Task::Loop(asked) => {
+            let Loop {
+                cut,
+                tcp,
+                names,
+                ..
+            } = *asked;
+            Ok(format!(in rt.alloc(); "cut {cut} tcp {tcp} names {names}")?)
+        }
+        Task::Read(asked) => named(rt, asked.port, asked.style.names),
+        Task::Write(asked) => named(rt, asked.port, asked.style.names),
+        _ => Err(Fault::NoRow),
+    }
+}
+
+fn named<R: AllocGlobal>(rt: &R, port: u16, names: bool) -> Result<String, Fault> {
+    Ok(format!(in rt.alloc(); "port {port} names {names}")?)
+}

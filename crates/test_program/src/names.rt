@@ -1,0 +1,97 @@
+//! The texts of faults and of ends, also of those that no octets and no words lead to.
+
+use crate::fault::Fault as RowFault;
+use crate::texts::first_word;
+use std::alloc::Global;
+use ua_builtin::StatusCode;
+use ua_client::ClientFault;
+use ua_program::{Fault, push_outcome};
+use ua_server::{End, ServeFault};
+use ua_session::{AskFault, LoopFault, push_end};
+
+/// The code behind a name.
+fn code_of(word: &str) -> Result<StatusCode, RowFault> {
+    match u32::from_str_radix(word, 16) {
+        Ok(code) => Ok(StatusCode { code }),
+        Err(_) => Err(RowFault::NoRow),
+    }
+}
+
+/// `client-fault NAME [CODE]`: the text of this fault of a client.
+pub fn client_fault(alloc: Global, words: &str) -> Result<String, RowFault> {
+    let fault = Fault::Asking(AskFault::from(client_fault_of(words)?));
+    Ok(format!(in alloc; "{fault}")?)
+}
+
+fn client_fault_of(words: &str) -> Result<ClientFault, RowFault> {
+    let (name, code) = first_word(words);
+    Ok(match name {
+        "Read" => ClientFault::Read,
+        "Write" => ClientFault::Write,
+        "Ended" => ClientFault::Ended,
+        "Peer" => ClientFault::Peer(code_of(code)?),
+        "Refused" => ClientFault::Refused(code_of(code)?),
+        "UnknownResponse" => ClientFault::UnknownResponse,
+        "Service" => ClientFault::Service(code_of(code)?),
+        "TooLarge" => ClientFault::TooLarge,
+        "NotWritable" => ClientFault::NotWritable,
+        "Exhausted" => ClientFault::Exhausted,
+        "Closed" => ClientFault::Closed,
+        "OutOfMemory" => ClientFault::OutOfMemory,
+        "TooLong" => ClientFault::TooLong,
+        "TooManyTokens" => ClientFault::TooManyTokens,
+        _ => return Err(RowFault::NoRow),
+    })
+}
+
+/// `loop-fault NAME [CODE]`: the text of this fault of a script.
+pub fn loop_fault(alloc: Global, words: &str) -> Result<String, RowFault> {
+    let (name, word) = first_word(words);
+    let fault = match name {
+        "ScriptLine" => LoopFault::ScriptLine(crate::octets::number_of(word)?),
+        "Exhausted" => LoopFault::Exhausted,
+        "Service" => LoopFault::Service(code_of(word)?),
+        "UnknownResponse" => LoopFault::UnknownResponse,
+        "NoMemory" => LoopFault::NoMemory,
+        _ => return Err(RowFault::NoRow),
+    };
+    Ok(format!(in alloc; "{fault}")?)
+}
+
+fn end_of(words: &str) -> Result<End, RowFault> {
+    let (name, code) = first_word(words);
+    match name {
+        "Closed" => Ok(End::Closed),
+        "NoClose" => Ok(End::NoClose),
+        "Cut" => Ok(End::Cut),
+        "Refused" => Ok(End::Refused(code_of(code)?)),
+        _ => Err(RowFault::NoRow),
+    }
+}
+
+/// `end NAME [CODE]`: how `ua loop` prints the end of a connection.
+pub fn end(alloc: Global, words: &str) -> Result<String, RowFault> {
+    let mut out = String::new(alloc);
+    push_end(&mut out, end_of(words)?, false)?;
+    Ok(out)
+}
+
+/// `named-end NAME [CODE]`: the same with the names of status codes.
+pub fn named_end(alloc: Global, words: &str) -> Result<String, RowFault> {
+    let mut out = String::new(alloc);
+    push_end(&mut out, end_of(words)?, true)?;
+    Ok(out)
+}
+
+/// `outcome NAME [CODE]`: how `ua serve` prints what became of a connection.
+pub fn outcome(alloc: Global, words: &str) -> Result<String, RowFault> {
+    let outcome = match words {
+        "Read" => Err(ServeFault::Read),
+        "Write" => Err(ServeFault::Write(9)),
+        "TooLong" => Err(ServeFault::TooLong),
+        _ => Ok(end_of(words)?),
+    };
+    let mut out = String::new(alloc);
+    push_outcome(&mut out, outcome)?;
+    Ok(out)
+}

@@ -1,0 +1,101 @@
+//! A client over a line to a server in the same process.
+
+use crate::calling::{tell_code, tell_replies};
+use crate::given::Given;
+use crate::requests::requests_of;
+use crate::serving::{Serving, services_over, tell_end};
+use crate::told::Told;
+use crate::words::{front, lengths_of, text_of};
+use ua_builtin::Wire;
+use ua_client::ClientFault;
+use ua_loopback::{Stage, Transcript, Turn, converse};
+use ua_services::Request;
+
+/// Lets a client take turns over a line to the server of these rows, which takes what is written and
+/// hands out what it says in pieces of at most the lengths that words say, and tells what the first word
+/// asks for: the octets `up` or `down`, the `replies`, or how much `came`.
+pub fn answer(given: &Given, serving: &Serving, words: &str, told: &mut Told) {
+    let (what, words) = front(words);
+    let (writes, words) = front(words);
+    let (reads, words) = front(words);
+    let (writes, reads) = (lengths_of(writes, told), lengths_of(reads, told));
+    let turns = turns_of(given, words, told);
+    let services = services_over(serving.nodes.as_str(), told);
+    let (Some(limits), Some(services)) = (serving.limits, services) else {
+        told.fail("no row");
+        return;
+    };
+    let Some(url) = text_of("opc.tcp://localhost:4840", told) else {
+        return;
+    };
+    if !url.is_encodable() {
+        return;
+    }
+    let found = converse(
+        told.alloc(),
+        services,
+        limits,
+        serving.channel,
+        url,
+        turns.as_slice(),
+        given.moment,
+        writes,
+        reads,
+    );
+    tell(given, what, found, told);
+}
+
+/// The turns of words: `renew` is a renewal, and of any other word the requests are asked together.
+fn turns_of(given: &Given, words: &str, told: &mut Told) -> Vec<Turn> {
+    let mut turns = Vec::new(told.alloc());
+    for word in words.split_whitespace() {
+        let turn = match word {
+            "renew" => Turn::Renew,
+            word => Turn::Ask(requests_of::<Request>(given, word, told)),
+        };
+        if turns.push(turn).is_err() {
+            told.refused();
+        }
+    }
+    turns
+}
+
+/// Tells what came of turns, or why not all of them were done.
+fn tell(given: &Given, what: &str, found: Transcript, told: &mut Told) {
+    if let Err(fault) = found.outcome {
+        tell_fault(fault, found.stage, told);
+    }
+    match what {
+        "up" => given.tell_frames(found.up.as_slice(), told),
+        "down" => given.tell_frames(found.down.as_slice(), told),
+        "replies" => tell_replies(given, found.replies, told),
+        "came" => tell_sizes(&found, told),
+        _ => told.fail("no row"),
+    }
+}
+
+/// Tells a fault. A line whose server was refused memory fails.
+fn tell_fault(fault: ClientFault, stage: Stage, told: &mut Told) {
+    match fault {
+        ClientFault::OutOfMemory => told.end("client: out of memory"),
+        ClientFault::Write if stage == Stage::Broken => told.end("line: out of memory"),
+        ClientFault::Peer(code) => tell_code("Peer", code, told),
+        ClientFault::Refused(code) => tell_code("Refused", code, told),
+        fault => told.named(&fault),
+    }
+}
+
+/// Tells how much came of turns, and how the connection ended at the server.
+fn tell_sizes(found: &Transcript, told: &mut Told) {
+    told.word("up");
+    told.shown(&found.up.len());
+    told.word("down");
+    told.shown(&found.down.len());
+    told.word("replies");
+    told.shown(&found.replies.len());
+    told.word("end");
+    match found.stage {
+        Stage::Ended(end) => tell_end(end, told),
+        stage => told.named(&stage),
+    }
+}

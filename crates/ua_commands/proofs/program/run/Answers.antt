@@ -1,5 +1,0 @@
-use Rattle.ua_commands.proofs.Readings.{told_or_not}
-use Rattle.ua_commands.proofs.program.run.Goals as goal
-
-pub returns-in-Err-perform-clause-streams : goal.returns-in-Err-perform-clause-streams
-returns-in-Err-perform-clause-streams g c = told_or_not c.in-Err-perform.ensures.stopped c.tell_stop.ensures.silent

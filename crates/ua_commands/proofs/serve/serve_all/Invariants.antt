@@ -1,6 +1,0 @@
-use Rattle.ua_commands.specs.Served.{HasServed}
-use Rattle.ua_commands.proofs.serve.serve_all.Given as goal
-
--- the connections before this one were served
-abbrev pub invariant-loop-number : goal.invariant-loop-number
-invariant-loop-number g l = HasServed l.asked.requests l.asked.port l.number (g.O.Write.contents l.fn.out) (g.O.Write.contents l.out)

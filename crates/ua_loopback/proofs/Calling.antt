@@ -1,0 +1,156 @@
+-- What calls of a client over a line to a server come to, behind a talk so far.
+use Rattle.std.proofs.Common.{◌≡◌, ◌⊎◌, inl, inr, ℕ, IsTrue, List, [], ◌∷◌, ◌++◌, Option, Some, None, Result, Ok, Err, map, ◌∙◌, ap}
+use Rattle.ua_builtin.specs.DateTime.{date_time}
+use Rattle.ua_builtin.specs.declared.date_time.DateTime.{DateTime}
+use Rattle.ua_frame.specs.declared.limits.Limits.{Limits}
+use Rattle.ua_channel.specs.Client.{SameClient}
+use Rattle.ua_channel.specs.Line.{Traffic, WhereTold}
+use Rattle.ua_channel.specs.ServerReads.{ServerCloses}
+use Rattle.ua_channel.specs.ServerTold.{Closed}
+use Rattle.ua_services.specs.declared.request.Request.{Request}
+use Rattle.ua_client.specs.Carried.{Carries}
+use Rattle.ua_client.specs.Calls.{AnsweredAll, BrokenAll, all_of}
+use Rattle.ua_client.specs.Client.{Closes, IsLeft, IsReady, OpensClient, OpensNothing, client_channel, connection_of}
+use Rattle.ua_client.specs.Hearing.{Moves}
+use Rattle.ua_client.specs.Renewing.{Renews}
+use Rattle.ua_client.specs.Site.{At}
+use Rattle.ua_client.specs.declared.client.Client.{Client}
+use Rattle.ua_client.specs.declared.fault.ClientFault.{ClientFault}
+use Rattle.ua_client.specs.declared.fault.ClientFault.TheVariants as fault
+use Rattle.ua_client.specs.declared.fault.ClientFault.TheVariants.{OutOfMemory}
+use Rattle.ua_client.specs.declared.reply.Reply.{Reply}
+use Rattle.ua_client.proofs.Settled.{NonePending}
+use Rattle.ua_loopback.specs.Accepted.{IsTurnFault, turn_refusal}
+use Rattle.ua_loopback.specs.Beginning.{Beginning}
+use Rattle.ua_loopback.specs.Replies.{lane_back, requests_replies, turn_state}
+use Rattle.ua_loopback.specs.Says.{left_by, said_to}
+use Rattle.ua_loopback.specs.Sends.{closing_behind}
+use Rattle.ua_loopback.specs.Talking.{IsBehindFirst, IsLineTo, IsSentOver, IsTalking, Reads, SoFar, acked_in, closed_octets, id_in, newest_in, octets_of, opening, state_in, told_in, with_turn}
+use Rattle.ua_loopback.specs.Turns.{turn_told}
+use Rattle.ua_loopback.specs.inside.Talking.{CanOpen}
+use Rattle.ua_loopback.proofs.Begun.{SettlesOpened, opened_ready, opened_talk, settled_there}
+use Rattle.ua_loopback.proofs.OneTurn.{calls_refused, calls_replied, calls_sent, calls_talk, closes_left, closes_read, closes_silent, closing_is, first_talk, renewing_not, renewing_sent, renewing_talks, turn_left, turn_read}
+use Rattle.ua_loopback.proofs.Replying.{some-append}
+
+-- ---- it opens
+
+pub opens_talk : (limits : Limits) (url : Option (List ℕ)) (moment : DateTime) (before after : Option Traffic) (client : Client) → SettlesOpened
+    → (OpensNothing before after (Ok client) ⊎ OpensClient limits url moment before after (Ok client)) → (b : Beginning) → CanOpen b limits url moment → IsLineTo b [] [] before → IsTalking (opening b limits url moment) client after
+opens_talk limits url moment before after client law (inl nothing) b able line = let none : ◌≡◌ {A = Result Client ClientFault} (Ok client) (Err OutOfMemory) = nothing.0 in absurd cc
+opens_talk limits url moment before after client law (inr o) b able line = record {
+  ready = opened_ready b limits url moment before after client law o able line;
+  site = (settled_there b limits url moment before after client law o able line).0;
+  talks = opened_talk b limits url moment before after client law o able line;
+}
+
+-- ---- what is sent
+
+pub sent_over : (got sent octets : List ℕ) (before after : Option Traffic) → sent ≡ octets → WhereTold (Carries got sent) before after → IsSentOver octets before after
+sent_over got sent octets None after is carried = carried
+sent_over got sent octets (Some f) None is carried = absurd carried
+sent_over got sent octets (Some f) (Some g) is carried = carried.written ∙ ap (λ (o : List ℕ). f.written ++ o) is
+
+-- ---- behind a turn
+
+module _ (t : SoFar) (moment : DateTime) (turn : Option (List Request)) (y : Client) (after : Option Traffic) (k : IsTalking (with_turn t moment turn) y after) where
+  pub reads_turn : Reads t.server (with_turn t moment turn).octets (told_in t ++ turn_told (newest_in t) (id_in t) turn)
+  reads_turn = turn_read t moment turn k.site (connection_of y) after k.talks
+
+  pub leaves_turn : left_by t.server (with_turn t moment turn).octets ≡ turn_state (state_in t) t.server.moment turn
+  leaves_turn = turn_left t moment turn k.site (connection_of y) after k.talks
+
+-- a client may be called behind a fault that is a reason against a turn
+goes_on : (y : Client) (f : ClientFault) → IsTurnFault f → IsLeft {A = Unit {0}} (Err f) y → IsReady y
+goes_on y fault.NotWritable is left = left
+goes_on y fault.Exhausted is left = left
+goes_on y fault.TooLarge is left = left
+goes_on y fault.TooManyTokens is left = left
+goes_on y (fault.Peer code) is left = absurd is
+goes_on y (fault.Refused code) is left = absurd is
+goes_on y (fault.Service code) is left = absurd is
+goes_on y fault.Ended is left = absurd is
+goes_on y fault.Read is left = absurd is
+goes_on y fault.Write is left = absurd is
+goes_on y fault.TooLong is left = absurd is
+goes_on y fault.UnknownResponse is left = absurd is
+goes_on y fault.OutOfMemory is left = absurd is
+goes_on y fault.Closed is left = absurd is
+
+module _ (t : SoFar) (x : Client) (before : Option Traffic) (k : IsTalking t x before) where
+  -- where it stands
+  pub stands_there : At (client_channel x) k.site
+  stands_there = k.talks.talking.served.serving.together.stands
+
+  -- ---- it calls
+
+  module _ (y : Client) (after : Option Traffic) (law : NonePending) (moment : DateTime) (requests : List Request) (sent : List ℕ) (moves : Moves (connection_of x) (connection_of y) sent before after) (same : SameClient (client_channel x) (client_channel y)) where
+    module _ (replies : List Reply) (q : AnsweredAll requests k.site (client_channel y) sent moves.taken replies) where
+      pub asks_on : IsReady y → IsTalking (with_turn t moment (Some requests)) y after
+      asks_on ready = record {
+        ready = ready;
+        site = q.behind;
+        talks = calls_talk t k.site (connection_of x) before k.talks (connection_of y) after sent moves same law moment requests replies q;
+      }
+
+      pub asks_sent : IsSentOver (octets_of t moment (Some requests)) before after
+      asks_sent =
+          sent_over moves.got sent (octets_of t moment (Some requests)) before after
+          (calls_sent t k.site (connection_of x) before k.talks (connection_of y) after sent moves same law moment requests replies q) moves.carried
+
+      pub asks_replied : map (λ (r : Reply). Some r) replies ≡ requests_replies (lane_back t.server t.limits t.url (newest_in t)) (state_in t) t.server.moment requests
+      asks_replied = calls_replied t k.site (connection_of x) before k.talks (connection_of y) after sent moves same law moment requests replies q
+
+      pub asks_added : (had have : List Reply) → have ≡ had ++ replies
+          → map (λ (r : Reply). Some r) have ≡ map (λ (r : Reply). Some r) had ++ requests_replies (lane_back t.server t.limits t.url (newest_in t)) (state_in t) t.server.moment requests
+      asks_added had have is = ap (map (λ (r : Reply). Some r)) is ∙ (some-append had replies ∙ ap (λ (os : List (Option Reply)). map (λ (r : Reply). Some r) had ++ os) asks_replied)
+
+    module _ (f : ClientFault) (is : IsTurnFault f) (q : BrokenAll requests k.site (connection_of y) sent moves.taken f) where
+      pub asks_refused : turn_refusal (acked_in t) t.turns (Some requests) ≡ Some f
+      asks_refused = calls_refused t k.site (connection_of x) before k.talks (connection_of y) after sent moves same law moment requests f is q
+
+      pub asks_first : IsLeft {A = Unit {0}} (Err f) y → IsBehindFirst t moment requests y after
+      asks_first left = record {
+        done = all_of q.groups;
+        others = q.group ++ q.others;
+        parts = q.parts;
+        talking = record {
+          ready = goes_on y f is left;
+          site = q.behind;
+          talks = first_talk t k.site (connection_of x) before k.talks (connection_of y) after sent moves same law moment requests f is q;
+        };
+      }
+
+  -- ---- it renews its token
+
+  module _ (y : Client) (after : Option Traffic) (moment : DateTime) where
+    pub renews_on : IsTrue (date_time.encodable moment) → (done : Unit {0}) → Renews {A = Unit {0}} moment (connection_of x) (connection_of y) before after (Ok done) → IsReady y → IsTalking (with_turn t moment None) y after
+    renews_on dated done c ready = record {
+      ready = ready;
+      site = (c.answers k.site stands_there).1.0;
+      talks = renewing_talks t k.site (connection_of x) before k.talks (connection_of y) after moment dated done c stands_there;
+    }
+
+    pub renews_sent : IsTrue (date_time.encodable moment) → (done : Unit {0}) → Renews {A = Unit {0}} moment (connection_of x) (connection_of y) before after (Ok done) → IsSentOver (octets_of t moment None) before after
+    renews_sent dated done c =
+        sent_over c.moves.got c.sent (octets_of t moment None) before after
+        (renewing_sent t k.site (connection_of x) before k.talks (connection_of y) after moment dated done c stands_there) c.moves.carried
+
+    pub renews_not : (f : ClientFault) → IsTurnFault f → Renews {A = Unit {0}} moment (connection_of x) (connection_of y) before after (Err f) → turn_refusal (acked_in t) t.turns None ≡ Some f
+    renews_not f is c = renewing_not t k.site (connection_of x) before k.talks (connection_of y) after moment f is c stands_there
+
+  -- ---- it closes
+
+  module _ (moment : DateTime) where
+    pub closes_there : ServerCloses t.server.limits t.server.channel (closed_octets t moment) (told_in t ++ Closed ∷ [])
+    closes_there = closes_read t k.site (connection_of x) before k.talks moment
+
+    pub closes_sent : (after : Option Traffic) (done : Unit {0}) → Closes {A = Unit {0}} moment (client_channel x) before after (Ok done) → IsSentOver (closing_behind (acked_in t) t.server.channel moment t.turns) before after
+    closes_sent after done c =
+        sent_over [] c.sent (closing_behind (acked_in t) t.server.channel moment t.turns) before after
+        (c.answers k.site stands_there ∙ closing_is t k.site (connection_of x) before k.talks moment) c.carried
+
+    pub silent_there : said_to t.server (closed_octets t moment) ≡ said_to t.server t.octets
+    silent_there = closes_silent t k.site (connection_of x) before k.talks moment
+
+    pub left_there : left_by t.server (closed_octets t moment) ≡ state_in t
+    left_there = closes_left t k.site (connection_of x) before k.talks moment

@@ -1,0 +1,452 @@
+-- A client's turns over a line, one behind the other.
+use Rattle.std.proofs.Common.{◌≡◌, ◌⊎◌, inl, inr, ℕ, ◌+◌, ◌<◌, ◌≤◌, IsTrue, List, [], ◌∷◌, ◌++◌, Option, Some, None, Result, Ok, Err, get_or, length, map, take, drop, refl, sym, ◌∙◌, ap, subst, append-nil, append_assoc, arith}
+use Rattle.std.specs.Prelude.{IfErr, OnOk}
+use Rattle.std.proofs.lemmas.List.{length-map, length-take-le, map-append, take-append-drop, take_all, take_more}
+use Rattle.ua_builtin.specs.DateTime.{date_time}
+use Rattle.ua_builtin.specs.declared.date_time.DateTime.{DateTime}
+use Rattle.ua_frame.specs.Run.{End, Going, Over, Stopped}
+use Rattle.ua_frame.specs.declared.limits.Limits.{Limits}
+use Rattle.ua_channel.specs.Line.{Traffic, WhereTold}
+use Rattle.ua_channel.specs.ServerReads.{ServerCloses}
+use Rattle.ua_channel.specs.ServerTold.{Told}
+use Rattle.ua_channel.specs.declared.client.channel.ClientChannel.{ClientChannel}
+use Rattle.ua_services.specs.declared.request.Request.{Request}
+use Rattle.ua_server.specs.State.{State}
+use Rattle.ua_server.specs.declared.step.End.TheVariants as ending
+use Rattle.ua_client.specs.Carried.{Carries}
+use Rattle.ua_client.specs.Client.{Closes, ClosesAt, IsReady, OpensClient, OpensNothing, closing_at, connection_of}
+use Rattle.ua_client.specs.Hearing.{channel_of, untaken_of}
+use Rattle.ua_client.specs.Kept.{CallsInto}
+use Rattle.ua_client.specs.Renewing.{IsRenewed, Renews, renewal_at}
+use Rattle.ua_client.specs.Site.{Site}
+use Rattle.ua_client.specs.declared.client.Client.{Client}
+use Rattle.ua_client.specs.declared.connection.Connection.{Connection}
+use Rattle.ua_client.specs.declared.fault.ClientFault.{ClientFault}
+use Rattle.ua_client.specs.Opening.{BreaksOpening}
+use Rattle.ua_client.specs.declared.fault.CallsFault.{CallsFault}
+use Rattle.ua_client.specs.declared.fault.ClientFault.TheVariants as fault
+use Rattle.ua_client.specs.declared.fault.ClientFault.TheVariants.{OutOfMemory}
+use Rattle.ua_client.specs.declared.reply.Reply.{Reply}
+use Rattle.ua_client.proofs.Carrying.{carried-as, carried-then}
+use Rattle.ua_client.proofs.Settled.{NonePending}
+use Rattle.ua_loopback.specs.Accepted.{AreAccepted, FirstRefused, IsTurnFault, acknowledged, turn_refusal}
+use Rattle.ua_loopback.specs.Beginning.{Beginning}
+use Rattle.ua_loopback.specs.Course.{Converses, Course, Stays, opening_octets}
+use Rattle.ua_loopback.specs.Course.Course.{Asked, Renewed}
+use Rattle.ua_loopback.specs.Kept.{EndsAt, LeavesAt, Served, traffic_of}
+use Rattle.ua_loopback.specs.Replies.{lane_back, turn_replies, turns_replies, turns_state}
+use Rattle.ua_loopback.specs.Sends.{closing_behind, conversation_octets, turns_octets}
+use Rattle.ua_loopback.specs.Says.{end_by, left_by, said_to, state_told}
+use Rattle.ua_loopback.specs.Talking.{IsLineTo, SoFar, TalksAt, acked_in, closed_octets, octets_of, state_in, newest_in, with_turn}
+use Rattle.ua_loopback.specs.inside.Talking.{CanOpen, StaysTalking, Talked, Went}
+use Rattle.ua_loopback.specs.Turns.{conversation_told, opening_told, turns_told}
+use Rattle.ua_loopback.specs.declared.stage.Stage.{Stage}
+use Rattle.ua_loopback.specs.declared.stage.Stage.TheVariants as stage
+use Rattle.ua_loopback.proofs.Begun.{SettlesOpened, went_first}
+use Rattle.ua_loopback.proofs.OneTurn.{calls_refused, calls_replied, calls_sent, calls_talk, closes_read, closes_silent, closing_is, renewing_not, renewing_sent, renewing_talks}
+use Rattle.ua_loopback.proofs.Pushes.{octets_push, replies_push}
+use Rattle.ua_loopback.proofs.Replying.{some-append, state_closed}
+use Rattle.ua_loopback.proofs.Saying.{end_is, left_by_run}
+use Rattle.ua_loopback.proofs.Talks.{got_on, rounds_octets}
+
+-- ---- a turn
+
+module _ (b : Beginning) (limits : Limits) (url : Option (List ℕ)) (moment : DateTime) (opened : Site) (turns : List (Option (List Request))) (x y : Connection) (first now after : Option Traffic) (had have : List Reply) (s : StaysTalking b limits url moment opened turns x first now had) where
+  abbrev opening : List ℕ
+  opening = opening_octets limits url moment
+
+  abbrev was : Stays moment (opening_octets limits url moment) opened turns x first now had
+  was = s.stays
+
+  abbrev talk : SoFar
+  talk = record { server = b; limits = limits; url = url; turns = turns; octets = opening ++ was.sent }
+
+  -- what was sent with this turn
+  more_sent : (turn : Option (List Request)) (sent : List ℕ) → sent ≡ octets_of talk moment turn → was.sent ++ sent ≡ turns_octets (acked_in talk) b.channel moment 1 2 2 (turns ++ turn ∷ [])
+  more_sent turn sent is =
+      ap (λ (o : List ℕ). o ++ sent) s.sent_is
+      ∙ (ap (λ (o : List ℕ). turns_octets (acked_in talk) b.channel moment 1 2 2 turns ++ o) is ∙ sym (octets_push (acked_in talk) b.channel moment 1 2 2 turns turn))
+
+  -- the replies with it
+  more_replied : (turn : Option (List Request)) (added : List Reply) → have ≡ had ++ added → map (λ (r : Reply). Some r) added ≡ turn_replies (lane_back b limits url (newest_in talk)) (state_in talk) b.moment turn
+      → map (λ (r : Reply). Some r) have ≡ turns_replies b limits url b.first 1 (turns ++ turn ∷ [])
+  more_replied turn added have_is replied =
+      ap (λ (rs : List Reply). map (λ (r : Reply). Some r) rs) have_is
+      ∙ (some-append had added
+      ∙ (ap (λ (os : List (Option Reply)). os ++ map (λ (r : Reply). Some r) added) s.replied
+      ∙ (ap (λ (os : List (Option Reply)). turns_replies b limits url b.first 1 turns ++ os) replied ∙ sym (replies_push b limits url b.first 1 turns turn))))
+
+  -- where both ends are behind it
+  talks_on : (turn : Option (List Request)) (u : Site) (sent : List ℕ) → sent ≡ octets_of talk moment turn → TalksAt (with_turn talk moment turn) u y after
+      → TalksAt (record { server = b; limits = limits; url = url; turns = turns ++ turn ∷ []; octets = opening ++ (was.sent ++ sent) }) u y after
+  talks_on turn u sent is talks =
+      subst (λ (o : List ℕ). TalksAt (record { server = b; limits = limits; url = url; turns = turns ++ turn ∷ []; octets = o }) u y after)
+      (ap (λ (o : List ℕ). (opening ++ was.sent) ++ o) (sym is) ∙ append_assoc opening was.sent sent) talks
+
+  carried_on : (got sent : List ℕ) → WhereTold (Carries got sent) now after → WhereTold (Carries (was.got ++ got) (opening ++ (was.sent ++ sent))) first after
+  carried_on got sent carried =
+      carried-as (was.got ++ got) ((opening ++ was.sent) ++ sent) (was.got ++ got) (opening ++ (was.sent ++ sent)) first after refl (append_assoc opening was.sent sent)
+      (carried-then was.got (opening ++ was.sent) got sent first now after was.carried carried)
+
+  -- requests are asked
+  asked_on : NonePending → (requests : List Request) (done : Unit {0}) → CallsInto {A = Unit {0}} requests x y now after (Ok done) had have → StaysTalking b limits url moment opened (turns ++ Some requests ∷ []) y first after have
+  asked_on law requests done c =
+      let a = c.answers was.site was.at in
+      let sent_is : c.sent ≡ octets_of talk moment (Some requests) = calls_sent talk was.site x now s.talks y after c.sent c.moves c.same law moment requests c.added a in
+      record {
+        stays = record {
+          site = a.behind;
+          at = a.at;
+          sent = was.sent ++ c.sent;
+          course = subst (λ (r : List Reply). Course moment opened (turns ++ Some requests ∷ []) a.behind (was.sent ++ c.sent) r) (sym c.have_is)
+              (Asked (Some requests) a.groups was.course (ap (λ (rs : List Request). Some rs) a.parts) a.sized a.rounds);
+          got = was.got ++ c.moves.got;
+          carried = carried_on c.moves.got c.sent c.moves.carried;
+          got_is = got_on was.got c.moves.got was.site.octets (untaken_of x) c.moves.taken (untaken_of y) was.got_is c.moves.parts ∙ ap (λ (o : List ℕ). o ++ untaken_of y) (sym (rounds_octets a.rounds));
+        };
+        sent_is = more_sent (Some requests) c.sent sent_is;
+        replied = more_replied (Some requests) c.added c.have_is (calls_replied talk was.site x now s.talks y after c.sent c.moves c.same law moment requests c.added a);
+        talks = talks_on (Some requests) a.behind c.sent sent_is (calls_talk talk was.site x now s.talks y after c.sent c.moves c.same law moment requests c.added a);
+      }
+
+  -- the token is renewed
+  renewed_on : IsTrue (date_time.encodable moment) → (done : Unit {0}) → Renews {A = Unit {0}} moment x y now after (Ok done) → have ≡ had → StaysTalking b limits url moment opened (turns ++ None ∷ []) y first after have
+  renewed_on dated done c same =
+      let a = c.answers was.site was.at in
+      let u : Site = a.1.0 in
+      let renewed : IsRenewed (channel_of y) was.site u c.moves.taken = a.1.1 in
+      let sent_is : c.sent ≡ octets_of talk moment None = renewing_sent talk was.site x now s.talks y after moment dated done c was.at in
+      record {
+        stays = record {
+          site = u;
+          at = renewed.at;
+          sent = was.sent ++ c.sent;
+          course = subst (λ (o : List ℕ). Course moment opened (turns ++ None ∷ []) u (was.sent ++ o) have) (sym a.0)
+              (subst (λ (r : List Reply). Course moment opened (turns ++ None ∷ []) u (was.sent ++ renewal_at was.site moment) r) (sym same) (Renewed None (channel_of y) was.course refl renewed));
+          got = was.got ++ c.moves.got;
+          carried = carried_on c.moves.got c.sent c.moves.carried;
+          got_is = got_on was.got c.moves.got was.site.octets (untaken_of x) c.moves.taken (untaken_of y) was.got_is c.moves.parts ∙ ap (λ (o : List ℕ). o ++ untaken_of y) (sym renewed.octets);
+        };
+        sent_is = more_sent None c.sent sent_is;
+        replied = more_replied None [] (same ∙ sym (append-nil had)) refl;
+        talks = talks_on None u c.sent sent_is (renewing_talks talk was.site x now s.talks y after moment dated done c was.at);
+      }
+
+  -- a turn that asks these requests, or none
+  pub stays_asked : NonePending → (t : Option (List Request)) (requests : List Request) (done : Unit {0}) → t ≡ Some requests → CallsInto {A = Unit {0}} requests x y now after (Ok done) had have → StaysTalking b limits url moment opened (turns ++ t ∷ []) y first after have
+  stays_asked law t requests done is c = subst (λ (o : Option (List Request)). StaysTalking b limits url moment opened (turns ++ o ∷ []) y first after have) (sym is) (asked_on law requests done c)
+
+  pub stays_renewed : IsTrue (date_time.encodable moment) → (t : Option (List Request)) (done : Unit {0}) → t ≡ None → Renews {A = Unit {0}} moment x y now after (Ok done) → have ≡ had → StaysTalking b limits url moment opened (turns ++ t ∷ []) y first after have
+  stays_renewed dated t done is c same = subst (λ (o : Option (List Request)). StaysTalking b limits url moment opened (turns ++ o ∷ []) y first after have) (sym is) (renewed_on dated done c same)
+
+  -- or it is not taken, by the first reason against it
+
+  pub asked_not : NonePending → (t : Option (List Request)) (requests : List Request) (f : CallsFault) → t ≡ Some requests → CallsInto {A = Unit {0}} requests x y now after (Err f) had have → IsTurnFault f.fault → turn_refusal (acked_in talk) turns t ≡ Some f.fault
+  asked_not law t requests f is c reason =
+      ap (turn_refusal (acked_in talk) turns) is ∙ calls_refused talk was.site x now s.talks y after c.sent c.moves c.same law moment requests f.fault reason (c.answers was.site was.at).broken
+
+  pub renewed_not : (t : Option (List Request)) (f : ClientFault) → t ≡ None → Renews {A = Unit {0}} moment x y now after (Err f) → IsTurnFault f → turn_refusal (acked_in talk) turns t ≡ Some f
+  renewed_not t f is c reason = ap (turn_refusal (acked_in talk) turns) is ∙ renewing_not talk was.site x now s.talks y after moment f reason c was.at
+
+-- ---- the end
+
+-- it closes
+pub talked_all : (b : Beginning) (limits : Limits) (url : Option (List ℕ)) (moment : DateTime) (turns : List (Option (List Request))) (x : Connection) (first now after : Option Traffic) (replies : List Reply)
+    (w : Went b limits url moment x first now) (y : Connection) (later : Option Traffic) (done : Unit {0})
+    → StaysTalking b limits url moment w.opened turns y first later replies → Closes {A = Unit {0}} moment (channel_of y) later after (Ok done) → Talked b limits url moment turns first after replies
+talked_all b limits url moment turns x first now after replies w y later done s c =
+    let opening : List ℕ = opening_octets limits url moment in
+    let was = s.stays in
+    let talk : SoFar = record { server = b; limits = limits; url = url; turns = turns; octets = opening ++ was.sent } in
+    let sent_is : c.sent ≡ closing_at was.site moment = c.answers was.site was.at in
+    let closing : closing_at was.site moment ≡ closing_behind (acked_in talk) b.channel moment turns = closing_is talk was.site y later s.talks moment in
+    let all : opening ++ (was.sent ++ closing_at was.site moment) ≡ closed_octets talk moment =
+    sym (append_assoc opening was.sent (closing_at was.site moment)) ∙ ap (λ (o : List ℕ). (opening ++ was.sent) ++ o) closing in
+    record {
+      channel = w.channel;
+      opened = w.opened;
+      opens = w.opens;
+      opened_at = w.opened_at;
+      last = was.site;
+      sent = was.sent;
+      course = was.course;
+      got = was.got;
+      carried = carried-as (was.got ++ []) ((opening ++ was.sent) ++ c.sent) was.got (opening ++ (was.sent ++ closing_at was.site moment)) first after (append-nil was.got)
+          (ap (λ (o : List ℕ). (opening ++ was.sent) ++ o) sent_is ∙ append_assoc opening was.sent (closing_at was.site moment)) (carried-then was.got (opening ++ was.sent) [] c.sent first later after was.carried c.carried);
+      accepted = s.talks.accepted;
+      replied = s.replied;
+      state_is = s.talks.state_is;
+      up_is =
+          ap (λ (o : List ℕ). opening ++ (o ++ closing_at was.site moment)) s.sent_is
+          ∙ ap (λ (o : List ℕ). opening ++ (turns_octets (acked_in talk) b.channel moment 1 2 2 turns ++ o)) closing;
+      took = s.talks.talking.served.serving.taken ∙ (sym (closes_silent talk was.site y later s.talks moment) ∙ ap (said_to b) (sym all));
+      closes = subst (λ (o : List ℕ). ServerCloses b.limits b.channel o (conversation_told b.limits limits url turns)) (sym all) (closes_read talk was.site y later s.talks moment);
+    }
+
+-- over a line to a server
+pub conversed : (b : Beginning) (limits : Limits) (url : Option (List ℕ)) (moment : DateTime) (turns : List (Option (List Request))) (old new : Served) (replies : List Reply) → old.up ≡ []
+    → Talked b limits url moment turns (Some (traffic_of b old)) (Some (traffic_of b new)) replies → Converses limits url moment turns new.up (said_to b new.up) replies
+conversed b limits url moment turns old new replies none t =
+    let sent : List ℕ = opening_octets limits url moment ++ (t.sent ++ closing_at t.last moment) in
+    let up_is : new.up ≡ sent = t.carried.written ∙ ap (λ (o : List ℕ). o ++ sent) none in
+    record {
+      x = t.channel;
+      opened = t.opened;
+      opens = t.opens;
+      opened_at = t.opened_at;
+      last = t.last;
+      sent = t.sent;
+      course = t.course;
+      up_is = up_is;
+      took = t.took ∙ ap (said_to b) (sym up_is);
+    }
+
+-- and the server was told just this
+pub closed_by : (b : Beginning) (limits : Limits) (url : Option (List ℕ)) (moment : DateTime) (turns : List (Option (List Request))) (old new : Served) (replies : List Reply) → old.up ≡ []
+    → Talked b limits url moment turns (Some (traffic_of b old)) (Some (traffic_of b new)) replies → ServerCloses b.limits b.channel new.up (conversation_told b.limits limits url turns)
+closed_by b limits url moment turns old new replies none t =
+    subst (λ (o : List ℕ). ServerCloses b.limits b.channel o (conversation_told b.limits limits url turns))
+    (sym (t.carried.written ∙ ap (λ (o : List ℕ). o ++ (opening_octets limits url moment ++ (t.sent ++ closing_at t.last moment))) none)) t.closes
+
+-- the line as it begins
+pub line_begins : (b : Beginning) (old : Served) → old.up ≡ [] → old.read ≡ 0 → IsLineTo b [] [] (Some (traffic_of b old))
+line_begins b old none nothing_read = λ more. sym (ap (λ (n : ℕ). drop n (said_to b (old.up ++ more))) nothing_read ∙ ap (λ (u : List ℕ). said_to b (u ++ more)) none)
+
+-- ---- turns, one behind the other
+
+-- the turns of a caller's own type: a value of it is a turn
+module _ {A : Type 0} (turn_of : A → Option (List Request)) where
+  -- so many turns were taken
+  pub record TakenSoFar (moment : DateTime) (turns : List A) (index : ℕ) (x y : Client) (before now : Option Traffic) (had have : List Reply) : Type 0 where
+    pub stays : (b : Beginning) (limits : Limits) (url : Option (List ℕ)) (opened : Site) (first : Option Traffic) → StaysTalking b limits url moment opened [] (connection_of x) first before had
+        → StaysTalking b limits url moment opened (map turn_of (take index turns)) (connection_of y) first now have
+    pub ready : IsReady y
+
+  pub taken_none : (moment : DateTime) (turns : List A) (x : Client) (before : Option Traffic) (had : List Reply) → IsReady x → TakenSoFar moment turns 0 x x before before had had
+  taken_none moment turns x before had ready = record { stays = λ b limits url opened first s. s; ready = ready }
+
+  -- the turns up to the next one
+  turns_on : (turns : List A) (index : ℕ) (t : A) → index < length turns → t ≡ get_or turns index t → map turn_of (take (index + 1) turns) ≡ map turn_of (take index turns) ++ turn_of t ∷ []
+  turns_on turns index t less is =
+      ap (map turn_of) (take_more turns index t less ∙ ap (λ (u : A). take index turns ++ u ∷ []) (sym is)) ∙ map-append turn_of (take index turns) (t ∷ [])
+
+  pub taken_more : (moment : DateTime) (turns : List A) (index : ℕ) (x y z : Client) (before now after : Option Traffic) (had have later : List Reply) (t : A) → TakenSoFar moment turns index x y before now had have
+      → index < length turns → t ≡ get_or turns index t
+      → ((b : Beginning) (limits : Limits) (url : Option (List ℕ)) (opened : Site) (done : List (Option (List Request))) (first : Option Traffic) → StaysTalking b limits url moment opened done (connection_of y) first now have
+      → StaysTalking b limits url moment opened (done ++ turn_of t ∷ []) (connection_of z) first after later)
+      → IsReady z → TakenSoFar moment turns (index + 1) x z before after had later
+  taken_more moment turns index x y z before now after had have later t so less is turn ready = record {
+    stays = λ b limits url opened first s.
+        subst (λ (ts : List (Option (List Request))). StaysTalking b limits url moment opened ts (connection_of z) first after later) (sym (turns_on turns index t less is))
+        (turn b limits url opened (map turn_of (take index turns)) first (so.stays b limits url opened first s));
+    ready = ready;
+  }
+
+  -- the next one is not taken
+  pub refused_next : (moment : DateTime) (turns : List A) (index : ℕ) (x y : Client) (before now : Option Traffic) (had have : List Reply) (t : A) (f : ClientFault) → TakenSoFar moment turns index x y before now had have
+      → index < length turns → t ≡ get_or turns index t
+      → ((b : Beginning) (limits : Limits) (url : Option (List ℕ)) (opened : Site) (done : List (Option (List Request))) (first : Option Traffic) → StaysTalking b limits url moment opened done (connection_of y) first now have
+      → turn_refusal (acknowledged b.limits limits url) done (turn_of t) ≡ Some f)
+      → (b : Beginning) (limits : Limits) (url : Option (List ℕ)) (opened : Site) (first : Option Traffic) → StaysTalking b limits url moment opened [] (connection_of x) first before had
+      → FirstRefused (acknowledged b.limits limits url) (map turn_of turns) index f
+  refused_next moment turns index x y before now had have t f so less is refused b limits url opened first s =
+      let done = so.stays b limits url opened first s in
+      record {
+        before = map turn_of (take index turns);
+        turn = turn_of t;
+        behind = map turn_of (drop (index + 1) turns);
+        parts =
+            ap (map turn_of) (sym (take-append-drop (index + 1) turns))
+            ∙ (map-append turn_of (take (index + 1) turns) (drop (index + 1) turns)
+            ∙ (ap (λ (ts : List (Option (List Request))). ts ++ map turn_of (drop (index + 1) turns)) (turns_on turns index t less is)
+            ∙ append_assoc (map turn_of (take index turns)) (turn_of t ∷ []) (map turn_of (drop (index + 1) turns))));
+        place_is = length-map (take index turns) turn_of ∙ length-take-le index turns (omega (arith, less));
+        accepted = done.talks.accepted;
+        refused = refused b limits url opened (map turn_of (take index turns)) first done;
+      }
+
+  pub taken_all : (moment : DateTime) (turns : List A) (index : ℕ) (x y : Client) (before now : Option Traffic) (had have : List Reply) → TakenSoFar moment turns index x y before now had have → length turns ≤ index
+      → (b : Beginning) (limits : Limits) (url : Option (List ℕ)) (opened : Site) (first : Option Traffic) → StaysTalking b limits url moment opened [] (connection_of x) first before had
+      → StaysTalking b limits url moment opened (map turn_of turns) (connection_of y) first now have
+  taken_all moment turns index x y before now had have so enough b limits url opened first s =
+      subst (λ (ts : List A). StaysTalking b limits url moment opened (map turn_of ts) (connection_of y) first now have) (take_all index turns enough) (so.stays b limits url opened first s)
+
+-- ---- what calls of a client say
+
+-- it opened
+pub went_by : (limits : Limits) (url : Option (List ℕ)) (moment : DateTime) (before after : Option Traffic) (client : Client) → SettlesOpened
+    → (OpensNothing before after (Ok client) ⊎ OpensClient limits url moment before after (Ok client)) → (b : Beginning) → CanOpen b limits url moment → IsLineTo b [] [] before → Went b limits url moment (connection_of client) before after
+went_by limits url moment before after client law (inl nothing) b able line = let none : ◌≡◌ {A = Result Client ClientFault} (Ok client) (Err OutOfMemory) = nothing.0 in absurd cc
+went_by limits url moment before after client law (inr o) b able line = went_first b limits url moment before after client law o able line
+
+pub ready_by : (limits : Limits) (url : Option (List ℕ)) (moment : DateTime) (before after : Option Traffic) (client : Client)
+    → (OpensNothing before after (Ok client) ⊎ OpensClient limits url moment before after (Ok client)) → IsReady client
+ready_by limits url moment before after client (inl nothing) = let none : ◌≡◌ {A = Result Client ClientFault} (Ok client) (Err OutOfMemory) = nothing.0 in absurd cc
+ready_by limits url moment before after client (inr o) = o.over.1
+
+-- neither its opening nor its close fails for a reason against a turn
+
+pub opens_by : (limits : Limits) (url : Option (List ℕ)) (moment : DateTime) (before after : Option Traffic) (f : ClientFault) → IsTurnFault f → (OpensNothing before after (Err f) ⊎ OpensClient limits url moment before after (Err f)) → ⊥
+opens_by limits url moment before after f is (inl nothing) = memory_not f is (err_is f OutOfMemory nothing.0)
+  where
+    err_is : (g h : ClientFault) → ◌≡◌ {A = Result Client ClientFault} (Err g) (Err h) → g ≡ h
+    err_is g h e = cc
+
+    memory_not : (g : ClientFault) → IsTurnFault g → g ≡ OutOfMemory → ⊥
+    memory_not g reason e = subst IsTurnFault e reason
+opens_by limits url moment before after f is (inr o) = by _ _ _ _ _ f is (o.opens.answers o.fresh.goes)
+  where
+    by : (hello opening : List ℕ) (x : ClientChannel) (sent taken : List ℕ) (g : ClientFault) → IsTurnFault g → BreaksOpening hello opening x sent taken g → ⊥
+    by _ _ _ _ _ fault.NotWritable reason k = k
+    by _ _ _ _ _ fault.Exhausted reason k = k
+    by _ _ _ _ _ fault.TooLarge reason k = k
+    by _ _ _ _ _ fault.TooManyTokens reason k = k
+    by _ _ _ _ _ (fault.Peer code) reason k = reason
+    by _ _ _ _ _ (fault.Refused code) reason k = reason
+    by _ _ _ _ _ (fault.Service code) reason k = reason
+    by _ _ _ _ _ fault.Ended reason k = reason
+    by _ _ _ _ _ fault.Read reason k = reason
+    by _ _ _ _ _ fault.Write reason k = reason
+    by _ _ _ _ _ fault.TooLong reason k = reason
+    by _ _ _ _ _ fault.UnknownResponse reason k = reason
+    by _ _ _ _ _ fault.OutOfMemory reason k = reason
+    by _ _ _ _ _ fault.Closed reason k = reason
+
+pub closes_by : (s : Site) (moment : DateTime) (sent : List ℕ) (f : ClientFault) → IsTurnFault f → ClosesAt {A = Unit {0}} s moment sent (Err f) → ⊥
+closes_by s moment sent fault.NotWritable is k = k
+closes_by s moment sent fault.Exhausted is k = k
+closes_by s moment sent fault.TooLarge is k = k
+closes_by s moment sent fault.TooManyTokens is k = k
+closes_by s moment sent (fault.Peer code) is k = is
+closes_by s moment sent (fault.Refused code) is k = is
+closes_by s moment sent (fault.Service code) is k = is
+closes_by s moment sent fault.Ended is k = is
+closes_by s moment sent fault.Read is k = is
+closes_by s moment sent fault.Write is k = is
+closes_by s moment sent fault.TooLong is k = is
+closes_by s moment sent fault.UnknownResponse is k = is
+closes_by s moment sent fault.OutOfMemory is k = is
+closes_by s moment sent fault.Closed is k = is
+
+-- ---- how the server saw it end
+
+ends_closed : (b : Beginning) (s : Stage) (up : List ℕ) → EndsAt s b up → end_by b up ≡ Over → s ≡ stage.Ended ending.Closed
+ends_closed b stage.Going up e over = let no : ◌≡◌ {A = End ℕ} Going Over = sym e ∙ over in absurd cc
+ends_closed b (stage.Ended ending.Closed) up e over = refl
+ends_closed b (stage.Ended (ending.Refused code)) up e over = let no : ◌≡◌ {A = End ℕ} (Stopped code.code) Over = sym e ∙ over in absurd cc
+ends_closed b (stage.Ended ending.NoClose) up e over = absurd e
+ends_closed b (stage.Ended ending.Cut) up e over = absurd e
+ends_closed b stage.Broken up e over = let no : ◌≡◌ {A = End ℕ} Going Over = sym e ∙ over in absurd cc
+
+-- where a CLO closed its channel, by that
+pub closed_well : (r : Result (Unit {0}) ClientFault) (b : Beginning) (limits : Limits) (channel : ℕ) (first : State) (moment : DateTime) (s : Stage) (up : List ℕ) (told : List Told) → b ≡ record { limits = limits; channel = channel; first = first; moment = moment }
+    → EndsAt s b up → OnOk r (ServerCloses limits channel up told) → OnOk r (s ≡ stage.Ended ending.Closed)
+closed_well (Err f) b limits channel first moment s up told is e q = tt
+closed_well (Ok done) b limits channel first moment s up told is e q =
+    let here : ServerCloses b.limits b.channel up told = subst (λ (d : Beginning). ServerCloses d.limits d.channel up told) (sym is) q in
+    ends_closed b s up e (end_is b up here.frames [] Over here.run)
+
+-- and the services are what it left
+pub left_well : (r : Result (Unit {0}) ClientFault) (b : Beginning) (s : Stage) (up : List ℕ) (now : State) → LeavesAt s b up now → OnOk r (s ≡ stage.Ended ending.Closed) → OnOk r (now ≡ left_by b up)
+left_well (Err f) b s up now leaves closed = tt
+left_well (Ok done) b s up now leaves closed = subst (λ (t : Stage). LeavesAt t b up now) closed leaves
+
+-- ---- where it did all
+
+module _ (b : Beginning) (limits : Limits) (channel : ℕ) (services : State) (url : Option (List ℕ)) (moment : DateTime) (turns : List (Option (List Request))) (old new : Served) (replies : List Reply) (is : b ≡ record { limits = limits; channel = channel; first = services; moment = moment })
+    (able : CanOpen (record { limits = limits; channel = channel; first = services; moment = moment }) limits url moment) (none : old.up ≡ []) (nothing_read : old.read ≡ 0)
+    (t : (b' : Beginning) → CanOpen b' limits url moment → IsLineTo b' [] [] (Some (traffic_of b old)) → Talked b' limits url moment turns (Some (traffic_of b old)) (Some (traffic_of b new)) replies) where
+  talked : Talked b limits url moment turns (Some (traffic_of b old)) (Some (traffic_of b new)) replies
+  talked = t b (subst (λ (d : Beginning). CanOpen d limits url moment) (sym is) able) (line_begins b old none nothing_read)
+
+  all_conversed : (up down : List ℕ) → up ≡ new.up → down ≡ said_to b new.up → Converses limits url moment turns up down replies
+  all_conversed up down p q =
+      subst (λ (u : List ℕ). Converses limits url moment turns u down replies) (sym p)
+      (subst (λ (d : List ℕ). Converses limits url moment turns new.up d replies) (sym q) (conversed b limits url moment turns old new replies none talked))
+
+  all_sent : (up : List ℕ) → up ≡ new.up → up ≡ conversation_octets limits limits url channel moment turns
+  all_sent up p =
+      p
+      ∙ (talked.carried.written
+      ∙ (ap (λ (o : List ℕ). o ++ (opening_octets limits url moment ++ (talked.sent ++ closing_at talked.last moment))) none
+      ∙ (talked.up_is ∙ ap (λ (d : Beginning). conversation_octets d.limits limits url d.channel moment turns) is)))
+
+  all_closed_there : (up : List ℕ) → up ≡ new.up → ServerCloses b.limits b.channel up (conversation_told b.limits limits url turns)
+  all_closed_there up p = subst (λ (u : List ℕ). ServerCloses b.limits b.channel u (conversation_told b.limits limits url turns)) (sym p) (closed_by b limits url moment turns old new replies none talked)
+
+  all_replied : map (λ (r : Reply). Some r) replies ≡ turns_replies (record { limits = limits; channel = channel; first = services; moment = moment }) limits url services 1 turns
+  all_replied = talked.replied ∙ ap (λ (d : Beginning). turns_replies d limits url d.first 1 turns) is
+
+  -- the state that all of it leaves
+  all_left : (up : List ℕ) → up ≡ new.up → left_by b up ≡ turns_state services moment turns
+  all_left up p =
+      let q = all_closed_there up p in
+      left_by_run b up q.frames [] Over q.run
+      ∙ (ap (λ (ts : List Told). state_told b ts) q.told_is
+      ∙ (state_closed b (opening_told b.limits limits url ++ turns_told 1 2 turns) ∙ (talked.state_is ∙ ap (λ (d : Beginning). turns_state d.first d.moment turns) is)))
+
+  all_accepted : AreAccepted (acknowledged limits limits url) turns
+  all_accepted = subst (λ (d : Beginning). AreAccepted (acknowledged d.limits limits url) turns) is talked.accepted
+
+  all_closed : (up : List ℕ) → up ≡ new.up → ServerCloses limits channel up (conversation_told limits limits url turns)
+  all_closed up p =
+      subst (λ (d : Beginning). ServerCloses d.limits d.channel up (conversation_told d.limits limits url turns)) is (all_closed_there up p)
+
+-- what went over the line
+pub conversed_on : (r : Result (Unit {0}) ClientFault) (b : Beginning) (limits : Limits) (channel : ℕ) (services : State) (url : Option (List ℕ)) (moment : DateTime) (turns : List (Option (List Request))) (old new : Served) (replies : List Reply) (up down : List ℕ)
+    → b ≡ record { limits = limits; channel = channel; first = services; moment = moment } → CanOpen (record { limits = limits; channel = channel; first = services; moment = moment }) limits url moment → old.up ≡ [] → old.read ≡ 0
+    → OnOk r ((b' : Beginning) → CanOpen b' limits url moment → IsLineTo b' [] [] (Some (traffic_of b old)) → Talked b' limits url moment turns (Some (traffic_of b old)) (Some (traffic_of b new)) replies)
+    → up ≡ new.up → down ≡ said_to b new.up → OnOk r (Converses limits url moment turns up down replies)
+conversed_on (Err f) b limits channel services url moment turns old new replies up down is able none nothing_read t p q = tt
+conversed_on (Ok found) b limits channel services url moment turns old new replies up down is able none nothing_read t p q =
+    all_conversed b limits channel services url moment turns old new replies is able none nothing_read t up down p q
+
+-- and what it told the server
+pub closed_on : (r : Result (Unit {0}) ClientFault) (b : Beginning) (limits : Limits) (channel : ℕ) (services : State) (url : Option (List ℕ)) (moment : DateTime) (turns : List (Option (List Request))) (old new : Served) (replies : List Reply) (up : List ℕ)
+    → b ≡ record { limits = limits; channel = channel; first = services; moment = moment } → CanOpen (record { limits = limits; channel = channel; first = services; moment = moment }) limits url moment → old.up ≡ [] → old.read ≡ 0
+    → OnOk r ((b' : Beginning) → CanOpen b' limits url moment → IsLineTo b' [] [] (Some (traffic_of b old)) → Talked b' limits url moment turns (Some (traffic_of b old)) (Some (traffic_of b new)) replies)
+    → up ≡ new.up → OnOk r (ServerCloses limits channel up (conversation_told limits limits url turns))
+closed_on (Err f) b limits channel services url moment turns old new replies up is able none nothing_read t p = tt
+closed_on (Ok found) b limits channel services url moment turns old new replies up is able none nothing_read t p =
+    all_closed b limits channel services url moment turns old new replies is able none nothing_read t up p
+
+-- and each turn was accepted
+pub accepted_on : (r : Result (Unit {0}) ClientFault) (b : Beginning) (limits : Limits) (channel : ℕ) (services : State) (url : Option (List ℕ)) (moment : DateTime) (turns : List (Option (List Request))) (old new : Served) (replies : List Reply)
+    → b ≡ record { limits = limits; channel = channel; first = services; moment = moment } → CanOpen (record { limits = limits; channel = channel; first = services; moment = moment }) limits url moment → old.up ≡ [] → old.read ≡ 0
+    → OnOk r ((b' : Beginning) → CanOpen b' limits url moment → IsLineTo b' [] [] (Some (traffic_of b old)) → Talked b' limits url moment turns (Some (traffic_of b old)) (Some (traffic_of b new)) replies)
+    → OnOk r (AreAccepted (acknowledged limits limits url) turns)
+accepted_on (Err f) b limits channel services url moment turns old new replies is able none nothing_read t = tt
+accepted_on (Ok found) b limits channel services url moment turns old new replies is able none nothing_read t = all_accepted b limits channel services url moment turns old new replies is able none nothing_read t
+
+-- or the first that is not is named
+pub refused_on : (r : Result (Unit {0}) ClientFault) (b : Beginning) (limits : Limits) (channel : ℕ) (services : State) (url : Option (List ℕ)) (moment : DateTime) (turns : List (Option (List Request))) (old : Served) (place : ℕ)
+    → b ≡ record { limits = limits; channel = channel; first = services; moment = moment } → CanOpen (record { limits = limits; channel = channel; first = services; moment = moment }) limits url moment → old.up ≡ [] → old.read ≡ 0
+    → IfErr r (λ f. IsTurnFault f → (b' : Beginning) → CanOpen b' limits url moment → IsLineTo b' [] [] (Some (traffic_of b old)) → FirstRefused (acknowledged b'.limits limits url) turns place f)
+    → IfErr r (λ f. IsTurnFault f → FirstRefused (acknowledged limits limits url) turns place f)
+refused_on (Ok found) b limits channel services url moment turns old place is able none nothing_read t = tt
+refused_on (Err f) b limits channel services url moment turns old place is able none nothing_read t = λ reason.
+    subst (λ (d : Beginning). FirstRefused (acknowledged d.limits limits url) turns place f) is (t reason b (subst (λ (d : Beginning). CanOpen d limits url moment) (sym is) able) (line_begins b old none nothing_read))
+
+-- and the client sent just these octets
+pub sent_on : (r : Result (Unit {0}) ClientFault) (b : Beginning) (limits : Limits) (channel : ℕ) (services : State) (url : Option (List ℕ)) (moment : DateTime) (turns : List (Option (List Request))) (old new : Served) (replies : List Reply) (up : List ℕ)
+    → b ≡ record { limits = limits; channel = channel; first = services; moment = moment } → CanOpen (record { limits = limits; channel = channel; first = services; moment = moment }) limits url moment → old.up ≡ [] → old.read ≡ 0
+    → OnOk r ((b' : Beginning) → CanOpen b' limits url moment → IsLineTo b' [] [] (Some (traffic_of b old)) → Talked b' limits url moment turns (Some (traffic_of b old)) (Some (traffic_of b new)) replies)
+    → up ≡ new.up → OnOk r (up ≡ conversation_octets limits limits url channel moment turns)
+sent_on (Err f) b limits channel services url moment turns old new replies up is able none nothing_read t p = tt
+sent_on (Ok found) b limits channel services url moment turns old new replies up is able none nothing_read t p = all_sent b limits channel services url moment turns old new replies is able none nothing_read t up p
+
+-- each request has the reply that is worked out of the services
+pub replied_on : (r : Result (Unit {0}) ClientFault) (b : Beginning) (limits : Limits) (channel : ℕ) (services : State) (url : Option (List ℕ)) (moment : DateTime) (turns : List (Option (List Request))) (old new : Served) (replies : List Reply)
+    → b ≡ record { limits = limits; channel = channel; first = services; moment = moment } → CanOpen (record { limits = limits; channel = channel; first = services; moment = moment }) limits url moment → old.up ≡ [] → old.read ≡ 0
+    → OnOk r ((b' : Beginning) → CanOpen b' limits url moment → IsLineTo b' [] [] (Some (traffic_of b old)) → Talked b' limits url moment turns (Some (traffic_of b old)) (Some (traffic_of b new)) replies)
+    → OnOk r (map (λ (x : Reply). Some x) replies ≡ turns_replies (record { limits = limits; channel = channel; first = services; moment = moment }) limits url services 1 turns)
+replied_on (Err f) b limits channel services url moment turns old new replies is able none nothing_read t = tt
+replied_on (Ok found) b limits channel services url moment turns old new replies is able none nothing_read t = all_replied b limits channel services url moment turns old new replies is able none nothing_read t
+
+-- and the services are as the turns leave them
+pub state_on : (r : Result (Unit {0}) ClientFault) (b : Beginning) (limits : Limits) (channel : ℕ) (services : State) (url : Option (List ℕ)) (moment : DateTime) (turns : List (Option (List Request))) (old new : Served) (replies : List Reply) (up : List ℕ) (now : State)
+    → b ≡ record { limits = limits; channel = channel; first = services; moment = moment } → CanOpen (record { limits = limits; channel = channel; first = services; moment = moment }) limits url moment → old.up ≡ [] → old.read ≡ 0
+    → OnOk r ((b' : Beginning) → CanOpen b' limits url moment → IsLineTo b' [] [] (Some (traffic_of b old)) → Talked b' limits url moment turns (Some (traffic_of b old)) (Some (traffic_of b new)) replies)
+    → up ≡ new.up → OnOk r (now ≡ left_by b up) → OnOk r (now ≡ turns_state services moment turns)
+state_on (Err f) b limits channel services url moment turns old new replies up now is able none nothing_read t p q = tt
+state_on (Ok found) b limits channel services url moment turns old new replies up now is able none nothing_read t p q = q ∙ all_left b limits channel services url moment turns old new replies is able none nothing_read t up p

@@ -1,0 +1,124 @@
+-- What a server says of octets, by a reading of them; and that it says nothing else of more octets first.
+use Rattle.std.proofs.Common.{◌≡◌, ℕ, ◌≤◌, List, [], ◌∷◌, ◌++◌, length, replicate, sym, ◌∙◌, ap, arith, append-nil}
+use Rattle.std.proofs.lemmas.List.{replicate-append-replicate, length-replicate}
+use Rattle.ua_builtin.specs.declared.date_time.DateTime.{DateTime}
+use Rattle.ua_frame.specs.declared.frame.Frame.{Frame}
+use Rattle.ua_frame.specs.After.{each_from}
+use Rattle.ua_frame.specs.Run.{Rules, End, Going, Stopped, Over, Run, events}
+use Rattle.ua_frame.proofs.Ends.{ends_stay}
+use Rattle.ua_frame.proofs.Readings.{reading}
+use Rattle.ua_frame.proofs.Unique.{unique}
+use Rattle.ua_channel.proofs.ReadOn.{events_on}
+use Rattle.ua_channel.specs.ServerRules.{server_rules}
+use Rattle.ua_channel.specs.ServerTold.{Told, Closed}
+use Rattle.ua_server.specs.Said.{Course, last_words, left, left_by as course_by, said, said_of, used_in, with_more}
+use Rattle.ua_server.proofs.SaidInParts.{left-append, left-more, said-append, said-more, used_in-append}
+use Rattle.ua_loopback.specs.Beginning.{Beginning}
+use Rattle.ua_loopback.specs.Says.{end_by, left_by, read_by, said_to, spent, told_by}
+use Rattle.ua_loopback.proofs.Further.{behind, run_further}
+
+-- ---- by a reading
+
+abbrev pub rules_by : Beginning → Rules Told ℕ
+rules_by b = server_rules b.limits b.channel
+
+module _ (b : Beginning) (octets : List ℕ) (fs : List Frame) (rest : List ℕ) (end : End ℕ) (run : Run (rules_by b) octets fs rest end) where
+  told_is : told_by b octets ≡ events (rules_by b) fs
+  told_is = ap (events (rules_by b)) (unique (rules_by b) octets (read_by b octets).frames fs (read_by b octets).rest rest (read_by b octets).end end (read_by b octets).run run).frames
+
+  pub end_is : end_by b octets ≡ end
+  end_is = (unique (rules_by b) octets (read_by b octets).frames fs (read_by b octets).rest rest (read_by b octets).end end (read_by b octets).run run).ends
+
+  pub said_by_run : said_to b octets ≡ said b.channel b.first (events (rules_by b) fs) end (spent (events (rules_by b) fs) b.moment)
+  unfolding said_to
+  said_by_run =
+      ap (λ (t : List Told). said b.channel b.first t (end_by b octets) (spent t b.moment)) told_is
+      ∙ ap (λ (e : End ℕ). said b.channel b.first (events (rules_by b) fs) e (spent (events (rules_by b) fs) b.moment)) end_is
+
+  pub left_by_run : left_by b octets ≡ (left b.channel b.first (events (rules_by b) fs) (spent (events (rules_by b) fs) b.moment)).state
+  unfolding left_by
+  left_by_run = ap (λ (t : List Told). (left b.channel b.first t (spent t b.moment)).state) told_is
+
+-- ---- more octets
+
+-- what is said of octets is a beginning of this
+pub record SaidFirst (b : Beginning) (octets all : List ℕ) : Type 0 where
+  pub further : List ℕ
+  pub parts : all ≡ said_to b octets ++ further
+
+pub spent-append : (a c : List Told) (moment : DateTime) → spent (a ++ c) moment ≡ spent a moment ++ spent c moment
+spent-append a c moment = ap (λ (n : ℕ). replicate n moment) (used_in-append a c) ∙ sym (replicate-append-replicate (used_in a) (used_in c) moment)
+
+pub spent-enough : (a : List Told) (moment : DateTime) → used_in a ≤ length (spent a moment)
+spent-enough a moment = let len = length-replicate (used_in a) moment in omega (arith, len)
+
+-- how far a server is behind more that is told, where each answer has its moment
+pub left_on : (b : Beginning) (told more : List Told) → left b.channel b.first (told ++ more) (spent (told ++ more) b.moment) ≡ course_by b.channel (with_more (left b.channel b.first told (spent told b.moment)) (spent more b.moment)) more
+left_on b told more =
+    ap (λ (ms : List DateTime). left b.channel b.first (told ++ more) ms) (spent-append told more b.moment)
+    ∙ (left-append b.channel b.first told more (spent told b.moment ++ spent more b.moment)
+    ∙ ap (λ (k : Course). course_by b.channel k more) (left-more b.channel b.first told (spent told b.moment) (spent more b.moment) (spent-enough told b.moment)))
+
+-- and what it says of that
+pub said_on : (b : Beginning) (told more : List Told) → said b.channel b.first (told ++ more) Going (spent (told ++ more) b.moment)
+    ≡ said b.channel b.first told Going (spent told b.moment) ++ said_of b.channel (with_more (left b.channel b.first told (spent told b.moment)) (spent more b.moment)) more
+said_on b told more =
+    let ms : List DateTime = spent told b.moment ++ spent more b.moment in
+    ap (λ (m : List DateTime). said b.channel b.first (told ++ more) Going m) (spent-append told more b.moment)
+    ∙ (said-append b.channel b.first told more Going ms
+    ∙ (ap (λ (o : List ℕ). o ++ (said_of b.channel (left b.channel b.first told ms) more ++ [])) (said-more b.channel b.first told Going (spent told b.moment) (spent more b.moment) (spent-enough told b.moment))
+    ∙ (ap (λ (o : List ℕ). said b.channel b.first told Going (spent told b.moment) ++ o) (append-nil (said_of b.channel (left b.channel b.first told ms) more))
+    ∙ ap (λ (k : Course). said b.channel b.first told Going (spent told b.moment) ++ said_of b.channel k more)
+    (left-more b.channel b.first told (spent told b.moment) (spent more b.moment) (spent-enough told b.moment)))))
+
+-- nothing more is said of a CLO
+pub said_over : (b : Beginning) (told : List Told) → said b.channel b.first (told ++ Closed ∷ []) Over (spent (told ++ Closed ∷ []) b.moment) ≡ said b.channel b.first told Going (spent told b.moment)
+said_over b told =
+    let ms : List DateTime = spent told b.moment ++ spent (Closed ∷ []) b.moment in
+    ap (λ (m : List DateTime). said b.channel b.first (told ++ Closed ∷ []) Over m) (spent-append told (Closed ∷ []) b.moment)
+    ∙ (said-append b.channel b.first told (Closed ∷ []) Over ms
+    ∙ (append-nil (said b.channel b.first told Going ms) ∙ said-more b.channel b.first told Going (spent told b.moment) (spent (Closed ∷ []) b.moment) (spent-enough told b.moment)))
+
+-- what is said of more that is told, in one piece
+said_first : (b : Beginning) (a c : List Told) (end : End ℕ) → (further : List ℕ) ×
+    (said b.channel b.first (a ++ c) end (spent (a ++ c) b.moment) ≡ said b.channel b.first a Going (spent a b.moment) ++ further)
+said_first b a c end =
+    let moments = spent a b.moment ++ spent c b.moment in (
+      said_of b.channel (left b.channel b.first a moments) c ++ last_words end,
+      ap (λ (ms : List DateTime). said b.channel b.first (a ++ c) end ms) (spent-append a c b.moment)
+          ∙ (said-append b.channel b.first a c end moments
+          ∙ ap (λ (o : List ℕ). o ++ (said_of b.channel (left b.channel b.first a moments) c ++ last_words end))
+          (said-more b.channel b.first a Going (spent a b.moment) (spent c b.moment) (spent-enough a b.moment))),
+    )
+
+stays_said : (b : Beginning) (octets more : List ℕ) (fs : List Frame) (rest : List ℕ) (end : End ℕ) → (end ≡ Going → ⊥) → Run (rules_by b) octets fs rest end → SaidFirst b octets (said_to b (octets ++ more))
+stays_said b octets more fs rest end over r = record {
+  further = [];
+  parts =
+      said_by_run b (octets ++ more) fs (rest ++ more) end (ends_stay (rules_by b) octets more fs rest end over r)
+      ∙ (sym (said_by_run b octets fs rest end r) ∙ sym (append-nil (said_to b octets)));
+}
+
+goes_said : (b : Beginning) (octets more : List ℕ) (fs : List Frame) (rest : List ℕ) → Run (rules_by b) octets fs rest Going → SaidFirst b octets (said_to b (octets ++ more))
+goes_said b octets more fs rest r =
+    let R = rules_by b in
+    let s = reading (behind R fs) (rest ++ more) in
+    let run = run_further R octets more fs s.frames rest s.rest s.end r s.run in
+    let later = each_from R.tells fs s.frames in
+    let first = said_first b (events R fs) later s.end in
+    record {
+      further = first.0;
+      parts =
+          said_by_run b (octets ++ more) (fs ++ s.frames) s.rest s.end run
+          ∙ (ap (λ (t : List Told). said b.channel b.first t s.end (spent t b.moment)) (events_on R fs s.frames)
+          ∙ (first.1 ∙ ap (λ (o : List ℕ). o ++ first.0) (sym (said_by_run b octets fs rest Going r))));
+    }
+
+by_end : (b : Beginning) (octets more : List ℕ) (fs : List Frame) (rest : List ℕ) (end : End ℕ) → Run (rules_by b) octets fs rest end → SaidFirst b octets (said_to b (octets ++ more))
+by_end b octets more fs rest Going r = goes_said b octets more fs rest r
+by_end b octets more fs rest (Stopped why) r = stays_said b octets more fs rest (Stopped why) (λ e. cc) r
+by_end b octets more fs rest Over r = stays_said b octets more fs rest Over (λ e. cc) r
+
+-- what is said of octets is said first of more of them
+pub said_further : (b : Beginning) (octets more : List ℕ) → SaidFirst b octets (said_to b (octets ++ more))
+said_further b octets more = by_end b octets more (read_by b octets).frames (read_by b octets).rest (read_by b octets).end (read_by b octets).run

@@ -1,0 +1,211 @@
+-- That both ends in one process stay in step.
+use Rattle.std.proofs.Common.{◌≡◌, ◌⊎◌, inl, inr, ℕ, ◌+◌, ◌<◌, ◌≤◌, ◌^◌, List, [], ◌∷◌, ◌++◌, Option, Some, length, refl, sym, ◌∙◌, ap, subst, arith, length-append}
+use Rattle.std.specs.List.{AllByRecursion}
+use Rattle.std.proofs.lemmas.List.{length-map}
+use Rattle.ua_wire.specs.Format.{Extends}
+use Rattle.ua_builtin.specs.declared.date_time.DateTime.{DateTime}
+use Rattle.ua_frame.specs.Run.{Going}
+use Rattle.ua_frame.specs.declared.limits.Limits.{Limits}
+use Rattle.ua_frame.specs.declared.hello.Hello.{Hello}
+use Rattle.ua_chunk.specs.declared.lane.Lane.{Lane}
+use Rattle.ua_chunk.proofs.Lists.{filter_append}
+use Rattle.ua_channel.specs.Agreement.{Agreement, agreement_of, lane_of}
+use Rattle.ua_channel.specs.Asks.{Placed, asked_in, next_id}
+use Rattle.ua_channel.specs.Client.{client_limits}
+use Rattle.ua_channel.specs.ClientReads.{AtClient, ClientReads, lane_from}
+use Rattle.ua_channel.specs.ClientTold.{ClientTold as Heard}
+use Rattle.ua_channel.specs.InStep.{AreInStep}
+use Rattle.ua_channel.specs.ServerReads.{AtServer, ServerReads}
+use Rattle.ua_channel.specs.ServerTold.{Told}
+use Rattle.ua_channel.specs.declared.client.channel.ClientChannel.{ClientChannel}
+use Rattle.ua_channel.proofs.Following.{client_told}
+use Rattle.ua_services.specs.Request.{request}
+use Rattle.ua_services.specs.declared.request.Request.{Request}
+use Rattle.ua_server.specs.Said.{Course, left, left_by, said, said_of, with_more}
+use Rattle.ua_server.proofs.SaidInParts.{course}
+use Rattle.ua_client.specs.Calls.{Answered, LastCame, asked_at, sent_at}
+use Rattle.ua_client.specs.Renewing.{IsSettled}
+use Rattle.ua_client.specs.Sent.{bodies_of}
+use Rattle.ua_client.specs.Site.{Site, At, id_at}
+use Rattle.ua_client.specs.Told.{is_told_of, told_of}
+use Rattle.ua_client.specs.declared.reply.Reply.{Reply}
+use Rattle.ua_client.proofs.Askings.{next-calls}
+use Rattle.ua_client.proofs.Settled.{NonePending}
+use Rattle.ua_loopback.specs.Accepted.{held_behind_calls}
+use Rattle.ua_loopback.specs.Beginning.{Beginning}
+use Rattle.ua_loopback.specs.Says.{said_to, spent}
+use Rattle.ua_loopback.specs.Together.{AreServing, behind_calls}
+use Rattle.ua_loopback.specs.Turns.{calls_told}
+use Rattle.ua_loopback.proofs.Answering.{AreHeard, answers_told, calls_asked, calls_in_step, hello_stays, issued_stays, newest_stays, replies_read, told_each, tokens_stay, used_last, waits, with_calls}
+use Rattle.ua_loopback.proofs.Ending.{LastChunk}
+use Rattle.ua_loopback.proofs.Lists.{meets}
+use Rattle.ua_loopback.proofs.Reaching.{few_ids, numbers_read, requests_asked, requests_read}
+use Rattle.ua_loopback.proofs.Saying.{left_on, said_by_run, said_on}
+use Rattle.ua_loopback.proofs.Untaken.{took_all, took_no_more}
+
+-- ---- what a server says of more
+
+module _ (b : Beginning) (octets : List ℕ) (told : List Told) (s : AtServer) (r : ServerReads b.limits b.channel octets told s) where
+  pub said_there : said_to b octets ≡ said b.channel b.first told Going (spent told b.moment)
+  said_there = said_by_run b octets r.frames [] Going r.run ∙ ap (λ (t : List Told). said b.channel b.first t Going (spent t b.moment)) r.told_is
+
+  -- how far the server is behind these
+  abbrev pub behind_told : List Told → Course
+  behind_told more = with_more (left b.channel b.first told (spent told b.moment)) (spent more b.moment)
+
+  pub said_more : (later : List ℕ) (more : List Told) (t : AtServer) → ServerReads b.limits b.channel later (told ++ more) t → said_to b later ≡ said_to b octets ++ said_of b.channel (behind_told more) more
+  said_more later more t q =
+      said_by_run b later q.frames [] Going q.run
+      ∙ (ap (λ (k : List Told). said b.channel b.first k Going (spent k b.moment)) q.told_is
+      ∙ (said_on b told more ∙ ap (λ (o : List ℕ). o ++ said_of b.channel (behind_told more) more) (sym said_there)))
+
+some_bodies : (requests : List Request) → 0 < length requests → 0 < length (bodies_of requests)
+some_bodies requests some = omega (arith, some, length-map requests request.canonical)
+
+-- ---- a turn
+
+module _ (b : Beginning) (url : Option (List ℕ)) (octets : List ℕ) (told : List Told) (s : AtServer) (x : ClientChannel) (site behind : Site) (c : AtClient) (requests : List Request) (taken : List ℕ) (replies : List Reply)
+    (on : b.channel < 2 ^ 32) (t : AreServing b url octets told s x site c) (some : 0 < length requests) (a : Answered requests site behind taken replies) where
+  abbrev lane : Lane
+  lane = lane_from c
+
+  abbrev bodies : List (List ℕ)
+  bodies = bodies_of requests
+
+  abbrev calls : List Told
+  calls = calls_told lane.token (id_at site) bodies
+
+  abbrev then_at : AtServer
+  then_at = behind_calls s lane bodies
+
+  abbrev g : Agreement
+  g = agreement_of b.limits then_at.hello
+
+  abbrev before : Course
+  before = left b.channel b.first told (spent told b.moment)
+
+  abbrev moments : List DateTime
+  moments = before.moments ++ spent calls b.moment
+
+  server_then : ServerReads b.limits b.channel (octets ++ sent_at site requests) (told ++ calls) then_at
+  server_then = requests_read b.limits url b.channel octets told s x site c on t.together requests a.judged
+
+  step_then : AreInStep b.limits (client_limits x) url b.channel then_at (with_calls c (id_at site) bodies)
+  step_then = calls_in_step b.limits (client_limits x) url b.channel s c (id_at site) t.together.in_step t.together.client_reads.newest_is bodies
+
+  few_used : then_at.used < 2 ^ 32
+  few_used = omega (arith, step_then.taken.not_before, step_then.taken.issued, server_then.few_issued)
+
+  agreed_before : before.agreement ≡ Some g
+  agreed_before = t.agreed ∙ ap (λ (h : Hello). Some (agreement_of b.limits h)) (sym (hello_stays s lane bodies))
+
+  course_is : behind_told b octets told s t.together.server_reads calls ≡ course before.state before.number moments (Some g)
+  course_is = ap (λ (o : Option Agreement). course before.state before.number moments o) agreed_before
+
+  tokens_then : AllByRecursion (λ (token : ℕ). token ≤ then_at.issued) (with_calls c (id_at site) bodies).tokens
+  tokens_then =
+      subst (λ (n : ℕ). AllByRecursion (λ (token : ℕ). token ≤ n) (with_calls c (id_at site) bodies).tokens) (sym (issued_stays s lane bodies))
+      (subst (λ (ns : List ℕ). AllByRecursion (λ (token : ℕ). token ≤ s.issued) ns) (sym (tokens_stay c (id_at site) bodies)) t.issued)
+
+  spare_then : then_at.issued < id_at behind
+  spare_then =
+      let ids : id_at behind ≡ id_at site + length bodies = ap (λ (p : List Placed). next_id (asked_in p)) a.asks ∙ next-calls site.asks (length site.octets) (id_at site) bodies in
+      omega (arith, ids, issued_stays s lane bodies, t.spare)
+
+  abbrev told_then : List Heard
+  told_then = site.told ++ answers_told (lane_of b.channel lane.token g) before.state moments (id_at site) bodies
+
+  heard_then : AreHeard b.limits (client_limits x) url b.channel then_at (length bodies) (length (with_calls c (id_at site) bodies).tokens) (with_calls c (id_at site) bodies).newest (asked_at site requests) (site.octets ++ said_of b.channel (course before.state before.number moments (Some g)) calls) told_then
+      (left_by b.channel (course before.state before.number moments (Some g)) calls).number (left_by b.channel (course before.state before.number moments (Some g)) calls).agreement
+  heard_then =
+      replies_read b.limits (client_limits x) url b.channel on then_at few_used lane (used_last s lane bodies (some_bodies requests some))
+      (asked_at site requests) site.octets site.told (with_calls c (id_at site) bodies) before.state before.number moments (id_at site) bodies
+      (calls_asked (client_limits x) site.asks site.octets site.told c t.together.client_reads bodies) step_then (t.says_next ∙ sym (next_stays c (id_at site) bodies))
+      (waits c (id_at site) bodies) (few_ids c.ack (id_at site) requests (requests_asked b.limits url b.channel octets told s x site c on t.together requests a.judged) some) tokens_then (newest_stays c (id_at site) bodies)
+    where
+      next_stays : (d : AtClient) (id : ℕ) (bs : List (List ℕ)) → (with_calls d id bs).next ≡ d.next
+      next_stays d id [] = refl
+      next_stays d id (body ∷ bs) = next_stays (record d { pending = d.pending ++ id ∷ [] }) (id + 1) bs
+
+  said_then : said_to b (octets ++ sent_at site requests) ≡ site.octets ++ said_of b.channel (course before.state before.number moments (Some g)) calls
+  said_then =
+      said_more b octets told s t.together.server_reads (octets ++ sent_at site requests) calls then_at server_then
+      ∙ (ap (λ (o : List ℕ). o ++ said_of b.channel (behind_told b octets told s t.together.server_reads calls) calls) (sym t.taken)
+      ∙ ap (λ (k : Course). site.octets ++ said_of b.channel k calls) course_is)
+
+  left_then_is : left b.channel b.first (told ++ calls) (spent (told ++ calls) b.moment) ≡ left_by b.channel (course before.state before.number moments (Some g)) calls
+  left_then_is = left_on b told calls ∙ ap (λ (k : Course). left_by b.channel k calls) course_is
+
+  newest_then : heard_then.at.newest ≡ c.newest
+  newest_then = heard_then.newest ∙ newest_stays c (id_at site) bodies
+
+  held_then : length heard_then.at.tokens ≡ held_behind_calls (length c.tokens) (length requests)
+  held_then =
+      heard_then.held
+      ∙ (ap (λ (ks : List ℕ). held_behind_calls (length ks) (length bodies)) (tokens_stay c (id_at site) bodies) ∙ ap (λ (n : ℕ). held_behind_calls (length c.tokens) n) (length-map requests request.canonical))
+
+  module _ (y : ClientChannel) (stands : At y behind) (same : client_limits y ≡ client_limits x) where
+    -- the client reads what the server says of it
+    reads_then : ClientReads (client_limits y) behind.asks (said_to b (octets ++ sent_at site requests)) told_then heard_then.at
+    reads_then =
+        subst (λ (l : Limits). ClientReads l behind.asks (said_to b (octets ++ sent_at site requests)) told_then heard_then.at) (sym same)
+        (subst (λ (p : List Placed). ClientReads (client_limits x) p (said_to b (octets ++ sent_at site requests)) told_then heard_then.at) (sym a.asks)
+        (subst (λ (o : List ℕ). ClientReads (client_limits x) (asked_at site requests) o told_then heard_then.at) (sym said_then) heard_then.reads))
+
+    -- which ends with the chunk of a reply
+    ends_then : LastChunk (client_limits y) behind.asks (said_to b (octets ++ sent_at site requests))
+    ends_then =
+        subst (λ (l : Limits). LastChunk l behind.asks (said_to b (octets ++ sent_at site requests))) (sym same)
+        (subst (λ (p : List Placed). LastChunk (client_limits x) p (said_to b (octets ++ sent_at site requests))) (sym a.asks)
+        (subst (LastChunk (client_limits x) (asked_at site requests)) (sym said_then) (heard_then.ends (some_bodies requests some))))
+
+    -- where it took a front of that, it took all of it
+    pub answered_took : NonePending → IsSettled behind → Extends behind.octets (said_to b (octets ++ sent_at site requests)) → behind.octets ≡ said_to b (octets ++ sent_at site requests)
+    answered_took law settled front =
+        took_all law y behind stands settled (said_to b (octets ++ sent_at site requests)) reads_then.frames reads_then.run (ends_then reads_then.frames reads_then.run) front
+
+    -- something was told of each call there
+    each_told : (k : ℕ) → id_at site ≤ k → k < id_at site + length requests → 0 < length (told_of k told_then)
+    each_told k from to =
+        let some_told = told_each (lane_of b.channel lane.token g) before.state moments (id_at site) bodies k from (omega (arith, to, length-map requests request.canonical)) in
+        let answers : List Heard = answers_told (lane_of b.channel lane.token g) before.state moments (id_at site) bodies in
+        omega (arith, some_told, ap length (filter_append (is_told_of k) site.told answers), length-append (told_of k site.told) (told_of k answers))
+
+    -- where octets begin with what it took, and with what the server says, it took just that
+    pub answered_taken : NonePending → IsSettled behind → LastCame y requests (id_at site) behind.asks behind.octets behind.told → (down : List ℕ) → Extends behind.octets down → Extends (said_to b (octets ++ sent_at site requests)) down
+        → behind.octets ≡ said_to b (octets ++ sent_at site requests)
+    answered_taken law settled came down got said = by (meets behind.octets (said_to b (octets ++ sent_at site requests)) got.more said.more (sym got.parts ∙ said.parts))
+      where
+        by : (((more : List ℕ) × (said_to b (octets ++ sent_at site requests) ≡ behind.octets ++ more)) ⊎ ((more : List ℕ) × (behind.octets ≡ said_to b (octets ++ sent_at site requests) ++ more))) → behind.octets ≡ said_to b (octets ++ sent_at site requests)
+        by (inl p) = answered_took law settled (record { more = p.0; parts = p.1 })
+        by (inr p) = took_no_more y requests (id_at site) behind came (said_to b (octets ++ sent_at site requests)) told_then heard_then.at reads_then each_told p.0 p.1
+
+    module _ (took : behind.octets ≡ said_to b (octets ++ sent_at site requests)) where
+      here : ClientReads (client_limits y) behind.asks behind.octets told_then heard_then.at
+      here = subst (λ (o : List ℕ). ClientReads (client_limits y) behind.asks o told_then heard_then.at) (sym took) reads_then
+
+      -- what the client was told by then
+      pub told_together : behind.told ≡ site.told ++ answers_told (lane_of b.channel c.newest (agreement_of b.limits s.hello)) before.state moments (id_at site) bodies
+      told_together =
+          client_told y behind.asks behind.octets behind.told told_then heard_then.at stands.goes here
+          ∙ ap (λ (h : Hello). site.told ++ answers_told (lane_of b.channel c.newest (agreement_of b.limits h)) before.state moments (id_at site) bodies) (hello_stays s lane bodies)
+
+      serving_then : AreServing b url (octets ++ sent_at site requests) (told ++ calls) then_at y behind heard_then.at
+      serving_then = record {
+        together = record {
+          server_reads = server_then;
+          stands = stands;
+          client_reads = subst (λ (h : List Heard). ClientReads (client_limits y) behind.asks behind.octets h heard_then.at) (sym (client_told y behind.asks behind.octets behind.told told_then heard_then.at stands.goes here)) here;
+          in_step = subst (λ (l : Limits). AreInStep b.limits l url b.channel then_at heard_then.at) (sym same) heard_then.in_step;
+          number_is = a.number ∙ numbers_read b.limits url b.channel octets told s x site c on t.together requests;
+        };
+        taken = took;
+        agreed = ap (λ (k : Course). k.agreement) left_then_is ∙ heard_then.agreed;
+        says_next = ap (λ (k : Course). k.number) left_then_is ∙ heard_then.number_is;
+        issued = heard_then.issued;
+        spare = spare_then;
+      }
+
+      -- both are in step behind requests that are answered, and the client's calls go under the token that they went under
+      pub stay_together : (d : AtClient) × AreServing b url (octets ++ sent_at site requests) (told ++ calls) then_at y behind d × (d.newest ≡ c.newest) × (length d.tokens ≡ held_behind_calls (length c.tokens) (length requests))
+      stay_together = (heard_then.at, serving_then, newest_then, held_then)

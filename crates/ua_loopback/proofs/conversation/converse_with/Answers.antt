@@ -1,0 +1,115 @@
+use Rattle.std.proofs.Common.{Fits, FitsSigned, ap, map, rules, subst, sym, w32, w64}
+use Rattle.std.specs.Prelude.{List, ℕ}
+use Rattle.ua_loopback.specs.Kept.{EndsAt, LeavesAt, Served}
+use Rattle.ua_loopback.specs.Turns.{conversation_told}
+use Rattle.ua_loopback.specs.declared.stage.Stage.{Stage}
+use Rattle.ua_loopback.proofs.Courses.{accepted_on, closed_on, closed_well, conversed_on, left_well, refused_on, replied_on, sent_on, state_on}
+use Rattle.ua_loopback.proofs.Fitting.{can_open}
+use Rattle.ua_loopback.proofs.conversation.converse_with.Goals as goal
+
+pub returns-clause-services : goal.returns-clause-services
+returns-clause-services g c =
+    let b = g.W.Began.beginning in
+    let parts = c.into_parts-up.result in
+    subst (λ (s : Stage). LeavesAt s b parts.0.items parts.2) (sym c.stage-stage.ensures)
+    (subst (λ (u : List ℕ). LeavesAt c.talk-outcome.new.line.stage b u parts.2) (sym c.into_parts-up.ensures.up) c.into_parts-up.ensures.services)
+
+pub returns-clause-ends : goal.returns-clause-ends
+returns-clause-ends g c =
+    let b = g.W.Began.beginning in
+    let parts = c.into_parts-up.result in
+    subst (λ (s : Stage). EndsAt s b parts.0.items) (sym c.stage-stage.ensures)
+    (subst (λ (u : List ℕ). EndsAt c.talk-outcome.new.line.stage b u) (sym c.into_parts-up.ensures.up) c.into_parts-up.ensures.ends)
+
+pub returns-clause-converses : goal.returns-clause-converses
+returns-clause-converses g c =
+    let dated : FitsSigned w64 c.args.moment.ticks = search rules in
+    let channel : Fits w32 c.args.channel_id = search rules in
+    let receive : Fits w32 c.args.limits.receive_buffer_size = search rules in
+    let send : Fits w32 c.args.limits.send_buffer_size = search rules in
+    let octets : Fits w32 c.args.limits.max_message_size = search rules in
+    let chunks : Fits w32 c.args.limits.max_chunk_count = search rules in
+    conversed_on c.talk-outcome.result g.W.Began.beginning c.args.limits c.args.channel_id c.args.services c.args.url c.args.moment (map g.T.AsTurn.turn c.args.turns.now) c.new-line.result c.talk-outcome.new.line c.talk-outcome.new.replies.items c.into_parts-up.result.0.items c.into_parts-up.result.1.items
+    c.requires.began (can_open c.args.limits c.args.channel_id c.args.services c.args.url c.args.moment receive send octets chunks channel dated c.requires.url)
+    (ap (λ (l : Served). l.up) c.new-line.ensures) (ap (λ (l : Served). l.read) c.new-line.ensures) c.talk-outcome.ensures.talked c.into_parts-up.ensures.up c.into_parts-up.ensures.down
+
+pub returns-clause-heard : goal.returns-clause-heard
+returns-clause-heard g c =
+    let dated : FitsSigned w64 c.args.moment.ticks = search rules in
+    let channel : Fits w32 c.args.channel_id = search rules in
+    let receive : Fits w32 c.args.limits.receive_buffer_size = search rules in
+    let send : Fits w32 c.args.limits.send_buffer_size = search rules in
+    let octets : Fits w32 c.args.limits.max_message_size = search rules in
+    let chunks : Fits w32 c.args.limits.max_chunk_count = search rules in
+    closed_on c.talk-outcome.result g.W.Began.beginning c.args.limits c.args.channel_id c.args.services c.args.url c.args.moment (map g.T.AsTurn.turn c.args.turns.now) c.new-line.result c.talk-outcome.new.line c.talk-outcome.new.replies.items c.into_parts-up.result.0.items
+    c.requires.began (can_open c.args.limits c.args.channel_id c.args.services c.args.url c.args.moment receive send octets chunks channel dated c.requires.url)
+    (ap (λ (l : Served). l.up) c.new-line.ensures) (ap (λ (l : Served). l.read) c.new-line.ensures) c.talk-outcome.ensures.talked c.into_parts-up.ensures.up
+
+pub returns-clause-closed : goal.returns-clause-closed
+returns-clause-closed g c =
+    closed_well c.talk-outcome.result g.W.Began.beginning c.args.limits c.args.channel_id c.args.services c.args.moment c.stage-stage.result c.into_parts-up.result.0.items
+    (conversation_told c.args.limits c.args.limits c.args.url (map g.T.AsTurn.turn c.args.turns.now)) c.requires.began (returns-clause-ends g c) (returns-clause-heard g c)
+
+pub returns-clause-left : goal.returns-clause-left
+returns-clause-left g c =
+    left_well c.talk-outcome.result g.W.Began.beginning c.stage-stage.result c.into_parts-up.result.0.items c.into_parts-up.result.2 (returns-clause-services g c) (returns-clause-closed g c)
+
+pub returns-clause-accepted : goal.returns-clause-accepted
+returns-clause-accepted g c =
+    let dated : FitsSigned w64 c.args.moment.ticks = search rules in
+    let channel : Fits w32 c.args.channel_id = search rules in
+    let receive : Fits w32 c.args.limits.receive_buffer_size = search rules in
+    let send : Fits w32 c.args.limits.send_buffer_size = search rules in
+    let octets : Fits w32 c.args.limits.max_message_size = search rules in
+    let chunks : Fits w32 c.args.limits.max_chunk_count = search rules in
+    accepted_on c.talk-outcome.result g.W.Began.beginning c.args.limits c.args.channel_id c.args.services c.args.url c.args.moment (map g.T.AsTurn.turn c.args.turns.now) c.new-line.result c.talk-outcome.new.line c.talk-outcome.new.replies.items
+    c.requires.began (can_open c.args.limits c.args.channel_id c.args.services c.args.url c.args.moment receive send octets chunks channel dated c.requires.url)
+    (ap (λ (l : Served). l.up) c.new-line.ensures) (ap (λ (l : Served). l.read) c.new-line.ensures) c.talk-outcome.ensures.talked
+
+pub returns-clause-sent : goal.returns-clause-sent
+returns-clause-sent g c =
+    let dated : FitsSigned w64 c.args.moment.ticks = search rules in
+    let channel : Fits w32 c.args.channel_id = search rules in
+    let receive : Fits w32 c.args.limits.receive_buffer_size = search rules in
+    let send : Fits w32 c.args.limits.send_buffer_size = search rules in
+    let octets : Fits w32 c.args.limits.max_message_size = search rules in
+    let chunks : Fits w32 c.args.limits.max_chunk_count = search rules in
+    sent_on c.talk-outcome.result g.W.Began.beginning c.args.limits c.args.channel_id c.args.services c.args.url c.args.moment (map g.T.AsTurn.turn c.args.turns.now) c.new-line.result c.talk-outcome.new.line c.talk-outcome.new.replies.items c.into_parts-up.result.0.items
+    c.requires.began (can_open c.args.limits c.args.channel_id c.args.services c.args.url c.args.moment receive send octets chunks channel dated c.requires.url)
+    (ap (λ (l : Served). l.up) c.new-line.ensures) (ap (λ (l : Served). l.read) c.new-line.ensures) c.talk-outcome.ensures.talked c.into_parts-up.ensures.up
+
+pub returns-clause-refused : goal.returns-clause-refused
+returns-clause-refused g c =
+    let dated : FitsSigned w64 c.args.moment.ticks = search rules in
+    let channel : Fits w32 c.args.channel_id = search rules in
+    let receive : Fits w32 c.args.limits.receive_buffer_size = search rules in
+    let send : Fits w32 c.args.limits.send_buffer_size = search rules in
+    let octets : Fits w32 c.args.limits.max_message_size = search rules in
+    let chunks : Fits w32 c.args.limits.max_chunk_count = search rules in
+    refused_on c.talk-outcome.result g.W.Began.beginning c.args.limits c.args.channel_id c.args.services c.args.url c.args.moment (map g.T.AsTurn.turn c.args.turns.now) c.new-line.result c.talk-outcome.new.taken
+    c.requires.began (can_open c.args.limits c.args.channel_id c.args.services c.args.url c.args.moment receive send octets chunks channel dated c.requires.url)
+    (ap (λ (l : Served). l.up) c.new-line.ensures) (ap (λ (l : Served). l.read) c.new-line.ensures) c.talk-outcome.ensures.refused
+
+pub returns-clause-replied : goal.returns-clause-replied
+returns-clause-replied g c =
+    let dated : FitsSigned w64 c.args.moment.ticks = search rules in
+    let channel : Fits w32 c.args.channel_id = search rules in
+    let receive : Fits w32 c.args.limits.receive_buffer_size = search rules in
+    let send : Fits w32 c.args.limits.send_buffer_size = search rules in
+    let octets : Fits w32 c.args.limits.max_message_size = search rules in
+    let chunks : Fits w32 c.args.limits.max_chunk_count = search rules in
+    replied_on c.talk-outcome.result g.W.Began.beginning c.args.limits c.args.channel_id c.args.services c.args.url c.args.moment (map g.T.AsTurn.turn c.args.turns.now) c.new-line.result c.talk-outcome.new.line c.talk-outcome.new.replies.items
+    c.requires.began (can_open c.args.limits c.args.channel_id c.args.services c.args.url c.args.moment receive send octets chunks channel dated c.requires.url)
+    (ap (λ (l : Served). l.up) c.new-line.ensures) (ap (λ (l : Served). l.read) c.new-line.ensures) c.talk-outcome.ensures.talked
+
+pub returns-clause-state : goal.returns-clause-state
+returns-clause-state g c =
+    let dated : FitsSigned w64 c.args.moment.ticks = search rules in
+    let channel : Fits w32 c.args.channel_id = search rules in
+    let receive : Fits w32 c.args.limits.receive_buffer_size = search rules in
+    let send : Fits w32 c.args.limits.send_buffer_size = search rules in
+    let octets : Fits w32 c.args.limits.max_message_size = search rules in
+    let chunks : Fits w32 c.args.limits.max_chunk_count = search rules in
+    state_on c.talk-outcome.result g.W.Began.beginning c.args.limits c.args.channel_id c.args.services c.args.url c.args.moment (map g.T.AsTurn.turn c.args.turns.now) c.new-line.result c.talk-outcome.new.line c.talk-outcome.new.replies.items c.into_parts-up.result.0.items c.into_parts-up.result.2
+    c.requires.began (can_open c.args.limits c.args.channel_id c.args.services c.args.url c.args.moment receive send octets chunks channel dated c.requires.url)
+    (ap (λ (l : Served). l.up) c.new-line.ensures) (ap (λ (l : Served). l.read) c.new-line.ensures) c.talk-outcome.ensures.talked c.into_parts-up.ensures.up (returns-clause-left g c)

@@ -1,0 +1,25 @@
+use Rattle.std.proofs.Common.{◌+◌, ℕ, ap, map, subst, sym}
+use Rattle.ua_loopback.specs.Accepted.{FirstRefused, acknowledged}
+use Rattle.ua_loopback.proofs.Courses.{refused_next, taken_all, taken_more, taken_none}
+use Rattle.ua_loopback.proofs.conversation.take_turns.Goals as goal
+
+pub loop-turn-init : goal.loop-turn-init
+loop-turn-init g c = (taken_none g.T.AsTurn.turn c.args.moment c.args.turns.now c.args.client.now (g.L.Line.traffic c.args.line.now) c.args.replies.now.items c.requires.ready, c.requires.none)
+
+pub loop-turn-preserved : goal.loop-turn-preserved
+loop-turn-preserved g c = (
+  taken_more g.T.AsTurn.turn c.args.moment c.args.turns.now c.loop-turn.turn-index c.args.client.now c.loop-turn.client c.take_turn.new.client (g.L.Line.traffic c.args.line.now) (g.L.Line.traffic c.loop-turn.line) (g.L.Line.traffic c.take_turn.new.line)
+      c.args.replies.now.items c.loop-turn.replies.items c.take_turn.new.replies.items c.turn-item.result c.loop-turn.invariant.0 c.loop-turn-test.true c.turn-item.is c.in-Ok.ensures.stays c.in-Ok.ensures.ready,
+  ap (λ (n : ℕ). n + 1) c.loop-turn.invariant.1,
+)
+
+pub returns-clause-stays : goal.returns-clause-stays
+returns-clause-stays g c =
+    taken_all g.T.AsTurn.turn c.args.moment c.args.turns.now c.loop-turn.turn-index c.args.client.now c.loop-turn.client (g.L.Line.traffic c.args.line.now) (g.L.Line.traffic c.loop-turn.line) c.args.replies.now.items c.loop-turn.replies.items
+    c.loop-turn.invariant.0 c.loop-turn-test.false
+
+pub returns-in-Err-clause-refused : goal.returns-in-Err-clause-refused
+returns-in-Err-clause-refused g c = λ reason b limits url opened first s.
+    subst (λ (n : ℕ). FirstRefused (acknowledged b.limits limits url) (map g.T.AsTurn.turn c.args.turns.now) n c.in-Err.fault) (sym c.loop-turn.invariant.1)
+    (refused_next g.T.AsTurn.turn c.args.moment c.args.turns.now c.loop-turn.turn-index c.args.client.now c.loop-turn.client (g.L.Line.traffic c.args.line.now) (g.L.Line.traffic c.loop-turn.line) c.args.replies.now.items c.loop-turn.replies.items c.turn-item.result
+    c.in-Err.fault c.loop-turn.invariant.0 c.loop-turn-test.true c.turn-item.is (λ b' limits' url' opened' done first' s'. c.in-Err.ensures.refused reason b' limits' url' opened' done first' s') b limits url opened first s)

@@ -1,0 +1,40 @@
+use Rattle.std.proofs.Common.{[], map, subst, sym}
+use Rattle.std.specs.Prelude.{List}
+use Rattle.ua_client.specs.Client.{connection_of}
+use Rattle.ua_client.specs.declared.reply.Reply.{Reply}
+use Rattle.ua_loopback.specs.inside.Talking.{StaysTalking}
+use Rattle.ua_loopback.proofs.Courses.{closes_by, talked_all}
+use Rattle.ua_loopback.proofs.conversation.talk.Goals as goal
+
+pub returns-in-Ok-close-clause-talked : goal.returns-in-Ok-close-clause-talked
+returns-in-Ok-close-clause-talked g c = λ b able line.
+    let w = c.in-Ok.ensures.went b able line in
+    let t0 = g.L.Line.traffic c.args.line.now in
+    let t1 = g.L.Line.traffic c.begin.new.line in
+    talked_all b c.args.limits c.args.url c.args.moment (map g.T.AsTurn.turn c.args.turns.now) (connection_of c.in-Ok.client) t0 t1 (g.L.Line.traffic c.close.new.line) c.take_turns.new.replies.items w
+    (connection_of c.take_turns.new.client) (g.L.Line.traffic c.take_turns.new.line) c.in-Ok-close.field-0
+    (c.in-Ok-take_turns.ensures.stays b c.args.limits c.args.url w.opened t0
+    (subst (λ (rs : List Reply). StaysTalking b c.args.limits c.args.url c.args.moment w.opened [] (connection_of c.in-Ok.client) t0 t1 rs) (sym c.requires.none) w.stays))
+    (c.in-Ok-close.ensures.closes c.in-Ok-take_turns.ensures.ready)
+
+pub returns-in-Err-clause-refused : goal.returns-in-Err-clause-refused
+returns-in-Err-clause-refused g c = λ reason b able line. absurd (c.in-Err.ensures.faults reason)
+
+pub returns-in-Err-take_turns-clause-refused : goal.returns-in-Err-take_turns-clause-refused
+returns-in-Err-take_turns-clause-refused g c = λ reason b able line.
+    let w = c.in-Ok.ensures.went b able line in
+    let t0 = g.L.Line.traffic c.args.line.now in
+    let t1 = g.L.Line.traffic c.begin.new.line in
+    c.in-Err-take_turns.ensures.refused reason b c.args.limits c.args.url w.opened t0
+    (subst (λ (rs : List Reply). StaysTalking b c.args.limits c.args.url c.args.moment w.opened [] (connection_of c.in-Ok.client) t0 t1 rs) (sym c.requires.none) w.stays)
+
+pub returns-clause-refused : goal.returns-clause-refused
+returns-clause-refused g c = λ reason b able line.
+    let w = c.in-Ok.ensures.went b able line in
+    let t0 = g.L.Line.traffic c.args.line.now in
+    let t1 = g.L.Line.traffic c.begin.new.line in
+    let s =
+    c.in-Ok-take_turns.ensures.stays b c.args.limits c.args.url w.opened t0
+    (subst (λ (rs : List Reply). StaysTalking b c.args.limits c.args.url c.args.moment w.opened [] (connection_of c.in-Ok.client) t0 t1 rs) (sym c.requires.none) w.stays) in
+    let closes = c.in-Err-close.ensures.closes c.in-Ok-take_turns.ensures.ready in
+    absurd (closes_by s.stays.site c.args.moment closes.sent c.in-Err-close.fault reason (closes.answers s.stays.site s.stays.at))

@@ -1,0 +1,49 @@
+use Rattle.ua_loopback.proofs.Calling.{asks_first, asks_on, asks_refused, asks_sent, asks_added, leaves_turn, reads_turn, stands_there}
+use Rattle.ua_loopback.proofs.talking.call_into.Goals as goal
+use Rattle.std.specs.Prelude.{Some}
+
+pub returns-in-Ok-clause-stays : goal.returns-in-Ok-clause-stays
+returns-in-Ok-clause-stays g c = λ t k.
+    let before = g.L.Line.traffic c.args.line.now in
+    let after = g.L.Line.traffic c.call_into.new.line in
+    let calls = c.in-Ok.ensures.calls k.ready in
+    asks_on t c.args.client.now before k c.call_into.new.self after c.clients_are_settled.ensures.none_pending c.args.moment c.args.requests.now calls.sent calls.moves calls.same
+    calls.added (calls.answers k.site (stands_there t c.args.client.now before k)) (c.in-Ok.ensures.left k.ready)
+
+pub returns-in-Ok-clause-reaches : goal.returns-in-Ok-clause-reaches
+returns-in-Ok-clause-reaches g c = λ t k. reads_turn t c.args.moment (Some c.args.requests.now) c.call_into.new.self (g.L.Line.traffic c.call_into.new.line) (returns-in-Ok-clause-stays g c t k)
+
+pub returns-in-Ok-clause-state : goal.returns-in-Ok-clause-state
+returns-in-Ok-clause-state g c = λ t k. leaves_turn t c.args.moment (Some c.args.requests.now) c.call_into.new.self (g.L.Line.traffic c.call_into.new.line) (returns-in-Ok-clause-stays g c t k)
+
+pub returns-in-Ok-clause-replied : goal.returns-in-Ok-clause-replied
+returns-in-Ok-clause-replied g c = λ t k.
+    let before = g.L.Line.traffic c.args.line.now in
+    let after = g.L.Line.traffic c.call_into.new.line in
+    let calls = c.in-Ok.ensures.calls k.ready in
+    asks_added t c.args.client.now before k c.call_into.new.self after c.clients_are_settled.ensures.none_pending c.args.moment c.args.requests.now calls.sent calls.moves calls.same
+    calls.added (calls.answers k.site (stands_there t c.args.client.now before k)) c.args.replies.now.items c.call_into.new.replies.items calls.have_is
+
+pub returns-in-Err-clause-refused : goal.returns-in-Err-clause-refused
+returns-in-Err-clause-refused g c = λ reason t k.
+    let before = g.L.Line.traffic c.args.line.now in
+    let after = g.L.Line.traffic c.call_into.new.line in
+    let calls = c.in-Err.ensures.calls k.ready in
+    asks_refused t c.args.client.now before k c.call_into.new.self after c.clients_are_settled.ensures.none_pending c.args.moment c.args.requests.now calls.sent calls.moves calls.same
+    c.in-Err.calls.fault reason (calls.answers k.site (stands_there t c.args.client.now before k)).broken
+
+pub returns-in-Err-clause-before : goal.returns-in-Err-clause-before
+returns-in-Err-clause-before g c = λ reason t k.
+    let before = g.L.Line.traffic c.args.line.now in
+    let after = g.L.Line.traffic c.call_into.new.line in
+    let calls = c.in-Err.ensures.calls k.ready in
+    asks_first t c.args.client.now before k c.call_into.new.self after c.clients_are_settled.ensures.none_pending c.args.moment c.args.requests.now calls.sent calls.moves calls.same
+    c.in-Err.calls.fault reason (calls.answers k.site (stands_there t c.args.client.now before k)).broken (c.in-Err.ensures.left k.ready)
+
+pub returns-in-Ok-clause-sends : goal.returns-in-Ok-clause-sends
+returns-in-Ok-clause-sends g c = λ t k.
+    let before = g.L.Line.traffic c.args.line.now in
+    let after = g.L.Line.traffic c.call_into.new.line in
+    let calls = c.in-Ok.ensures.calls k.ready in
+    asks_sent t c.args.client.now before k c.call_into.new.self after c.clients_are_settled.ensures.none_pending c.args.moment c.args.requests.now calls.sent calls.moves calls.same
+    calls.added (calls.answers k.site (stands_there t c.args.client.now before k))

@@ -1,0 +1,68 @@
+-- What a line to a server keeps.
+use Rattle.std.specs.Prelude.{◌≡◌, ◌≤◌, ◌++◌, ℕ, List, length, drop}
+use Rattle.ua_builtin.specs.declared.date_time.DateTime.{DateTime}
+use Rattle.ua_channel.specs.Line.{Traffic}
+use Rattle.ua_frame.specs.Run.{End as run}
+use Rattle.ua_channel.specs.ServerStands.{channel_of, limits_of}
+use Rattle.ua_channel.specs.ServerTold.{Told}
+use Rattle.ua_server.specs.Served.{channel_in}
+use Rattle.ua_server.specs.State.{State}
+use Rattle.ua_server.specs.Stepping.{Stands}
+use Rattle.ua_server.specs.declared.server.Server.{Server}
+use Rattle.ua_server.specs.declared.step.End.TheVariants as ending
+use Rattle.ua_loopback.specs.Beginning.{Beginning}
+use Rattle.ua_loopback.specs.Says.{end_by, left_by, said_to, spent}
+use Rattle.ua_loopback.specs.declared.stage.Stage.{Stage}
+use Rattle.ua_loopback.specs.declared.stage.Stage.TheVariants.{Going, Ended, Broken}
+
+-- what was written to it, and what the server said, of which so many octets were read; the services; how far the connection is; how
+-- many calls failed
+pub record Served : Type 0 where
+  pub up : List ℕ
+  pub down : List ℕ
+  pub read : ℕ
+  pub services : State
+  pub stage : Stage
+  pub failures : ℕ
+
+-- the octets of a line to a server that began so: what is to come is what the server says of all that is then written, behind what was read
+abbrev pub traffic_of : Beginning → Served → Traffic
+traffic_of b l = record { coming = λ (more : List ℕ). drop l.read (said_to b (l.up ++ more)); written = l.up }
+
+-- the server took all that was written
+pub record Serves (b : Beginning) (server : Server) (now : State) (up : List ℕ) : Type 0 where
+  pub told : List Told
+  pub stands : Stands (channel_in server) up told b.first (spent told b.moment) now
+  pub limits_are : limits_of (channel_in server) ≡ b.limits
+  pub channel_is : channel_of (channel_in server) ≡ b.channel
+
+-- where the server stands: behind all that was written while the connection goes on
+abbrev pub ServesAt : Stage → Beginning → Server → State → List ℕ → Type 0
+ServesAt Going b server now up = Serves b server now up
+ServesAt (Ended end) b server now up = Unit {0}
+ServesAt Broken b server now up = Unit {0}
+
+-- the services are what all that was written leaves, unless memory was refused
+abbrev pub LeavesAt : Stage → Beginning → List ℕ → State → Type 0
+LeavesAt Going b up now = now ≡ left_by b up
+LeavesAt (Ended end) b up now = now ≡ left_by b up
+LeavesAt Broken b up now = Unit {0}
+
+-- how what was written ends at such a server, where the connection is so far: nothing of it is refused and nothing closed the channel, and it
+-- goes on, or memory was refused; or a CLO closed the channel; or what stands there is refused with this code
+abbrev pub EndsAt : Stage → Beginning → List ℕ → Type 0
+EndsAt Going b up = end_by b up ≡ run.Going
+EndsAt (Ended ending.Closed) b up = end_by b up ≡ run.Over
+EndsAt (Ended (ending.Refused code)) b up = end_by b up ≡ run.Stopped code.code
+EndsAt (Ended ending.NoClose) b up = ⊥
+EndsAt (Ended ending.Cut) b up = ⊥
+EndsAt Broken b up = end_by b up ≡ run.Going
+
+-- what a line to a server that began so keeps
+pub record Keeps (b : Beginning) (server : Server) (now : State) (moment : DateTime) (up down : List ℕ) (read : ℕ) (stage : Stage) : Type 0 where
+  pub moment_is : moment ≡ b.moment
+  pub down_is : down ≡ said_to b up
+  pub within : read ≤ length down
+  pub serves : ServesAt stage b server now up
+  pub leaves : LeavesAt stage b up now
+  pub ends : EndsAt stage b up

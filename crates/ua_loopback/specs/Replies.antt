@@ -1,0 +1,67 @@
+-- What becomes of a client's requests at a server: each is answered in the state that those before it left.
+use Rattle.std.specs.Prelude.{ℕ, ◌++◌, List, [], ◌∷◌, Option, Some, None, Result, Ok, Err}
+use Rattle.ua_builtin.specs.Status.{of_code}
+use Rattle.ua_builtin.specs.declared.date_time.DateTime.{DateTime}
+use Rattle.ua_frame.specs.declared.limits.Limits.{Limits}
+use Rattle.ua_chunk.specs.Cutting.{cut_refusal}
+use Rattle.ua_chunk.specs.declared.fault.CutFault.{CutFault}
+use Rattle.ua_chunk.specs.declared.lane.Lane.{Lane}
+use Rattle.ua_channel.specs.Agreement.{agreement_of, lane_of}
+use Rattle.ua_channel.specs.ClientSends.{hello_to}
+use Rattle.ua_services.specs.Response.{response, response_read}
+use Rattle.ua_services.specs.declared.fault.ResponseFault.{ResponseFault}
+use Rattle.ua_services.specs.declared.request.Request.{Request}
+use Rattle.ua_services.specs.declared.response.Response.{Response}
+use Rattle.ua_server.specs.Answer.{answer}
+use Rattle.ua_server.specs.State.{State}
+use Rattle.ua_client.specs.declared.reply.Reply.{Reply}
+use Rattle.ua_client.specs.declared.reply.Reply.TheVariants as reply
+use Rattle.ua_loopback.specs.Beginning.{Beginning}
+use Rattle.ua_loopback.specs.Turns.{token_behind}
+
+-- the reply that octets are read as, if they are a response
+abbrev pub reply_read : Result Response ResponseFault → Option Reply
+reply_read (Ok r) = Some (reply.Response r)
+reply_read (Err fault) = None
+
+-- the reply with this body: the response that the client reads, or where it takes no message of its size, the code Bad_ResponseTooLarge
+abbrev pub reply_unless : Option CutFault → List ℕ → Option Reply
+reply_unless None body = reply_read (response_read body)
+reply_unless (Some fault) body = Some (reply.Aborted (of_code 0x80B9_0000))
+
+-- the state that requests leave
+abbrev pub state_behind : State → DateTime → List Request → State
+state_behind s moment [] = s
+state_behind s moment (m ∷ ms) = state_behind (answer s moment m).0 moment ms
+
+-- the replies to requests, that go back in this lane
+abbrev pub requests_replies : Lane → State → DateTime → List Request → List (Option Reply)
+requests_replies back s moment [] = []
+requests_replies back s moment (m ∷ ms) =
+    reply_unless (cut_refusal back (response.canonical (answer s moment m).1)) (response.canonical (answer s moment m).1) ∷ requests_replies back (answer s moment m).0 moment ms
+
+-- of one turn; a renewal has none, and leaves the state
+abbrev pub turn_replies : Lane → State → DateTime → Option (List Request) → List (Option Reply)
+turn_replies back s moment (Some requests) = requests_replies back s moment requests
+turn_replies back s moment None = []
+
+-- the state that it leaves
+abbrev pub turn_state : State → DateTime → Option (List Request) → State
+turn_state s moment (Some requests) = state_behind s moment requests
+turn_state s moment None = s
+
+-- where the replies go of a server that began so, to a client with these limits for this URL: under the token of their requests
+abbrev pub lane_back : Beginning → Limits → Option (List ℕ) → ℕ → Lane
+lane_back b client url token = lane_of b.channel token (agreement_of b.limits (hello_to client url))
+
+-- of turns in order, at a server that began so, where this is the newest token: each reply goes under the token of its request
+abbrev pub turns_replies : Beginning → Limits → Option (List ℕ) → State → ℕ → List (Option (List Request)) → List (Option Reply)
+turns_replies b client url s token [] = []
+turns_replies b client url s token (t ∷ turns) =
+    turn_replies (lane_back b client url token) s b.moment t
+    ++ turns_replies b client url (turn_state s b.moment t) (token_behind token t) turns
+
+-- the state that they leave
+abbrev pub turns_state : State → DateTime → List (Option (List Request)) → State
+turns_state s moment [] = s
+turns_state s moment (t ∷ turns) = turns_state (turn_state s moment t) moment turns

@@ -1,0 +1,266 @@
+//! A client and a server that talk to each other.
+
+ghost use Rattle.std.specs.Prelude.{◌≡◌, ◌∷◌, ◌++◌, [], ℕ, List, Option, Some, IsTrue, IfErr, IfOk, OnOk, length, map};
+ghost use Rattle.ua_wire.specs.Counted.{text};
+ghost use Rattle.ua_frame.specs.declared.limits.Limits.{Limits};
+ghost use Rattle.ua_channel.specs.Line.{Traffic};
+ghost use Rattle.ua_channel.specs.ServerReads.{ServerCloses};
+ghost use Rattle.ua_client.specs.Client.{IsReady, connection_of};
+ghost use Rattle.ua_client.specs.Site.{Site};
+ghost use Rattle.ua_loopback.specs.Accepted.{AreAccepted, FirstRefused, IsTurnFault, acknowledged, turn_refusal};
+ghost use Rattle.ua_loopback.specs.Beginning.{Beginning};
+ghost use Rattle.ua_loopback.specs.Course.{Converses};
+ghost use Rattle.ua_server.specs.declared.step.End.TheVariants.{Closed};
+ghost use Rattle.ua_loopback.specs.Kept.{EndsAt, LeavesAt};
+ghost use Rattle.ua_loopback.specs.Says.{left_by, said_to};
+ghost use Rattle.ua_loopback.specs.Replies.{turns_replies, turns_state};
+ghost use Rattle.ua_loopback.specs.Sends.{conversation_octets};
+ghost use Rattle.ua_loopback.specs.Turns.{conversation_told};
+ghost use Rattle.ua_loopback.specs.declared.stage.Stage.TheVariants.{Ended};
+ghost use Rattle.ua_services.specs.declared.request.Request.{Request};
+ghost use Rattle.ua_loopback.specs.Talking.{IsLineTo};
+ghost use Rattle.ua_loopback.specs.inside.Talking.{CanOpen, StaysTalking, Talked, Went};
+
+use crate::served_line::{Began, ServedLine};
+use crate::stage::Stage;
+use crate::talking;
+use crate::turn::AsTurn;
+use std::alloc::Global;
+use std::marker::Brand;
+use ua_builtin::{DateTime, UaString};
+use ua_channel::Line;
+use ua_client::laws::clients_are_settled;
+use ua_client::{Client, ClientFault, Reply};
+use ua_frame::Limits;
+use ua_server::Services;
+
+/// What went over a connection, and what is left behind it.
+#[derive(Drop)]
+pub struct Transcript {
+    /// The octets that the client wrote.
+    pub up: Vec<u8>,
+    /// The octets that the server wrote.
+    pub down: Vec<u8>,
+    /// How many of its turns the client took.
+    pub taken: usize,
+    /// The replies to the requests, in their order, as far as they came.
+    pub replies: Vec<Reply>,
+    /// Why the client did not do all that it was to do, if it did not.
+    pub outcome: Result<(), ClientFault>,
+    /// How far the connection is at the server.
+    pub stage: Stage,
+    /// The services, as they stand.
+    pub services: Services,
+}
+
+/// Opens a client.
+fn begin<L: Line>(
+    alloc: Global,
+    line: &mut L,
+    limits: Limits,
+    url: UaString,
+    moment: DateTime,
+) -> Result<Client, ClientFault>
+    requires { IsTrue (text.encodable url) }
+    ensures went { IfOk result (λ client. (b : Beginning) → CanOpen b limits url moment → IsLineTo b [] [] (L.traffic line.old) → Went b limits url moment (connection_of client) (L.traffic line.old) (L.traffic line.new)) }
+    ensures ready { IfOk result (λ client. IsReady client) }
+    ensures faults { IfErr result (λ fault. IsTurnFault fault → ⊥) }
+{
+    clients_are_settled();
+    match talking::open(alloc, line, limits, url, moment) {
+        Ok(client) => Ok(client),
+        Err(fault) => Err(fault),
+    }
+}
+
+/// Takes a turn, and adds the replies.
+fn take_turn<T: AsTurn, L: Line>(
+    client: &mut Client,
+    line: &mut L,
+    turn: &T,
+    moment: DateTime,
+    replies: &mut Vec<Reply>,
+) -> Result<(), ClientFault>
+    requires { IsReady client.old }
+    ensures stays { OnOk result ((b : Beginning) (limits : Limits) (url : Option (List ℕ)) (opened : Site) (turns : List (Option (List Request))) (first : Option Traffic) → StaysTalking b limits url moment opened turns (connection_of client.old) first (L.traffic line.old) replies.old.items
+        → StaysTalking b limits url moment opened (turns ++ T.turn turn.now ∷ []) (connection_of client.new) first (L.traffic line.new) replies.new.items) }
+    ensures refused { IfErr result (λ fault. IsTurnFault fault → (b : Beginning) (limits : Limits) (url : Option (List ℕ)) (opened : Site) (turns : List (Option (List Request))) (first : Option Traffic) → StaysTalking b limits url moment opened turns (connection_of client.old) first (L.traffic line.old) replies.old.items
+        → turn_refusal (acknowledged b.limits limits url) turns (T.turn turn.now) ≡ Some fault) }
+    ensures ready { OnOk result (IsReady client.new) }
+{
+    clients_are_settled();
+    match turn.requests() {
+        Some(requests) => match talking::call_into(client, line, requests, moment, replies) {
+            Ok(()) => Ok(()),
+            Err(calls) => Err(calls.fault),
+        },
+        None => match talking::renew(client, line, moment) {
+            Ok(()) => Ok(()),
+            Err(fault) => Err(fault),
+        },
+    }
+}
+
+/// Takes all turns, adds the replies, and counts the turns.
+fn take_turns<T: AsTurn, L: Line>(
+    client: &mut Client,
+    line: &mut L,
+    turns: &[T],
+    moment: DateTime,
+    replies: &mut Vec<Reply>,
+    taken: &mut usize,
+) -> Result<(), ClientFault>
+    requires ready { IsReady client.old }
+    requires none { taken.old ≡ 0 }
+    ensures stays { OnOk result ((b : Beginning) (limits : Limits) (url : Option (List ℕ)) (opened : Site) (first : Option Traffic) → StaysTalking b limits url moment opened [] (connection_of client.old) first (L.traffic line.old) replies.old.items
+        → StaysTalking b limits url moment opened (map T.turn turns.now) (connection_of client.new) first (L.traffic line.new) replies.new.items) }
+    ensures taken { OnOk result (taken.new ≡ length turns.now) }
+    ensures refused { IfErr result (λ fault. IsTurnFault fault → (b : Beginning) (limits : Limits) (url : Option (List ℕ)) (opened : Site) (first : Option Traffic) → StaysTalking b limits url moment opened [] (connection_of client.old) first (L.traffic line.old) replies.old.items
+        → FirstRefused (acknowledged b.limits limits url) (map T.turn turns.now) taken.new fault) }
+    ensures ready { OnOk result (IsReady client.new) }
+{
+    for turn in turns {
+        match take_turn(client, line, turn, moment, replies) {
+            Ok(()) => *taken += 1,
+            Err(fault) => return Err(fault),
+        }
+    }
+    Ok(())
+}
+
+/// Opens a client, takes all turns and closes it; adds the replies, and counts the turns.
+fn talk<T: AsTurn, L: Line>(
+    alloc: Global,
+    line: &mut L,
+    limits: Limits,
+    url: UaString,
+    turns: &[T],
+    moment: DateTime,
+    replies: &mut Vec<Reply>,
+    taken: &mut usize,
+) -> Result<(), ClientFault>
+    requires url { IsTrue (text.encodable url) }
+    requires none { replies.old.items ≡ [] }
+    requires first { taken.old ≡ 0 }
+    ensures talked { OnOk result ((b : Beginning) → CanOpen b limits url moment → IsLineTo b [] [] (L.traffic line.old) → Talked b limits url moment (map T.turn turns.now) (L.traffic line.old) (L.traffic line.new) replies.new.items) }
+    ensures taken { OnOk result (taken.new ≡ length turns.now) }
+    ensures refused { IfErr result (λ fault. IsTurnFault fault → (b : Beginning) → CanOpen b limits url moment → IsLineTo b [] [] (L.traffic line.old) → FirstRefused (acknowledged b.limits limits url) (map T.turn turns.now) taken.new fault) }
+{
+    let mut client = match begin(alloc, line, limits, url, moment) {
+        Ok(client) => client,
+        Err(fault) => return Err(fault),
+    };
+    match take_turns(&mut client, line, turns, moment, replies, taken) {
+        Ok(()) => {}
+        Err(fault) => return Err(fault),
+    }
+    match talking::close(&mut client, line, moment) {
+        Ok(()) => Ok(()),
+        Err(fault) => Err(fault),
+    }
+}
+
+/// Lets a client talk to a server over these services, of the beginning that the parameter names.
+fn converse_with<T: AsTurn, W: Began>(
+    alloc: Global,
+    services: Services,
+    limits: Limits,
+    channel_id: u32,
+    url: UaString,
+    turns: &[T],
+    moment: DateTime,
+    writes: Vec<usize>,
+    reads: Vec<usize>,
+) -> Transcript
+    requires url { IsTrue (text.encodable url) }
+    requires began { W.beginning ≡ record { limits = limits; channel = channel_id; first = services; moment = moment } }
+    ensures down { result.down.items ≡ said_to W.beginning result.up.items }
+    ensures services { LeavesAt result.stage W.beginning result.up.items result.services }
+    ensures ends { EndsAt result.stage W.beginning result.up.items }
+    ensures converses { OnOk result.outcome (Converses limits url moment (map T.turn turns.now) result.up.items result.down.items result.replies.items) }
+    ensures heard { OnOk result.outcome (ServerCloses limits channel_id result.up.items (conversation_told limits limits url (map T.turn turns.now))) }
+    ensures closed { OnOk result.outcome (result.stage ≡ Ended Closed) }
+    ensures left { OnOk result.outcome (result.services ≡ left_by W.beginning result.up.items) }
+    ensures sent { OnOk result.outcome (result.up.items ≡ conversation_octets limits limits url channel_id moment (map T.turn turns.now)) }
+    ensures replied { OnOk result.outcome (map Some result.replies.items ≡ turns_replies (record { limits = limits; channel = channel_id; first = services; moment = moment }) limits url services 1 (map T.turn turns.now)) }
+    ensures state { OnOk result.outcome (result.services ≡ turns_state services moment (map T.turn turns.now)) }
+    ensures accepted { OnOk result.outcome (AreAccepted (acknowledged limits limits url) (map T.turn turns.now)) }
+    ensures taken { OnOk result.outcome (result.taken ≡ length turns.now) }
+    ensures refused { IfErr result.outcome (λ fault. IsTurnFault fault → FirstRefused (acknowledged limits limits url) (map T.turn turns.now) result.taken fault) }
+{
+    let mut line: ServedLine<W> = ServedLine::new(
+        alloc, limits, channel_id, services, moment, writes, reads,
+    );
+    let mut replies = Vec::new(alloc);
+    let mut taken = 0;
+    let outcome = talk(
+        alloc,
+        &mut line,
+        limits,
+        url,
+        turns,
+        moment,
+        &mut replies,
+        &mut taken,
+    );
+    let stage = line.stage();
+    let (up, down, services) = line.into_parts();
+    Transcript {
+        up,
+        down,
+        taken,
+        replies,
+        outcome,
+        stage,
+        services,
+    }
+}
+
+/// Lets a client take these turns, from the HEL to the CLO, over a line to a server over these services,
+/// both with these limits, and gives what went over the line each way, the replies, and the services as
+/// they then stand. No clause mentions the lengths of the pieces: what comes of them is the same for all.
+///
+/// The moment is that of each answer, of each OPN and of the CLO. Where the client did not do all, the
+/// outcome says why, and what was said and left by then stands in the transcript.
+pub fn converse<T: AsTurn>(
+    alloc: Global,
+    services: Services,
+    limits: Limits,
+    channel_id: u32,
+    url: UaString,
+    turns: &[T],
+    moment: DateTime,
+    writes: Vec<usize>,
+    reads: Vec<usize>,
+) -> Transcript
+    requires { IsTrue (text.encodable url) }
+
+    // What the server said is what is said of what the client wrote, and the services are what that leaves.
+    ensures down { result.down.items ≡ said_to (record { limits = limits; channel = channel_id; first = services; moment = moment }) result.up.items }
+    // How far the connection is says how it ends there.
+    ensures services { LeavesAt result.stage (record { limits = limits; channel = channel_id; first = services; moment = moment }) result.up.items result.services }
+    ensures ends { EndsAt result.stage (record { limits = limits; channel = channel_id; first = services; moment = moment }) result.up.items }
+
+    // The client sent just its turns and took all that the server said, and each request has its own reply.
+    ensures converses { OnOk result.outcome (Converses limits url moment (map T.turn turns.now) result.up.items result.down.items result.replies.items) }
+
+    // The server refused none of it, and was told just these turns: each request once, in order, under its own request id; and the
+    // next token at each renewal. The CLO closed the channel, and the services are what all of that leaves.
+    ensures heard { OnOk result.outcome (ServerCloses limits channel_id result.up.items (conversation_told limits limits url (map T.turn turns.now))) }
+    ensures closed { OnOk result.outcome (result.stage ≡ Ended Closed) }
+    ensures left { OnOk result.outcome (result.services ≡ left_by (record { limits = limits; channel = channel_id; first = services; moment = moment }) result.up.items) }
+
+    // What the client wrote, the replies and the services are functions of the turns.
+    ensures sent { OnOk result.outcome (result.up.items ≡ conversation_octets limits limits url channel_id moment (map T.turn turns.now)) }
+    ensures replied { OnOk result.outcome (map Some result.replies.items ≡ turns_replies (record { limits = limits; channel = channel_id; first = services; moment = moment }) limits url services 1 (map T.turn turns.now)) }
+    ensures state { OnOk result.outcome (result.services ≡ turns_state services moment (map T.turn turns.now)) }
+
+    // Each turn was accepted; or the client did not take the first that is not, and its fault is the first reason against it.
+    ensures accepted { OnOk result.outcome (AreAccepted (acknowledged limits limits url) (map T.turn turns.now)) }
+    ensures taken { OnOk result.outcome (result.taken ≡ length turns.now) }
+    ensures refused { IfErr result.outcome (λ fault. IsTurnFault fault → FirstRefused (acknowledged limits limits url) (map T.turn turns.now) result.taken fault) }
+{
+    converse_with::<T, Brand>(
+        alloc, services, limits, channel_id, url, turns, moment, writes, reads,
+    )
+}

@@ -1,0 +1,213 @@
+//! A line to a server in the same process.
+
+ghost use Rattle.std.specs.Prelude.{◌≡◌, ◌++◌, ◌<◌, ◌≤◌, [], None, Some, IfOk, IfSome, OnErr, length, take};
+ghost use Rattle.ua_loopback.specs.Beginning.{Beginning, nobody};
+ghost use Rattle.ua_loopback.specs.Kept.{EndsAt, Keeps, LeavesAt, Served, traffic_of};
+ghost use Rattle.ua_loopback.specs.Says.{said_to};
+ghost use Rattle.ua_loopback.specs.declared.stage.Stage.TheVariants.{Going};
+
+use crate::cuts::Cuts;
+use crate::stage::Stage;
+use std::alloc::{AllocError, Global};
+use std::marker::{Brand, Model, PhantomData};
+use ua_builtin::DateTime;
+use ua_channel::{Line, LineFault};
+use ua_frame::Limits;
+use ua_server::{Server, Services};
+
+/// How the server of a line began. A function over a line to a server takes it as a parameter, so that
+/// each line of that type is known to be one to that server, also behind calls of a client over it.
+pub trait Began {
+    /// Its limits, the id of its channel, its services, and the moment of its answers.
+    ghost beginning: { Beginning };
+}
+
+impl Began for Brand {
+    ghost beginning = { nobody };
+}
+
+/// Adds octets to the one and to the other, or to neither.
+fn add_both(
+    up: &mut Vec<u8>,
+    more_up: &[u8],
+    down: &mut Vec<u8>,
+    more_down: &[u8],
+) -> Result<(), AllocError>
+    ensures up { IfOk result (λ done. up.new.items ≡ up.old.items ++ more_up.now) }
+    ensures down { IfOk result (λ done. down.new.items ≡ down.old.items ++ more_down.now) }
+    ensures same_up { OnErr result (up.new.items ≡ up.old.items) }
+    ensures same_down { OnErr result (down.new.items ≡ down.old.items) }
+{
+    let before = up.len();
+    up.extend_from_slice(more_up)?;
+    match down.extend_from_slice(more_down) {
+        Ok(()) => Ok(()),
+        Err(refused) => {
+            up.truncate(before);
+            Err(refused)
+        }
+    }
+}
+
+/// A line whose other end is a server over its services. What is written to it the server takes, in
+/// pieces of at most the lengths that the line is told, and what the server says is read from it, in
+/// pieces too. Each answer of the server has the same moment.
+///
+/// A write fails where memory is refused, and once the connection ended at the server.
+#[derive(Drop)]
+pub struct ServedLine<W: Began> {
+    server: Server,
+    services: Services,
+    moment: DateTime,
+    up: Vec<u8>,
+    down: Vec<u8>,
+    read: usize,
+    stage: Stage,
+    failures: u64,
+    writes: Cuts,
+    reads: Cuts,
+    began: PhantomData<W>,
+}
+
+impl<W: Began> Model for ServedLine<W> {
+    ghost use Rattle.std.specs.Coded.{codes};
+    ghost use Rattle.ua_nodes.specs.contracts.node.NodeValue as value;
+    ghost use Rattle.ua_loopback.specs.Kept.{Keeps, Served};
+
+    ghost Value = { Served };
+
+    ghost coded = { Prim.hlevel (codes, value.the_row.coded) };
+
+    ghost view = { λ l. record { up = l.up.items; down = l.down.items; read = l.read; services = l.services; stage = l.stage; failures = l.failures } };
+
+    ghost invariant = { λ l. Keeps W.beginning l.server l.services l.moment l.up.items l.down.items l.read l.stage };
+}
+
+impl<W: Began> ServedLine<W> {
+    /// A line to a server over these services that waits for a client. `writes` and `reads` are the most
+    /// octets that each call takes and gives, in turn and again from the first; 0 counts as 1, and none
+    /// sets no limit.
+    pub fn new(
+        alloc: Global,
+        limits: Limits,
+        channel_id: u32,
+        services: Services,
+        moment: DateTime,
+        writes: Vec<usize>,
+        reads: Vec<usize>,
+    ) -> ServedLine<W>
+        requires { W.beginning ≡ record { limits = limits; channel = channel_id; first = services; moment = moment } }
+        ensures { result ≡ record { up = []; down = []; read = 0; services = services; stage = Going; failures = 0 } }
+    {
+        ServedLine {
+            server: Server::new(alloc, limits, channel_id),
+            services,
+            moment,
+            up: Vec::new(alloc),
+            down: Vec::new(alloc),
+            read: 0,
+            stage: Stage::Going,
+            failures: 0,
+            writes: Cuts::new(writes),
+            reads: Cuts::new(reads),
+            began: PhantomData,
+        }
+    }
+
+    /// What was written so far.
+    pub fn up(&self) -> &[u8]
+        ensures { result.now ≡ self.now.up }
+    {
+        &self.up
+    }
+
+    /// What the server said so far, read or not.
+    pub fn down(&self) -> &[u8]
+        ensures value { result.now ≡ self.now.down }
+        ensures said { result.now ≡ said_to W.beginning self.now.up }
+    {
+        &self.down
+    }
+
+    /// How far the connection is.
+    pub fn stage(&self) -> Stage
+        ensures { result ≡ self.now.stage }
+    {
+        self.stage
+    }
+
+    /// What was written, what the server said, and its services.
+    pub fn into_parts(self) -> (Vec<u8>, Vec<u8>, Services)
+        ensures up { result.0.items ≡ self.up }
+        ensures down { result.1.items ≡ said_to W.beginning self.up }
+        ensures services { LeavesAt self.stage W.beginning self.up result.2 }
+        ensures ends { EndsAt self.stage W.beginning self.up }
+    {
+        let ServedLine {
+            services,
+            up,
+            down,
+            ..
+        } = self;
+        (up, down, services)
+    }
+
+    /// Lets the server take octets up to the end of the first frame that is answered, else all of them,
+    /// and keeps what it says. Says how many it took; none where it takes nothing more.
+    fn take(&mut self, piece: &[u8]) -> Option<usize>
+        ensures within { IfSome result (λ n. n ≤ length piece.now) }
+        ensures some { 0 < length piece.now → IfSome result (λ n. 0 < n) }
+        ensures up { IfSome result (λ n. self.new.up ≡ self.old.up ++ take n piece.now) }
+        ensures same { result ≡ None → self.new.up ≡ self.old.up }
+        ensures read { self.new.read ≡ self.old.read }
+        ensures failures { self.new.failures ≡ self.old.failures }
+    {
+        if self.stage != Stage::Going {
+            return None;
+        }
+        let step = match self.server.step(&mut self.services, piece, self.moment) {
+            Ok(step) => step,
+            Err(_) => {
+                self.stage = Stage::Broken;
+                return None;
+            }
+        };
+        let taken = step.taken;
+        let Ok(()) = add_both(&mut self.up, &piece[..taken], &mut self.down, &step.out) else {
+            self.stage = Stage::Broken;
+            return None;
+        };
+        if let Some(end) = step.end {
+            self.stage = Stage::Ended(end);
+        }
+        Some(taken)
+    }
+}
+
+impl<W: Began> Line for ServedLine<W> {
+    ghost traffic = { λ l. Some (traffic_of W.beginning l) };
+
+    ghost failures = { λ l. l.failures };
+
+    fn read(&mut self, buffer: &mut [u8]) -> Result<usize, LineFault> {
+        let left = self.down.len() - self.read;
+        let n = self.reads.front(left.min(buffer.len()));
+        buffer[..n].copy_from_slice(&self.down[self.read..self.read + n]);
+        self.read += n;
+        Ok(n)
+    }
+
+    fn write(&mut self, octets: &[u8]) -> Result<usize, LineFault> {
+        if octets.is_empty() {
+            return Ok(0);
+        }
+        let count = self.writes.front(octets.len());
+        match self.take(&octets[..count]) {
+            Some(n) => Ok(n),
+            None => {
+                self.failures = self.failures.wrapping_add(1);
+                Err(LineFault::Failed)
+            }
+        }
+    }
+}

@@ -1,0 +1,203 @@
+//! Calls of a client over any line whose octets down are what a server says of its octets up.
+//!
+//! Each function is the call of [`Client`] of its name, with what that comes to over such a line where it
+//! succeeds, at a server whose answers all have one moment, call by call, whatever the limits of both ends:
+//! behind a talk so far the server reads just what the call asks, each request whole, once, in order and
+//! under its own request id; each reply is that of its own request in the state that those before it left;
+//! and behind the call the client is behind the talk with this turn more, so that the next call says the
+//! same again. [`open`] begins a talk.
+
+ghost use Rattle.std.specs.Prelude.{◌≡◌, ◌⊎◌, ◌+◌, ◌<◌, ◌∷◌, ◌++◌, [], length, map, Err, None, Some, IfErr, IfOk, IsTrue, OnOk};
+ghost use Rattle.ua_wire.specs.Counted.{text};
+ghost use Rattle.ua_channel.specs.ServerReads.{ServerCloses};
+ghost use Rattle.ua_channel.specs.ServerTold.{Closed as ToldClosed, Opened};
+ghost use Rattle.ua_client.specs.Calls.{CallsAll};
+ghost use Rattle.ua_client.specs.Client.{Closes, IsDone, IsLeft, IsReady, OpensClient, OpensNothing, client_channel, connection_of};
+ghost use Rattle.ua_client.specs.Hearing.{failures_behind, fault_alone};
+ghost use Rattle.ua_client.specs.Kept.{CallsInto, closed_at};
+ghost use Rattle.ua_client.specs.Renewing.{IsRefusal, Renews};
+ghost use Rattle.ua_client.specs.Sent.{bodies_of};
+ghost use Rattle.ua_client.specs.Session.{BeginsSessionAs};
+ghost use Rattle.ua_client.specs.declared.fault.ClientFault.TheVariants.{Closed};
+ghost use Rattle.ua_loopback.specs.Accepted.{IsTurnFault, turn_refusal};
+ghost use Rattle.ua_loopback.specs.Beginning.{Beginning};
+ghost use Rattle.ua_loopback.specs.Replies.{lane_back, requests_replies, state_behind};
+ghost use Rattle.ua_loopback.specs.Says.{left_by, said_to};
+ghost use Rattle.ua_loopback.specs.Talking.{CanBegin, IsBehindFirst, IsLineTo, IsSentOver, IsTalking, Reads, SoFar, acked_in, closed_octets, id_in, opening, session_requests, state_in, newest_in, octets_of, told_in, with_turn};
+ghost use Rattle.ua_loopback.specs.Sends.{closing_behind};
+ghost use Rattle.ua_loopback.specs.Turns.{calls_told};
+
+use std::alloc::Global;
+use ua_builtin::{DateTime, NodeId, UaString};
+use ua_channel::Line;
+use ua_client::laws::clients_are_settled;
+use ua_client::{CallsFault, Client, ClientFault, Reply};
+use ua_frame::Limits;
+use ua_services::Request;
+
+/// Opens a client, as [`Client::open`].
+pub fn open<L: Line>(
+    alloc: Global,
+    line: &mut L,
+    limits: Limits,
+    url: UaString,
+    moment: DateTime,
+) -> Result<Client, ClientFault>
+    requires { IsTrue (text.encodable url) }
+    ensures opens { OpensNothing (L.traffic line.old) (L.traffic line.new) result ⊎ OpensClient limits url moment (L.traffic line.old) (L.traffic line.new) result }
+    ensures failed { L.failures line.new ≡ failures_behind (L.failures line.old) result }
+
+    // Over a line to a server its talk begins: the server agreed, and issued the first token.
+    ensures begins { IfOk result (λ client. (b : Beginning) → CanBegin b → IsLineTo b [] [] (L.traffic line.old) → IsTalking (opening b limits url moment) client (L.traffic line.new)) }
+{
+    clients_are_settled();
+    match Client::open(alloc, line, limits, url, moment) {
+        Ok(client) => Ok(client),
+        Err(fault) => Err(fault),
+    }
+}
+
+/// Begins a session, as [`Client::begin_session_as`].
+pub fn begin_session_as<L: Line>(
+    client: &mut Client,
+    line: &mut L,
+    policy_id: UaString,
+    moment: DateTime,
+) -> Result<NodeId, ClientFault>
+    ensures begins { IsReady client.old → BeginsSessionAs policy_id moment (connection_of client.old) (connection_of client.new) (L.traffic line.old) (L.traffic line.new) result }
+    ensures left { IsReady client.old → IsLeft result client.new }
+    ensures closed { IsDone client.old → (result ≡ Err Closed) × (client.new ≡ client.old) × (line.new ≡ line.old) }
+    ensures failed { L.failures line.new ≡ failures_behind (L.failures line.old) result }
+
+    // Behind a talk, it goes on with a turn of two requests: CreateSession, and ActivateSession with the token that the server gave.
+    ensures stays { IfOk result (λ token. (t : SoFar) → IsTalking t client.old (L.traffic line.old) → IsTalking (with_turn t moment (Some (session_requests t policy_id token moment))) client.new (L.traffic line.new)) }
+    // Just their octets are sent.
+    ensures sends { IfOk result (λ token. (t : SoFar) → IsTalking t client.old (L.traffic line.old) → IsSentOver (octets_of t moment (Some (session_requests t policy_id token moment))) (L.traffic line.old) (L.traffic line.new)) }
+    // The server reads just these, and its services are as they leave them.
+    ensures reaches { IfOk result (λ token. (t : SoFar) → IsTalking t client.old (L.traffic line.old) → Reads t.server (with_turn t moment (Some (session_requests t policy_id token moment))).octets (told_in t ++ calls_told (newest_in t) (id_in t) (bodies_of (session_requests t policy_id token moment)))) }
+    ensures state { IfOk result (λ token. (t : SoFar) → IsTalking t client.old (L.traffic line.old) → left_by t.server (with_turn t moment (Some (session_requests t policy_id token moment))).octets ≡ state_behind (state_in t) t.server.moment (session_requests t policy_id token moment)) }
+{
+    clients_are_settled();
+    match client.begin_session_as(line, policy_id, moment) {
+        Ok(token) => Ok(token),
+        Err(fault) => Err(fault),
+    }
+}
+
+/// The replies to requests, as [`Client::call_all`].
+pub fn call_all<L: Line>(
+    client: &mut Client,
+    line: &mut L,
+    requests: &[Request],
+    moment: DateTime,
+) -> Result<Vec<Reply>, ClientFault>
+    ensures calls { IsReady client.old → CallsAll (λ replies. replies.items) requests.now (connection_of client.old) (connection_of client.new) (L.traffic line.old) (L.traffic line.new) result }
+    ensures count { IfOk result (λ replies. length replies.items ≡ length requests.now) }
+    ensures left { IsReady client.old → IsLeft result client.new }
+    ensures closed { IsDone client.old → (result ≡ Err Closed) × (client.new ≡ client.old) × (line.new ≡ line.old) }
+    ensures failed { L.failures line.new ≡ failures_behind (L.failures line.old) result }
+
+    // Behind a talk, just the octets of these requests are sent.
+    ensures sends { OnOk result ((t : SoFar) → IsTalking t client.old (L.traffic line.old) → IsSentOver (octets_of t moment (Some requests.now)) (L.traffic line.old) (L.traffic line.new)) }
+    // The server reads just these requests more: each whole, once, in order, under its own request id and the newest token.
+    ensures reaches { OnOk result ((t : SoFar) → IsTalking t client.old (L.traffic line.old) → Reads t.server (with_turn t moment (Some requests.now)).octets (told_in t ++ calls_told (newest_in t) (id_in t) (bodies_of requests.now))) }
+    // Each reply is that of its own request in the state that those before it left, and all of them leave this state.
+    ensures replied { IfOk result (λ replies. (t : SoFar) → IsTalking t client.old (L.traffic line.old) → map Some replies.items ≡ requests_replies (lane_back t.server t.limits t.url (newest_in t)) (state_in t) t.server.moment requests.now) }
+    ensures state { OnOk result ((t : SoFar) → IsTalking t client.old (L.traffic line.old) → left_by t.server (with_turn t moment (Some requests.now)).octets ≡ state_behind (state_in t) t.server.moment requests.now) }
+    // The talk goes on with this turn more.
+    ensures stays { OnOk result ((t : SoFar) → IsTalking t client.old (L.traffic line.old) → IsTalking (with_turn t moment (Some requests.now)) client.new (L.traffic line.new)) }
+    // A fault that is a reason against a request is the first against them, and the talk goes on with the first of these requests, which were asked.
+    ensures refused { IfErr result (λ fault. IsTurnFault fault → (t : SoFar) → IsTalking t client.old (L.traffic line.old) → turn_refusal (acked_in t) t.turns (Some requests.now) ≡ Some fault) }
+    ensures before { IfErr result (λ fault. IsTurnFault fault → (t : SoFar) → IsTalking t client.old (L.traffic line.old) → IsBehindFirst t moment requests.now client.new (L.traffic line.new)) }
+{
+    clients_are_settled();
+    match client.call_all(line, requests, moment) {
+        Ok(replies) => Ok(replies),
+        Err(fault) => Err(fault),
+    }
+}
+
+/// Adds the replies to requests, as [`Client::call_into`].
+pub fn call_into<L: Line>(
+    client: &mut Client,
+    line: &mut L,
+    requests: &[Request],
+    moment: DateTime,
+    replies: &mut Vec<Reply>,
+) -> Result<(), CallsFault>
+    ensures calls { IsReady client.old → CallsInto requests.now (connection_of client.old) (connection_of client.new) (L.traffic line.old) (L.traffic line.new) result replies.old.items replies.new.items }
+    ensures count { OnOk result (length replies.new.items ≡ length replies.old.items + length requests.now) }
+    ensures names { IsReady client.old → IfErr result (λ calls. calls.request < length requests.now) }
+    ensures left { IsReady client.old → IsLeft (fault_alone result) client.new }
+    ensures closed { IsDone client.old → (result ≡ Err (closed_at 0)) × (client.new ≡ client.old) × (line.new ≡ line.old) × (replies.new ≡ replies.old) }
+    ensures failed { L.failures line.new ≡ failures_behind (L.failures line.old) (fault_alone result) }
+
+    // The same as of `call_all`.
+    ensures sends { OnOk result ((t : SoFar) → IsTalking t client.old (L.traffic line.old) → IsSentOver (octets_of t moment (Some requests.now)) (L.traffic line.old) (L.traffic line.new)) }
+    ensures reaches { OnOk result ((t : SoFar) → IsTalking t client.old (L.traffic line.old) → Reads t.server (with_turn t moment (Some requests.now)).octets (told_in t ++ calls_told (newest_in t) (id_in t) (bodies_of requests.now))) }
+    ensures replied { OnOk result ((t : SoFar) → IsTalking t client.old (L.traffic line.old) → map Some replies.new.items ≡ map Some replies.old.items ++ requests_replies (lane_back t.server t.limits t.url (newest_in t)) (state_in t) t.server.moment requests.now) }
+    ensures state { OnOk result ((t : SoFar) → IsTalking t client.old (L.traffic line.old) → left_by t.server (with_turn t moment (Some requests.now)).octets ≡ state_behind (state_in t) t.server.moment requests.now) }
+    ensures stays { OnOk result ((t : SoFar) → IsTalking t client.old (L.traffic line.old) → IsTalking (with_turn t moment (Some requests.now)) client.new (L.traffic line.new)) }
+    ensures refused { IfErr result (λ calls. IsTurnFault calls.fault → (t : SoFar) → IsTalking t client.old (L.traffic line.old) → turn_refusal (acked_in t) t.turns (Some requests.now) ≡ Some calls.fault) }
+    ensures before { IfErr result (λ calls. IsTurnFault calls.fault → (t : SoFar) → IsTalking t client.old (L.traffic line.old) → IsBehindFirst t moment requests.now client.new (L.traffic line.new)) }
+{
+    clients_are_settled();
+    match client.call_into(line, requests, moment, replies) {
+        Ok(()) => Ok(()),
+        Err(calls) => Err(calls),
+    }
+}
+
+/// Renews the token of the channel, as [`Client::renew`].
+pub fn renew<L: Line>(
+    client: &mut Client,
+    line: &mut L,
+    moment: DateTime,
+) -> Result<(), ClientFault>
+    ensures renews { IsReady client.old → Renews moment (connection_of client.old) (connection_of client.new) (L.traffic line.old) (L.traffic line.new) result }
+    ensures left { IsReady client.old → IsLeft result client.new }
+    ensures unchanged { IsRefusal result → (client.new ≡ client.old) × (line.new ≡ line.old) }
+    ensures closed { IsDone client.old → (result ≡ Err Closed) × (client.new ≡ client.old) × (line.new ≡ line.old) }
+    ensures failed { L.failures line.new ≡ failures_behind (L.failures line.old) result }
+
+    // Behind a talk, just the octets of an OPN are sent.
+    ensures sends { OnOk result ((t : SoFar) → IsTalking t client.old (L.traffic line.old) → IsSentOver (octets_of t moment None) (L.traffic line.old) (L.traffic line.new)) }
+    // The server reads just this OPN more, and issues the next token, for an hour (OPC 10000-4, 5.6.2).
+    ensures reaches { OnOk result ((t : SoFar) → IsTalking t client.old (L.traffic line.old) → Reads t.server (with_turn t moment None).octets (told_in t ++ Opened (id_in t) 0 (newest_in t + 1) 3600000 ∷ [])) }
+    // It leaves the services as they were.
+    ensures state { OnOk result ((t : SoFar) → IsTalking t client.old (L.traffic line.old) → left_by t.server (with_turn t moment None).octets ≡ state_in t) }
+    // The talk goes on with this turn more: calls go out under the next token.
+    ensures stays { OnOk result ((t : SoFar) → IsTalking t client.old (L.traffic line.old) → IsTalking (with_turn t moment None) client.new (L.traffic line.new)) }
+    // A fault that is a reason against a renewal is the first against it.
+    ensures refused { IfErr result (λ fault. IsTurnFault fault → (t : SoFar) → IsTalking t client.old (L.traffic line.old) → turn_refusal (acked_in t) t.turns None ≡ Some fault) }
+{
+    match client.renew(line, moment) {
+        Ok(()) => Ok(()),
+        Err(fault) => Err(fault),
+    }
+}
+
+/// Closes the channel, as [`Client::close`].
+pub fn close<L: Line>(
+    client: &mut Client,
+    line: &mut L,
+    moment: DateTime,
+) -> Result<(), ClientFault>
+    ensures closes { IsReady client.old → Closes moment (client_channel client.old) (L.traffic line.old) (L.traffic line.new) result }
+    ensures done { IsDone client.new }
+    ensures closed { IsDone client.old → (result ≡ Err Closed) × (client.new ≡ client.old) × (line.new ≡ line.old) }
+    ensures failed { L.failures line.new ≡ failures_behind (L.failures line.old) result }
+
+    // Behind a talk, just the octets of a CLO are sent.
+    ensures sends { OnOk result ((t : SoFar) → IsTalking t client.old (L.traffic line.old) → IsSentOver (closing_behind (acked_in t) t.server.channel moment t.turns) (L.traffic line.old) (L.traffic line.new)) }
+    // The server reads just this CLO more, which closes its channel.
+    ensures reaches { OnOk result ((t : SoFar) → IsTalking t client.old (L.traffic line.old) → ServerCloses t.server.limits t.server.channel (closed_octets t moment) (told_in t ++ ToldClosed ∷ [])) }
+    // It says nothing of that, so that the client took all that it said; and its services are as the talk left them.
+    ensures silent { OnOk result ((t : SoFar) → IsTalking t client.old (L.traffic line.old) → said_to t.server (closed_octets t moment) ≡ said_to t.server t.octets) }
+    ensures state { OnOk result ((t : SoFar) → IsTalking t client.old (L.traffic line.old) → left_by t.server (closed_octets t moment) ≡ state_in t) }
+{
+    match client.close(line, moment) {
+        Ok(()) => Ok(()),
+        Err(fault) => Err(fault),
+    }
+}

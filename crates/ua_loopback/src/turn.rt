@@ -1,0 +1,40 @@
+//! What a client does next.
+
+use ua_services::Request;
+
+/// A type whose values are turns of a client: what it does next on an open channel.
+pub trait AsTurn {
+    ghost use Rattle.std.specs.Prelude.{◌≡◌, List, None, Option, Some, IfSome};
+    ghost use Rattle.ua_services.specs.declared.request.Request.{Request};
+
+    /// The requests that it asks; none where it renews the token of its channel.
+    ghost turn: { Self → Option (List Request) };
+
+    /// The requests that it asks, in groups of 64, of which the last may have fewer, and waits for their
+    /// replies; or `None`, where it renews the token of its channel (OPC 10000-4, 5.6.2).
+    fn requests(&self) -> Option<&[Request]>
+        ensures asks { IfSome result (λ requests. turn self.now ≡ Some requests.now) }
+        ensures renews { result ≡ None → turn self.now ≡ None };
+}
+
+/// What a client does next on an open channel.
+#[derive(Drop)]
+pub enum Turn {
+    /// It asks requests, in groups of 64, of which the last may have fewer, and waits for their replies.
+    Ask(Vec<Request>),
+    /// It renews the token of its channel (OPC 10000-4, 5.6.2).
+    Renew,
+}
+
+impl AsTurn for Turn {
+    ghost use Rattle.ua_loopback.specs.Asked.{asked_by};
+
+    ghost turn = { asked_by };
+
+    fn requests(&self) -> Option<&[Request]> {
+        match self {
+            Turn::Ask(requests) => Some(requests),
+            Turn::Renew => None,
+        }
+    }
+}

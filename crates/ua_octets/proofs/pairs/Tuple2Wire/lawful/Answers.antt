@@ -1,5 +1,0 @@
-use Rattle.ua_octets.proofs.Lawfulness.{lawful_pair}
-use Rattle.ua_octets.proofs.pairs.Tuple2Wire.lawful.Goals as goal
-
-pub returns : goal.returns
-returns g c = lawful_pair c.lawful.ensures c.lawful-2.ensures

@@ -1,6 +1,0 @@
-use Rattle.std.proofs.Common.{◌≡◌, ◌++◌, take}
-use Rattle.ua_parts.specs.Dimensions.{sizes_canonical}
-use Rattle.ua_parts.proofs.dimensions.append_sizes.Given as goal
-
-abbrev pub invariant-loop-d : goal.invariant-loop-d
-invariant-loop-d l = l.out.items ≡ l.fn.out.items ++ sizes_canonical (take l.d-index l.dims)

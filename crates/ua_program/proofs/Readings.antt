@@ -1,0 +1,250 @@
+-- How far the lines of a file have come.
+use Rattle.std.proofs.Common.{◌≡◌, ◌⊎◌, inl, inr, ℕ, zero, suc, ◌<◌, take, ◌+◌, ◌%◌, ◌∷◌, length, length-append, arith, Bool, true, false, List, [], ◌++◌, Option, Some, None, is_none, unwrap_or, Result, Ok, Err, OnOk, refl, sym, ap, subst, ◌∙◌, append_assoc, append-nil}
+use Rattle.std.specs.Io.KnownBytes.{Appends, Consumes, IsAtEnd}
+use Rattle.std.specs.Borrow.{Bor}
+use Rattle.ua_pair.specs.declared.dissector.Dissector.{Dissector}
+use Rattle.ua_pair.specs.declared.options.DissectOptions.{DissectOptions}
+use Rattle.ua_pair.specs.Dissecting.{StandsBehind, TellsMore, EndsLines}
+use Rattle.hex.specs.Hex.{decode_of}
+use Rattle.hex.proofs.HexLemmas.{decode_of-ok}
+use Rattle.ua_program.specs.Looped.{HasLoopedUntil}
+use Rattle.ua_program.specs.Served.{HasServedSome}
+use Rattle.ua_program.specs.Printed.{HasBegun, HasDissected, HasToldSome}
+use Rattle.ua_program.specs.Digits.{digits_in, HexSoFar, HoldsSoFar, HoldsOctets, HoldsNever, HoldsNone}
+use Rattle.ua_program.specs.declared.fault.Fault.{Fault}
+use Rattle.ua_program.specs.declared.fault.Fault.TheVariants.{CannotRead, NoMemory, NotHexadecimal}
+use Rattle.ua_program.specs.declared.output.Stop.{Stop}
+use Rattle.ua_program.specs.declared.output.Stop.TheVariants as stop
+use Rattle.ua_program.specs.Dissects.{AreLinesOf, DissectsAll, EndsFile, GivesNone, HasBegunDissecting, LeavesNone, PrintsLast, PrintsNext, PrintsPiece, Reads, StopsNext, StopsReading, TellsPiece, ToldSoFar}
+use Rattle.ua_program.proofs.HexParts.{hex_first}
+
+-- nothing yet
+first_holds : (hex : Bool) (half : Option ℕ) → half ≡ None → HoldsSoFar hex half [] []
+first_holds false half none = refl
+first_holds true half none = subst (λ (h : Option ℕ). HexSoFar h [] []) (sym none) hex_first
+
+pub told_first : (hex : Bool) (options : DissectOptions) (half : Option ℕ) (d : Dissector) → half ≡ None → StandsBehind d options [] [] → ToldSoFar hex options half d [] []
+told_first hex options half d none stands = record { octets = []; holds = first_holds hex half none; stands = stands }
+
+-- a piece of octets as they are
+pub plain_piece : (hex : Bool) (old new : Option ℕ) (content octets piece : List ℕ) → hex ≡ false → HoldsSoFar hex old content octets → HoldsSoFar hex new (content ++ piece) (octets ++ piece)
+plain_piece false old new content octets piece plain h = ap (λ (o : List ℕ). o ++ piece) h
+plain_piece true old new content octets piece plain h = absurd cc
+
+-- a piece of digits
+pub as_digits : (hex : Bool) (half : Option ℕ) (content octets : List ℕ) → hex ≡ true → HoldsSoFar hex half content octets → HexSoFar half content octets
+as_digits true half content octets digits h = h
+as_digits false half content octets digits h = absurd cc
+
+pub digit_piece : (hex : Bool) (half : Option ℕ) (content octets : List ℕ) → hex ≡ true → HexSoFar half content octets → HoldsSoFar hex half content octets
+digit_piece true half content octets digits h = h
+digit_piece false half content octets digits h = absurd cc
+
+-- lines more of a piece whose octets are these
+pub tells_piece : (hex : Bool) (options : DissectOptions) (half : Option ℕ) (e : Dissector) (content octets told old new : List ℕ) → HoldsSoFar hex half content octets → TellsMore e options octets told old new → TellsPiece hex options half e content told old new
+tells_piece hex options half e content octets told old new holds t = record {
+  lines = t.lines;
+  added = t.added;
+  so_far = record { octets = octets; holds = holds; stands = t.stands };
+}
+
+pub tells_so : (hex : Bool) (options : DissectOptions) (half half2 : Option ℕ) (e e2 : Dissector) (content octets told old new new2 : List ℕ) → half ≡ half2 → e ≡ e2 → new ≡ new2 → HoldsSoFar hex half2 content octets → TellsMore e2 options octets told old new2 → TellsPiece hex options half e content told old new
+tells_so hex options half half2 e e2 content octets told old new new2 p q r holds t =
+    tells_piece hex options half e content octets told old new
+    (subst (λ (h : Option ℕ). HoldsSoFar hex h content octets) (sym p) holds)
+    (subst (λ (d : Dissector). TellsMore d options octets told old new) (sym q) (subst (λ (n : List ℕ). TellsMore e2 options octets told old n) (sym r) t))
+
+-- the content is there: with --hex each digit has its pair
+pub whole_octets : (hex : Bool) (half : Option ℕ) (content octets : List ℕ) → (hex ≡ false) ⊎ (half ≡ None) → HoldsSoFar hex half content octets → HoldsOctets hex content octets
+whole_octets false half content octets whole h = h
+whole_octets true None content octets whole h = ap decode_of (h.parts ∙ append-nil h.pairs) ∙ h.decoded
+whole_octets true (Some d) content octets (inl plain) h = absurd cc
+whole_octets true (Some d) content octets (inr none) h = absurd cc
+
+-- a digit without its pair stands for nothing
+odd_text : (d : ℕ) (text octets x : List ℕ) → HexSoFar (Some d) text octets → decode_of (digits_in text) ≡ Ok x → ⊥
+odd_text d text octets x s h =
+    let whole = (decode_of-ok (digits_in text) x h).0 in
+    let pairs = (decode_of-ok s.pairs octets s.decoded).0 in
+    let count = ap length s.parts ∙ length-append s.pairs (d ∷ []) in
+    absurd (omega (arith, whole, pairs, count))
+
+pub none_holds : (hex : Bool) (half : Option ℕ) (d : ℕ) (content octets : List ℕ) → hex ≡ true → half ≡ Some d → HoldsSoFar hex half content octets → HoldsNone hex content
+none_holds true (Some e) d content octets is some h x k = odd_text e content octets x h k
+none_holds true None d content octets is some h x k = absurd cc
+none_holds false half d content octets is some h x k = absurd cc
+
+pub ends_file : (hex : Bool) (options : DissectOptions) (content octets told old new : List ℕ) → HoldsOctets hex content octets → EndsLines options octets told old new → EndsFile hex options content told old new
+ends_file hex options content octets told old new holds l = record { line = l.line; added = l.added; lines = record { octets = octets; holds = holds; lines = l.are } }
+
+-- no digit is left
+pub none_left : (half : Option ℕ) → is_none half ≡ true → half ≡ None
+none_left None h = refl
+none_left (Some d) h = absurd cc
+
+-- known octets that were read, one piece behind the other
+pub consumes_more : (a b c : Option (List ℕ)) (x y : List ℕ) → Consumes a b x → Consumes b c y → Consumes a c (x ++ y)
+consumes_more None b c x y h k = tt
+consumes_more (Some u) None c x y h k = absurd h
+consumes_more (Some u) (Some v) None x y h k = absurd k
+consumes_more (Some u) (Some v) (Some w) x y h k = h ∙ ap (λ (t : List ℕ). x ++ t) k ∙ sym (append_assoc x y w)
+
+-- known octets that were written, one text behind the other
+pub appends_more : (a b c : Option (List ℕ)) (x y : List ℕ) → Appends a b x → Appends b c y → Appends a c (x ++ y)
+appends_more None b c x y h k = tt
+appends_more (Some u) None c x y h k = absurd h
+appends_more (Some u) (Some v) None x y h k = absurd k
+appends_more (Some u) (Some v) (Some w) x y h k = k ∙ ap (λ (t : List ℕ). t ++ y) h ∙ append_assoc u x y
+
+-- nothing is left behind what holds nothing
+pub at_end_none : (known after : Option (List ℕ)) (read : List ℕ) (hex : Bool) (content : List ℕ) → read ≡ [] → Consumes known after read → IsAtEnd after → HoldsNone hex content → LeavesNone hex content known
+at_end_none None after read hex content none h end holds rest is = absurd cc
+at_end_none (Some xs) None read hex content none h end holds rest is = absurd h
+at_end_none (Some xs) (Some ys) read hex content none h end holds rest is =
+    let left : rest ≡ [] = sym (ap (λ (o : Option (List ℕ)). unwrap_or o []) is) ∙ h ∙ ap (λ (u : List ℕ). u ++ ys) none ∙ end in
+    λ octets k. holds octets (subst (λ (u : List ℕ). HoldsOctets hex u octets) (ap (λ (u : List ℕ). content ++ u) left ∙ append-nil content) k)
+
+-- what is read behind content that can't be made good
+pub never_left : (known after : Option (List ℕ)) (read : List ℕ) (hex : Bool) (content : List ℕ) → Consumes known after read → HoldsNever hex (content ++ read) → LeavesNone hex content known
+never_left None after read hex content h never rest is = absurd cc
+never_left (Some xs) None read hex content h never rest is = absurd h
+never_left (Some xs) (Some ys) read hex content h never rest is =
+    let parts : rest ≡ read ++ ys = sym (ap (λ (o : Option (List ℕ)). unwrap_or o []) is) ∙ h in
+    λ octets k. never ys octets (subst (λ (u : List ℕ). HoldsOctets hex u octets) (ap (λ (u : List ℕ). content ++ u) parts ∙ sym (append_assoc content read ys)) k)
+
+-- a fault of a file, as what stops the command
+pub stops_next : (hex : Bool) (file : Bor (List ℕ)) (content : List ℕ) (known : Option (List ℕ)) (fault : Fault) (why : Stop) → why ≡ stop.Fault fault → (fault ≡ NoMemory) ⊎ ((fault ≡ NotHexadecimal file) × LeavesNone hex content known) → StopsNext hex file content known why
+stops_next hex file content known fault why is (inl memory) = inr (inl (is ∙ ap stop.Fault memory))
+stops_next hex file content known fault why is (inr refused) = inr (inr (inr (is ∙ ap stop.Fault refused.0, refused.1)))
+
+pub reason_left : {fault : Fault} {file : Bor (List ℕ)} {P Q : Type 0} → (P → Q) → (fault ≡ NoMemory) ⊎ ((fault ≡ NotHexadecimal file) × P) → (fault ≡ NoMemory) ⊎ ((fault ≡ NotHexadecimal file) × Q)
+reason_left f (inl memory) = inl memory
+reason_left f (inr refused) = inr (refused.0, f refused.1)
+
+-- the last line is printed
+pub prints_last : (hex : Bool) (options : DissectOptions) (content told cleared text said : List ℕ) (before after old new : Option (List ℕ)) (read : List ℕ) → read ≡ [] → Consumes before after read → IsAtEnd after → cleared ≡ [] → EndsFile hex options content told cleared text → said ≡ text → Appends old new said → PrintsLast hex options content told before after old new
+prints_last hex options content told cleared text said before after old new read none consumed end empty e same printed = record {
+  consumed = subst (λ (u : List ℕ). Consumes before after u) none consumed;
+  at_end = end;
+  line = e.line;
+  added = subst (λ (u : List ℕ). Appends old new u) (same ∙ e.added ∙ ap (λ (u : List ℕ). u ++ e.line) empty) printed;
+  lines = e.lines;
+}
+
+-- nothing was read, so nothing is left
+pub nothing_read : (n : ℕ) (known after : Option (List ℕ)) (piece : List ℕ) → Reads (Some n) known after piece → n ≡ 0 → 0 < length piece → (take n piece ≡ []) × IsAtEnd after
+nothing_read zero known after piece r none room = (refl, r.2 refl room)
+nothing_read (suc n) known after piece r none room = absurd cc
+
+-- ---- all that is read
+
+-- a file was read and its lines were printed so far
+pub record ReadSoFar (hex : Bool) (options : DissectOptions) (half : Option ℕ) (d : Dissector) (before now old new : Option (List ℕ)) : Type 0 where
+  pub content : List ℕ
+  pub told : List ℕ
+  pub consumed : Consumes before now content
+  pub so_far : ToldSoFar hex options half d content told
+  pub added : Appends old new told
+
+consumes_none : (known : Option (List ℕ)) → Consumes known known []
+consumes_none None = tt
+consumes_none (Some xs) = refl
+
+appends_none : (known : Option (List ℕ)) → Appends known known []
+appends_none None = tt
+appends_none (Some xs) = sym (append-nil xs)
+
+pub read_first : (hex : Bool) (options : DissectOptions) (half : Option ℕ) (d : Dissector) (known held : Option (List ℕ)) → half ≡ None → StandsBehind d options [] [] → ReadSoFar hex options half d known known held held
+read_first hex options half d known held none stands = record {
+  content = [];
+  told = [];
+  consumed = consumes_none known;
+  so_far = told_first hex options half d none stands;
+  added = appends_none held;
+}
+
+pub reads_on : (hex : Bool) (options : DissectOptions) (half half2 : Option ℕ) (d e : Dissector) (before now after old held new : Option (List ℕ)) (s : ReadSoFar hex options half d before now old held) → PrintsPiece hex options half2 e s.content s.told now after held new → ReadSoFar hex options half2 e before after old new
+reads_on hex options half half2 d e before now after old held new s p = record {
+  content = s.content ++ p.piece;
+  told = s.told ++ p.lines;
+  consumed = consumes_more before now after s.content p.piece s.consumed p.consumed;
+  so_far = p.so_far;
+  added = appends_more old held new s.told p.lines s.added p.added;
+}
+
+pub reads_all : (hex : Bool) (options : DissectOptions) (half : Option ℕ) (d : Dissector) (before now after old held new : Option (List ℕ)) (s : ReadSoFar hex options half d before now old held) → PrintsLast hex options s.content s.told now after held new → DissectsAll hex options before after old new
+reads_all hex options half d before now after old held new s p = record {
+  content = s.content;
+  consumed = subst (λ (u : List ℕ). Consumes before after u) (append-nil s.content) (consumes_more before now after s.content [] s.consumed p.consumed);
+  at_end = p.at_end;
+  printed = record {
+    text = s.told ++ p.line;
+    lines = p.lines;
+    added = appends_more old held new s.told p.line s.added p.added;
+  };
+}
+
+pub has_begun : (hex : Bool) (options : DissectOptions) (half : Option ℕ) (d : Dissector) (before now old held : Option (List ℕ)) → ReadSoFar hex options half d before now old held → HasBegunDissecting hex options before old held
+has_begun hex options half d before now old held s = record {
+  after = now;
+  content = s.content;
+  consumed = s.consumed;
+  half = half;
+  octets = s.so_far.octets;
+  holds = s.so_far.holds;
+  text = s.told;
+  told = s.so_far.stands.are;
+  added = s.added;
+}
+
+-- what leaves none behind what was read gives none
+gives_none : (hex : Bool) (before now : Option (List ℕ)) (content : List ℕ) → Consumes before now content → LeavesNone hex content now → GivesNone hex before
+gives_none hex None now content h none all is = absurd cc
+gives_none hex (Some xs) None content h none all is = absurd h
+gives_none hex (Some xs) (Some ys) content h none all is =
+    subst (λ (u : List ℕ). HoldsNone hex u) (sym h ∙ ap (λ (o : Option (List ℕ)). unwrap_or o []) is) (none ys refl)
+
+pub stops_reading : (hex : Bool) (file : Bor (List ℕ)) (before now : Option (List ℕ)) (content : List ℕ) (why : Stop) → Consumes before now content → StopsNext hex file content now why → StopsReading hex file before why
+stops_reading hex file before now content why h (inl output) = inl output
+stops_reading hex file before now content why h (inr (inl memory)) = inr (inl memory)
+stops_reading hex file before now content why h (inr (inr (inl read))) = inr (inr (inl read))
+stops_reading hex file before now content why h (inr (inr (inr refused))) = inr (inr (inr (refused.0, gives_none hex before now content h refused.1)))
+
+-- a read that is the last one, or is not
+pub as_piece : (ended hex : Bool) (options : DissectOptions) (half : Option ℕ) (d : Dissector) (content told : List ℕ) (before after old new : Option (List ℕ)) → ended ≡ false → PrintsNext ended hex options half d content told before after old new → PrintsPiece hex options half d content told before after old new
+as_piece false hex options half d content told before after old new is p = p
+as_piece true hex options half d content told before after old new is p = absurd cc
+
+pub as_last : (ended hex : Bool) (options : DissectOptions) (half : Option ℕ) (d : Dissector) (content told : List ℕ) (before after old new : Option (List ℕ)) → ended ≡ true → PrintsNext ended hex options half d content told before after old new → PrintsLast hex options content told before after old new
+as_last true hex options half d content told before after old new is p = p
+as_last false hex options half d content told before after old new is p = absurd cc
+
+-- ---- what a run leaves
+
+pub dissected : (hex : Bool) (options : DissectOptions) (before after old new : Option (List ℕ)) → DissectsAll hex options before after old new → HasDissected old new
+dissected hex options before after old new d = record {
+  text = d.printed.text;
+  lines = record { options = options; octets = d.printed.lines.octets; lines = d.printed.lines.lines };
+  added = d.printed.added;
+}
+
+pub told_some : (hex : Bool) (options : DissectOptions) (source old new : Option (List ℕ)) → HasBegunDissecting hex options source old new → HasToldSome old new
+told_some hex options source old new h = record { hex = hex; options = options; source = source; lines = h }
+
+-- a script that stopped has begun
+pub loop_stops : {A B : Type 0} (names : Bool) (why : Stop) (old new : Option (List ℕ)) → A ⊎ (B ⊎ HasLoopedUntil names why old new) → A ⊎ (B ⊎ HasBegun old new)
+loop_stops names why old new (inl a) = inl a
+loop_stops names why old new (inr (inl b)) = inr (inl b)
+loop_stops names why old new (inr (inr h)) = inr (inr (inr (inr (inr (inr (record { names = names; fault = Some h.fault; looped = h.looped }))))))
+
+-- serving that stopped has begun
+pub serve_stops : {A B : Type 0} (requests : Bool) (port connections : ℕ) (old new : Option (List ℕ)) → A ⊎ (B ⊎ HasServedSome requests port connections old new) → A ⊎ (B ⊎ HasBegun old new)
+serve_stops requests port connections old new (inl a) = inl a
+serve_stops requests port connections old new (inr (inl b)) = inr (inl b)
+serve_stops requests port connections old new (inr (inr h)) = inr (inr (inr (inl (record { requests = requests; port = port; connections = connections; lines = inr h }))))
+
+-- where only the writer failed, nothing is told
+pub told_or_not : {A B C D : Type 0} → A ⊎ (B ⊎ C) → (A → D) → B ⊎ (D ⊎ C)
+told_or_not (inl a) f = inr (inl (f a))
+told_or_not (inr (inl b)) f = inl b
+told_or_not (inr (inr c)) f = inr (inr c)

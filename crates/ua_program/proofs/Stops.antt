@@ -1,0 +1,19 @@
+-- Why a command stopped.
+use Rattle.std.proofs.Common.{◌≡◌, ◌⊎◌, inl, inr, ℕ, List, sym, subst}
+use Rattle.ua_program.specs.declared.fault.Fault.{Fault}
+use Rattle.ua_program.specs.declared.fault.Fault.TheVariants.{NoMemory}
+use Rattle.ua_program.specs.declared.output.Stop.{Stop}
+use Rattle.ua_program.specs.declared.output.Stop.TheVariants as stop
+use Rattle.ua_program.specs.Reasons.{StopsAt, StopsAtNodes}
+use Rattle.ua_program.specs.Refused.{RefusesNodes}
+
+-- what is told of a refused node file refuses it, too
+told_of : (text : List ℕ) (fault told : Fault) → RefusesNodes text fault → (told ≡ fault) ⊎ (told ≡ NoMemory) → RefusesNodes text told
+told_of text fault told refused (inl same) = subst (λ f. RefusesNodes text f) (sym same) refused
+told_of text fault told refused (inr memory) = inl memory
+
+-- a command that stops at what refuses a node file is stopped by that file
+pub stops_at_nodes : (text : List ℕ) (fault : Fault) (why : Stop) → RefusesNodes text fault → StopsAt fault why → StopsAtNodes text why
+stops_at_nodes text fault (stop.Fault told) refused at = told_of text fault told refused at
+stops_at_nodes text fault (stop.Because told reason) refused at = told_of text fault told refused at
+stops_at_nodes text fault stop.Output refused at = at

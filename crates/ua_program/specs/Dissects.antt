@@ -1,0 +1,110 @@
+-- What `ua dissect` prints of a file that is read in pieces, and what stops it.
+use Rattle.std.specs.Prelude.{◌≡◌, ◌⊎◌, ◌<◌, ◌≤◌, ℕ, Bool, true, false, List, [], ◌++◌, length, take, Option, Some, None}
+use Rattle.std.specs.Borrow.{Bor}
+use Rattle.std.specs.Io.KnownBytes.{Appends, Consumes, IsAtEnd}
+use Rattle.ua_pair.specs.declared.dissector.Dissector.{Dissector}
+use Rattle.ua_pair.specs.declared.options.DissectOptions.{DissectOptions}
+use Rattle.ua_pair.specs.Dissected.{AreLines, AreTold}
+use Rattle.ua_pair.specs.Dissecting.{StandsBehind}
+use Rattle.ua_program.specs.Digits.{HoldsNever, HoldsNone, HoldsOctets, HoldsSoFar}
+use Rattle.ua_program.specs.declared.fault.Fault.TheVariants.{CannotRead, NoMemory, NotHexadecimal}
+use Rattle.ua_program.specs.declared.output.Stop.{Stop}
+use Rattle.ua_program.specs.declared.output.Stop.TheVariants.{Output}
+use Rattle.ua_program.specs.declared.output.Stop.TheVariants as stop
+
+-- the text is the lines of the octets of this side that a file with this content holds, with `--hex` or without
+pub record AreLinesOf (hex : Bool) (options : DissectOptions) (content text : List ℕ) : Type 0 where
+  pub octets : List ℕ
+  pub holds : HoldsOctets hex content octets
+  pub lines : AreLines options octets text
+
+-- a writer that held the old octets then holds behind them the lines of a file with this content
+pub record HasDissectedAll (hex : Bool) (options : DissectOptions) (content : List ℕ) (old new : Option (List ℕ)) : Type 0 where
+  pub text : List ℕ
+  pub lines : AreLinesOf hex options content text
+  pub added : Appends old new text
+
+-- content was read from the front of a source, and a writer that held the old octets then holds behind them the lines of the frames of what it holds so far, but for the last line
+pub record HasBegunDissecting (hex : Bool) (options : DissectOptions) (before old new : Option (List ℕ)) : Type 0 where
+  pub after : Option (List ℕ)
+  pub content : List ℕ
+  pub consumed : Consumes before after content
+  pub half : Option ℕ
+  pub octets : List ℕ
+  pub holds : HoldsSoFar hex half content octets
+  pub text : List ℕ
+  pub told : AreTold options octets text
+  pub added : Appends old new text
+
+-- a source is read to its end, and a writer that held the old octets then holds behind them the lines of all that was read
+pub record DissectsAll (hex : Bool) (options : DissectOptions) (before after old new : Option (List ℕ)) : Type 0 where
+  pub content : List ℕ
+  pub consumed : Consumes before after content
+  pub at_end : IsAtEnd after
+  pub printed : HasDissectedAll hex options content old new
+
+-- a source of known octets holds no octets of messages: with `--hex`, its digits stand for none
+abbrev pub GivesNone : Bool → Option (List ℕ) → Type 0
+GivesNone hex known = (content : List ℕ) → known ≡ Some content → HoldsNone hex content
+
+-- why no more is read: the writer fails, memory is refused, the file cannot be read, or it is not hexadecimal
+abbrev pub StopsReading : Bool → Bor (List ℕ) → Option (List ℕ) → Stop → Type 0
+StopsReading hex file known why =
+    (why ≡ Output) ⊎ (why ≡ stop.Fault NoMemory) ⊎ (why ≡ stop.Fault (CannotRead file)) ⊎ ((why ≡ stop.Fault (NotHexadecimal file)) × GivesNone hex known)
+
+-- ---- a file whose content comes in pieces
+
+-- a dissector stands behind the octets that a file with this content so far holds, which it told by these lines
+pub record ToldSoFar (hex : Bool) (options : DissectOptions) (half : Option ℕ) (d : Dissector) (content told : List ℕ) : Type 0 where
+  pub octets : List ℕ
+  pub holds : HoldsSoFar hex half content octets
+  pub stands : StandsBehind d options octets told
+
+-- with more content, these lines more were added to a text
+pub record TellsPiece (hex : Bool) (options : DissectOptions) (half : Option ℕ) (d : Dissector) (content told old new : List ℕ) : Type 0 where
+  pub lines : List ℕ
+  pub added : new ≡ old ++ lines
+  pub so_far : ToldSoFar hex options half d content (told ++ lines)
+
+-- the last line was added: with what was told, these are the lines of the file
+pub record EndsFile (hex : Bool) (options : DissectOptions) (content told old new : List ℕ) : Type 0 where
+  pub line : List ℕ
+  pub added : new ≡ old ++ line
+  pub lines : AreLinesOf hex options content (told ++ line)
+
+-- ---- one read
+
+-- so many octets were read into a piece, none only at the end; or the read was interrupted
+abbrev pub Reads : Option ℕ → Option (List ℕ) → Option (List ℕ) → List ℕ → Type 0
+Reads None before after piece = Consumes before after []
+Reads (Some n) before after piece = (n ≤ length piece) × Consumes before after (take n piece) × (n ≡ 0 → 0 < length piece → IsAtEnd after)
+
+-- a piece more was read, and the lines of what is whole with it were printed
+pub record PrintsPiece (hex : Bool) (options : DissectOptions) (half : Option ℕ) (d : Dissector) (content told : List ℕ) (before after old new : Option (List ℕ)) : Type 0 where
+  pub piece : List ℕ
+  pub consumed : Consumes before after piece
+  pub lines : List ℕ
+  pub added : Appends old new lines
+  pub so_far : ToldSoFar hex options half d (content ++ piece) (told ++ lines)
+
+-- nothing is left, and the last line was printed
+pub record PrintsLast (hex : Bool) (options : DissectOptions) (content told : List ℕ) (before after old new : Option (List ℕ)) : Type 0 where
+  pub consumed : Consumes before after []
+  pub at_end : IsAtEnd after
+  pub line : List ℕ
+  pub added : Appends old new line
+  pub lines : AreLinesOf hex options content (told ++ line)
+
+-- what one read more prints, at the end or not
+abbrev pub PrintsNext : Bool → Bool → DissectOptions → Option ℕ → Dissector → List ℕ → List ℕ → Option (List ℕ) → Option (List ℕ) → Option (List ℕ) → Option (List ℕ) → Type 0
+PrintsNext false hex options half d content told before after old new = PrintsPiece hex options half d content told before after old new
+PrintsNext true hex options half d content told before after old new = PrintsLast hex options content told before after old new
+
+-- behind this content, what is left to read stands for no octets
+abbrev pub LeavesNone : Bool → List ℕ → Option (List ℕ) → Type 0
+LeavesNone hex content known = (rest : List ℕ) → known ≡ Some rest → HoldsNone hex (content ++ rest)
+
+-- why one read more stops
+abbrev pub StopsNext : Bool → Bor (List ℕ) → List ℕ → Option (List ℕ) → Stop → Type 0
+StopsNext hex file content known why =
+    (why ≡ Output) ⊎ (why ≡ stop.Fault NoMemory) ⊎ (why ≡ stop.Fault (CannotRead file)) ⊎ ((why ≡ stop.Fault (NotHexadecimal file)) × LeavesNone hex content known)

@@ -1,0 +1,177 @@
+-- The lines of `ua serve`, and what it answers from.
+use Rattle.std.specs.Prelude.{◌≡◌, ◌<◌, ◌+◌, ℕ, suc, Bool, false, ⊤, List, [], ◌∷◌, ◌++◌, length, flat_map, Option, Some, None, Result, Ok, Err, codes}
+use Rattle.std.specs.Fmt.{decimal}
+use Rattle.std.specs.Io.KnownBytes.{Appends}
+use Rattle.std.specs.List.{AllByRecursion}
+use Rattle.ua_frame.specs.Limits.{HasSizes}
+use Rattle.ua_frame.specs.declared.limits.Limits.{Limits}
+use Rattle.ua_nodes.specs.NodeFile.{WriteNodes, node_lines}
+use Rattle.ua_nodes.specs.Table.{Nodes}
+use Rattle.ua_services.specs.SessionRequests.{local_url}
+use Rattle.ua_server.specs.State.{State, fresh}
+use Rattle.ua_server.specs.declared.endpoint.Endpoint.{Endpoint}
+use Rattle.ua_server.specs.declared.serve_fault.ServeFault.{ServeFault}
+use Rattle.ua_server.specs.declared.serve_fault.ServeFault.TheVariants.{Read, Write, OutOfMemory, TooLong}
+use Rattle.ua_server.specs.declared.step.End.{End}
+use Rattle.ua_server.specs.declared.step.End.TheVariants.{Closed, NoClose, Cut, Refused}
+use Rattle.ua_server.specs.declared.watch.AnsweredRequest.{AnsweredRequest}
+use Rattle.ua_services.specs.Request.{request_kind_name}
+use Rattle.ua_services.specs.declared.request.RequestKind.{RequestKind}
+use Rattle.ua_texts.specs.Shown.{code_text}
+use Rattle.ua_program.specs.declared.serve.Halt.{Halt}
+use Rattle.ua_program.specs.declared.serve.Halt.TheVariants.{Memory, Output}
+use Rattle.ua_program.specs.declared.serve.RequestLines.{RequestLines}
+
+-- ---- what is served
+
+-- the most octets of a message
+abbrev pub message_limit : ℕ
+message_limit = 1048576
+
+-- the limits of the program: frames of 65535 octets each way, and messages of 256 chunks
+abbrev pub AreOwn : Limits → Type 0
+AreOwn limits = HasSizes limits 65535 65535 message_limit 256
+
+-- what the program says of itself on a port of this machine
+abbrev pub endpoint_on : ℕ → Endpoint
+endpoint_on port = record { url = Some (local_url port); application_uri = Some (codes "urn:ua:server"); name = Some (codes "ua"); message_limit = message_limit }
+
+-- no session was made yet, over the nodes that the lines of this text write
+pub record BeginsWith (text : List ℕ) (port : ℕ) (services : State) : Type 0 where
+  pub nodes : Nodes
+  pub written : WriteNodes (node_lines text) nodes
+  pub is : services ≡ fresh nodes (endpoint_on port)
+
+-- ---- lines
+
+-- what became of a connection; nothing is said of one at which memory was refused
+abbrev pub outcome_text : Result End ServeFault → Option (List ℕ)
+outcome_text (Ok Closed) = Some (codes "Closed")
+outcome_text (Ok NoClose) = Some (codes "NoClose")
+outcome_text (Ok Cut) = Some (codes "Cut")
+outcome_text (Ok (Refused status)) = Some (codes "Refused " ++ code_text status.code)
+outcome_text (Err Read) = Some (codes "Read")
+outcome_text (Err (Write n)) = Some (codes "Write")
+outcome_text (Err TooLong) = Some (codes "TooLong")
+outcome_text (Err OutOfMemory) = None
+
+-- what became of a connection is said behind a text
+pub record AddsOutcome (outcome : Result End ServeFault) (old new : List ℕ) : Type 0 where
+  pub text : List ℕ
+  pub text_is : outcome_text outcome ≡ Some text
+  pub added : new ≡ old ++ text
+
+-- the line of a connection: its number, and what became of it
+unfoldable pub connection_line : ℕ → List ℕ → List ℕ
+connection_line number outcome = codes "connection " ++ decimal number ++ codes " " ++ outcome ++ codes "\n"
+
+-- the line of a connection that was served with this outcome, under the limits of the program
+pub record TellsOf (number : ℕ) (Served : Limits → Result End ServeFault → Type 0) (line : List ℕ) : Type 0 where
+  pub limits : Limits
+  pub own : AreOwn limits
+  pub outcome : Result End ServeFault
+  pub served : Served limits outcome
+  pub text : List ℕ
+  pub text_is : outcome_text outcome ≡ Some text
+  pub line_is : line ≡ connection_line number text
+
+-- the line of a connection that ended so
+pub record SaysOutcome (number : ℕ) (outcome : Result End ServeFault) (line : List ℕ) : Type 0 where
+  pub text : List ℕ
+  pub text_is : outcome_text outcome ≡ Some text
+  pub line_is : line ≡ connection_line number text
+
+-- the text says what became of a connection
+pub record IsOutcome (text : List ℕ) : Type 0 where
+  pub outcome : Result End ServeFault
+  pub text_is : outcome_text outcome ≡ Some text
+
+-- the line of a connection, whatever became of it
+pub record IsConnectionLine (number : ℕ) (line : List ℕ) : Type 0 where
+  pub text : List ℕ
+  pub is : IsOutcome text
+  pub line_is : line ≡ connection_line number text
+
+-- ---- lines of requests
+
+-- the name of a kind of request; none is that of a message that is no request of these services
+abbrev pub kind_name : Option RequestKind → List ℕ
+kind_name None = codes "unknown"
+kind_name (Some kind) = request_kind_name kind
+
+-- the line of a request that was answered on a connection: its name, how many items it asks for, and the code of its answer
+unfoldable pub request_line : ℕ → AnsweredRequest → List ℕ
+request_line number r = codes "connection " ++ decimal number ++ codes " " ++ kind_name r.kind ++ codes " " ++ decimal r.items ++ codes " " ++ code_text r.code.code ++ codes "\n"
+
+-- the lines of requests that were answered on a connection, one after the other
+abbrev pub request_lines : ℕ → List AnsweredRequest → List ℕ
+request_lines number requests = flat_map (request_line number) requests
+
+-- what printing the line of a request came to: it is added, or nothing is where memory was refused
+abbrev pub Prints : Option Halt → List ℕ → Option (List ℕ) → Option (List ℕ) → Type 0
+Prints None line old new = Appends old new line
+Prints (Some Memory) line old new = new ≡ old
+Prints (Some Output) line old new = ⊤
+
+-- the same, unless a line before it could not be printed: then no line more is
+abbrev pub PrintsNext : Option Halt → Option Halt → List ℕ → Option (List ℕ) → Option (List ℕ) → Type 0
+PrintsNext None after line old new = Prints after line old new
+PrintsNext (Some halt) after line old new = (after ≡ Some halt) × (new ≡ old)
+
+-- the lines of requests went on by this one, over the same writer
+pub record PrintsRequest {O : Type 0} (contents : O → Option (List ℕ)) (old : RequestLines O) (request : AnsweredRequest) (new : RequestLines O) : Type 0 where
+  pub same_writer : new.out.ghost_name ≡ old.out.ghost_name
+  pub same_number : new.number ≡ old.number
+  pub printed : PrintsNext old.halt new.halt (request_line old.number request) (contents old.out.now) (contents new.out.now)
+
+-- the lines of some requests of a connection are added; of none where they are not wanted
+pub record HasTold (requests : Bool) (number : ℕ) (old new : Option (List ℕ)) : Type 0 where
+  pub told : List AnsweredRequest
+  pub wanted : requests ≡ false → told ≡ []
+  pub added : Appends old new (request_lines number told)
+
+-- ---- all lines
+
+-- what is said of a connection: which requests were answered, and what became of it
+pub record Connection : Type 0 where
+  pub told : List AnsweredRequest
+  pub outcome : List ℕ
+
+-- it is said what became of it, and of requests only where they are wanted
+pub record IsConnection (requests : Bool) (c : Connection) : Type 0 where
+  pub is : IsOutcome c.outcome
+  pub wanted : requests ≡ false → c.told ≡ []
+
+-- the lines of a connection: those of its requests, and its own behind them
+abbrev pub connection_text : ℕ → Connection → List ℕ
+connection_text number c = request_lines number c.told ++ connection_line number c.outcome
+
+-- the lines of connections, from this number on
+abbrev pub connection_lines : ℕ → List Connection → List ℕ
+connection_lines number [] = []
+connection_lines number (c ∷ cs) = connection_text number c ++ connection_lines (suc number) cs
+
+-- the first line of `ua serve`
+unfoldable pub listening_line : ℕ → List ℕ
+listening_line port = codes "listening " ++ decimal port ++ codes "\n"
+
+-- a writer that held the old octets then holds the lines of so many connections on a port behind them
+pub record HasServed (requests : Bool) (port connections : ℕ) (old new : Option (List ℕ)) : Type 0 where
+  pub served : List Connection
+  pub each : AllByRecursion (IsConnection requests) served
+  pub count : length served ≡ connections
+  pub added : Appends old new (listening_line port ++ connection_lines 1 served)
+
+-- the same of some connections, fewer than this, and behind them the lines of requests of the next one
+pub record HasServedSome (requests : Bool) (port connections : ℕ) (old new : Option (List ℕ)) : Type 0 where
+  pub served : ℕ
+  pub fewer : served < connections
+  pub between : Option (List ℕ)
+  pub lines : HasServed requests port served old between
+  pub next : HasTold requests (served + 1) between new
+
+-- one connection more was served on a port: its lines are added
+pub record ServesOne (requests : Bool) (number : ℕ) (old new : Option (List ℕ)) : Type 0 where
+  pub connection : Connection
+  pub is : IsConnection requests connection
+  pub added : Appends old new (connection_text number connection)

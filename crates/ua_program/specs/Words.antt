@@ -1,0 +1,32 @@
+-- What the words of the command line ask for.
+use Rattle.std.specs.Prelude.{◌≡◌, ◌≤◌, ℕ, ⊤, true, cond, List, Some, codes}
+use Rattle.std.specs.Str.{bytes_eq}
+use Rattle.ua_session.specs.declared.policy.TokenPolicy.{TokenPolicy}
+use Rattle.ua_session.specs.declared.policy.TokenPolicy.TheVariants.{Named, Auto}
+use Rattle.ua_program.specs.declared.arguments.Task.{Task}
+use Rattle.ua_program.specs.declared.arguments.Task.TheVariants.{Dissect, Serve, Endpoints, Read, Write, Loop, Version}
+
+-- the number of an attribute (OPC 10000-6, A.1)
+abbrev pub IsAttributeNumber : ℕ → Type 0
+IsAttributeNumber number = (1 ≤ number) × (number ≤ 27)
+
+-- each number among them is at least 1
+abbrev pub CountsFromOne : Task → Type 0
+CountsFromOne (Dissect asked) = ⊤
+CountsFromOne (Serve asked) = (1 ≤ asked.port) × (1 ≤ asked.connections)
+CountsFromOne (Endpoints asked) = 1 ≤ asked.port
+CountsFromOne (Read asked) = (1 ≤ asked.port) × IsAttributeNumber asked.attribute
+CountsFromOne (Write asked) = 1 ≤ asked.port
+CountsFromOne (Loop asked) = 1 ≤ asked.cut
+CountsFromOne Version = ⊤
+
+-- a bad status code has a status of its own
+abbrev pub IsStrict : Task → Type 0
+IsStrict (Read asked) = asked.strict ≡ true
+IsStrict (Write asked) = asked.strict ≡ true
+IsStrict (Loop asked) = asked.strict ≡ true
+IsStrict other = ⊥
+
+-- the token policy that a word names: with `auto` the one that the server offers, else the one of this id
+abbrev pub policy_named : List ℕ → TokenPolicy
+policy_named word = cond (bytes_eq word (codes "auto")) Auto (Named (Some word))

@@ -1,0 +1,368 @@
+//! The command line.
+
+ghost use Rattle.std.specs.Prelude.{◌≤◌, IfOk};
+ghost use Rattle.ua_program.specs.Words.{CountsFromOne, IsAttributeNumber};
+
+use crate::commands;
+use crate::number::{parse_attribute, parse_number};
+use clap::{ArgMatches, Error};
+use std::alloc::{AllocError, Global};
+use std::convert::AsStr;
+use ua_pair::{DissectOptions, Side};
+use ua_texts::{EndpointStyle, LineStyle};
+
+/// What the words ask for.
+#[derive(Drop)]
+pub enum Task<'a> {
+    /// Print the frames and messages of a file.
+    Dissect(Dissect<'a>),
+    /// Serve connections, one after the other.
+    Serve(Serve<'a>),
+    /// Print the endpoints of a server.
+    Endpoints(ListEndpoints),
+    /// Read an attribute of nodes.
+    Read(ReadNodes<'a>),
+    /// Write the value of a node.
+    Write(WriteNode<'a>),
+    /// Run a script over nodes, both ends within this process.
+    Loop(Loop<'a>),
+    /// Print the version.
+    Version,
+}
+
+/// A word that is no number of those that its place takes; its text stands behind `ua: ` on standard
+/// error.
+#[derive(Clone, Copy, PartialEq, Eq, Debug, thiserror::Error)]
+pub enum BadNumber<'a> {
+    /// A port, a count or a cut.
+    #[error("a number is not from 1 to 65535")]
+    Number(&'a str),
+    /// The number of an attribute.
+    #[error("an attribute is not from 1 to 27")]
+    Attribute(&'a str),
+}
+
+impl<'a> BadNumber<'a> {
+    /// The word.
+    pub fn word(self) -> &'a str {
+        match self {
+            BadNumber::Number(word) | BadNumber::Attribute(word) => word,
+        }
+    }
+}
+
+/// What words ask for that parse.
+#[derive(Drop)]
+pub struct Parsed<'a> {
+    /// What is to be done, unless a word is no number.
+    pub task: Result<Task<'a>, BadNumber<'a>>,
+    /// Whether the reasons of faults are told.
+    pub why: bool,
+}
+
+/// The words of `ua dissect`.
+#[derive(Clone, Copy)]
+pub struct Dissect<'a> {
+    /// The file of octets, or of their digits.
+    pub file: &'a str,
+    /// Whether the file holds hexadecimal digits.
+    pub hex: bool,
+    /// Which side sent the octets, and what is wanted of them.
+    pub options: DissectOptions,
+}
+
+/// As many connections as have numbers of their own: a channel's id is its connection's number.
+pub const ALL_CONNECTIONS: u32 = u32::MAX;
+
+/// The words of `ua serve`.
+#[derive(Clone, Copy)]
+pub struct Serve<'a> {
+    /// The node file.
+    pub nodes: &'a str,
+    /// A port of this machine.
+    pub port: u16,
+    /// How many connections are served; [`ALL_CONNECTIONS`] where no end is set.
+    pub connections: u32,
+    /// Whether each request has its line as it is answered.
+    pub requests: bool,
+}
+
+/// The words of `ua endpoints`.
+#[derive(Clone, Copy)]
+pub struct ListEndpoints {
+    /// A port of this machine.
+    pub port: u16,
+    /// How the endpoints are printed.
+    pub style: EndpointStyle,
+}
+
+/// The words of `ua read`.
+#[derive(Drop)]
+pub struct ReadNodes<'a> {
+    /// A port of this machine.
+    pub port: u16,
+    /// The texts of NodeIds.
+    pub nodes: Vec<&'a str>,
+    /// The number of the attribute that is read.
+    pub attribute: u32,
+    /// The text of the index range of all nodes, if there is one.
+    pub range: Option<&'a str>,
+    /// The id of a token policy, or `auto`.
+    pub policy: &'a str,
+    /// How the answers are printed.
+    pub style: LineStyle,
+    /// Whether a bad status code has a status of its own.
+    pub strict: bool,
+}
+
+/// The words of `ua write`.
+#[derive(Clone, Copy)]
+pub struct WriteNode<'a> {
+    /// A port of this machine.
+    pub port: u16,
+    /// The text of a NodeId.
+    pub node: &'a str,
+    /// The name of a type.
+    pub kind: &'a str,
+    /// The text of a value of that type.
+    pub value: &'a str,
+    /// The id of a token policy, or `auto`.
+    pub policy: &'a str,
+    /// How the answer is printed.
+    pub style: LineStyle,
+    /// Whether a bad status code has a status of its own.
+    pub strict: bool,
+}
+
+/// The words of `ua loop`.
+#[derive(Clone, Copy)]
+pub struct Loop<'a> {
+    /// The node file.
+    pub nodes: &'a str,
+    /// The script.
+    pub script: &'a str,
+    /// The most octets that each end takes at once.
+    pub cut: u16,
+    /// Whether the octets go over a connection, too.
+    pub tcp: bool,
+    /// Whether status codes are named.
+    pub names: bool,
+    /// Whether a bad status code has a status of its own.
+    pub strict: bool,
+}
+
+fn side_of(matches: &ArgMatches<'_>) -> Side {
+    if matches.get_flag("server") {
+        Side::Server
+    } else {
+        Side::Client
+    }
+}
+
+/// A word that is needed, or has a default.
+fn text_of<'a>(matches: &ArgMatches<'a>, name: &str) -> &'a str {
+    // Never: `clap` refuses words without it.
+    matches.get_str(name).unwrap_or("")
+}
+
+/// The number from 1 to 65535 that a word is.
+fn number_of<'a>(matches: &ArgMatches<'a>, name: &str) -> Result<u16, BadNumber<'a>>
+    ensures { IfOk result (λ number. 1 ≤ number) }
+{
+    let word = text_of(matches, name);
+    parse_number(word).ok_or(BadNumber::Number(word))
+}
+
+/// The number of an attribute that a word is.
+fn attribute_of<'a>(matches: &ArgMatches<'a>) -> Result<u32, BadNumber<'a>>
+    ensures { IfOk result IsAttributeNumber }
+{
+    let word = text_of(matches, "attribute");
+    parse_attribute(word).ok_or(BadNumber::Attribute(word))
+}
+
+/// How answers are printed. Only `ua read` has timestamps.
+fn style_of(matches: &ArgMatches<'_>) -> LineStyle {
+    LineStyle {
+        names: matches.get_flag("names"),
+        times: matches.get_flag("times"),
+        json: matches.get_flag("json"),
+    }
+}
+
+/// How many connections are to be served: a number from 1 to 65535, or `all`.
+fn connections_of<'a>(matches: &ArgMatches<'a>) -> Result<u32, BadNumber<'a>>
+    ensures { IfOk result (λ connections. 1 ≤ connections) }
+{
+    if text_of(matches, "connections") == "all" {
+        return Ok(ALL_CONNECTIONS);
+    }
+    Ok(u32::from(number_of(matches, "connections")?))
+}
+
+fn endpoints_of<'a>(matches: &ArgMatches<'a>) -> Result<Task<'a>, BadNumber<'a>>
+    ensures { IfOk result CountsFromOne }
+{
+    let style = EndpointStyle {
+        policies: matches.get_flag("policies"),
+        json: matches.get_flag("json"),
+    };
+    let port = number_of(matches, "PORT")?;
+    Ok(Task::Endpoints(ListEndpoints { port, style }))
+}
+
+fn dissect_of<'a>(matches: &ArgMatches<'a>) -> Task<'a>
+    ensures { CountsFromOne result }
+{
+    let options = DissectOptions {
+        side: side_of(matches),
+        fields: matches.get_flag("fields"),
+        names: matches.get_flag("names"),
+    };
+    Task::Dissect(Dissect {
+        file: text_of(matches, "FILE"),
+        hex: matches.get_flag("hex"),
+        options,
+    })
+}
+
+fn serve_of<'a>(matches: &ArgMatches<'a>) -> Result<Task<'a>, BadNumber<'a>>
+    ensures { IfOk result CountsFromOne }
+{
+    let port = number_of(matches, "PORT")?;
+    let connections = connections_of(matches)?;
+    Ok(Task::Serve(Serve {
+        nodes: text_of(matches, "NODES"),
+        port,
+        connections,
+        requests: matches.get_flag("requests"),
+    }))
+}
+
+fn write_of<'a>(matches: &ArgMatches<'a>) -> Result<Task<'a>, BadNumber<'a>>
+    ensures { IfOk result CountsFromOne }
+{
+    let port = number_of(matches, "PORT")?;
+    Ok(Task::Write(WriteNode {
+        port,
+        node: text_of(matches, "NODE"),
+        kind: text_of(matches, "TYPE"),
+        value: text_of(matches, "VALUE"),
+        policy: text_of(matches, "policy"),
+        style: style_of(matches),
+        strict: matches.get_flag("strict"),
+    }))
+}
+
+fn loop_of<'a>(matches: &ArgMatches<'a>) -> Result<Task<'a>, BadNumber<'a>>
+    ensures { IfOk result CountsFromOne }
+{
+    let cut = number_of(matches, "cut")?;
+    Ok(Task::Loop(Loop {
+        nodes: text_of(matches, "NODES"),
+        script: text_of(matches, "SCRIPT"),
+        cut,
+        tcp: matches.get_flag("tcp"),
+        names: matches.get_flag("names"),
+        strict: matches.get_flag("strict"),
+    }))
+}
+
+/// The words for nodes.
+fn nodes_of<'a>(alloc: Global, matches: &ArgMatches<'a>) -> Result<Vec<&'a str>, AllocError> {
+    matches.get_strs("NODE").unwrap_or(&[]).to_vec(alloc)
+}
+
+fn read_of<'a>(nodes: Vec<&'a str>, matches: &ArgMatches<'a>) -> Result<Task<'a>, BadNumber<'a>>
+    ensures { IfOk result CountsFromOne }
+{
+    let port = number_of(matches, "PORT")?;
+    let attribute = attribute_of(matches)?;
+    Ok(Task::Read(ReadNodes {
+        port,
+        nodes,
+        attribute,
+        range: matches.get_str("range"),
+        policy: text_of(matches, "policy"),
+        style: style_of(matches),
+        strict: matches.get_flag("strict"),
+    }))
+}
+
+/// The commands, by their names.
+#[derive(Clone, Copy)]
+enum Name {
+    Dissect,
+    Serve,
+    Endpoints,
+    Read,
+    Write,
+    Loop,
+    Version,
+}
+
+/// The command of this name.
+fn name_of(command: &str) -> Name {
+    match command {
+        "dissect" => Name::Dissect,
+        "serve" => Name::Serve,
+        "endpoints" => Name::Endpoints,
+        "read" => Name::Read,
+        "write" => Name::Write,
+        "loop" => Name::Loop,
+        // `clap` takes no other name.
+        _ => Name::Version,
+    }
+}
+
+/// What the words of a command ask for. Those for nodes stand beside them.
+fn task_of<'a>(
+    command: Name,
+    nodes: Vec<&'a str>,
+    matches: &ArgMatches<'a>,
+) -> Result<Task<'a>, BadNumber<'a>>
+    ensures { IfOk result CountsFromOne }
+{
+    match command {
+        Name::Dissect => Ok(dissect_of(matches)),
+        Name::Serve => serve_of(matches),
+        Name::Endpoints => endpoints_of(matches),
+        Name::Read => read_of(nodes, matches),
+        Name::Write => write_of(matches),
+        Name::Loop => loop_of(matches),
+        Name::Version => Ok(Task::Version),
+    }
+}
+
+/// What the command among the words asks for.
+fn parsed_of<'a>(alloc: Global, matches: &ArgMatches<'a>) -> Result<Parsed<'a>, AllocError>
+    ensures { IfOk result (λ parsed. IfOk parsed.task CountsFromOne) }
+{
+    let Some((command, found)) = matches.subcommand() else {
+        // Never: a command is needed.
+        return Ok(Parsed {
+            task: Ok(Task::Version),
+            why: false,
+        });
+    };
+    let nodes = nodes_of(alloc, found)?;
+    Ok(Parsed {
+        task: task_of(name_of(command), nodes, found),
+        why: found.get_flag("why"),
+    })
+}
+
+/// What `clap` finds among the words.
+fn matches_of<'a, S: AsStr>(alloc: Global, words: &'a [S]) -> Result<ArgMatches<'a>, Error> {
+    commands::program(alloc)?.try_get_matches_from(words)
+}
+
+/// What the words ask for, of which the first is the program's name.
+pub fn parse<'a, S: AsStr>(alloc: Global, words: &'a [S]) -> Result<Parsed<'a>, Error>
+    ensures { IfOk result (λ parsed. IfOk parsed.task CountsFromOne) }
+{
+    let matches = matches_of(alloc, words)?;
+    let parsed = parsed_of(alloc, &matches);
+    drop(matches);
+    Ok(parsed?)
+}

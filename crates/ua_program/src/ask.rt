@@ -1,0 +1,189 @@
+//! `ua endpoints`, `ua read` and `ua write`: what the server on a port of this machine is asked.
+
+ghost use Rattle.std.specs.Prelude.{◌≡◌, ◌⊎◌, true, false, option_map, OnOk, IfOk, IfErr};
+ghost use Rattle.ua_session.specs.Words.{GivesRead, GivesWrite};
+ghost use Rattle.ua_session.specs.declared.verdict.Verdict.TheVariants.{AllGood, SomeBad};
+ghost use Rattle.ua_program.specs.Printed.{HasAnswered, HasListed};
+ghost use Rattle.ua_program.specs.Words.{policy_named};
+ghost use Rattle.ua_program.specs.declared.output.Stop.TheVariants.{Output};
+
+use crate::arguments::{ListEndpoints, ReadNodes, WriteNode};
+use crate::output::{Stop, say_lines};
+use crate::reason::cannot_connect;
+use crate::serve::limits;
+use std::alloc::{AllocError, Global};
+use std::io::Write;
+use std::net::{Ipv4Addr, Net, TcpStream};
+use std::time::Clock;
+use ua_builtin::UaString;
+use ua_session::{Question, TokenPolicy, Verdict, WordFault, ask_over, endpoints_over};
+use ua_tcp::{ClockMoments, TcpLine, without_delay};
+use ua_texts::LineStyle;
+
+/// A line to the server on a port of this machine.
+fn connect<'a, R: Net>(rt: &R, port: u16) -> Result<TcpLine<R::Stream>, Stop<'a>> {
+    match TcpStream::connect(rt, (Ipv4Addr::LOCALHOST, port)) {
+        Ok(stream) => Ok(TcpLine::new(without_delay(stream))),
+        Err(error) => Err(cannot_connect(error)),
+    }
+}
+
+/// Prints the endpoints of the server on a port of this machine.
+pub fn endpoints<'a, R: Net + Clock + AllocGlobal, O: Write>(
+    rt: &R,
+    asked: &ListEndpoints,
+    out: &mut O,
+) -> Result<(), Stop<'a>>
+    ensures answered { OnOk result (HasListed asked.now.style (O.contents out.old) (O.contents out.new)) }
+    ensures stopped { IfErr result (λ stop. (stop ≡ Output) ⊎ (out.new ≡ out.old) ⊎ HasListed asked.now.style (O.contents out.old) (O.contents out.new)) }
+{
+    let mut line = connect(rt, asked.port)?;
+    let mut moments = ClockMoments::new(rt);
+    let mut text = String::new(rt.alloc());
+    let ended = endpoints_over(
+        rt.alloc(),
+        &mut line,
+        limits(),
+        asked.port,
+        asked.style,
+        &mut moments,
+        &mut text,
+    );
+    drop(line);
+    say_lines(out, &text)?;
+    Ok(ended?)
+}
+
+/// The token policy that a word names: with `auto` the one that the server offers, else the one of
+/// this id.
+pub fn policy_of(alloc: Global, word: &str) -> Result<TokenPolicy, AllocError>
+    ensures { IfOk result (λ policy. policy ≡ policy_named word.now) }
+{
+    match word {
+        "auto" => Ok(TokenPolicy::Auto),
+        _ => Ok(TokenPolicy::Named(UaString::from_str(alloc, word)?)),
+    }
+}
+
+/// How a question is asked of a server, and how its answers are printed and counted.
+#[derive(Clone, Copy)]
+struct Asking<'a> {
+    /// A port of this machine.
+    port: u16,
+    /// The id of a token policy, or `auto`.
+    policy: &'a str,
+    /// How the answers are printed.
+    style: LineStyle,
+    /// Whether a bad status code counts.
+    strict: bool,
+}
+
+/// Asks a question of the server on a port of this machine, and prints the answers.
+fn ask<'a, R: Net + Clock + AllocGlobal, O: Write>(
+    rt: &R,
+    question: &Question,
+    how: &Asking<'a>,
+    out: &mut O,
+) -> Result<Verdict, Stop<'a>>
+    ensures answered { OnOk result (HasAnswered how.now.style (O.contents out.old) (O.contents out.new)) }
+    ensures stopped { IfErr result (λ stop. (stop ≡ Output) ⊎ (out.new ≡ out.old) ⊎ HasAnswered how.now.style (O.contents out.old) (O.contents out.new)) }
+{
+    let policy = policy_of(rt.alloc(), how.policy)?;
+    let mut line = connect(rt, how.port)?;
+    let mut moments = ClockMoments::new(rt);
+    let mut text = String::new(rt.alloc());
+    let ended = ask_over(
+        rt.alloc(),
+        &mut line,
+        limits(),
+        how.port,
+        question,
+        &policy,
+        how.style,
+        &mut moments,
+        &mut text,
+    );
+    drop(line);
+    drop(policy);
+    say_lines(out, &text)?;
+    Ok(ended?)
+}
+
+/// What counts of the codes of answers: bad ones only where `--strict` asks for them.
+fn counted(verdict: Verdict, strict: bool) -> Verdict
+    ensures strict { result ≡ SomeBad → strict ≡ true }
+    ensures same { strict ≡ true → result ≡ verdict }
+    ensures lax { strict ≡ false → result ≡ AllGood }
+{
+    if strict { verdict } else { Verdict::AllGood }
+}
+
+/// What the words of `ua read` ask.
+pub fn read_question(alloc: Global, asked: &ReadNodes<'_>) -> Result<Question, WordFault>
+    ensures { GivesRead (λ text. text.now) asked.now.nodes.items asked.now.attribute (option_map (λ text. text.now) asked.now.range) result }
+{
+    Question::parse_read(alloc, &asked.nodes, asked.attribute, asked.range)
+}
+
+/// What the words of `ua write` ask.
+pub fn write_question(alloc: Global, asked: &WriteNode<'_>) -> Result<Question, WordFault>
+    ensures { GivesWrite asked.now.node.now asked.now.kind.now asked.now.value.now result }
+{
+    Question::parse_write(alloc, asked.node, asked.kind, asked.value)
+}
+
+/// Asks what words ask for, if they do, and says what counts of the answers.
+fn ask_counted<'a, R: Net + Clock + AllocGlobal, O: Write>(
+    rt: &R,
+    question: Result<Question, WordFault>,
+    how: &Asking<'a>,
+    out: &mut O,
+) -> Result<Verdict, Stop<'a>>
+    ensures answered { OnOk result (HasAnswered how.now.style (O.contents out.old) (O.contents out.new)) }
+    ensures strict { IfOk result (λ verdict. verdict ≡ SomeBad → how.now.strict ≡ true) }
+    ensures stopped { IfErr result (λ stop. (stop ≡ Output) ⊎ (out.new ≡ out.old) ⊎ HasAnswered how.now.style (O.contents out.old) (O.contents out.new)) }
+{
+    let question = question?;
+    match ask(rt, &question, how, out) {
+        Ok(verdict) => Ok(counted(verdict, how.strict)),
+        Err(stop) => Err(stop),
+    }
+}
+
+/// Prints an attribute of nodes of the server on a port of this machine.
+pub fn read<'a, R: Net + Clock + AllocGlobal, O: Write>(
+    rt: &R,
+    asked: &ReadNodes<'a>,
+    out: &mut O,
+) -> Result<Verdict, Stop<'a>>
+    ensures answered { OnOk result (HasAnswered asked.now.style (O.contents out.old) (O.contents out.new)) }
+    ensures strict { IfOk result (λ verdict. verdict ≡ SomeBad → asked.now.strict ≡ true) }
+    ensures stopped { IfErr result (λ stop. (stop ≡ Output) ⊎ (out.new ≡ out.old) ⊎ HasAnswered asked.now.style (O.contents out.old) (O.contents out.new)) }
+{
+    let how = Asking {
+        port: asked.port,
+        policy: asked.policy,
+        style: asked.style,
+        strict: asked.strict,
+    };
+    ask_counted(rt, read_question(rt.alloc(), asked), &how, out)
+}
+
+/// Sets the Value of a node of the server on a port of this machine, and prints what became of it.
+pub fn write<'a, R: Net + Clock + AllocGlobal, O: Write>(
+    rt: &R,
+    asked: &WriteNode<'a>,
+    out: &mut O,
+) -> Result<Verdict, Stop<'a>>
+    ensures answered { OnOk result (HasAnswered asked.now.style (O.contents out.old) (O.contents out.new)) }
+    ensures strict { IfOk result (λ verdict. verdict ≡ SomeBad → asked.now.strict ≡ true) }
+    ensures stopped { IfErr result (λ stop. (stop ≡ Output) ⊎ (out.new ≡ out.old) ⊎ HasAnswered asked.now.style (O.contents out.old) (O.contents out.new)) }
+{
+    let how = Asking {
+        port: asked.port,
+        policy: asked.policy,
+        style: asked.style,
+        strict: asked.strict,
+    };
+    ask_counted(rt, write_question(rt.alloc(), asked), &how, out)
+}

@@ -1,0 +1,148 @@
+//! The lines of what a source gives.
+
+ghost use Rattle.std.specs.Prelude.{◌≡◌, ◌++◌, ◌⊎◌, ◌<◌, [], ℕ, List, length, true, string_bytes, IfOk, IfErr, OnOk};
+ghost use Rattle.ua_program.specs.Digits.{HoldsNone, HoldsNever, HoldsSoFar};
+ghost use Rattle.ua_program.specs.Dissects.{DissectsAll, EndsFile, HasBegunDissecting, PrintsNext, Reads, StopsNext, StopsReading, TellsPiece, ToldSoFar};
+ghost use Rattle.ua_program.specs.declared.fault.Fault.TheVariants.{CannotRead, NoMemory, NotHexadecimal};
+ghost use Rattle.ua_program.specs.declared.output.Stop.TheVariants.{Output};
+ghost use Rattle.ua_program.specs.declared.output.Stop.TheVariants as stop;
+
+use crate::arguments::Dissect;
+use crate::fault::Fault;
+use crate::hex_pieces::HexPieces;
+use crate::output::{Stop, say, say_lines};
+use std::alloc::Global;
+use std::io::{ErrorKind, Read, Write};
+use ua_pair::Dissector;
+
+/// The most octets that are read at once.
+const PIECE: usize = 65536;
+
+/// Adds the lines of what is whole with a piece of a file's content.
+fn push_piece<'a>(
+    alloc: Global,
+    asked: &Dissect<'a>,
+    digits: &mut HexPieces,
+    dissector: &mut Dissector,
+    piece: &[u8],
+    text: &mut String,
+) -> Result<(), Fault<'a>>
+    ensures lines { (content told : List ℕ) → ToldSoFar asked.now.hex asked.now.options digits.old.half dissector.old content told
+        → OnOk result (TellsPiece asked.now.hex asked.now.options digits.new.half dissector.new (content ++ piece.now) told (string_bytes text.old) (string_bytes text.new)) }
+    ensures faults { (content told : List ℕ) → ToldSoFar asked.now.hex asked.now.options digits.old.half dissector.old content told
+        → IfErr result (λ fault. (fault ≡ NoMemory) ⊎ ((fault ≡ NotHexadecimal asked.now.file) × HoldsNever asked.now.hex (content ++ piece.now))) }
+{
+    if asked.hex {
+        let octets = digits.take(alloc, asked.file, piece)?;
+        dissector.take(octets.as_slice(), text)?;
+    } else {
+        dissector.take(piece, text)?;
+    }
+    Ok(())
+}
+
+/// Adds the last line of a file whose content is there.
+fn push_last<'a>(
+    asked: &Dissect<'a>,
+    digits: &HexPieces,
+    dissector: &Dissector,
+    text: &mut String,
+) -> Result<(), Fault<'a>>
+    ensures lines { (content told : List ℕ) → ToldSoFar asked.now.hex asked.now.options digits.now.half dissector.now content told
+        → OnOk result (EndsFile asked.now.hex asked.now.options content told (string_bytes text.old) (string_bytes text.new)) }
+    ensures faults { (content told : List ℕ) → ToldSoFar asked.now.hex asked.now.options digits.now.half dissector.now content told
+        → IfErr result (λ fault. (fault ≡ NoMemory) ⊎ ((fault ≡ NotHexadecimal asked.now.file) × HoldsNone asked.now.hex content)) }
+{
+    if asked.hex && !digits.is_whole() {
+        return Err(Fault::NotHexadecimal(asked.file));
+    }
+    dissector.finish(text)?;
+    Ok(())
+}
+
+/// How many octets were read into a piece, none at the end; nothing where the call was interrupted.
+fn read_piece<'a, I: Read>(
+    file: &'a str,
+    source: &mut I,
+    piece: &mut [u8],
+) -> Result<Option<usize>, Fault<'a>>
+    ensures read { IfOk result (λ n. Reads n (I.remaining source.old) (I.remaining source.new) piece.new) }
+    ensures faults { IfErr result (λ fault. (fault ≡ NoMemory) ⊎ (fault ≡ CannotRead file.entry)) }
+{
+    match source.read(piece) {
+        Ok(n) => Ok(Some(n)),
+        Err(error) => match error.kind() {
+            ErrorKind::Interrupted => Ok(None),
+            ErrorKind::OutOfMemory => Err(Fault::NoMemory),
+            _ => Err(Fault::CannotRead(file)),
+        },
+    }
+}
+
+/// Reads once more, and prints the lines of what is whole by then; at the end, the last line. Whether
+/// that was the end.
+fn print_next<'a, I: Read, O: Write>(
+    alloc: Global,
+    asked: &Dissect<'a>,
+    source: &mut I,
+    digits: &mut HexPieces,
+    dissector: &mut Dissector,
+    piece: &mut [u8],
+    text: &mut String,
+    out: &mut O,
+) -> Result<bool, Stop<'a>>
+    requires room { 0 < length piece.old }
+    ensures prints { (content told : List ℕ) → ToldSoFar asked.now.hex asked.now.options digits.old.half dissector.old content told
+        → IfOk result (λ ended. PrintsNext ended asked.now.hex asked.now.options digits.new.half dissector.new content told (I.remaining source.old) (I.remaining source.new) (O.contents out.old) (O.contents out.new)) }
+    ensures kept { IfErr result (λ stop. (stop ≡ Output) ⊎ (out.new ≡ out.old)) }
+    ensures stopped { (content told : List ℕ) → ToldSoFar asked.now.hex asked.now.options digits.old.half dissector.old content told
+        → IfErr result (λ stop. StopsNext asked.now.hex asked.now.file content (I.remaining source.old) stop) }
+{
+    text.clear();
+    let Some(n) = read_piece(asked.file, source, piece)? else {
+        return Ok(false);
+    };
+    if n == 0 {
+        push_last(asked, digits, dissector, text)?;
+        say(out, text)?;
+        return Ok(true);
+    }
+    push_piece(alloc, asked, digits, dissector, &piece[..n], text)?;
+    say_lines(out, text)?;
+    Ok(false)
+}
+
+/// Prints the lines of all that a source gives, each as soon as what it tells is whole. What stops it
+/// is told behind the lines of what was read before. A source that gives no end within
+/// 18446744073709551615 reads cannot be read.
+pub fn dissect_source<'a, I: Read, O: Write>(
+    alloc: Global,
+    asked: &Dissect<'a>,
+    source: &mut I,
+    out: &mut O,
+) -> Result<(), Stop<'a>>
+    ensures lines { OnOk result (DissectsAll asked.now.hex asked.now.options (I.remaining source.old) (I.remaining source.new) (O.contents out.old) (O.contents out.new)) }
+    ensures begun { IfErr result (λ stop. (stop ≡ Output) ⊎ HasBegunDissecting asked.now.hex asked.now.options (I.remaining source.old) (O.contents out.old) (O.contents out.new)) }
+    ensures stopped { IfErr result (λ stop. StopsReading asked.now.hex asked.now.file (I.remaining source.old) stop) }
+{
+    let mut digits = HexPieces::new();
+    let mut dissector = Dissector::new(alloc, asked.options);
+    let mut text = String::new(alloc);
+    let mut piece = [0u8; PIECE];
+    for _reads in 0..u64::MAX {
+        let has_ended = print_next(
+            alloc,
+            asked,
+            source,
+            &mut digits,
+            &mut dissector,
+            &mut piece,
+            &mut text,
+            out,
+        )?;
+        if has_ended {
+            return Ok(());
+        }
+    }
+    Err(Stop::Fault(Fault::CannotRead(asked.file)))
+}

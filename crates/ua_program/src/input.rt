@@ -1,0 +1,74 @@
+//! Files.
+
+ghost use Rattle.std.specs.Prelude.{IfOk, IfErr};
+ghost use Rattle.ua_nodes.specs.NodeFile.{WriteNodes, node_lines};
+ghost use Rattle.ua_nodes.specs.Sound.{IsSound};
+ghost use Rattle.ua_program.specs.Reasons.{StopsAtFile, StopsAtNodes};
+ghost use Rattle.ua_program.specs.Refused.{RefusesNodes};
+
+use crate::fault::Fault;
+use crate::output::Stop;
+use crate::reason::{Reason, blame_line, cannot_read};
+use std::alloc::Global;
+use std::fs;
+use std::rt::Files;
+use ua_nodes::{LoadFault, NodeTable};
+
+/// The octets of a file.
+pub fn read_file<'a, R: Files + AllocGlobal>(rt: &R, file: &'a str) -> Result<Vec<u8>, Stop<'a>>
+    ensures { IfErr result (λ stop. StopsAtFile file.entry stop) }
+{
+    match fs::read(rt, file) {
+        Ok(octets) => Ok(octets),
+        Err(error) => Err(cannot_read(file, error)),
+    }
+}
+
+/// A file, open for reading.
+pub fn open_file<'a, R: Files>(rt: &R, file: &'a str) -> Result<R::File, Stop<'a>>
+    ensures { IfErr result (λ stop. StopsAtFile file.entry stop) }
+{
+    match fs::open(rt, file) {
+        Ok(opened) => Ok(opened),
+        Err(error) => Err(cannot_read(file, error)),
+    }
+}
+
+/// The text of a file; one that is not UTF-8 cannot be read.
+pub fn read_text<'a, R: Files + AllocGlobal>(rt: &R, file: &'a str) -> Result<String, Stop<'a>>
+    ensures { IfErr result (λ stop. StopsAtFile file.entry stop) }
+{
+    match String::from_utf8(read_file(rt, file)?) {
+        Ok(text) => Ok(text),
+        Err(error) => {
+            let text = format!(in rt.alloc(); "{error}")?;
+            Err(Stop::Because(Fault::CannotRead(file), Reason::Text(text)))
+        }
+    }
+}
+
+/// The nodes that the lines of a text write.
+pub fn parse_nodes<'a>(alloc: Global, text: &str) -> Result<NodeTable, Fault<'a>>
+    ensures nodes { IfOk result (λ nodes. WriteNodes (node_lines text.now) nodes) }
+    ensures sound { IfOk result (λ nodes. IsSound nodes) }
+    ensures faults { IfErr result (λ fault. RefusesNodes text.now fault) }
+{
+    match NodeTable::load(alloc, text) {
+        Ok(nodes) => Ok(nodes),
+        Err(LoadFault::Line { line, reason }) => Err(Fault::Line { line, reason }),
+        Err(LoadFault::OutOfMemory) => Err(Fault::NoMemory),
+    }
+}
+
+/// The same, with the field that is to blame for a bad line.
+#[tactic(auto, using(crate::proofs::Stops::stops_at_nodes))]
+pub fn load_nodes<'a>(alloc: Global, text: &str) -> Result<NodeTable, Stop<'a>>
+    ensures nodes { IfOk result (λ nodes. WriteNodes (node_lines text.now) nodes) }
+    ensures sound { IfOk result (λ nodes. IsSound nodes) }
+    ensures faults { IfErr result (λ stop. StopsAtNodes text.now stop) }
+{
+    match parse_nodes(alloc, text) {
+        Ok(nodes) => Ok(nodes),
+        Err(fault) => Err(blame_line(alloc, text, fault)),
+    }
+}

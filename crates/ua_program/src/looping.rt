@@ -1,0 +1,178 @@
+//! `ua loop`: a script that is run over nodes, both ends within this process.
+
+ghost use Rattle.std.specs.Prelude.{◌≡◌, ◌⊎◌, [], true, false, None, Ok, IfOk, OnOk, IfErr};
+ghost use Rattle.ua_program.specs.Looped.{HasLooped, HasLoopedUntil, RefusesScript, RunsScript};
+ghost use Rattle.ua_program.specs.declared.output.Stop.TheVariants.{Output};
+ghost use Rattle.ua_session.specs.declared.verdict.Verdict.TheVariants.{SomeBad};
+ghost use Rattle.ua_nodes.specs.Sound.{IsSound};
+ghost use Rattle.ua_server.specs.declared.step.End.TheVariants.{Closed};
+
+use crate::arguments::Loop;
+use crate::fault::Fault;
+use crate::input::{load_nodes, read_text};
+use crate::loop_line::LoopLine;
+use crate::output::{Stop, say_lines};
+use crate::reason::{blame_step, cannot_connect, cannot_listen};
+use crate::serve::{limits, services};
+use std::alloc::{AllocError, Global};
+use std::io::{Read, Write};
+use std::net::{Ipv4Addr, Net, OpenListener, TcpListener, TcpStream};
+use std::rt::Files;
+use ua_channel::ListMoments;
+use ua_client::ClientFault;
+use ua_nodes::NodeTable;
+use ua_server::{End, ServeFault, serve};
+use ua_session::{AskFault, LoopFault, Looped, Verdict, parse_lines, run_lines};
+use ua_tcp::without_delay;
+
+/// The port in the server's address.
+const PORT: u16 = 4840;
+
+/// The server's one channel.
+const CHANNEL: u32 = 1;
+
+/// The moment of all that is said: 1970-01-01 00:00 UTC.
+const MOMENT: i64 = 116_444_736_000_000_000;
+
+/// Moments that are all the same one.
+fn moments(alloc: Global) -> Result<ListMoments, AllocError> {
+    let mut ticks = Vec::new(alloc);
+    ticks.push(MOMENT)?;
+    Ok(ListMoments::new(ticks))
+}
+
+/// What is told of a server over a connection within this process.
+fn outcome<'a>(ended: Result<End, ServeFault>, is_carried: bool) -> Result<(), Fault<'a>>
+    ensures closed { OnOk result (ended ≡ Ok Closed) }
+    ensures carried { OnOk result (is_carried ≡ true) }
+    ensures failed { ended ≡ Ok Closed → IfErr result (λ fault. is_carried ≡ false) }
+{
+    let fault = match ended {
+        Ok(End::Closed) if is_carried => return Ok(()),
+        Ok(_) => ClientFault::Ended,
+        Err(ServeFault::Read) => ClientFault::Read,
+        Err(ServeFault::Write(_)) => ClientFault::Write,
+        Err(ServeFault::TooLong) => ClientFault::TooLong,
+        Err(ServeFault::OutOfMemory) => return Err(Fault::NoMemory),
+    };
+    Err(Fault::Asking(AskFault::Connection(fault)))
+}
+
+/// The two ends of one connection within this process.
+fn connection<'a, R: Net>(rt: &R) -> Result<(R::Stream, R::Stream), Stop<'a>> {
+    let listener = match TcpListener::bind(rt, (Ipv4Addr::LOCALHOST, 0)) {
+        Ok(listener) => listener,
+        Err(error) => return Err(cannot_listen(error)),
+    };
+    let address = match listener.local_addr() {
+        Ok(address) => address,
+        Err(error) => return Err(cannot_listen(error)),
+    };
+    let near = match TcpStream::connect(rt, address) {
+        Ok(near) => near,
+        Err(error) => return Err(cannot_connect(error)),
+    };
+    match listener.accept() {
+        Ok((far, _)) => Ok((without_delay(near), without_delay(far))),
+        Err(error) => Err(cannot_listen(error)),
+    }
+}
+
+/// Sends the octets of a script over the connection of a line: those of its client to a server over
+/// the nodes of this text, and what that server answers back.
+pub fn carry_over<'a, S: Read + Write>(
+    alloc: Global,
+    nodes: &str,
+    line: &mut LoopLine<'_, S>,
+) -> Result<(), Fault<'a>>
+    ensures up { OnOk result (line.new.up.now ≡ []) }
+    ensures down { OnOk result (line.new.down.now ≡ []) }
+{
+    let mut services = services(alloc, nodes, PORT)?;
+    let mut moments = moments(alloc)?;
+    let ended = serve(alloc, line, &mut services, limits(), CHANNEL, &mut moments);
+    outcome(ended, line.is_carried())
+}
+
+/// Sends the octets of a script over one connection within this process.
+fn carry_over_tcp<'a, R: Net + AllocGlobal>(
+    rt: &R,
+    nodes: &str,
+    looped: &Looped,
+) -> Result<(), Stop<'a>> {
+    let (near, far) = connection(rt)?;
+    let mut line = LoopLine::new(near, far, &looped.up, &looped.down);
+    Ok(carry_over(rt.alloc(), nodes, &mut line)?)
+}
+
+/// Runs the script of a text over nodes, each end taking what the other wrote in pieces of at most so
+/// many octets. Where `names` says so, the names of status codes stand behind them.
+pub fn run_script(
+    alloc: Global,
+    nodes: NodeTable,
+    script: &str,
+    cut: u16,
+    names: bool,
+) -> Result<Looped, LoopFault>
+    requires sound { IsSound nodes }
+    ensures ran { IfOk result (λ looped. RunsScript names nodes script.now looped) }
+    ensures refused { IfErr result (λ fault. RefusesScript script.now fault) }
+{
+    let lines = parse_lines(alloc, script)?;
+    run_lines(alloc, nodes, &lines, cut, names)
+}
+
+/// The same, with the field that is to blame for a bad line.
+fn run_text<'a>(
+    alloc: Global,
+    nodes: NodeTable,
+    script: &str,
+    cut: u16,
+    names: bool,
+) -> Result<Looped, Stop<'a>>
+    requires sound { IsSound nodes }
+    ensures ran { IfOk result (λ looped. RunsScript names nodes script.now looped) }
+{
+    match run_script(alloc, nodes, script, cut, names) {
+        Ok(looped) => Ok(looped),
+        Err(fault) => Err(blame_step(alloc, script, fault)),
+    }
+}
+
+/// What counts of the codes of answers: bad ones only where `--strict` asks for them.
+fn counted(has_bad: bool, strict: bool) -> Verdict
+    ensures strict { result ≡ SomeBad → strict ≡ true }
+    ensures bad { result ≡ SomeBad → has_bad ≡ true }
+    ensures both { has_bad ≡ true → strict ≡ true → result ≡ SomeBad }
+{
+    if has_bad && strict {
+        Verdict::SomeBad
+    } else {
+        Verdict::AllGood
+    }
+}
+
+/// Runs the script of a file over the nodes of another, and prints the answers to its lines and how
+/// many octets went each way. Where a reply is a fault, the answers in front of it are printed.
+pub fn run_files<'a, R: Files + Net + AllocGlobal, O: Write>(
+    rt: &R,
+    asked: &Loop<'a>,
+    out: &mut O,
+) -> Result<Verdict, Stop<'a>>
+    ensures strict { IfOk result (λ verdict. verdict ≡ SomeBad → asked.now.strict ≡ true) }
+    ensures looped { OnOk result (HasLooped asked.now.names None (O.contents out.old) (O.contents out.new)) }
+    ensures stopped { IfErr result (λ stop. (stop ≡ Output) ⊎ (out.new ≡ out.old) ⊎ HasLoopedUntil asked.now.names stop (O.contents out.old) (O.contents out.new)) }
+{
+    let text = read_text(rt, asked.nodes)?;
+    let nodes = load_nodes(rt.alloc(), &text)?;
+    let script = read_text(rt, asked.script)?;
+    let looped = run_text(rt.alloc(), nodes, &script, asked.cut, asked.names)?;
+    if asked.tcp {
+        carry_over_tcp(rt, &text, &looped)?;
+    }
+    say_lines(out, &looped.text)?;
+    match looped.fault {
+        None => Ok(counted(looped.has_bad, asked.strict)),
+        Some(fault) => Err(Stop::from(fault)),
+    }
+}

@@ -1,0 +1,260 @@
+//! The program's commands.
+
+ghost use Rattle.std.specs.Prelude.{◌≡◌, ◌≤◌, ◌≢◌, ◌⊎◌, ◌↔◌, Any, IsTrue, codes, IfErr, IfOk, OnOk};
+ghost use Rattle.std.specs.Io.KnownBytes.{Appends};
+ghost use Rattle.std.specs.IoError.{error_kind};
+ghost use Rattle.std.specs.declared.io.ErrorKind.TheVariants.{OutOfMemory};
+ghost use Rattle.ua_session.specs.declared.verdict.Verdict.TheVariants.{AllGood, SomeBad};
+ghost use Rattle.ua_program.specs.Words.{IsStrict};
+ghost use Rattle.ua_program.specs.Printed.{HasBegun, HasDissected, HasPrinted, HasToldSome};
+ghost use Rattle.ua_program.specs.declared.output.Stop.TheVariants.{Output};
+
+use crate::arguments::{self, BadNumber, Dissect, Parsed, Task};
+use crate::ask::{endpoints, read, write};
+use crate::dissect::dissect_source;
+use crate::fault::Fault;
+use crate::input::open_file;
+use crate::looping::run_files;
+use crate::output::{Stop, say, write_text};
+use crate::reason::{Reason, push_reason, push_word};
+use crate::serve::serve_connections;
+use crate::version::version_line;
+use crate::watched::Watched;
+use clap::error::ErrorKind;
+use std::alloc::{AllocError, Global};
+use std::convert::AsStr;
+use std::io;
+use std::io::{Read, Write};
+use std::net::Net;
+use std::rt::Files;
+use std::time::Clock;
+use ua_session::Verdict;
+
+/// Runs the program on its words, of which the first is its name. The input is read only where the
+/// words ask for it. The status is 0 where the command is done, 1 where it met a fault or a writer
+/// failed, 2 where the words don't parse, and 3 where it is done and a status code is bad that it
+/// printed, if `--strict` is among the words.
+pub fn run<S: AsStr, R: Files + Net + Clock + AllocGlobal, I: Read, O: Write, E: Write>(
+    rt: &R,
+    words: &[S],
+    input: &mut I,
+    out: &mut O,
+    err: &mut E,
+) -> u8
+    ensures status { result ≤ 3 }
+    ensures strict { result ≡ 3 → Any (λ word. S.text word ≡ codes "--strict") words.now }
+    ensures done { (result ≡ 0) ⊎ (result ≡ 3) → HasPrinted (O.contents out.old) (O.contents out.new) }
+    ensures silent { (result ≡ 0) ⊎ (result ≡ 3) → err.new ≡ err.old }
+    ensures refused { result ≡ 2 → out.new ≡ out.old }
+    ensures streams { (out.new ≡ out.old) ⊎ (err.new ≡ err.old) ⊎ HasBegun (O.contents out.old) (O.contents out.new) }
+{
+    let Parsed { task, why } = match arguments::parse(rt.alloc(), words) {
+        Ok(parsed) => parsed,
+        Err(error) => return refuse(rt.alloc(), &error, err),
+    };
+    let task = match task {
+        Ok(task) => task,
+        Err(bad) => return tell_number(rt.alloc(), bad, why, err),
+    };
+    match perform(rt, task, input, out) {
+        Ok(verdict) => status_of(words, verdict),
+        Err(stop) => tell_stop(rt.alloc(), &stop, why, err),
+    }
+}
+
+/// Tells why a command stopped, and with `why` the reason that is known of it. The status is 1.
+fn tell_stop<E: Write>(alloc: Global, stop: &Stop<'_>, why: bool, err: &mut E) -> u8
+    ensures status { result ≡ 1 }
+    ensures silent { stop.now ≡ Output → err.new ≡ err.old }
+{
+    match stop {
+        Stop::Because(fault, reason) if why => tell_why(alloc, fault, reason, err),
+        Stop::Fault(fault) | Stop::Because(fault, _) => tell(alloc, fault, err),
+        Stop::Output => 1,
+    }
+}
+
+/// The status of a command that is done.
+fn status_of<S: AsStr>(words: &[S], verdict: Verdict) -> u8
+    ensures status { (result ≡ 0) ⊎ (result ≡ 3) }
+    ensures strict { result ≡ 3 → Any (λ word. S.text word ≡ codes "--strict") words.now }
+    ensures good { verdict ≡ AllGood → result ≡ 0 }
+    ensures bad { verdict ≡ SomeBad → (result ≡ 3) ↔ Any (λ word. S.text word ≡ codes "--strict") words.now }
+{
+    match verdict {
+        // That the word is there is known, but by no clause.
+        Verdict::SomeBad if has_word(words, "--strict") => 3,
+        _ => 0,
+    }
+}
+
+/// Whether one of the words is this one.
+fn has_word<S: AsStr>(words: &[S], wanted: &str) -> bool
+    ensures { IsTrue result ↔ Any (λ word. S.text word ≡ wanted.now) words.now }
+{
+    words.iter().any(|word| word.as_str() == wanted)
+}
+
+/// Does what the words ask for.
+fn perform<'a, R: Files + Net + Clock + AllocGlobal, I: Read, O: Write>(
+    rt: &R,
+    task: Task<'a>,
+    input: &mut I,
+    out: &mut O,
+) -> Result<Verdict, Stop<'a>>
+    ensures done { OnOk result (HasPrinted (O.contents out.old) (O.contents out.new)) }
+    ensures strict { IfOk result (λ verdict. verdict ≡ SomeBad → IsStrict task.entry) }
+    ensures stopped { IfErr result (λ stop. (stop ≡ Output) ⊎ (out.new ≡ out.old) ⊎ HasBegun (O.contents out.old) (O.contents out.new)) }
+{
+    match task {
+        Task::Read(asked) => read(rt, &asked, out),
+        Task::Write(asked) => write(rt, &asked, out),
+        Task::Loop(asked) => run_files(rt, &asked, out),
+        Task::Dissect(asked) => match dissect(rt, &asked, input, out) {
+            Ok(()) => Ok(Verdict::AllGood),
+            Err(stop) => Err(stop),
+        },
+        Task::Serve(asked) => match serve_connections(rt, &asked, out) {
+            Ok(()) => Ok(Verdict::AllGood),
+            Err(stop) => Err(stop),
+        },
+        Task::Endpoints(asked) => match endpoints(rt, &asked, out) {
+            Ok(()) => Ok(Verdict::AllGood),
+            Err(stop) => Err(stop),
+        },
+        Task::Version => match say(out, version_line()) {
+            Ok(()) => Ok(Verdict::AllGood),
+            Err(stop) => Err(stop),
+        },
+    }
+}
+
+/// Tells why words don't parse. The status is 2, or 1 where memory was refused or `err` fails.
+fn refuse<E: Write>(alloc: Global, error: &clap::Error, err: &mut E) -> u8
+    ensures { (result ≡ 1) ⊎ (result ≡ 2) }
+{
+    if error.kind() == ErrorKind::OutOfMemory {
+        return print(err, "ua: no memory\n", 1);
+    }
+    match format!(in alloc; "{error}") {
+        Ok(text) => print(err, text.as_str(), 2),
+        Err(_) => print(err, "ua: no memory\n", 1),
+    }
+}
+
+/// Tells which word is no number, and with `why` the word. The status is 2, or 1 where memory was
+/// refused or `err` fails.
+fn tell_number<E: Write>(alloc: Global, bad: BadNumber<'_>, why: bool, err: &mut E) -> u8
+    ensures { (result ≡ 1) ⊎ (result ≡ 2) }
+{
+    match number_text(alloc, bad, why) {
+        Ok(text) => print(err, text.as_str(), 2),
+        Err(AllocError) => print(err, "ua: no memory\n", 1),
+    }
+}
+
+/// What is told of a word that is no number.
+fn number_text(alloc: Global, bad: BadNumber<'_>, why: bool) -> Result<String, AllocError> {
+    let mut text = format!(in alloc; "ua: {bad}\n")?;
+    if why {
+        push_word(alloc, &mut text, bad.word())?;
+    }
+    Ok(text)
+}
+
+/// Tells a fault. The status is 1.
+fn tell<E: Write>(alloc: Global, fault: &Fault<'_>, err: &mut E) -> u8
+    ensures { result ≡ 1 }
+{
+    match format!(in alloc; "ua: {fault}\n") {
+        Ok(text) => print(err, text.as_str(), 1),
+        Err(_) => print(err, "ua: no memory\n", 1),
+    }
+}
+
+/// Tells a fault, and behind it its reason. The status is 1.
+fn tell_why<E: Write>(alloc: Global, fault: &Fault<'_>, reason: &Reason, err: &mut E) -> u8
+    ensures { result ≡ 1 }
+{
+    match fault_text(alloc, fault, reason) {
+        Ok(text) => print(err, text.as_str(), 1),
+        Err(AllocError) => print(err, "ua: no memory\n", 1),
+    }
+}
+
+/// What is told of a fault and its reason.
+fn fault_text(alloc: Global, fault: &Fault<'_>, reason: &Reason) -> Result<String, AllocError> {
+    let mut text = format!(in alloc; "ua: {fault}\n")?;
+    push_reason(alloc, &mut text, reason)?;
+    Ok(text)
+}
+
+/// Prints the frames and messages of a file, or of the input where it is named `-`.
+fn dissect<'a, R: Files + AllocGlobal, I: Read, O: Write>(
+    rt: &R,
+    asked: &Dissect<'a>,
+    input: &mut I,
+    out: &mut O,
+) -> Result<(), Stop<'a>>
+    ensures dissected { OnOk result (HasDissected (O.contents out.old) (O.contents out.new)) }
+    ensures stopped { IfErr result (λ stop. (stop ≡ Output) ⊎ (out.new ≡ out.old) ⊎ HasToldSome (O.contents out.old) (O.contents out.new)) }
+{
+    if asked.file == "-" {
+        return dissect_watched(rt.alloc(), asked, input, out);
+    }
+    let mut file = open_file(rt, asked.file)?;
+    dissect_watched(rt.alloc(), asked, &mut file, out)
+}
+
+/// Prints the lines of what a source gives, and says what the system says where it cannot be read.
+fn dissect_watched<'a, I: Read, O: Write>(
+    alloc: Global,
+    asked: &Dissect<'a>,
+    source: &mut I,
+    out: &mut O,
+) -> Result<(), Stop<'a>>
+    ensures dissected { OnOk result (HasDissected (O.contents out.old) (O.contents out.new)) }
+    ensures stopped { IfErr result (λ stop. (stop ≡ Output) ⊎ HasToldSome (O.contents out.old) (O.contents out.new)) }
+{
+    let mut watched = Watched::new(source);
+    match dissect_some(alloc, asked, &mut watched, out) {
+        Err(Stop::Fault(fault)) => Err(watched.blame(fault)),
+        ended => ended,
+    }
+}
+
+/// Prints the lines of what a source gives.
+fn dissect_some<'a, I: Read, O: Write>(
+    alloc: Global,
+    asked: &Dissect<'a>,
+    source: &mut I,
+    out: &mut O,
+) -> Result<(), Stop<'a>>
+    ensures dissected { OnOk result (HasDissected (O.contents out.old) (O.contents out.new)) }
+    ensures stopped { IfErr result (λ stop. (stop ≡ Output) ⊎ HasToldSome (O.contents out.old) (O.contents out.new)) }
+{
+    dissect_source(alloc, asked, source, out)
+}
+
+/// Tells why the words of the command line could not be gathered. The status is 2 where a word is
+/// not UTF-8, and 1 where memory was refused or `err` fails.
+pub fn refuse_words<E: Write>(error: &io::Error, err: &mut E) -> u8
+    ensures status { (result ≡ 1) ⊎ (result ≡ 2) }
+    ensures memory { error_kind error.now ≡ OutOfMemory → result ≡ 1 }
+{
+    match error.kind() {
+        io::ErrorKind::OutOfMemory => print(err, "ua: no memory\n", 1),
+        _ => print(err, "ua: a word is not UTF-8\n", 2),
+    }
+}
+
+/// Writes a text: the status that follows, or 1 where the writer fails.
+fn print<W: Write>(to: &mut W, text: &str, status: u8) -> u8
+    ensures status { (result ≡ status) ⊎ (result ≡ 1) }
+    ensures printed { result ≢ 1 → Appends (W.contents to.old) (W.contents to.new) text.now }
+{
+    match write_text(to, text) {
+        Ok(()) => status,
+        Err(_) => 1,
+    }
+}

@@ -1,0 +1,161 @@
+//! What is known of a fault beside its own text.
+
+ghost use Rattle.ua_program.specs.Reasons.{StopsAt, StopsAtFile};
+ghost use Rattle.ua_program.specs.declared.fault.Fault.TheVariants.{CannotConnect, CannotListen, Looping};
+
+use crate::fault::Fault;
+use crate::output::Stop;
+use std::alloc::{AllocError, Global};
+use std::fmt::Write;
+use std::io;
+use ua_builtin::{NodeId, TextFault, UaString};
+use ua_nodes::{LineReason, MOST_OCTETS, ValueFault, parse_type, parse_value, without_return};
+use ua_session::LoopFault;
+use ua_texts::push_string;
+
+/// What is known of a fault beside its own text: it is told with `--why`.
+#[derive(Drop, Debug)]
+pub enum Reason {
+    /// What the system says of it.
+    System(io::Error),
+    /// The text that is blamed: a field of a line, a line, or what is wrong with a file.
+    Text(String),
+}
+
+/// That a file cannot be read, by what the system says.
+pub fn cannot_read<'a>(file: &'a str, error: io::Error) -> Stop<'a>
+    ensures { StopsAtFile file.entry result }
+{
+    match error.kind() {
+        io::ErrorKind::OutOfMemory => Stop::Fault(Fault::NoMemory),
+        _ => Stop::Because(Fault::CannotRead(file), Reason::System(error)),
+    }
+}
+
+/// That a port cannot be listened on, or gives no connection, by what the system says.
+pub fn cannot_listen<'a>(error: io::Error) -> Stop<'a>
+    ensures { StopsAt CannotListen result }
+{
+    Stop::Because(Fault::CannotListen, Reason::System(error))
+}
+
+/// That a port takes no connection, by what the system says.
+pub fn cannot_connect<'a>(error: io::Error) -> Stop<'a>
+    ensures { StopsAt CannotConnect result }
+{
+    Stop::Because(Fault::CannotConnect, Reason::System(error))
+}
+
+/// Adds the line of a reason. A text has its control characters as `\x` and two digits, and a
+/// backslash doubled.
+pub fn push_reason(alloc: Global, out: &mut String, reason: &Reason) -> Result<(), AllocError> {
+    match reason {
+        Reason::System(error) => write!(out, "  because {error}\n"),
+        Reason::Text(text) => push_word(alloc, out, text),
+    }
+}
+
+/// Adds the line of a word that is blamed.
+pub fn push_word(alloc: Global, out: &mut String, word: &str) -> Result<(), AllocError> {
+    out.push_str("  because ")?;
+    push_string(out, &UaString::from_str(alloc, word)?)?;
+    out.push_str("\n")
+}
+
+/// A fault with the text that is blamed for it.
+fn blame<'a>(alloc: Global, fault: Fault<'a>, text: &str) -> Stop<'a>
+    ensures { StopsAt fault.entry result }
+{
+    match String::from_str(alloc, text) {
+        Ok(text) => Stop::Because(fault, Reason::Text(text)),
+        Err(_) => Stop::Fault(Fault::NoMemory),
+    }
+}
+
+/// A fault of a node file with this text: that of a bad line with the field that its reason is against.
+pub fn blame_line<'a>(alloc: Global, text: &str, fault: Fault<'a>) -> Stop<'a>
+    ensures { StopsAt fault.entry result }
+{
+    let Fault::Line { line, reason } = fault else {
+        return Stop::Fault(fault);
+    };
+    blame(alloc, fault, field_of(line_at(text, line), reason))
+}
+
+/// A fault of a script with this text: that of a bad line with the field, or the line, that is to blame.
+pub fn blame_step<'a>(alloc: Global, text: &str, fault: LoopFault) -> Stop<'a>
+    ensures { StopsAt (Looping fault) result }
+{
+    let LoopFault::ScriptLine(number) = fault else {
+        return Stop::Fault(Fault::Looping(fault));
+    };
+    match bad_field(alloc, line_at(text, number)) {
+        Ok(field) => blame(alloc, Fault::Looping(fault), field),
+        Err(AllocError) => Stop::Fault(Fault::NoMemory),
+    }
+}
+
+/// The line of a number, counted from 1, without one CR at its end.
+fn line_at(text: &str, number: usize) -> &str {
+    let line = text.split('\n').nth(number.saturating_sub(1));
+    // Never: a fault names a line of the text.
+    without_return(line.unwrap_or(""))
+}
+
+/// The field of a line of a node file that a reason is against; the line, where it has not five fields.
+fn field_of(line: &str, reason: LineReason) -> &str {
+    let place = match reason {
+        LineReason::Fields => return line,
+        LineReason::Node | LineReason::Duplicate => 0,
+        LineReason::Access => 1,
+        LineReason::Name => 2,
+        LineReason::Kind => 3,
+        LineReason::Value => 4,
+    };
+    line.split('\t').nth(place).unwrap_or("")
+}
+
+/// The first field of a line of a script for which it asks for nothing; the line, where it has too few
+/// fields or too many, or where each of them is good.
+fn bad_field(alloc: Global, line: &str) -> Result<&str, AllocError> {
+    let fields: Vec<&str> = line.split('\t').collect(alloc)?;
+    match fields.as_slice() {
+        ["read", node] if !is_node(alloc, node)? => Ok(node),
+        ["read", node, _] if !is_node(alloc, node)? => Ok(node),
+        ["read", _, range] if range.len() > MOST_OCTETS => Ok(range),
+        ["write", node, _, _] if !is_node(alloc, node)? => Ok(node),
+        ["write", _, kind, text] => bad_value(alloc, line, kind, text),
+        ["read", ..] | ["write", ..] | ["renew", ..] => Ok(line),
+        [word, ..] => Ok(word),
+        [] => Ok(line),
+    }
+}
+
+/// Whether a text names a NodeId.
+fn is_node(alloc: Global, text: &str) -> Result<bool, AllocError> {
+    if text.len() > MOST_OCTETS {
+        return Ok(false);
+    }
+    match NodeId::parse_text(alloc, text) {
+        Ok(_) => Ok(true),
+        Err(TextFault::NotNodeId) => Ok(false),
+        Err(TextFault::OutOfMemory) => Err(AllocError),
+    }
+}
+
+/// A type that is none, or a text that is no value of it; the line, where both are good.
+fn bad_value<'t>(
+    alloc: Global,
+    line: &'t str,
+    kind: &'t str,
+    text: &'t str,
+) -> Result<&'t str, AllocError> {
+    let Some((known, array)) = parse_type(kind) else {
+        return Ok(kind);
+    };
+    match parse_value(alloc, known, array, text) {
+        Ok(_) => Ok(line),
+        Err(ValueFault::NotValue) => Ok(text),
+        Err(ValueFault::OutOfMemory) => Err(AllocError),
+    }
+}

@@ -1,6 +1,0 @@
-use Rattle.std.proofs.Common.{◌≡◌}
-use Rattle.ua_served.proofs.Courses.{TakenSoFar}
-use Rattle.ua_served.proofs.conversation.take_turns.Given as goal
-
-abbrev pub invariant-loop-turn : goal.invariant-loop-turn
-invariant-loop-turn g l = TakenSoFar g.T.AsTurn.turn l.moment l.turns l.turn-index l.fn.client l.client (g.L.Line.traffic l.fn.line) (g.L.Line.traffic l.line) l.fn.replies.items l.replies.items × (l.taken ≡ l.turn-index)

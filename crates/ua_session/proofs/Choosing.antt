@@ -1,0 +1,16 @@
+-- What is chosen by a reply.
+use Rattle.std.proofs.Common.{◌≡◌, ℕ, List, Option, Some, Result, Ok, Err}
+use Rattle.ua_structures.specs.declared.discovery.EndpointDescription.{EndpointDescription}
+use Rattle.ua_client.specs.declared.reply.Reply.{Reply}
+use Rattle.ua_session.specs.Policy.{ChoosesAmong, ChoosesBy, listed}
+use Rattle.ua_session.specs.Replies.{endpoints_of}
+use Rattle.ua_session.specs.declared.fault.AskFault.{AskFault}
+use Rattle.ua_session.specs.declared.fault.AskFault.TheVariants.{Connection, NoMemory, NoPolicy, Service}
+
+-- what is chosen among the endpoints of a reply is chosen by it
+pub chosen_by : (reply : Reply) (list : Option (List EndpointDescription)) (result : Result (Option (List ℕ)) AskFault) → endpoints_of reply ≡ Some list → ChoosesAmong (listed list) result → ChoosesBy (Ok reply) result
+chosen_by reply list (Ok id) has chooses = (list, has, chooses)
+chosen_by reply list (Err NoPolicy) has chooses = (list, has, chooses)
+chosen_by reply list (Err NoMemory) has chooses = tt
+chosen_by reply list (Err (Service code)) has chooses = absurd chooses
+chosen_by reply list (Err (Connection fault)) has chooses = absurd chooses

@@ -1,0 +1,27 @@
+-- What both ends said of a script.
+use Rattle.std.specs.Prelude.{◌≡◌, List, map, Some, Result, Ok, Err}
+use Rattle.ua_exchange.specs.Accepted.{AreAccepted}
+use Rattle.ua_exchange.specs.Exchanged.{down_octets}
+use Rattle.ua_exchange.specs.Programs.{begun_over}
+use Rattle.ua_exchange.specs.Replies.{turns_replies}
+use Rattle.ua_exchange.specs.Turns.{up_octets}
+use Rattle.ua_exchange.specs.declared.transcript.Transcript.{Transcript}
+use Rattle.ua_session.specs.ScriptFaults.{Stops}
+use Rattle.ua_session.specs.Script.{script_moment, script_turns}
+use Rattle.ua_session.specs.declared.looping.fault.LoopFault.{LoopFault}
+use Rattle.ua_nodes.specs.Table.{Nodes}
+use Rattle.ua_server.specs.declared.step.End.TheVariants.{Closed}
+use Rattle.ua_texts.specs.declared.script.ScriptLine.{ScriptLine}
+
+-- the transcript is that of the turns of a script
+pub record IsOfScript (nodes : Nodes) (lines : List ScriptLine) (t : Transcript) : Type 0 where
+  pub accepted : AreAccepted (script_turns lines)
+  pub up_is : t.up.items ≡ up_octets script_moment (script_turns lines)
+  pub down_is : t.down.items ≡ down_octets nodes script_moment (script_turns lines)
+  pub replies_are : map Some t.replies.items ≡ turns_replies (begun_over nodes) script_moment (script_turns lines)
+  pub closed : t.end ≡ Closed
+
+-- what came of it
+abbrev pub Converses : Nodes → List ScriptLine → Result Transcript LoopFault → Type 0
+Converses nodes lines (Ok t) = IsOfScript nodes lines t
+Converses nodes lines (Err fault) = Stops lines fault

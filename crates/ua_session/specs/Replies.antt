@@ -1,0 +1,56 @@
+-- What is made of replies.
+use Rattle.std.specs.Prelude.{◌≡◌, ℕ, List, Option, Some, None, Result, Ok, Err}
+use Rattle.ua_builtin.specs.declared.status_code.StatusCode.{StatusCode}
+use Rattle.ua_client.specs.declared.fault.ClientFault.TheVariants.{UnknownResponse}
+use Rattle.ua_client.specs.declared.reply.Reply.{Reply}
+use Rattle.ua_client.specs.declared.reply.Reply.TheVariants.{Response as Responds, Aborted}
+use Rattle.ua_services.specs.declared.response.Response.{Response}
+use Rattle.ua_structures.specs.declared.discovery.EndpointDescription.{EndpointDescription}
+use Rattle.ua_texts.specs.Replies.{AreEndpoints, endpoints_in, fault_in}
+use Rattle.ua_texts.specs.declared.style.EndpointStyle.{EndpointStyle}
+use Rattle.ua_session.specs.declared.fault.AskFault.{AskFault}
+use Rattle.ua_session.specs.declared.fault.AskFault.TheVariants.{Service, Connection, NoMemory, NoPolicy}
+
+-- ---- what a reply has
+
+-- the code of a reply by which the service failed: a ServiceFault, or that the server gave its answer up
+abbrev pub failure_in : Reply → Option StatusCode
+failure_in (Responds m) = fault_in m
+failure_in (Aborted code) = Some code
+
+-- the list of endpoints in a reply, which may be null
+abbrev pub endpoints_of : Reply → Option (Option (List EndpointDescription))
+endpoints_of (Responds m) = endpoints_in m
+endpoints_of (Aborted code) = None
+
+-- ---- what is made of it
+
+-- a reply as a response; a fault, and that the server gave its answer up, are told
+abbrev pub GivesResponse : Result Reply AskFault → Result Response AskFault → Type 0
+GivesResponse (Ok (Responds m)) result = result ≡ Ok m
+GivesResponse (Ok (Aborted code)) result = result ≡ Err (Service code)
+GivesResponse (Err fault) result = result ≡ Err fault
+
+-- why a reply is not printed: the service failed with this code, or it is no answer to what was asked, of which this holds; or memory ran
+-- out
+abbrev pub IsRefusedBy : Type 0 → Reply → AskFault → Type 0
+IsRefusedBy IsUnknown reply (Service code) = failure_in reply ≡ Some code
+IsRefusedBy IsUnknown reply (Connection UnknownResponse) = (failure_in reply ≡ None) × IsUnknown
+IsRefusedBy IsUnknown reply (Connection other) = ⊥
+IsRefusedBy IsUnknown reply NoPolicy = ⊥
+IsRefusedBy IsUnknown reply NoMemory = Unit {0}
+
+-- a reply that only says that the service is done; a fault, and that the service failed, are told
+abbrev pub Expects : Result Reply AskFault → Result (Unit {0}) AskFault → Type 0
+Expects (Ok reply) (Ok done) = failure_in reply ≡ None
+Expects (Ok reply) (Err (Service code)) = failure_in reply ≡ Some code
+Expects (Ok reply) (Err (Connection fault)) = ⊥
+Expects (Ok reply) (Err NoPolicy) = ⊥
+Expects (Ok reply) (Err NoMemory) = ⊥
+Expects (Err fault) result = result ≡ Err fault
+
+-- the lines of the endpoints in a reply are added, in this style, or none, and why not is told
+abbrev pub PrintsEndpoints : EndpointStyle → List ℕ → List ℕ → Result Reply AskFault → Result (Unit {0}) AskFault → Type 0
+PrintsEndpoints style had have (Ok reply) (Ok done) = AreEndpoints style (endpoints_of reply) had have
+PrintsEndpoints style had have (Ok reply) (Err fault) = (have ≡ had) × IsRefusedBy (endpoints_of reply ≡ None) reply fault
+PrintsEndpoints style had have (Err fault) result = (have ≡ had) × (result ≡ Err fault)

@@ -1,0 +1,104 @@
+-- What `ua read` and `ua write` ask a server in a session of its own, and what is printed of it.
+use Rattle.std.specs.Prelude.{◌≡◌, ◌⊎◌, ◌+◌, ℕ, ℤ, List, Option, Result, Ok, Err, MatchResult}
+use Rattle.ua_builtin.specs.declared.date_time.DateTime.{DateTime}
+use Rattle.ua_builtin.specs.declared.node_id.NodeId.{NodeId}
+use Rattle.ua_client.specs.declared.client.Client.{Client}
+use Rattle.ua_client.specs.declared.reply.Reply.{Reply}
+use Rattle.ua_frame.specs.declared.limits.Limits.{Limits}
+use Rattle.ua_services.specs.SessionRequests.{close_session}
+use Rattle.ua_texts.specs.declared.style.LineStyle.{LineStyle}
+use Rattle.ua_session.specs.Endpoints.{CallsEndpoints}
+use Rattle.ua_session.specs.Line.{LineState}
+use Rattle.ua_session.specs.Policy.{ChoosesBy}
+use Rattle.ua_session.specs.Question.{PrintsAnswers, request_of}
+use Rattle.ua_session.specs.Replies.{Expects}
+use Rattle.ua_session.specs.Steps.{Asks, Begins, Calls, Runs, first_of}
+use Rattle.ua_session.specs.declared.fault.AskFault.{AskFault}
+use Rattle.ua_session.specs.declared.fault.AskFault.TheVariants.{NoMemory}
+use Rattle.ua_session.specs.declared.policy.TokenPolicy.{TokenPolicy}
+use Rattle.ua_session.specs.declared.policy.TokenPolicy.TheVariants.{Auto, Named}
+use Rattle.ua_session.specs.declared.question.Question.{Question}
+use Rattle.ua_session.specs.declared.verdict.Verdict.{Verdict}
+
+-- ---- the token policy
+
+-- GetEndpoints was asked at the next moment, and a PolicyId chosen by the reply
+pub record AsksPolicy {M : Type 0} (gives : M → ℤ → M → Type 0) (port : ℕ) (first last : M) (old new : Client) (before after : LineState) (result : Result (Option (List ℕ)) AskFault) : Type 0 where
+  pub moment : DateTime
+  pub given : gives first moment.ticks last
+  pub called : Result Reply AskFault
+  pub asks : CallsEndpoints port moment old new before after called
+  pub chooses : ChoosesBy called result
+
+-- the PolicyId by which a session is to be begun: the one that is named, unless memory ran out, and nothing was done; or the server was
+-- asked for it
+abbrev pub FindsPolicy : {M : Type 0} → (M → ℤ → M → Type 0) → ℕ → TokenPolicy → M → M → Client → Client → LineState → LineState → Result (Option (List ℕ)) AskFault → Type 0
+FindsPolicy gives port (Named id) first last old new before after result = ((result ≡ Ok id) ⊎ (result ≡ Err NoMemory)) × (last ≡ first) × (new ≡ old) × (after ≡ before)
+FindsPolicy gives port Auto first last old new before after result = AsksPolicy gives port first last old new before after result
+
+-- ---- the session
+
+-- the request id of the first call in a session: the OPN has 1, the calls that begin the session have 2 and 3, and one more where the
+-- server is asked for the token policy first
+abbrev pub first_call : TokenPolicy → ℕ
+first_call (Named id) = 4
+first_call Auto = 5
+
+-- the request id of the call behind a question; a question that was not asked took none
+abbrev pub handle_behind : ℕ → Result Reply AskFault → ℕ
+handle_behind handle (Ok reply) = handle + 1
+handle_behind handle (Err fault) = handle
+
+-- the session of a token is ended, by a CloseSession with this RequestHandle
+pub record EndsSession (token : NodeId) (handle : ℕ) (moment : DateTime) (old new : Client) (before after : LineState) (result : Result (Unit {0}) AskFault) : Type 0 where
+  pub called : Result Reply AskFault
+  pub calls : Calls (close_session token moment handle) old new before after called
+  pub expects : Expects called result
+
+-- a question was asked under the token of a session, with this RequestHandle, the reply printed, and the session ended, also behind a
+-- fault; each RequestHandle is the request id of its call
+pub record AsksUnder {M : Type 0} (gives : M → ℤ → M → Type 0) (style : LineStyle) (question : Question) (token : NodeId) (handle : ℕ) (first last : M) (old new : Client) (before after : LineState) (had have : List ℕ) (result : Result Verdict AskFault) : Type 0 where
+  pub asked_at : DateTime
+  pub behind : M
+  pub asking_given : gives first asked_at.ticks behind
+  pub called : Result Reply AskFault
+  pub asked : Client
+  pub answered : LineState
+  pub asks : Asks (request_of question token asked_at handle) old asked before answered called
+  pub printed : Result Verdict AskFault
+  pub prints : PrintsAnswers style question had have called printed
+  pub ended_at : DateTime
+  pub ending_given : gives behind ended_at.ticks last
+  pub ended : Result (Unit {0}) AskFault
+  pub ends : EndsSession token (handle_behind handle called) ended_at asked new answered after ended
+  pub result_is : result ≡ first_of printed ended
+
+-- a session was begun by the token policy with this PolicyId, a question asked in it, and the session ended; where none was begun that is
+-- told, and no line was added
+pub record AsksInSession {M : Type 0} (gives : M → ℤ → M → Type 0) (style : LineStyle) (question : Question) (policy_id : Option (List ℕ)) (handle : ℕ) (first last : M) (old new : Client) (before after : LineState) (had have : List ℕ) (result : Result Verdict AskFault) : Type 0 where
+  pub begun_at : DateTime
+  pub behind : M
+  pub given : gives first begun_at.ticks behind
+  pub begun : Result NodeId AskFault
+  pub client : Client
+  pub once_begun : LineState
+  pub begins : Begins policy_id begun_at old client before once_begun begun
+  pub further : MatchResult begun
+      (λ token. AsksUnder gives style question token handle behind last client new once_begun after had have result)
+      (λ fault. (result ≡ Err fault) × (last ≡ behind) × (new ≡ client) × (after ≡ once_begun) × (have ≡ had))
+
+-- the PolicyId was found, and a question asked in a session that is begun by it; where none was found that is told, and no line was added
+pub record AsksByPolicy {M : Type 0} (gives : M → ℤ → M → Type 0) (port : ℕ) (policy : TokenPolicy) (style : LineStyle) (question : Question) (first last : M) (old new : Client) (before after : LineState) (had have : List ℕ) (result : Result Verdict AskFault) : Type 0 where
+  pub found : Result (Option (List ℕ)) AskFault
+  pub behind : M
+  pub client : Client
+  pub once_found : LineState
+  pub finds : FindsPolicy gives port policy first behind old client before once_found found
+  pub further : MatchResult found
+      (λ policy_id. AsksInSession gives style question policy_id (first_call policy) behind last client new once_found after had have result)
+      (λ fault. (result ≡ Err fault) × (last ≡ behind) × (new ≡ client) × (after ≡ once_found) × (have ≡ had))
+
+-- a client was opened, asked a question in a session that is begun by a token policy, and closed
+abbrev pub RunsQuestion : {M : Type 0} → (M → ℤ → M → Type 0) → Limits → ℕ → TokenPolicy → LineStyle → Question → M → M → LineState → LineState → List ℕ → List ℕ → Result Verdict AskFault → Type 0
+RunsQuestion gives limits port policy style question first last before after had have result =
+    Runs gives limits port first last before after had have (λ x y m n s t printed. AsksByPolicy gives port policy style question m n x y s t had have printed) result

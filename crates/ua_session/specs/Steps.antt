@@ -1,0 +1,112 @@
+-- The steps of a conversation with a server, each a call of its client (`ua_client`), whose fault is told.
+use Rattle.std.specs.Prelude.{◌≡◌, ◌⊎◌, ℕ, ℤ, List, [], ◌∷◌, Some, Option, Result, Ok, Err, MatchResult}
+use Rattle.ua_builtin.specs.declared.date_time.DateTime.{DateTime}
+use Rattle.ua_builtin.specs.declared.node_id.NodeId.{NodeId}
+use Rattle.ua_client.specs.Calls.{CallsAll}
+use Rattle.ua_client.specs.Client.{Closes, IsDone, IsLeft, IsReady, OpensClient, OpensNothing, client_channel, connection_of}
+use Rattle.ua_client.specs.Session.{BeginsSessionAs}
+use Rattle.ua_client.specs.declared.client.Client.{Client}
+use Rattle.ua_client.specs.declared.fault.ClientFault.{ClientFault}
+use Rattle.ua_client.specs.declared.fault.ClientFault.TheVariants.{Closed}
+use Rattle.ua_client.specs.declared.reply.Reply.{Reply}
+use Rattle.ua_frame.specs.declared.limits.Limits.{Limits}
+use Rattle.ua_services.specs.SessionRequests.{local_url}
+use Rattle.ua_services.specs.declared.request.Request.{Request}
+use Rattle.ua_session.specs.Line.{FailsBy, LineState}
+use Rattle.ua_session.specs.Told.{of_client}
+use Rattle.ua_session.specs.declared.fault.AskFault.{AskFault}
+use Rattle.ua_session.specs.declared.fault.AskFault.TheVariants.{NoMemory}
+
+-- ---- what is told
+
+-- what a client answers, its fault as it is told
+abbrev pub told : {A : Type 0} → Result A ClientFault → Result A AskFault
+told (Ok found) = Ok found
+told (Err fault) = Err (of_client fault)
+
+-- the first fault of two results, or what the first one is where there is none; that memory ran out is told before any other fault, so that
+-- what was not done for want of it behind a fault is seen
+abbrev pub first_of : {A : Type 0} → Result A AskFault → Result (Unit {0}) AskFault → Result A AskFault
+first_of (Ok found) (Ok done) = Ok found
+first_of (Ok found) (Err fault) = Err fault
+first_of (Err fault) (Err NoMemory) = Err NoMemory
+first_of (Err fault) other = Err fault
+
+-- ---- opening
+
+-- an opening of a client to the server on a port of this machine, and what it answers
+pub record OpensAt (limits : Limits) (port : ℕ) (moment : DateTime) (before after : LineState) (result : Result Client AskFault) : Type 0 where
+  pub answer : Result Client ClientFault
+  pub opens : OpensNothing before.traffic after.traffic answer ⊎ OpensClient limits (Some (local_url port)) moment before.traffic after.traffic answer
+  pub fails : FailsBy answer before after
+  pub told_is : result ≡ told answer
+
+-- a client was opened to the server on a port of this machine, or it was not and this is told: memory ran out before anything was done, or
+-- what the client answers
+abbrev pub OpensPort : Limits → ℕ → DateTime → LineState → LineState → Result Client AskFault → Type 0
+OpensPort limits port moment before after result = ((result ≡ Err NoMemory) × (after ≡ before)) ⊎ OpensAt limits port moment before after result
+
+-- ---- calls
+
+-- a call of a client: one that may be called does this, and may be called again but for a fault after which it is done; one that is done
+-- answers `Closed` and changes nothing
+pub record CallsClient {A : Type 0} (Does : Result A ClientFault → Type 0) (old new : Client) (before after : LineState) (result : Result A AskFault) : Type 0 where
+  pub answer : Result A ClientFault
+  pub does : IsReady old → Does answer × IsLeft answer new
+  pub stays : IsDone old → (answer ≡ Err Closed) × (new ≡ old) × (after ≡ before)
+  pub fails : FailsBy answer before after
+  pub told_is : result ≡ told answer
+
+-- a request is called
+abbrev pub Calls : Request → Client → Client → LineState → LineState → Result Reply AskFault → Type 0
+Calls request old new before after result =
+    CallsClient (λ answer. CallsAll (λ reply. reply ∷ []) (request ∷ []) (connection_of old) (connection_of new) before.traffic after.traffic answer) old new before after result
+
+-- a request is called, or memory ran out before it was made, and nothing was done
+abbrev pub Asks : Request → Client → Client → LineState → LineState → Result Reply AskFault → Type 0
+Asks request old new before after result = ((result ≡ Err NoMemory) × (new ≡ old) × (after ≡ before)) ⊎ Calls request old new before after result
+
+-- a session is begun by the token policy with this PolicyId
+abbrev pub Begins : Option (List ℕ) → DateTime → Client → Client → LineState → LineState → Result NodeId AskFault → Type 0
+Begins policy_id moment old new before after result =
+    CallsClient (λ answer. BeginsSessionAs policy_id moment (connection_of old) (connection_of new) before.traffic after.traffic answer) old new before after result
+
+-- ---- closing
+
+-- a client is closed: one that may be called writes its CLO, one that is done answers `Closed` and changes nothing
+pub record ClosesClient (moment : DateTime) (client : Client) (before after : LineState) (result : Result (Unit {0}) AskFault) : Type 0 where
+  pub answer : Result (Unit {0}) ClientFault
+  pub closes : IsReady client → Closes moment (client_channel client) before.traffic after.traffic answer
+  pub stays : IsDone client → (answer ≡ Err Closed) × (after ≡ before)
+  pub fails : FailsBy answer before after
+  pub told_is : result ≡ told answer
+
+-- ---- a whole conversation
+
+-- something was asked of a client, of which this holds, and the client was closed behind it, also behind a fault; the first fault is told, or
+-- that memory ran out
+pub record Uses {A M : Type 0} (gives : M → ℤ → M → Type 0) (last : M) (after : LineState) (Asked : Client → M → LineState → Result A AskFault → Type 0) (result : Result A AskFault) : Type 0 where
+  pub asked : Client
+  pub behind : M
+  pub answered : LineState
+  pub printed : Result A AskFault
+  pub asks : Asked asked behind answered printed
+  pub closed_at : DateTime
+  pub given : gives behind closed_at.ticks last
+  pub closed : Result (Unit {0}) AskFault
+  pub closes : ClosesClient closed_at asked answered after closed
+  pub result_is : result ≡ first_of printed closed
+
+-- a client was opened to the server on a port of this machine, asked something, of which this holds, and closed, each step at the next
+-- moment; where none was opened that is told, and no line was added
+pub record Runs {A M : Type 0} (gives : M → ℤ → M → Type 0) (limits : Limits) (port : ℕ) (first last : M) (before after : LineState) (had have : List ℕ)
+    (Asked : Client → Client → M → M → LineState → LineState → Result A AskFault → Type 0) (result : Result A AskFault) : Type 0 where
+  pub opened_at : DateTime
+  pub behind : M
+  pub given : gives first opened_at.ticks behind
+  pub opened : Result Client AskFault
+  pub once_open : LineState
+  pub opens : OpensPort limits port opened_at before once_open opened
+  pub further : MatchResult opened
+      (λ client. IsReady client × Uses gives last after (λ asked later answered printed. Asked client asked behind later once_open answered printed) result)
+      (λ fault. (result ≡ Err fault) × (last ≡ behind) × (after ≡ once_open) × (have ≡ had))

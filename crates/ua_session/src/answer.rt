@@ -1,0 +1,54 @@
+//! What is made of replies.
+
+ghost use Rattle.std.specs.Prelude.{string_bytes};
+ghost use Rattle.ua_session.specs.Replies.{Expects, GivesResponse, PrintsEndpoints};
+
+use crate::fault::AskFault;
+use std::alloc::Global;
+use ua_client::Reply;
+use ua_services::Response;
+use ua_texts::{EndpointStyle, push_endpoints};
+
+/// The response that a reply is. That the server gave its answer up is a fault.
+pub fn response_of(called: Result<Reply, AskFault>) -> Result<Response, AskFault>
+    ensures { GivesResponse called result }
+{
+    match called {
+        Ok(Reply::Response(response)) => Ok(response),
+        Ok(Reply::Aborted(code)) => Err(AskFault::Service(code)),
+        Err(fault) => Err(fault),
+    }
+}
+
+/// Adds the lines of the endpoints in a reply, all or none, in this style.
+pub fn print_endpoints(
+    alloc: Global,
+    out: &mut String,
+    called: Result<Reply, AskFault>,
+    style: EndpointStyle,
+) -> Result<(), AskFault>
+    ensures { PrintsEndpoints style (string_bytes out.old) (string_bytes out.new) called result }
+{
+    let response = response_of(called)?;
+    let mut lines = String::new(alloc);
+    let pushed = push_endpoints(alloc, &mut lines, &response, style);
+    drop(response);
+    pushed?;
+    Ok(out.push_str(&lines)?)
+}
+
+/// Whether a reply says that the service is done.
+pub fn expect_done(called: Result<Reply, AskFault>) -> Result<(), AskFault>
+    ensures { Expects called result }
+{
+    let response = response_of(called)?;
+    let failure = match &response {
+        Response::ServiceFault(fault) => Some(fault.response_header.service_result),
+        _ => None,
+    };
+    drop(response);
+    match failure {
+        Some(code) => Err(AskFault::Service(code)),
+        None => Ok(()),
+    }
+}

@@ -1,0 +1,84 @@
+//! `ua endpoints`: the endpoints of a server.
+
+ghost use Rattle.std.specs.Prelude.{string_bytes, OnOk};
+ghost use Rattle.ua_session.specs.Endpoints.{AsksEndpoints, CallsEndpoints, RunsEndpoints};
+ghost use Rattle.ua_session.specs.Line.{LineFailed};
+ghost use Rattle.ua_session.specs.Printed.{AddsEndpoints, AddsOrNone, AreEndpointLines};
+
+use crate::answer::print_endpoints;
+use crate::fault::AskFault;
+use crate::step::{call, close, first_of, next_moment, open};
+use std::alloc::Global;
+use ua_builtin::DateTime;
+use ua_channel::{Line, Moments};
+use ua_client::{Client, Reply};
+use ua_frame::Limits;
+use ua_services::session_requests::{get_endpoints_request, local_url};
+use ua_texts::EndpointStyle;
+
+/// The request id of the first call of a client: its OPN has 1.
+const FIRST_CALL: u32 = 2;
+
+/// Calls GetEndpoints.
+pub fn call_endpoints<L: Line>(
+    alloc: Global,
+    line: &mut L,
+    client: &mut Client,
+    port: u16,
+    moment: DateTime,
+) -> Result<Reply, AskFault>
+    ensures { CallsEndpoints port moment client.old client.new (record { traffic = L.traffic line.old; failures = L.failures line.old }) (record { traffic = L.traffic line.new; failures = L.failures line.new }) result }
+{
+    let Ok(url) = local_url(alloc, port) else {
+        return Err(AskFault::NoMemory);
+    };
+    let request = get_endpoints_request(url, moment, FIRST_CALL);
+    call(line, client, request, moment)
+}
+
+/// Asks for the endpoints, and adds their lines.
+fn ask_endpoints<L: Line, M: Moments>(
+    alloc: Global,
+    line: &mut L,
+    client: &mut Client,
+    port: u16,
+    style: EndpointStyle,
+    moments: &mut M,
+    out: &mut String,
+) -> Result<(), AskFault>
+    ensures { AsksEndpoints M.gives port style moments.old moments.new client.old client.new (record { traffic = L.traffic line.old; failures = L.failures line.old }) (record { traffic = L.traffic line.new; failures = L.failures line.new }) (string_bytes out.old) (string_bytes out.new) result }
+{
+    let moment = next_moment(moments);
+    let called = call_endpoints(alloc, line, client, port, moment);
+    print_endpoints(alloc, out, called, style)
+}
+
+/// Asks the server at the other end of a line for its endpoints, and adds their lines in this style: as the server on
+/// a port of this machine, whose connection stands at its beginning. A client is opened, calls
+/// GetEndpoints without a session and is closed, also behind a fault after which it may go on; the
+/// first fault is told, or that memory ran out. Each of these steps has the next moment.
+pub fn endpoints_over<L: Line, M: Moments>(
+    alloc: Global,
+    line: &mut L,
+    limits: Limits,
+    port: u16,
+    style: EndpointStyle,
+    moments: &mut M,
+    out: &mut String,
+) -> Result<(), AskFault>
+    ensures runs { RunsEndpoints M.gives limits port style moments.old moments.new (record { traffic = L.traffic line.old; failures = L.failures line.old }) (record { traffic = L.traffic line.new; failures = L.failures line.new }) (string_bytes out.old) (string_bytes out.new) result }
+    ensures adds { AddsOrNone (AreEndpointLines style) (string_bytes out.old) (string_bytes out.new) }
+    ensures answered { OnOk result (AddsEndpoints style (string_bytes out.old) (string_bytes out.new)) }
+    ensures failed { LineFailed (L.failures line.old) result (L.failures line.new) }
+{
+    let opened_at = next_moment(moments);
+    match open(alloc, line, limits, port, opened_at) {
+        Ok(mut client) => {
+            let asked = ask_endpoints(alloc, line, &mut client, port, style, moments, out);
+            let closed_at = next_moment(moments);
+            let closed = close(line, client, closed_at);
+            first_of(asked, closed)
+        }
+        Err(fault) => Err(fault),
+    }
+}

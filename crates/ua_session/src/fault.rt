@@ -1,0 +1,123 @@
+//! Why a server gave no answers, and why words ask for nothing.
+
+use crate::fault_name::FaultName;
+use std::alloc::AllocError;
+use thiserror::Error;
+use ua_builtin::{StatusCode, TextFault};
+use ua_client::ClientFault;
+use ua_nodes::ValueFault;
+use ua_texts::AnswerFault;
+
+/// Why a server gave no answers, or why the client was not closed behind them.
+#[derive(Clone, Copy, PartialEq, Eq, Debug, Error)]
+pub enum AskFault {
+    /// A service failed, and why: the code of a ServiceFault, or of an answer that the server gave up.
+    #[error("service {code:08X}", code = .0.code)]
+    Service(StatusCode),
+    /// A connection came to nothing, and why.
+    #[error("connection {name}", name = FaultName(*.0))]
+    Connection(ClientFault),
+    /// No endpoint without security has a token policy for users without a name.
+    #[error("no anonymous policy")]
+    NoPolicy,
+    /// Memory was refused.
+    #[error("no memory")]
+    NoMemory,
+}
+
+impl From<ClientFault> for AskFault {
+    ghost use Rattle.std.specs.Prelude.{◌≡◌};
+    ghost use Rattle.ua_session.specs.Told.{of_client};
+
+    ghost from_gives = { λ client fault. fault ≡ of_client client };
+
+    fn from(fault: ClientFault) -> AskFault {
+        match fault {
+            ClientFault::Service(code) => AskFault::Service(code),
+            ClientFault::OutOfMemory => AskFault::NoMemory,
+            fault => AskFault::Connection(fault),
+        }
+    }
+}
+
+impl From<AnswerFault> for AskFault {
+    ghost use Rattle.std.specs.Prelude.{◌≡◌};
+    ghost use Rattle.ua_session.specs.Told.{of_answer};
+
+    ghost from_gives = { λ answer fault. fault ≡ of_answer answer };
+
+    fn from(fault: AnswerFault) -> AskFault {
+        match fault {
+            AnswerFault::Service(code) => AskFault::Service(code),
+            AnswerFault::Unknown => AskFault::Connection(ClientFault::UnknownResponse),
+            AnswerFault::OutOfMemory => AskFault::NoMemory,
+        }
+    }
+}
+
+impl From<AllocError> for AskFault {
+    ghost use Rattle.std.specs.Prelude.{◌≡◌};
+    ghost use Rattle.ua_session.specs.declared.fault.AskFault.TheVariants.{NoMemory};
+
+    ghost from_gives = { λ _ fault. fault ≡ NoMemory };
+
+    fn from(_: AllocError) -> AskFault {
+        AskFault::NoMemory
+    }
+}
+
+/// Why words are not read.
+#[derive(Clone, Copy, PartialEq, Eq, Debug, Error)]
+pub enum WordFault {
+    /// A word names no NodeId.
+    #[error("bad node")]
+    BadNode,
+    /// A word is no type, or another is no value of it.
+    #[error("bad value")]
+    BadValue,
+    /// A word names no index range.
+    #[error("bad range")]
+    BadRange,
+    /// Memory was refused.
+    #[error("no memory")]
+    NoMemory,
+}
+
+impl From<TextFault> for WordFault {
+    ghost use Rattle.std.specs.Prelude.{◌≡◌};
+    ghost use Rattle.ua_session.specs.Told.{of_text};
+
+    ghost from_gives = { λ text fault. fault ≡ of_text text };
+
+    fn from(fault: TextFault) -> WordFault {
+        match fault {
+            TextFault::NotNodeId => WordFault::BadNode,
+            TextFault::OutOfMemory => WordFault::NoMemory,
+        }
+    }
+}
+
+impl From<ValueFault> for WordFault {
+    ghost use Rattle.std.specs.Prelude.{◌≡◌};
+    ghost use Rattle.ua_session.specs.Told.{of_value};
+
+    ghost from_gives = { λ value fault. fault ≡ of_value value };
+
+    fn from(fault: ValueFault) -> WordFault {
+        match fault {
+            ValueFault::NotValue => WordFault::BadValue,
+            ValueFault::OutOfMemory => WordFault::NoMemory,
+        }
+    }
+}
+
+impl From<AllocError> for WordFault {
+    ghost use Rattle.std.specs.Prelude.{◌≡◌};
+    ghost use Rattle.ua_session.specs.declared.fault.WordFault.TheVariants.{NoMemory};
+
+    ghost from_gives = { λ _ fault. fault ≡ NoMemory };
+
+    fn from(_: AllocError) -> WordFault {
+        WordFault::NoMemory
+    }
+}

@@ -1,0 +1,11 @@
+//! Laws of what a script asks. Each is the contract of a function that does nothing.
+
+ghost use Rattle.std.specs.Prelude.{◌≡◌, Some};
+ghost use Rattle.ua_session.specs.Script.{given_token, token};
+ghost use Rattle.ua_nodes.specs.Table.{Nodes};
+
+/// The token that the requests of a script carry is the one that the server gives to its session,
+/// whatever the nodes.
+pub fn token_is_the_given_one()
+    ensures { (nodes : Nodes) → given_token nodes ≡ Some token }
+{}

@@ -1,0 +1,150 @@
+//! A script that is run over nodes.
+
+ghost use Rattle.std.specs.Prelude.{◌≡◌, string_bytes, IfOk, IfErr};
+ghost use Rattle.std.specs.List.{list_any};
+ghost use Rattle.ua_exchange.specs.Accepted.{AreAccepted};
+ghost use Rattle.ua_exchange.specs.Exchanged.{IsRefusedFor, down_octets};
+ghost use Rattle.ua_exchange.specs.Turns.{up_octets};
+ghost use Rattle.ua_session.specs.Conversed.{Converses};
+ghost use Rattle.ua_session.specs.ScriptFaults.{Stops, place_in};
+ghost use Rattle.ua_session.specs.ScriptPrinted.{AreLoopLines, told_fault, is_bad_reply, script_has_bad, script_told, text_of};
+ghost use Rattle.ua_session.specs.Script.{script_moment, script_turns as turns_of_script};
+ghost use Rattle.ua_nodes.specs.Sound.{IsSound};
+
+use crate::looping::fault::LoopFault;
+use crate::looping::printed::push_transcript;
+use crate::looping::script::{MOMENT, script_turns};
+use std::alloc::Global;
+use ua_exchange::{PairFault, Reply, Transcript, exchange};
+use ua_nodes::NodeTable;
+use ua_texts::{ScriptLine, has_bad_code};
+
+/// How many turns stand in front of those of the lines: they begin the session.
+const OPENING_TURNS: usize = 2;
+
+/// What came of a script.
+#[derive(Drop)]
+pub struct Looped {
+    /// The octets that the client wrote.
+    pub up: Vec<u8>,
+    /// The octets that the server wrote.
+    pub down: Vec<u8>,
+    /// What is printed: the answers in front of the first fault; without one all of them, and how
+    /// many octets went each way.
+    pub text: String,
+    /// The first fault among the replies, if there is one.
+    pub fault: Option<LoopFault>,
+    /// Whether any reply has a result with a bad code. Where there is no fault, each such result is
+    /// printed.
+    pub has_bad: bool,
+}
+
+/// The place of the turn that is blamed.
+fn turn_in(fault: PairFault) -> Option<usize>
+    ensures { result ≡ place_in fault }
+{
+    match fault {
+        PairFault::Request(index, _) => Some(index),
+        PairFault::NotWritable(index) => Some(index),
+        PairFault::OutOfMemory => None,
+    }
+}
+
+/// Why the turns of a script are not run.
+fn stopped_by(fault: PairFault, lines: &[ScriptLine]) -> LoopFault
+    ensures { IsRefusedFor (turns_of_script lines.now) fault → Stops lines.now result }
+{
+    let Some(index) = turn_in(fault) else {
+        return LoopFault::NoMemory;
+    };
+    match lines.get(index.saturating_sub(OPENING_TURNS)) {
+        Some(line) => LoopFault::ScriptLine(line.number),
+        None => LoopFault::Exhausted,
+    }
+}
+
+/// Lets a client ask what the lines ask for, each end taking what the other wrote in pieces of this
+/// many octets.
+fn converse(
+    alloc: Global,
+    nodes: NodeTable,
+    lines: &[ScriptLine],
+    cut: u16,
+) -> Result<Transcript, LoopFault>
+    requires sound { IsSound nodes }
+    ensures { Converses nodes lines.now result }
+{
+    let turns = script_turns(alloc, lines)?;
+    let cuts = [usize::from(cut)];
+    let conversed = exchange(alloc, nodes, &turns, &cuts, &cuts, MOMENT);
+    drop(turns);
+    match conversed {
+        Ok(transcript) => Ok(transcript),
+        Err(fault) => Err(stopped_by(fault, lines)),
+    }
+}
+
+/// Whether a reply has a result with a bad code.
+fn is_bad(reply: &Reply) -> bool
+    ensures { result ≡ is_bad_reply reply.now }
+{
+    match reply {
+        Reply::Response(response) => has_bad_code(response),
+        Reply::Aborted(_) => false,
+    }
+}
+
+/// Whether any of the replies has.
+fn are_bad(replies: &[Reply]) -> bool
+    ensures { result ≡ list_any is_bad_reply replies.now }
+{
+    for reply in replies {
+        if is_bad(reply) {
+            return true;
+        }
+    }
+    false
+}
+
+/// Lets a client ask what the lines of a script ask for of a server over these nodes, within one
+/// session, and gives what went over the line each way and what is printed of the replies. No clause
+/// mentions the cut: all is the same for each one.
+///
+/// The session is begun by CreateSession and ActivateSession, and ended by CloseSession behind the
+/// lines. All is said at the moment 1970-01-01 00:00 UTC, on channel 1, and the server's address is
+/// `opc.tcp://localhost:4840`. Each end takes what the other wrote in pieces of at most so many octets
+/// as `cut` says; 0 counts as 1. Where `names` says so, the names of status codes stand behind them.
+pub fn run_lines(
+    alloc: Global,
+    nodes: NodeTable,
+    lines: &[ScriptLine],
+    cut: u16,
+    names: bool,
+) -> Result<Looped, LoopFault>
+    requires sound { IsSound nodes }
+    ensures accepted { IfOk result (λ l. AreAccepted (turns_of_script lines.now)) }
+    ensures refused { IfErr result (λ fault. Stops lines.now fault) }
+    ensures up { IfOk result (λ l. l.up.items ≡ up_octets script_moment (turns_of_script lines.now)) }
+    ensures down { IfOk result (λ l. l.down.items ≡ down_octets nodes script_moment (turns_of_script lines.now)) }
+    ensures text { IfOk result (λ l. string_bytes l.text ≡ text_of (script_told names nodes lines.now)) }
+    ensures fault { IfOk result (λ l. l.fault ≡ told_fault (script_told names nodes lines.now)) }
+    ensures lines { IfOk result (λ l. AreLoopLines names (string_bytes l.text)) }
+    ensures bad { IfOk result (λ l. l.has_bad ≡ script_has_bad nodes lines.now) }
+{
+    let transcript = converse(alloc, nodes, lines, cut)?;
+    let mut text = String::new(alloc);
+    let fault = match push_transcript(alloc, &mut text, lines, &transcript, names) {
+        Ok(()) => None,
+        Err(LoopFault::NoMemory) => return Err(LoopFault::NoMemory),
+        Err(fault) => Some(fault),
+    };
+    let has_bad = are_bad(&transcript.replies);
+    let Transcript { up, down, .. } = transcript;
+    Ok(Looped {
+        up,
+        down,
+        text,
+        fault,
+        has_bad,
+    })
+}

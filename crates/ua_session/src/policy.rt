@@ -1,0 +1,126 @@
+//! By which token policy of a server a session is begun.
+
+ghost use Rattle.std.specs.Prelude.{◌≡◌, Ok, Some, option_map};
+ghost use Rattle.std.specs.List.{find};
+ghost use Rattle.ua_client.specs.declared.reply.Reply.TheVariants.{Response as Responds};
+ghost use Rattle.ua_session.specs.Policy.{ChoosesAmong, ChoosesBy, anonymous_id_in, chosen_id, is_anonymous, is_unsecured};
+
+use crate::answer::response_of;
+use crate::fault::AskFault;
+use ua_builtin::UaString;
+use ua_client::{ClientFault, Reply};
+use ua_services::Response;
+use ua_structures::{EndpointDescription, UserTokenPolicy};
+
+/// The URI of the security policy None.
+const NO_SECURITY: &str = "http://opcfoundation.org/UA/SecurityPolicy#None";
+
+/// The MessageSecurityMode None (OPC 10000-4, 7.20).
+const NO_SECURITY_MODE: i32 = 1;
+
+/// The UserTokenType Anonymous (OPC 10000-4, 7.43).
+const ANONYMOUS: i32 = 0;
+
+/// By which token policy for users without a name a session is begun.
+#[derive(Drop)]
+pub enum TokenPolicy {
+    /// The one with this PolicyId.
+    Named(UaString),
+    /// The first one of the first endpoint without security, for which the server is asked.
+    Auto,
+}
+
+fn is_unsecured(endpoint: &EndpointDescription) -> bool
+    ensures { result ≡ is_unsecured endpoint.now }
+{
+    endpoint.security_mode == NO_SECURITY_MODE
+        && match endpoint.security_policy_uri.as_str() {
+            Some(uri) => uri == NO_SECURITY,
+            None => false,
+        }
+}
+
+fn is_anonymous(policy: &UserTokenPolicy) -> bool
+    ensures { result ≡ is_anonymous policy.now }
+{
+    policy.token_type == ANONYMOUS
+}
+
+/// The first endpoint without security.
+fn find_unsecured(endpoints: &[EndpointDescription]) -> Option<&EndpointDescription>
+    ensures { option_map (λ endpoint. endpoint.now) result ≡ find is_unsecured endpoints.now }
+{
+    endpoints.iter().find(|endpoint| is_unsecured(endpoint))
+}
+
+/// The first anonymous token policy.
+fn find_anonymous(policies: &[UserTokenPolicy]) -> Option<&UserTokenPolicy>
+    ensures { option_map (λ policy. policy.now) result ≡ find is_anonymous policies.now }
+{
+    policies.iter().find(|policy| is_anonymous(policy))
+}
+
+/// The PolicyId of the first anonymous token policy of an endpoint.
+fn anonymous_id_in(endpoint: &EndpointDescription) -> Option<&UaString>
+    ensures { option_map (λ id. id.now) result ≡ anonymous_id_in (Some endpoint.now) }
+{
+    let policies = endpoint.user_identity_tokens.as_items().unwrap_or(&[]);
+    match find_anonymous(policies) {
+        Some(policy) => Some(&policy.policy_id),
+        None => None,
+    }
+}
+
+/// The PolicyId of the first anonymous token policy of the first endpoint with the security policy None
+/// and the mode None, 1; it may be null. `None` where there is no such endpoint, or it has no such policy.
+#[tactic(auto, unfolding(crate::specs::Policy::chosen_id))]
+pub fn chosen_id(endpoints: &[EndpointDescription]) -> Option<&UaString>
+    ensures { option_map (λ id. id.now) result ≡ chosen_id endpoints.now }
+{
+    match find_unsecured(endpoints) {
+        Some(endpoint) => anonymous_id_in(endpoint),
+        None => None,
+    }
+}
+
+/// The PolicyId that endpoints give.
+fn choose_among(endpoints: &[EndpointDescription]) -> Result<UaString, AskFault>
+    ensures { ChoosesAmong endpoints.now result }
+{
+    match chosen_id(endpoints) {
+        Some(id) => match id.try_clone() {
+            Ok(id) => Ok(id),
+            Err(_) => Err(AskFault::NoMemory),
+        },
+        None => Err(AskFault::NoPolicy),
+    }
+}
+
+/// The PolicyId that the endpoints in a response give.
+fn choose_in(response: &Response) -> Result<UaString, AskFault>
+    ensures { ChoosesBy (Ok (Responds response.now)) result }
+{
+    match response {
+        Response::GetEndpoints(message) => {
+            let endpoints = message.endpoints.as_items().unwrap_or(&[]);
+            choose_among(endpoints)
+        }
+        Response::ServiceFault(fault) => {
+            Err(AskFault::Service(fault.response_header.service_result))
+        }
+        _ => Err(AskFault::Connection(ClientFault::UnknownResponse)),
+    }
+}
+
+/// The PolicyId that a reply to GetEndpoints gives.
+pub fn choose_by(called: Result<Reply, AskFault>) -> Result<UaString, AskFault>
+    ensures { ChoosesBy called result }
+{
+    let response = match response_of(called) {
+        Ok(response) => response,
+        Err(fault) => return Err(fault),
+    };
+    let chosen = choose_in(&response);
+    drop(response);
+    chosen
+}

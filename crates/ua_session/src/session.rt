@@ -1,0 +1,224 @@
+//! `ua read` and `ua write`: what is asked in a session of its own.
+
+ghost use Rattle.std.specs.Prelude.{◌≡◌, ◌<◌, ◌^◌, string_bytes, OnOk};
+ghost use Rattle.ua_session.specs.Line.{LineFailed};
+ghost use Rattle.ua_session.specs.Printed.{AddsAnswers, AddsOrNone, AreAnswerLines};
+ghost use Rattle.ua_session.specs.Question.{request_of};
+ghost use Rattle.ua_session.specs.Session.{AsksByPolicy, AsksInSession, AsksUnder, EndsSession, FindsPolicy, RunsQuestion, first_call, handle_behind};
+ghost use Rattle.ua_session.specs.Steps.{Asks};
+
+use crate::answer::expect_done;
+use crate::endpoints::call_endpoints;
+use crate::fault::AskFault;
+use crate::policy::{TokenPolicy, choose_by};
+use crate::question::Question;
+use crate::step::{begin, call, close, first_of, next_moment, open};
+use crate::verdict::Verdict;
+use std::alloc::Global;
+use ua_builtin::{DateTime, NodeId, UaString};
+use ua_channel::{Line, Moments};
+use ua_client::{Client, Reply};
+use ua_frame::Limits;
+use ua_services::session_requests::close_session_request;
+use ua_texts::LineStyle;
+
+/// The PolicyId by which a session is to be begun; the server is asked for it where none is named.
+fn find_policy<L: Line, M: Moments>(
+    alloc: Global,
+    line: &mut L,
+    client: &mut Client,
+    port: u16,
+    policy: &TokenPolicy,
+    moments: &mut M,
+) -> Result<UaString, AskFault>
+    ensures { FindsPolicy M.gives port policy.now moments.old moments.new client.old client.new (record { traffic = L.traffic line.old; failures = L.failures line.old }) (record { traffic = L.traffic line.new; failures = L.failures line.new }) result }
+{
+    match policy {
+        TokenPolicy::Named(id) => match id.try_clone() {
+            Ok(id) => Ok(id),
+            Err(_) => Err(AskFault::NoMemory),
+        },
+        TokenPolicy::Auto => {
+            let moment = next_moment(moments);
+            let called = call_endpoints(alloc, line, client, port, moment);
+            choose_by(called)
+        }
+    }
+}
+
+/// The request id of the first call in a session: the OPN has 1, those that begin a session have 2 and
+/// 3, and one more where the server is asked for the token policy first.
+fn first_call(policy: &TokenPolicy) -> u32
+    ensures handle { result ≡ first_call policy.now }
+    ensures few { result < 2 ^ 31 }
+{
+    match policy {
+        TokenPolicy::Named(_) => 4,
+        TokenPolicy::Auto => 5,
+    }
+}
+
+/// Calls the request that asks a question under the token of a session, with this RequestHandle.
+fn call_question<L: Line>(
+    alloc: Global,
+    line: &mut L,
+    client: &mut Client,
+    question: &Question,
+    token: &NodeId,
+    handle: u32,
+    moment: DateTime,
+) -> Result<Reply, AskFault>
+    ensures { Asks (request_of question.now token.now moment handle) client.old client.new (record { traffic = L.traffic line.old; failures = L.failures line.old }) (record { traffic = L.traffic line.new; failures = L.failures line.new }) result }
+{
+    let Ok(token) = token.try_clone() else {
+        return Err(AskFault::NoMemory);
+    };
+    match question.request(alloc, token, moment, handle) {
+        Ok(request) => call(line, client, request, moment),
+        Err(_) => Err(AskFault::NoMemory),
+    }
+}
+
+/// The request id of the call behind a question: a question that was not asked took none.
+fn handle_behind(handle: u32, called: &Result<Reply, AskFault>) -> u32
+    requires few { handle < 2 ^ 31 }
+    ensures { result ≡ handle_behind handle called.now }
+{
+    match called {
+        Ok(_) => handle + 1,
+        Err(_) => handle,
+    }
+}
+
+/// Ends a session.
+fn end_session<L: Line>(
+    line: &mut L,
+    client: &mut Client,
+    token: NodeId,
+    handle: u32,
+    moment: DateTime,
+) -> Result<(), AskFault>
+    ensures { EndsSession token handle moment client.old client.new (record { traffic = L.traffic line.old; failures = L.failures line.old }) (record { traffic = L.traffic line.new; failures = L.failures line.new }) result }
+{
+    let request = close_session_request(token, moment, handle);
+    let called = call(line, client, request, moment);
+    expect_done(called)
+}
+
+/// Asks a question under the token of a session, adds the lines of the answers, and ends the session.
+fn ask_under<L: Line, M: Moments>(
+    alloc: Global,
+    line: &mut L,
+    client: &mut Client,
+    question: &Question,
+    style: LineStyle,
+    token: NodeId,
+    handle: u32,
+    moments: &mut M,
+    out: &mut String,
+) -> Result<Verdict, AskFault>
+    requires { handle < 2 ^ 31 }
+    ensures { AsksUnder M.gives style question.now token handle moments.old moments.new client.old client.new (record { traffic = L.traffic line.old; failures = L.failures line.old }) (record { traffic = L.traffic line.new; failures = L.failures line.new }) (string_bytes out.old) (string_bytes out.new) result }
+{
+    let asked_at = next_moment(moments);
+    let called = call_question(alloc, line, client, question, &token, handle, asked_at);
+    let behind = handle_behind(handle, &called);
+    let printed = question.print(alloc, out, called, style);
+    let ended_at = next_moment(moments);
+    let ended = end_session(line, client, token, behind, ended_at);
+    first_of(printed, ended)
+}
+
+/// Begins a session by the token policy with an id, asks a question in it, adds the lines of the
+/// answers, and ends the session.
+fn ask_in_session<L: Line, M: Moments>(
+    alloc: Global,
+    line: &mut L,
+    client: &mut Client,
+    question: &Question,
+    style: LineStyle,
+    policy_id: UaString,
+    handle: u32,
+    moments: &mut M,
+    out: &mut String,
+) -> Result<Verdict, AskFault>
+    requires { handle < 2 ^ 31 }
+    ensures { AsksInSession M.gives style question.now policy_id handle moments.old moments.new client.old client.new (record { traffic = L.traffic line.old; failures = L.failures line.old }) (record { traffic = L.traffic line.new; failures = L.failures line.new }) (string_bytes out.old) (string_bytes out.new) result }
+{
+    let begun_at = next_moment(moments);
+    match begin(line, client, policy_id, begun_at) {
+        Ok(token) => ask_under(
+            alloc, line, client, question, style, token, handle, moments, out,
+        ),
+        Err(fault) => Err(fault),
+    }
+}
+
+/// Finds the token policy, and asks a question in a session that is begun by it.
+fn ask_by_policy<L: Line, M: Moments>(
+    alloc: Global,
+    line: &mut L,
+    client: &mut Client,
+    port: u16,
+    question: &Question,
+    policy: &TokenPolicy,
+    style: LineStyle,
+    moments: &mut M,
+    out: &mut String,
+) -> Result<Verdict, AskFault>
+    ensures { AsksByPolicy M.gives port policy.now style question.now moments.old moments.new client.old client.new (record { traffic = L.traffic line.old; failures = L.failures line.old }) (record { traffic = L.traffic line.new; failures = L.failures line.new }) (string_bytes out.old) (string_bytes out.new) result }
+{
+    let found = find_policy(alloc, line, client, port, policy, moments);
+    let handle = first_call(policy);
+    match found {
+        Ok(id) => ask_in_session(
+            alloc, line, client, question, style, id, handle, moments, out,
+        ),
+        Err(fault) => Err(fault),
+    }
+}
+
+/// Asks the server at the other end of a line a question in a session of its own, and adds the lines
+/// of the answers in this style: as the server on a port of this machine, whose connection stands at its
+/// beginning. A client is opened, begins a session by this token policy, asks, ends the session and is
+/// closed, these two also behind a fault after which it may go on; the first fault is told, or that memory
+/// ran out. For [`TokenPolicy::Auto`] the client calls GetEndpoints before it begins the session; where the
+/// endpoints give no policy that is told as `NoPolicy`, and no session is begun. Each of these steps has the
+/// next moment.
+pub fn ask_over<L: Line, M: Moments>(
+    alloc: Global,
+    line: &mut L,
+    limits: Limits,
+    port: u16,
+    question: &Question,
+    policy: &TokenPolicy,
+    style: LineStyle,
+    moments: &mut M,
+    out: &mut String,
+) -> Result<Verdict, AskFault>
+    ensures runs { RunsQuestion M.gives limits port policy.now style question.now moments.old moments.new (record { traffic = L.traffic line.old; failures = L.failures line.old }) (record { traffic = L.traffic line.new; failures = L.failures line.new }) (string_bytes out.old) (string_bytes out.new) result }
+    ensures adds { AddsOrNone (AreAnswerLines style) (string_bytes out.old) (string_bytes out.new) }
+    ensures answered { OnOk result (AddsAnswers style (string_bytes out.old) (string_bytes out.new)) }
+    ensures failed { LineFailed (L.failures line.old) result (L.failures line.new) }
+{
+    let opened_at = next_moment(moments);
+    match open(alloc, line, limits, port, opened_at) {
+        Ok(mut client) => {
+            let asked = ask_by_policy(
+                alloc,
+                line,
+                &mut client,
+                port,
+                question,
+                policy,
+                style,
+                moments,
+                out,
+            );
+            let closed_at = next_moment(moments);
+            let closed = close(line, client, closed_at);
+            first_of(asked, closed)
+        }
+        Err(fault) => Err(fault),
+    }
+}

@@ -1,0 +1,98 @@
+//! The steps of a conversation with a server.
+
+ghost use Rattle.std.specs.Prelude.{◌≡◌, IfOk};
+ghost use Rattle.ua_client.specs.Client.{IsReady};
+ghost use Rattle.ua_session.specs.Steps.{Begins, Calls, ClosesClient, OpensPort, first_of, told};
+
+use crate::fault::AskFault;
+use std::alloc::Global;
+use ua_builtin::{DateTime, NodeId, UaString};
+use ua_channel::{Line, Moments};
+use ua_client::{Client, ClientFault, Reply};
+use ua_frame::Limits;
+use ua_services::Request;
+use ua_services::session_requests::local_url;
+
+/// The next moment.
+pub fn next_moment<M: Moments>(moments: &mut M) -> DateTime
+    ensures { M.gives moments.old result.ticks moments.new }
+{
+    DateTime {
+        ticks: moments.next(),
+    }
+}
+
+/// What a client answers, its fault as it is told.
+fn told<A: Drop>(answer: Result<A, ClientFault>) -> Result<A, AskFault>
+    ensures { result ≡ told answer }
+{
+    match answer {
+        Ok(found) => Ok(found),
+        Err(fault) => Err(AskFault::from(fault)),
+    }
+}
+
+/// The first of two faults, or what the first one found where there is none; that memory ran out is told
+/// before any other fault.
+pub fn first_of<A: Drop>(
+    first: Result<A, AskFault>,
+    second: Result<(), AskFault>,
+) -> Result<A, AskFault>
+    ensures { result ≡ first_of first second }
+{
+    match (first, second) {
+        (Ok(found), Ok(())) => Ok(found),
+        (Err(_), Err(AskFault::NoMemory)) => Err(AskFault::NoMemory),
+        (Ok(_), Err(fault)) | (Err(fault), _) => Err(fault),
+    }
+}
+
+/// Opens a client to the server on a port of this machine.
+pub fn open<L: Line>(
+    alloc: Global,
+    line: &mut L,
+    limits: Limits,
+    port: u16,
+    moment: DateTime,
+) -> Result<Client, AskFault>
+    ensures opens { OpensPort limits port moment (record { traffic = L.traffic line.old; failures = L.failures line.old }) (record { traffic = L.traffic line.new; failures = L.failures line.new }) result }
+    ensures ready { IfOk result (λ client. IsReady client) }
+{
+    let Ok(url) = local_url(alloc, port) else {
+        return Err(AskFault::NoMemory);
+    };
+    told(Client::open(alloc, line, limits, url, moment))
+}
+
+/// Begins a session by the token policy with an id.
+pub fn begin<L: Line>(
+    line: &mut L,
+    client: &mut Client,
+    policy_id: UaString,
+    moment: DateTime,
+) -> Result<NodeId, AskFault>
+    ensures { Begins policy_id moment client.old client.new (record { traffic = L.traffic line.old; failures = L.failures line.old }) (record { traffic = L.traffic line.new; failures = L.failures line.new }) result }
+{
+    told(client.begin_session_as(line, policy_id, moment))
+}
+
+/// Calls a request.
+pub fn call<L: Line>(
+    line: &mut L,
+    client: &mut Client,
+    request: Request,
+    moment: DateTime,
+) -> Result<Reply, AskFault>
+    ensures { Calls request client.old client.new (record { traffic = L.traffic line.old; failures = L.failures line.old }) (record { traffic = L.traffic line.new; failures = L.failures line.new }) result }
+{
+    let answer = client.call(line, &request, moment);
+    drop(request);
+    told(answer)
+}
+
+/// Closes a client, where it did not fail before.
+pub fn close<L: Line>(line: &mut L, mut client: Client, moment: DateTime) -> Result<(), AskFault>
+    ensures { ClosesClient moment client (record { traffic = L.traffic line.old; failures = L.failures line.old }) (record { traffic = L.traffic line.new; failures = L.failures line.new }) result }
+{
+    told(client.close(line, moment))
+}

@@ -1,0 +1,19 @@
+-- What holds of every format.
+use Rattle.std.specs.Prelude.{◌≡◌, ℕ, ◌≤◌, List, ◌++◌, length, IsTrue, Some}
+use Rattle.ua_wire.specs.Format.{Format}
+
+-- the canonical encoding of a value encodes it
+abbrev pub CanonicalEncodes : {A : Type 0} → Format A → Type 0
+CanonicalEncodes {A = A} format = (v : A) → IsTrue (format.encodable v) → format.encodes v (format.canonical v)
+
+-- no encoding begins another, and no octets encode two values
+abbrev pub EncodesOnce : {A : Type 0} → (A → List ℕ → Type 0) → Type 0
+EncodesOnce {A = A} encodes = (v w : A) (a c x y : List ℕ) → encodes v a → encodes w c → a ++ x ≡ c ++ y → (v ≡ w) × (a ≡ c)
+
+-- reading gives back the value that was written, whatever follows
+abbrev pub ReadsBack : {A : Type 0} → Format A → Type 0
+ReadsBack {A = A} format = (v : A) (rest : List ℕ) (levels : ℕ) → IsTrue (format.encodable v) → format.depth v ≤ levels → format.decode levels (format.canonical v ++ rest) ≡ Some (v, rest)
+
+-- a value is at most as many values as its encoding has octets
+abbrev pub CountsWithinOctets : {A : Type 0} → Format A → Type 0
+CountsWithinOctets {A = A} format = (v : A) (b : List ℕ) → format.encodes v b → format.count v ≤ length b
