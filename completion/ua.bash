@@ -1,0 +1,38 @@
+# Completion of the words of `ua` for bash; written by tools/write_pages.
+_ua() {
+    local word=${COMP_WORDS[COMP_CWORD]} before=${COMP_WORDS[COMP_CWORD - 1]} words= files= place=0 at
+    COMPREPLY=()
+    case $before in
+        --policy) words='anonymous auto' ;;
+        --connections) words='all' ;;
+        --attribute | --cut | --range) return ;;
+    esac
+    for ((at = 2; at < COMP_CWORD; at++)); do
+        case ${COMP_WORDS[at]} in
+        --attribute | --connections | --cut | --policy | --range) at=$((at + 1)) ;;
+        -*) ;;
+        *) place=$((place + 1)) ;;
+        esac
+    done
+    if [ -z "$words" ] && [ "$COMP_CWORD" = 1 ]; then
+        words='dissect serve endpoints read write loop version help --help'
+    elif [ -z "$words" ]; then
+        case ${COMP_WORDS[1]} in
+        dissect) words='--help --hex --server --fields --names --why'; files='0' ;;
+        serve) words='--help --connections --requests --why'; files='0' ;;
+        endpoints) words='--help --policies --json --why' ;;
+        read) words='--help --attribute --range --names --times --json --policy --strict --why' ;;
+        write) words='--help --names --json --policy --strict --why' ;;
+        loop) words='--help --cut --tcp --names --strict --why'; files='0 1' ;;
+        version) words='--help' ;;
+        help) words='dissect serve endpoints read write loop version help' ;;
+        esac
+    fi
+    if [[ " $files " == *" $place "* && $word != -* ]]; then
+        compopt -o filenames 2>/dev/null
+        mapfile -t COMPREPLY < <(compgen -f -- "$word")
+    else
+        mapfile -t COMPREPLY < <(compgen -W "$words" -- "$word")
+    fi
+}
+complete -F _ua ua
