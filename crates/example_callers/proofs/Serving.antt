@@ -11,7 +11,7 @@ use Rattle.ua_frame.proofs.Ends.{ends_stay}
 use Rattle.ua_channel.specs.ServerRules.{server_rules}
 use Rattle.ua_channel.specs.ServerStands.{IsDone, channel_of, limits_of}
 use Rattle.ua_channel.specs.ServerTold.{Told, Asked}
-use Rattle.ua_channel.proofs.ReadOn.{told_behind}
+use Rattle.ua_channel_laws.proofs.ReadOn.{told_behind}
 use Rattle.ua_server.specs.Reply.{answered}
 use Rattle.ua_server.specs.Said.{Course, first_of, left, left_by as course_by, with_more}
 use Rattle.ua_server.specs.Served.{channel_in}

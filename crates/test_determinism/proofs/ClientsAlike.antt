@@ -26,7 +26,7 @@ use Rattle.ua_channel.specs.declared.client.event.ClientEvent.{ClientEvent}
 use Rattle.ua_channel.specs.declared.client.event.ClientEvent.TheVariants.{NeedMore, Send, Open, Answered, Aborted, Failed, Renewed}
 use Rattle.ua_channel.specs.declared.client.fault.ClientTakeFault.{ClientTakeFault}
 use Rattle.ua_channel.specs.declared.client.fault.ClientTakeFault.TheVariants.{Closed, OutOfMemory}
-use Rattle.ua_channel.proofs.ClientReadings.{goes_behind}
+use Rattle.ua_channel_laws.proofs.ClientReadings.{goes_behind}
 use Rattle.test_determinism.specs.Clients.{ClientsAlike, SameClientEvent, SameClientAnswer, LeavesClients, LeftClients}
 use Rattle.test_determinism.specs.Pinned.{HadMemory}
 use Rattle.test_determinism.proofs.ServersAlike.{same_chunk, same_code, whole_taken}

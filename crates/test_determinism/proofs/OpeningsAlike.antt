@@ -13,7 +13,7 @@ use Rattle.ua_channel.specs.ClientTold.{ClientTold, Why, ours, peers}
 use Rattle.ua_channel.specs.ClientTold.ClientTold.{Agreed, Opened}
 use Rattle.ua_channel.specs.Line.{Traffic}
 use Rattle.ua_channel.specs.declared.client.channel.ClientChannel.{ClientChannel}
-use Rattle.ua_channel.proofs.ClientReadings.{goes_behind}
+use Rattle.ua_channel_laws.proofs.ClientReadings.{goes_behind}
 use Rattle.ua_client.specs.Client.{IsFresh, IsOver, OpensClient, OpensNothing, connection_of}
 use Rattle.ua_client.specs.Hearing.{BreaksOff, StopsAt, channel_of, most_reads, untaken_of}
 use Rattle.ua_client.specs.Opening.{BreaksWaiting, IsOpened, Opens, OpensAt, hello_octets, open_octets}

@@ -30,7 +30,7 @@ use Rattle.ua_channel.specs.declared.server_event.ServerEvent.TheVariants.{NeedM
 use Rattle.ua_channel.specs.declared.server_event.ServerEvent.TheVariants as event
 use Rattle.ua_channel.specs.declared.server_fault.ChannelFault.{ChannelFault}
 use Rattle.ua_channel.specs.declared.server_fault.ChannelFault.TheVariants.{Refused, Closed, OutOfMemory}
-use Rattle.ua_channel.proofs.ServerReadings.{goes_behind}
+use Rattle.ua_channel_laws.proofs.ServerReadings.{goes_behind}
 use Rattle.test_determinism.specs.Pinned.{HadMemory}
 use Rattle.test_determinism.specs.Servers.{ServersAlike, SameServerEvent, SameServerAnswer, LeavesServers, LeftServers}
 use Rattle.test_determinism.proofs.StreamsAlike.{Quiet, Tells, Lasts, Wrong, quiet_not_tells, quiet_not_lasts, quiet_not_wrong, wrong_not_tells, wrong_not_lasts, tells_as_last, one_tells, one_last, one_wrong, pushed}

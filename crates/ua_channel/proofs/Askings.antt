@@ -11,7 +11,6 @@ use Rattle.ua_chunk.specs.declared.chunk.Chunk.{Chunk}
 use Rattle.ua_chunk.specs.Gathered.{is_of, ends}
 use Rattle.ua_channel.specs.Asks.{Asking, Placed, id_of, call_in, renewal_in, calls, renewals, asked_before, asked_in, is_in, is_finished, pending_calls, pending_renewals, next_id}
 use Rattle.ua_channel.specs.Asks.Asking.{Call, Renewal}
-use Rattle.ua_channel.specs.Outgoing.{Outgoing, asks_at}
 use Rattle.ua_channel.specs.inside.ClientParts.{left_pending}
 
 -- ---- numbers that are counted on
@@ -179,13 +178,6 @@ pub next-append : (asks more : List Placed) → next_id (asked_in (asks ++ more)
 unfolding asked_in
 next-append asks more =
     omega (arith, ap length (asked_in-append asks more), length-append (asked_in asks) (asked_in more), length-map more (λ (a : Placed). a.1))
-
-length-asks : (place id : ℕ) (os : List Outgoing) → length (asks_at place id os) ≡ length os
-length-asks place id [] = refl
-length-asks place id (o ∷ os) = omega (arith, length-asks place (id + 1) os)
-
-pub next-asks : (asks : List Placed) (place id : ℕ) (os : List Outgoing) → next_id (asked_in (asks ++ asks_at place id os)) ≡ next_id (asked_in asks) + length os
-next-asks asks place id os = omega (arith, next-append asks (asks_at place id os), length-asks place id os)
 
 -- an ask at a place or behind it was not made before it
 pub asked_before-push : (place : ℕ) (asks : List Placed) (a : Placed) → place ≤ a.0 → asked_before place (asks ++ a ∷ []) ≡ asked_before place asks

@@ -56,14 +56,6 @@ opn_only size Opn h = refl
 opn_only size Clo h = absurd cc
 
 -- MSG and OPN, where a channel is open, but for a CLO
-pub running_only : (size : ℕ) (k : Kind) → IsTrue (lets_in (running_gate size) k) → (k ≡ Clo → ⊥) → (k ≡ Msg → ⊥) → (k ≡ Opn → ⊥) → ⊥
-running_only size Hel h clo msg opn = absurd cc
-running_only size kind.Ack h clo msg opn = absurd cc
-running_only size kind.Err h clo msg opn = absurd cc
-running_only size Msg h clo msg opn = msg refl
-running_only size Opn h clo msg opn = opn refl
-running_only size Clo h clo msg opn = clo refl
-
 -- what is known in the phase that was found
 pub was : (limits : Limits) (before : Received) (p q : Phase) → p ≡ q → InServerPhase limits p before → InServerPhase limits q before
 was limits before p q is h = subst (λ (r : Phase). InServerPhase limits r before) is h

@@ -1,13 +1,51 @@
 -- The octets of an OPN frame that are written one behind the other.
-use Rattle.std.proofs.Common.{◌≡◌, ℕ, ◌+◌, List, ◌∷◌, ◌++◌, sym, ◌∙◌, ap, arith, length, append_assoc}
+use Rattle.std.proofs.Common.{◌≡◌, ℕ, ◌+◌, List, ◌∷◌, ◌++◌, sym, ◌∙◌, ap, arith, length, append_assoc, Some, None, length-append}
 use Rattle.ua_wire.specs.Counted.{counted, null_count}
 use Rattle.ua_wire.specs.Number.{number_octets}
 use Rattle.ua_frame.specs.Frames.{frame_octets}
 use Rattle.ua_frame.specs.Kinds.{kind_octets}
 use Rattle.ua_frame.specs.declared.kind.Kind.TheVariants.{Opn}
-use Rattle.ua_chunk.specs.Opening.{none_policy}
+use Rattle.ua_chunk.specs.Opening.{none_policy, SecurityHeader, policy_header}
 use Rattle.ua_channel.specs.ServerSends.{opening_frame}
-use Rattle.ua_channel.proofs.Written.{opening_size}
+use Rattle.ua_chunk.specs.Layout.{sequence_header}
+use Rattle.ua_wire.proofs.NumbersRead.{length-number_octets}
+
+-- ---- what is in one
+
+-- the security header of the policy None on a channel
+abbrev pub none_header : ℕ → SecurityHeader
+none_header channel = (channel, (Some none_policy, (None, None)))
+
+-- the body of an OPN under it
+abbrev pub opening_body : ℕ → ℕ → ℕ → List ℕ → List ℕ
+opening_body channel number id octets = policy_header.canonical (none_header channel) ++ (sequence_header.canonical (number, id) ++ octets)
+
+-- the size of that
+pub opening_size : (channel number id : ℕ) (octets : List ℕ) → length (opening_body channel number id octets) ≡ 71 + length octets
+unfolding counted
+opening_size channel number id octets =
+    let a = number_octets 4 channel in
+    let b = number_octets 4 47 in
+    let d = number_octets 4 0xFFFF_FFFF in
+    let f = number_octets 4 number in
+    let g = number_octets 4 id in
+    omega (
+      arith,
+      length-append (a ++ ((b ++ none_policy) ++ (d ++ d))) ((f ++ g) ++ octets),
+      length-append a ((b ++ none_policy) ++ (d ++ d)),
+      length-append (b ++ none_policy) (d ++ d),
+      length-append b none_policy,
+      length-append d d,
+      length-append (f ++ g) octets,
+      length-append f g,
+      length-number_octets 4 channel,
+      length-number_octets 4 47,
+      length-number_octets 4 0xFFFF_FFFF,
+      length-number_octets 4 number,
+      length-number_octets 4 id,
+    )
+
+-- ---- its octets
 
 regrouped : (a b c d e f g body : List ℕ) → (a ++ ((b ++ c) ++ (d ++ e))) ++ ((f ++ g) ++ body) ≡ a ++ (b ++ (c ++ (d ++ (e ++ (f ++ (g ++ body))))))
 regrouped a b c d e f g body =

@@ -16,7 +16,6 @@ pub mod ServerRefusals
 pub mod ServerRules
 pub mod ServerSends
 pub mod ServerPlaces
-pub mod ServerMessages
 pub mod ServerStands
 pub mod ServerAnswers
 -- a client: what it asked; its tokens, its table of refusals and its rules; where it stands, what it sends and answers
@@ -28,22 +27,6 @@ pub mod ClientSends
 pub mod ClientAsks
 pub mod Client
 pub mod ClientAnswers
-pub mod Paired
--- What one end reads of what the other writes.
-pub mod ServerReads
-pub mod ClientReads
-pub mod AskedEarlier
-pub mod InStep
--- What a client sends from where it stands, and what a server answers to it, as lists.
-pub mod Outgoing
-pub mod Answers
-pub mod Rounds
-pub mod ExampleRounds
--- What a conversation is, in plain words.
-pub mod Conversation
-pub mod ClientConversation
--- Messages that come merged, with renewals among them, and where they leave an end that stood before them.
-pub mod Merges
 -- The line under a connection, and moments.
 pub mod Line
 pub mod MemoryLine

@@ -18,16 +18,10 @@
 #![tactic(auto)]
 
 mod agreement;
-pub mod asking_laws;
-pub mod both_ends;
 mod client;
-pub mod client_laws;
 mod end_core;
-pub mod group_laws;
-pub mod laws;
 mod line;
 mod memory_line;
-pub mod merge_laws;
 mod moments;
 mod numbers;
 mod running;

@@ -8,7 +8,7 @@ use Rattle.ua_chunk.specs.declared.lane.Lane.{Lane}
 use Rattle.ua_channel.specs.Asks.{Asking, Placed, asked_in, next_id}
 use Rattle.ua_channel.specs.Asks.Asking.{Call}
 use Rattle.ua_channel.specs.Client.{ClientStands, SameClient, InPhase, IsCall, client_limits, phase_of, client_next}
-use Rattle.ua_channel.specs.Outgoing.{call_octets, number_behind}
+use Rattle.ua_channel_laws.specs.Outgoing.{call_octets, number_behind}
 use Rattle.ua_channel.specs.Received.{Received, received}
 use Rattle.ua_channel.specs.declared.client.channel.ClientChannel.{ClientChannel}
 use Rattle.ua_channel.specs.declared.client.phase.Phase.{Phase}

@@ -5,9 +5,9 @@ use Rattle.ua_chunk.proofs.Lists.{filter_append}
 use Rattle.ua_services.specs.declared.request.Request.{Request}
 use Rattle.ua_channel.specs.Asks.{Placed}
 use Rattle.ua_channel.specs.Client.{client_limits}
-use Rattle.ua_channel.specs.ClientReads.{AtClient, ClientReads}
+use Rattle.ua_channel_laws.specs.ClientReads.{AtClient, ClientReads}
 use Rattle.ua_channel.specs.ClientTold.{ClientTold, told_item}
-use Rattle.ua_channel.specs.Paired.{delivered_under, first}
+use Rattle.ua_channel_laws.specs.Paired.{delivered_under, first}
 use Rattle.ua_channel.specs.Received.{listed, received}
 use Rattle.ua_channel.specs.declared.client.channel.ClientChannel.{ClientChannel}
 use Rattle.ua_client.specs.Calls.{Answered}

@@ -19,7 +19,7 @@ use Rattle.ua_channel.specs.Client.{ClientGoes, ClientGoesTelling, InPhase, clie
 use Rattle.ua_channel.specs.ClientTable.{client_rules}
 use Rattle.ua_channel.specs.ClientTold.{ClientTold, told_item}
 use Rattle.ua_channel.specs.ClientTold.ClientTold.{Agreed, Opened, Answered, GaveUp, Renewed}
-use Rattle.ua_channel.specs.Paired.{as_list, delivered_under, first, paired, told_of_calls, with_all, with_first}
+use Rattle.ua_channel_laws.specs.Paired.{as_list, delivered_under, first, paired, told_of_calls, with_all, with_first}
 use Rattle.ua_channel.specs.Received.{Received, listed, received}
 use Rattle.ua_channel.specs.declared.client.channel.ClientChannel.{ClientChannel}
 use Rattle.ua_channel.specs.declared.client.phase.Phase.{Phase}

@@ -26,12 +26,12 @@ use Rattle.ua_channel.specs.Asks.Asking.{Call, Renewal}
 use Rattle.ua_channel.specs.Client.{InPhase, IsNotOpen, client_limits, phase_of}
 use Rattle.ua_channel.specs.ClientAsks.{call_lane}
 use Rattle.ua_channel.specs.ClientTold.{ClientTold, told_item}
-use Rattle.ua_channel.specs.Paired.{delivered_under}
+use Rattle.ua_channel_laws.specs.Paired.{delivered_under}
 use Rattle.ua_channel.specs.Received.{Received}
 use Rattle.ua_channel.specs.declared.client.channel.ClientChannel.{ClientChannel}
 use Rattle.ua_channel.specs.declared.client.phase.Phase.{Phase}
 use Rattle.ua_channel.specs.declared.client.phase.Phase.TheVariants as phase
-use Rattle.ua_channel.proofs.Opened.{client_open}
+use Rattle.ua_channel_laws.proofs.Opened.{client_open}
 use Rattle.ua_client.specs.Calls.{Answered}
 use Rattle.ua_client.specs.Opening.{is_opened}
 use Rattle.ua_client.specs.Renewing.{IsSettled}

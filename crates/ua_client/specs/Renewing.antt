@@ -13,7 +13,7 @@ use Rattle.ua_channel.specs.ClientTokens.{held_tokens, opened_ids}
 use Rattle.ua_channel.specs.ClientTold.{ClientTold}
 use Rattle.ua_channel.specs.ClientTold.ClientTold.{Agreed, Opened, Answered, GaveUp, Renewed}
 use Rattle.ua_channel.specs.Line.{Traffic}
-use Rattle.ua_channel.specs.Outgoing.{renewal_by}
+use Rattle.ua_channel_laws.specs.Outgoing.{renewal_by}
 use Rattle.ua_channel.specs.Received.{latest}
 use Rattle.ua_channel.specs.declared.client.channel.ClientChannel.{ClientChannel}
 use Rattle.ua_channel.specs.declared.client.fault.AskFault.{AskFault}

@@ -8,8 +8,8 @@ use Rattle.ua_channel.specs.Asks.{Placed, asked_in, next_id}
 use Rattle.ua_channel.specs.Client.{ClientStands, client_next, ask_refusal}
 use Rattle.ua_channel.specs.ClientAsks.{is_too_large, reasons_of_body}
 use Rattle.ua_channel.specs.ClientTable.{of_ack}
-use Rattle.ua_channel.specs.Outgoing.{asks_at, outgoing_number, outgoing_octets}
-use Rattle.ua_channel.specs.Outgoing.Outgoing.{CallWith}
+use Rattle.ua_channel_laws.specs.Outgoing.{asks_at, outgoing_number, outgoing_octets}
+use Rattle.ua_channel_laws.specs.Outgoing.Outgoing.{CallWith}
 use Rattle.ua_channel.specs.Received.{received}
 use Rattle.ua_channel.specs.declared.client.channel.ClientChannel.{ClientChannel}
 use Rattle.ua_frame.specs.declared.ack.Ack.{Ack}

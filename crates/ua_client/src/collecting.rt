@@ -15,7 +15,7 @@ use crate::reply::{Reply, place_reply};
 use std::alloc::Global;
 use ua_builtin::DateTime;
 use ua_channel::Line;
-use ua_channel::client_laws::client_goes_on;
+use ua_channel_laws::client_laws::client_goes_on;
 use ua_services::Request;
 
 // What holds a reply is dropped by a call here and in `reply.rt`: dropped in place, each kind of reply

@@ -10,7 +10,7 @@ ghost use Rattle.ua_chunk.specs.declared.lane.Lane.{Lane};
 ghost use Rattle.ua_services.specs.declared.request.Request.{Request};
 ghost use Rattle.ua_channel.specs.Asks.{Placed, asked_in, next_id, pending_calls};
 ghost use Rattle.ua_channel.specs.Client.{ClientGoes, ClientGoesTelling, client_limits};
-ghost use Rattle.ua_channel.specs.ClientReads.{AtClient, ClientReads};
+ghost use Rattle.ua_channel_laws.specs.ClientReads.{AtClient, ClientReads};
 ghost use Rattle.ua_channel.specs.ClientTold.{ClientTold};
 ghost use Rattle.ua_channel.specs.declared.client.channel.ClientChannel.{ClientChannel};
 ghost use Rattle.ua_client.specs.Calls.{Answered, BreaksAt, asked_at};
@@ -24,8 +24,8 @@ ghost use Rattle.ua_client.specs.declared.connection.Connection.{Connection};
 ghost use Rattle.ua_client.specs.declared.fault.ClientFault.TheVariants.{Peer, Refused};
 ghost use Rattle.ua_client.specs.declared.reply.Reply.{Reply};
 
-use ua_channel::asking_laws::client_follows_asking;
-use ua_channel::client_laws::{client_goes_on, client_pairs, client_tells_delivered};
+use ua_channel_laws::asking_laws::client_follows_asking;
+use ua_channel_laws::client_laws::{client_goes_on, client_pairs, client_tells_delivered};
 
 /// What is told of a call is the first that is told of it.
 pub fn calls_are_told_once()

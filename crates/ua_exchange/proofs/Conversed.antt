@@ -5,7 +5,7 @@ use Rattle.std.proofs.lemmas.List.{take-append-drop}
 use Rattle.ua_builtin.specs.DateTime.{date_time}
 use Rattle.ua_builtin.specs.declared.date_time.DateTime.{DateTime}
 use Rattle.ua_frame.specs.Run.{Over}
-use Rattle.ua_channel.specs.ServerReads.{ServerCloses}
+use Rattle.ua_channel_laws.specs.ServerReads.{ServerCloses}
 use Rattle.ua_channel.specs.ServerTold.{Told}
 use Rattle.ua_channel.specs.declared.client.fault.AskFault.TheVariants.{TooManyTokens}
 use Rattle.ua_server.specs.Endpoint.{Fits}

@@ -13,13 +13,13 @@ use Rattle.ua_chunk.specs.Sequence.{next_number}
 use Rattle.ua_channel.specs.Asks.{Asking, Placed, asked_in, next_id, is_in}
 use Rattle.ua_channel.specs.Asks.Asking.{Call, Renewal}
 use Rattle.ua_channel.specs.ClientAsks.{most_tokens, no_id}
-use Rattle.ua_channel.specs.ClientReads.{AtClient, ClientReads, IsAnswered, IsLaneBack, opened_at, with_answer, with_call, with_renewal, with_reply, without_id}
+use Rattle.ua_channel_laws.specs.ClientReads.{AtClient, ClientReads, IsAnswered, IsLaneBack, opened_at, with_answer, with_call, with_renewal, with_reply, without_id}
 use Rattle.ua_channel.specs.ClientSends.{token_lifetime}
 use Rattle.ua_channel.specs.ClientTold.{ClientTold as Heard, ClientTold as heard}
 use Rattle.ua_channel.specs.Received.{latest}
 use Rattle.ua_channel.specs.ServerSends.{opened_frame, replied}
 use Rattle.ua_channel.proofs.Askings.{all-push, all-weaken, asked_in-push}
-use Rattle.ua_channel.proofs.ClientReading.{reads_call, reads_renewal, reads_replied, reads_renewed}
+use Rattle.ua_channel_laws.proofs.ClientReading.{reads_call, reads_renewal, reads_replied, reads_renewed}
 use Rattle.ua_services.proofs.Lengths.{response_takes_some}
 use Rattle.ua_services.specs.Request.{request}
 use Rattle.ua_services.specs.Response.{response}

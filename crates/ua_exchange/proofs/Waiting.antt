@@ -3,7 +3,7 @@ use Rattle.std.proofs.Common.{◌≡◌, ℕ, suc, ◌+◌, ◌<◌, Bool, true,
 use Rattle.std.specs.Prelude.{if◌then◌else◌}
 use Rattle.std.proofs.lemmas.Bool.{eq-eqb, ne_eqb}
 use Rattle.ua_channel.specs.Asks.{is_in}
-use Rattle.ua_channel.specs.ClientReads.{without_id}
+use Rattle.ua_channel_laws.specs.ClientReads.{without_id}
 use Rattle.ua_services.specs.declared.request.Request.{Request}
 use Rattle.ua_exchange.specs.declared.turn.Turn.{Turn}
 use Rattle.ua_exchange.specs.declared.turn.Turn.TheVariants.{Ask, Renew}

@@ -8,7 +8,7 @@ use Rattle.ua_frame.specs.declared.limits.Limits.{Limits}
 use Rattle.ua_chunk.specs.Cutting.{cut_refusal}
 use Rattle.ua_channel.specs.Asks.{Asking, Placed}
 use Rattle.ua_channel.specs.Asks.Asking.{Call, Renewal}
-use Rattle.ua_channel.specs.ClientReads.{told_reply}
+use Rattle.ua_channel_laws.specs.ClientReads.{told_reply}
 use Rattle.ua_channel.specs.ClientTable.{client_rules}
 use Rattle.ua_channel.specs.ClientTold.{ClientTold as Heard, ClientTold as heard}
 use Rattle.ua_services.specs.Response.{response}

@@ -1,7 +1,7 @@
 //! A client and a server that run through turns.
 
 ghost use Rattle.std.specs.Prelude.{◌≡◌, IfOk, IfErr, map, Some};
-ghost use Rattle.ua_channel.specs.ServerReads.{ServerCloses};
+ghost use Rattle.ua_channel_laws.specs.ServerReads.{ServerCloses};
 ghost use Rattle.ua_nodes.specs.Sound.{IsSound};
 ghost use Rattle.ua_server.specs.declared.step.End.TheVariants.{Closed};
 ghost use Rattle.ua_exchange.specs.Accepted.{AreAccepted};

@@ -10,7 +10,7 @@ ghost use Rattle.ua_frame.specs.declared.frame.Frame.{Frame};
 ghost use Rattle.ua_channel.specs.Asks.{Placed};
 ghost use Rattle.ua_channel.specs.Client.{ClientStands, client_bound_behind, held_octets, client_limits};
 ghost use Rattle.ua_channel.specs.Received.{received};
-ghost use Rattle.ua_channel.specs.ServerReads.{ServerCloses};
+ghost use Rattle.ua_channel_laws.specs.ServerReads.{ServerCloses};
 ghost use Rattle.ua_channel.specs.ServerStands.{Stands as ServerStands, bound_after, held_after, limits_of as server_limits};
 ghost use Rattle.ua_server.specs.Served.{channel_in};
 ghost use Rattle.ua_server.specs.State.{State};

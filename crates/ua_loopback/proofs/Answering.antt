@@ -13,15 +13,15 @@ use Rattle.ua_chunk.specs.declared.lane.Lane.{Lane}
 use Rattle.ua_channel.specs.Agreement.{Agreement, agreement_of, lane_of}
 use Rattle.ua_channel.specs.Asks.{Placed, asked_in, is_in, next_id}
 use Rattle.ua_channel.specs.Asks.Asking.{Call}
-use Rattle.ua_channel.specs.ClientReads.{AtClient, ClientReads, IsLaneBack, lane_from, told_reply, with_call, with_reply, without_id}
+use Rattle.ua_channel_laws.specs.ClientReads.{AtClient, ClientReads, IsLaneBack, lane_from, told_reply, with_call, with_reply, without_id}
 use Rattle.ua_channel.specs.ClientTokens.{from_last}
 use Rattle.ua_channel.specs.ClientTold.{ClientTold as Heard}
-use Rattle.ua_channel.specs.InStep.{AreInStep}
+use Rattle.ua_channel_laws.specs.InStep.{AreInStep}
 use Rattle.ua_channel.specs.Received.{latest}
-use Rattle.ua_channel.specs.ServerReads.{AtServer, with_message}
+use Rattle.ua_channel_laws.specs.ServerReads.{AtServer, with_message}
 use Rattle.ua_channel.specs.ServerSends.{replied}
-use Rattle.ua_channel.proofs.ClientReading.{reads_call, reads_replied}
-use Rattle.ua_channel.proofs.InStep.{in_more, in_step_call, in_step_reply, lane_from_server}
+use Rattle.ua_channel_laws.proofs.ClientReading.{reads_call, reads_replied}
+use Rattle.ua_channel_laws.proofs.InStep.{in_more, in_step_call, in_step_reply, lane_from_server}
 use Rattle.ua_services.proofs.Lengths.{response_takes_some}
 use Rattle.ua_services.specs.Response.{response}
 use Rattle.ua_services.specs.declared.response.Response.{Response}

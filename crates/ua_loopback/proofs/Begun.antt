@@ -18,19 +18,19 @@ use Rattle.ua_structures.specs.SecureChannel.{open_response}
 use Rattle.ua_frame.proofs.Afters.{AllAfter-nil}
 use Rattle.ua_channel.specs.Asks.{Placed, asked_in, next_id}
 use Rattle.ua_channel.specs.Client.{client_limits, client_rules_of, url_of}
-use Rattle.ua_channel.specs.ClientReads.{ClientAgrees, ClientReads, opened_at}
+use Rattle.ua_channel_laws.specs.ClientReads.{ClientAgrees, ClientReads, opened_at}
 use Rattle.ua_channel.specs.ClientSends.{hello_to}
 use Rattle.ua_channel.specs.ClientTable.{client_rules}
 use Rattle.ua_channel.specs.ClientTold.{ClientTold as Heard, ClientTold as heard}
 use Rattle.ua_channel.specs.Line.{Traffic, WhereTold}
-use Rattle.ua_channel.specs.ServerReads.{greeted_at, with_token}
+use Rattle.ua_channel_laws.specs.ServerReads.{greeted_at, with_token}
 use Rattle.ua_channel.specs.ServerSends.{opened_frame}
 use Rattle.ua_channel.specs.ServerTold.{Told}
 use Rattle.ua_channel.specs.Agreement.{agreement_of}
 use Rattle.ua_channel.specs.declared.client.channel.ClientChannel.{ClientChannel}
-use Rattle.ua_channel.proofs.ClientReading.{reads_ack}
-use Rattle.ua_channel.proofs.ReadOn.{begins_run, events_on, one_octets, told_behind}
-use Rattle.ua_channel.proofs.Written.{opening_size}
+use Rattle.ua_channel_laws.proofs.ClientReading.{reads_ack}
+use Rattle.ua_channel_laws.proofs.ReadOn.{begins_run, events_on, one_octets, told_behind}
+use Rattle.ua_channel.proofs.OpeningFrames.{opening_size}
 use Rattle.ua_client.specs.Carried.{Carries}
 use Rattle.ua_client.specs.Client.{IsReady, OpensClient, connection_of}
 use Rattle.ua_client.specs.Hearing.{channel_of, untaken_of}

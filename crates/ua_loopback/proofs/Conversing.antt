@@ -13,12 +13,12 @@ use Rattle.ua_frame.specs.declared.limits.Limits.{Limits}
 use Rattle.ua_chunk.specs.Sequence.{next_number}
 use Rattle.ua_chunk.specs.declared.lane.Lane.{Lane}
 use Rattle.ua_channel.specs.ClientAsks.{call_lane, most_tokens, no_id}
-use Rattle.ua_channel.specs.ClientReads.{AtClient}
+use Rattle.ua_channel_laws.specs.ClientReads.{AtClient}
 use Rattle.ua_channel.specs.ClientSends.{close_frame, hello_to, renewal_frame}
-use Rattle.ua_channel.specs.InStep.{AreInStep}
-use Rattle.ua_channel.specs.ServerReads.{AtServer, ServerCloses, ServerReads, greeted_at, with_message, with_token}
+use Rattle.ua_channel_laws.specs.InStep.{AreInStep}
+use Rattle.ua_channel_laws.specs.ServerReads.{AtServer, ServerCloses, ServerReads, greeted_at, with_message, with_token}
 use Rattle.ua_channel.specs.ServerTold.{Told, Opened, Closed}
-use Rattle.ua_channel.proofs.ServerReading.{reads_close, reads_renewal}
+use Rattle.ua_channel_laws.proofs.ServerReading.{reads_close, reads_renewal}
 use Rattle.ua_services.specs.declared.request.Request.{Request}
 use Rattle.ua_client.specs.Sent.{bodies_of, calls_octets, numbers_behind}
 use Rattle.ua_loopback.specs.Accepted.{AreAccepted, IsAccepted, acknowledged, tokens_held, turn_reasons}

@@ -23,15 +23,15 @@ use Rattle.ua_chunk.specs.declared.lane.Lane.{Lane}
 use Rattle.ua_chunk.proofs.Fresh.{some_pieces}
 use Rattle.ua_chunk.proofs.Lists.{map_push}
 use Rattle.ua_channel.specs.Asks.{Placed}
-use Rattle.ua_channel.specs.ClientReads.{AtClient, ClientReads, IsLaneBack}
+use Rattle.ua_channel_laws.specs.ClientReads.{AtClient, ClientReads, IsLaneBack}
 use Rattle.ua_channel.specs.ClientTable.{client_rules}
 use Rattle.ua_channel.specs.ClientTold.{ClientTold}
 use Rattle.ua_channel.specs.Content.{content}
 use Rattle.ua_channel.specs.Content.Content.{Sends}
 use Rattle.ua_channel.specs.ServerSends.{replied, replied_by}
 use Rattle.ua_channel.proofs.AskedLater.{frames_octets-append}
-use Rattle.ua_channel.proofs.ReadOn.{begins_run, one_octets}
-use Rattle.ua_channel.proofs.Written.{IsNumbered, IsOf, chunk_carried, chunk_size, chunks_are}
+use Rattle.ua_channel_laws.proofs.ReadOn.{begins_run, one_octets}
+use Rattle.ua_channel_laws.proofs.Written.{IsNumbered, IsOf, chunk_carried, chunk_size, chunks_are}
 
 -- ---- frames, by their octets
 

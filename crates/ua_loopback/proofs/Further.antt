@@ -5,7 +5,7 @@ use Rattle.ua_frame.specs.After.{AllFrom, AllAfter}
 use Rattle.ua_frame.specs.Frames.{frames_octets}
 use Rattle.ua_frame.specs.Run.{Rules, Fits, End, Going, Stopped, Over, EndsIn, Run}
 use Rattle.ua_channel.proofs.AskedLater.{frames_octets-append}
-use Rattle.ua_channel.proofs.ReadOn.{all_append}
+use Rattle.ua_channel_laws.proofs.ReadOn.{all_append}
 
 -- the rules behind frames
 abbrev pub behind : {E X : Type 0} → Rules E X → List Frame → Rules E X

@@ -11,16 +11,16 @@ use Rattle.ua_chunk.specs.Sequence.{next_number}
 use Rattle.ua_channel.specs.Agreement.{Agreement, agreement_of}
 use Rattle.ua_channel.specs.Asks.{Placed}
 use Rattle.ua_channel.specs.Client.{client_limits, client_next}
-use Rattle.ua_channel.specs.ClientReads.{ClientReads, opened_at}
+use Rattle.ua_channel_laws.specs.ClientReads.{ClientReads, opened_at}
 use Rattle.ua_channel.specs.ClientSends.{hello_to}
 use Rattle.ua_channel.specs.ClientTold.{ClientTold as Heard, ClientTold as heard}
-use Rattle.ua_channel.specs.ServerReads.{greeted_at, with_token}
+use Rattle.ua_channel_laws.specs.ServerReads.{greeted_at, with_token}
 use Rattle.ua_channel.specs.ServerSends.{opened_frame}
 use Rattle.ua_channel.specs.ServerTold.{Told, Agreed, Opened}
 use Rattle.ua_channel.specs.declared.client.channel.ClientChannel.{ClientChannel}
-use Rattle.ua_channel.proofs.ClientReading.{reads_ack, reads_opened}
-use Rattle.ua_channel.proofs.Following.{client_told}
-use Rattle.ua_channel.proofs.InStep.{in_step_opened}
+use Rattle.ua_channel_laws.proofs.ClientReading.{reads_ack, reads_opened}
+use Rattle.ua_channel_laws.proofs.Following.{client_told}
+use Rattle.ua_channel_laws.proofs.InStep.{in_step_opened}
 use Rattle.ua_server.specs.Said.{left, said}
 use Rattle.ua_client.specs.Site.{Site, At}
 use Rattle.ua_loopback.specs.Beginning.{Beginning}

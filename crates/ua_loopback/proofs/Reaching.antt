@@ -17,18 +17,18 @@ use Rattle.ua_chunk.specs.declared.lane.Lane.{Lane}
 use Rattle.ua_channel.specs.Agreement.{agreement_of}
 use Rattle.ua_channel.specs.Client.{client_limits, client_rules_of}
 use Rattle.ua_channel.specs.ClientAsks.{is_too_large, most_tokens, no_id}
-use Rattle.ua_channel.specs.ClientReads.{AtClient, ClientReads, lane_from}
+use Rattle.ua_channel_laws.specs.ClientReads.{AtClient, ClientReads, lane_from}
 use Rattle.ua_channel.specs.ClientSends.{close_frame, hello_frame, hello_to, renewal_frame}
 use Rattle.ua_channel.specs.ClientTokens.{channel_in, held_tokens, responses}
-use Rattle.ua_channel.specs.InStep.{AreInStep}
-use Rattle.ua_channel.specs.Outgoing.{renewal_by}
-use Rattle.ua_channel.specs.Outgoing.Outgoing.{CallWith}
+use Rattle.ua_channel_laws.specs.InStep.{AreInStep}
+use Rattle.ua_channel_laws.specs.Outgoing.{renewal_by}
+use Rattle.ua_channel_laws.specs.Outgoing.Outgoing.{CallWith}
 use Rattle.ua_channel.specs.Received.{Received, latest, received}
-use Rattle.ua_channel.specs.ServerReads.{AtServer, ServerCloses, ServerReads, greeted_at, with_message, with_token}
+use Rattle.ua_channel_laws.specs.ServerReads.{AtServer, ServerCloses, ServerReads, greeted_at, with_message, with_token}
 use Rattle.ua_channel.specs.ServerTold.{Told, Agreed, Opened, Closed}
 use Rattle.ua_channel.specs.declared.client.channel.ClientChannel.{ClientChannel}
-use Rattle.ua_channel.proofs.Groups.{AreSendable, none_issued, none_told, reads_sendable}
-use Rattle.ua_channel.proofs.ServerReading.{reads_close, reads_first, reads_hello, reads_renewal}
+use Rattle.ua_channel_laws.proofs.Groups.{AreSendable, none_issued, none_told, reads_sendable}
+use Rattle.ua_channel_laws.proofs.ServerReading.{reads_close, reads_first, reads_hello, reads_renewal}
 use Rattle.ua_services.proofs.RequestLawful.{lawful_request}
 use Rattle.ua_services.specs.Request.{request}
 use Rattle.ua_services.specs.declared.request.Request.{Request}

@@ -37,7 +37,7 @@ use Rattle.ua_channel.specs.declared.client.channel.ClientChannel.{ClientChannel
 use Rattle.ua_channel.proofs.Carried.{content_hel}
 use Rattle.ua_channel.proofs.ClientFrames.{hello_length, url_short}
 use Rattle.ua_channel.proofs.OneFrameMore.{received-nil}
-use Rattle.ua_channel.proofs.ReadOn.{no_events}
+use Rattle.ua_channel_laws.proofs.ReadOn.{no_events}
 use Rattle.ua_server.specs.Said.{said}
 use Rattle.ua_client.specs.Opening.{IsOpened, open_octets}
 use Rattle.ua_loopback.specs.Beginning.{Beginning}

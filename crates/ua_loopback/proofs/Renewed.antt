@@ -18,21 +18,21 @@ use Rattle.ua_structures.specs.SecureChannel.{open_response}
 use Rattle.ua_channel.specs.Asks.{Placed, asked_in, is_in, next_id, pending_renewals, renewals}
 use Rattle.ua_channel.specs.Asks.Asking.{Renewal}
 use Rattle.ua_channel.specs.Client.{client_limits, client_rules_of}
-use Rattle.ua_channel.specs.ClientReads.{AtClient, ClientReads, IsAnswered, with_answer, with_renewal}
+use Rattle.ua_channel_laws.specs.ClientReads.{AtClient, ClientReads, IsAnswered, with_answer, with_renewal}
 use Rattle.ua_channel.specs.ClientTable.{client_rules}
 use Rattle.ua_channel.specs.ClientTokens.{opened_ids}
 use Rattle.ua_channel.specs.ClientTold.{ClientTold as Heard, ClientTold as heard, Why}
-use Rattle.ua_channel.specs.InStep.{AreInStep}
+use Rattle.ua_channel_laws.specs.InStep.{AreInStep}
 use Rattle.ua_channel.specs.Received.{received}
-use Rattle.ua_channel.specs.ServerReads.{AtServer, ServerReads, with_token}
+use Rattle.ua_channel_laws.specs.ServerReads.{AtServer, ServerReads, with_token}
 use Rattle.ua_channel.specs.ServerSends.{opened_frame}
 use Rattle.ua_channel.specs.ServerTold.{Told, Opened}
 use Rattle.ua_channel.specs.declared.client.channel.ClientChannel.{ClientChannel}
 use Rattle.ua_channel.proofs.Askings.{asked_in-push, all-push, all-weaken}
-use Rattle.ua_channel.proofs.ClientReading.{reads_renewal, reads_renewed}
-use Rattle.ua_channel.proofs.Following.{client_told}
-use Rattle.ua_channel.proofs.InStep.{in_step_answer, in_step_renewal}
-use Rattle.ua_channel.proofs.Written.{opening_size}
+use Rattle.ua_channel_laws.proofs.ClientReading.{reads_renewal, reads_renewed}
+use Rattle.ua_channel_laws.proofs.Following.{client_told}
+use Rattle.ua_channel_laws.proofs.InStep.{in_step_answer, in_step_renewal}
+use Rattle.ua_channel.proofs.OpeningFrames.{opening_size}
 use Rattle.ua_server.specs.Said.{Course, left, left_by, said_of}
 use Rattle.ua_server.proofs.SaidInParts.{course}
 use Rattle.ua_client.specs.Renewing.{IsRenewed, IsSettled, asks_renewed, is_renewed, renewal_at, renewal_refusal}

@@ -11,7 +11,7 @@ use Rattle.ua_chunk.proofs.Lists.{filter_append}
 use Rattle.ua_chunk.specs.Cutting.{cut_refusal}
 use Rattle.ua_chunk.specs.declared.fault.CutFault.{CutFault}
 use Rattle.ua_chunk.specs.declared.lane.Lane.{Lane}
-use Rattle.ua_channel.specs.ClientReads.{told_reply}
+use Rattle.ua_channel_laws.specs.ClientReads.{told_reply}
 use Rattle.ua_channel.specs.ClientTold.{ClientTold as Heard, ClientTold as heard}
 use Rattle.ua_channel.specs.ServerTold.{Told, Agreed, Opened, Asked, GaveUp, Closed}
 use Rattle.ua_services.proofs.BodyLaws.{body_reads_back}

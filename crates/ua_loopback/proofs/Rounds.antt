@@ -16,13 +16,13 @@ use Rattle.ua_channel.specs.ClientAsks.{call_lane}
 use Rattle.ua_channel.specs.Asks.{Placed, asked_in, next_id}
 use Rattle.ua_channel.specs.Asks.Asking.{Renewal}
 use Rattle.ua_channel.specs.Client.{client_limits}
-use Rattle.ua_channel.specs.ClientReads.{AtClient, ClientReads, lane_from, with_answer, with_renewal}
+use Rattle.ua_channel_laws.specs.ClientReads.{AtClient, ClientReads, lane_from, with_answer, with_renewal}
 use Rattle.ua_channel.specs.ClientTokens.{held_tokens}
 use Rattle.ua_channel.specs.ClientSends.{hello_to}
 use Rattle.ua_channel.specs.Agreement.{agreement_of, lane_of}
-use Rattle.ua_channel.specs.InStep.{AreInStep}
-use Rattle.ua_channel.specs.Outgoing.{call_octets, number_behind}
-use Rattle.ua_channel.specs.ServerReads.{AtServer, with_token}
+use Rattle.ua_channel_laws.specs.InStep.{AreInStep}
+use Rattle.ua_channel_laws.specs.Outgoing.{call_octets, number_behind}
+use Rattle.ua_channel_laws.specs.ServerReads.{AtServer, with_token}
 use Rattle.ua_channel.specs.ServerTold.{Told, Asked, Opened}
 use Rattle.ua_channel.specs.declared.client.channel.ClientChannel.{ClientChannel}
 use Rattle.ua_channel.proofs.Askings.{asked_in-push}

@@ -8,7 +8,7 @@ use Rattle.ua_frame.specs.Run.{Rules, End, Going, Stopped, Over, Run, events}
 use Rattle.ua_frame.proofs.Ends.{ends_stay}
 use Rattle.ua_frame.proofs.Readings.{reading}
 use Rattle.ua_frame.proofs.Unique.{unique}
-use Rattle.ua_channel.proofs.ReadOn.{events_on}
+use Rattle.ua_channel_laws.proofs.ReadOn.{events_on}
 use Rattle.ua_channel.specs.ServerRules.{server_rules}
 use Rattle.ua_channel.specs.ServerTold.{Told, Closed}
 use Rattle.ua_server.specs.Said.{Course, last_words, left, left_by as course_by, said, said_of, used_in, with_more}

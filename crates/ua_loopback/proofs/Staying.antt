@@ -12,13 +12,13 @@ use Rattle.ua_chunk.proofs.Lists.{filter_append}
 use Rattle.ua_channel.specs.Agreement.{Agreement, agreement_of, lane_of}
 use Rattle.ua_channel.specs.Asks.{Placed, asked_in, next_id}
 use Rattle.ua_channel.specs.Client.{client_limits}
-use Rattle.ua_channel.specs.ClientReads.{AtClient, ClientReads, lane_from}
+use Rattle.ua_channel_laws.specs.ClientReads.{AtClient, ClientReads, lane_from}
 use Rattle.ua_channel.specs.ClientTold.{ClientTold as Heard}
-use Rattle.ua_channel.specs.InStep.{AreInStep}
-use Rattle.ua_channel.specs.ServerReads.{AtServer, ServerReads}
+use Rattle.ua_channel_laws.specs.InStep.{AreInStep}
+use Rattle.ua_channel_laws.specs.ServerReads.{AtServer, ServerReads}
 use Rattle.ua_channel.specs.ServerTold.{Told}
 use Rattle.ua_channel.specs.declared.client.channel.ClientChannel.{ClientChannel}
-use Rattle.ua_channel.proofs.Following.{client_told}
+use Rattle.ua_channel_laws.proofs.Following.{client_told}
 use Rattle.ua_services.specs.Request.{request}
 use Rattle.ua_services.specs.declared.request.Request.{Request}
 use Rattle.ua_server.specs.Said.{Course, left, left_by, said, said_of, with_more}

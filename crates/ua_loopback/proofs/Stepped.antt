@@ -8,7 +8,7 @@ use Rattle.ua_frame.specs.declared.limits.Limits.{Limits}
 use Rattle.ua_frame.specs.Run.{Rules, End, Going, Stopped, Over, Run, events}
 use Rattle.ua_frame.proofs.Streams.{run_nil}
 use Rattle.ua_frame.proofs.Unique.{unique}
-use Rattle.ua_channel.proofs.ReadOn.{no_events}
+use Rattle.ua_channel_laws.proofs.ReadOn.{no_events}
 use Rattle.ua_channel.specs.Received.{closings, received}
 use Rattle.ua_channel.specs.ServerRules.{server_rules}
 use Rattle.ua_channel.specs.ServerStands.{channel_of, limits_of, rules_of}

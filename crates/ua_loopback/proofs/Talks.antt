@@ -10,7 +10,7 @@ use Rattle.ua_chunk.specs.declared.lane.Lane.{Lane}
 use Rattle.ua_channel.specs.Client.{SameClient, client_limits}
 use Rattle.ua_channel.specs.ClientAsks.{call_lane}
 use Rattle.ua_channel.specs.Line.{Traffic, WhereTold}
-use Rattle.ua_channel.specs.Outgoing.{renewal_by}
+use Rattle.ua_channel_laws.specs.Outgoing.{renewal_by}
 use Rattle.ua_channel.specs.ServerTold.{Told, Opened}
 use Rattle.ua_channel.specs.declared.client.channel.ClientChannel.{ClientChannel}
 use Rattle.ua_services.specs.declared.request.Request.{Request}

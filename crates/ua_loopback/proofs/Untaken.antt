@@ -16,7 +16,7 @@ use Rattle.ua_chunk.specs.declared.chunk.Chunk.{Chunk}
 use Rattle.ua_chunk.proofs.Lists.{filter_append}
 use Rattle.ua_channel.specs.Asks.{Asking, Placed, asked_before, asked_in, call_in, calls, end_of, is_finished, is_in, pending_calls}
 use Rattle.ua_channel.specs.Client.{client_limits, client_rules_of}
-use Rattle.ua_channel.specs.ClientReads.{AtClient, ClientReads}
+use Rattle.ua_channel_laws.specs.ClientReads.{AtClient, ClientReads}
 use Rattle.ua_channel.specs.ClientTable.{client_reasons, client_rules}
 use Rattle.ua_channel.specs.ClientTold.{ClientTold}
 use Rattle.ua_channel.specs.Content.{Content, content}
@@ -25,7 +25,7 @@ use Rattle.ua_channel.specs.Received.{Received, chunks_in, messages, received}
 use Rattle.ua_channel.specs.declared.client.channel.ClientChannel.{ClientChannel}
 use Rattle.ua_channel.specs.inside.ClientParts.{left_behind, left_pending}
 use Rattle.ua_channel.proofs.Askings.{pending_calls-more}
-use Rattle.ua_channel.proofs.ReadOn.{begins_run, events_on}
+use Rattle.ua_channel_laws.proofs.ReadOn.{begins_run, events_on}
 use Rattle.ua_services.specs.declared.request.Request.{Request}
 use Rattle.ua_client.specs.Calls.{LastCame}
 use Rattle.ua_client.specs.Renewing.{IsSettled}

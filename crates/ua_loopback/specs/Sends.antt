@@ -6,8 +6,8 @@ use Rattle.ua_frame.specs.declared.limits.Limits.{Limits}
 use Rattle.ua_chunk.specs.Sequence.{next_number}
 use Rattle.ua_chunk.specs.declared.lane.Lane.{Lane}
 use Rattle.ua_channel.specs.ClientAsks.{call_lane}
-use Rattle.ua_channel.specs.Outgoing.{Outgoing, outgoing_octets}
-use Rattle.ua_channel.specs.Outgoing.Outgoing.{CallWith, RenewalAt}
+use Rattle.ua_channel_laws.specs.Outgoing.{Outgoing, outgoing_octets}
+use Rattle.ua_channel_laws.specs.Outgoing.Outgoing.{CallWith, RenewalAt}
 use Rattle.ua_services.specs.declared.request.Request.{Request}
 use Rattle.ua_client.specs.Client.{closing_by}
 use Rattle.ua_client.specs.Sent.{bodies_of, numbers_behind}

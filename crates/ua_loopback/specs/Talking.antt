@@ -7,9 +7,9 @@ use Rattle.ua_frame.specs.declared.ack.Ack.{Ack}
 use Rattle.ua_frame.specs.declared.limits.Limits.{Limits}
 use Rattle.ua_channel.specs.Client.{client_limits, url_of}
 use Rattle.ua_channel.specs.ClientAsks.{call_lane}
-use Rattle.ua_channel.specs.ClientReads.{AtClient}
+use Rattle.ua_channel_laws.specs.ClientReads.{AtClient}
 use Rattle.ua_channel.specs.Line.{Traffic, WhereTold}
-use Rattle.ua_channel.specs.ServerReads.{AtServer, ServerReads}
+use Rattle.ua_channel_laws.specs.ServerReads.{AtServer, ServerReads}
 use Rattle.ua_channel.specs.ServerTold.{Told}
 use Rattle.ua_channel.specs.declared.client.channel.ClientChannel.{ClientChannel}
 use Rattle.ua_services.specs.declared.request.Request.{Request}

@@ -8,12 +8,12 @@ use Rattle.ua_frame.specs.declared.limits.Limits.{Limits}
 use Rattle.ua_chunk.specs.declared.lane.Lane.{Lane}
 use Rattle.ua_channel.specs.Agreement.{agreement_of}
 use Rattle.ua_channel.specs.Client.{client_limits}
-use Rattle.ua_channel.specs.ClientReads.{AtClient, ClientReads}
+use Rattle.ua_channel_laws.specs.ClientReads.{AtClient, ClientReads}
 use Rattle.ua_channel.specs.ClientSends.{hello_to}
-use Rattle.ua_channel.specs.InStep.{AreInStep}
-use Rattle.ua_channel.specs.Outgoing.{server_behind}
-use Rattle.ua_channel.specs.Outgoing.Outgoing.{CallWith}
-use Rattle.ua_channel.specs.ServerReads.{AtServer, ServerReads}
+use Rattle.ua_channel_laws.specs.InStep.{AreInStep}
+use Rattle.ua_channel_laws.specs.Outgoing.{server_behind}
+use Rattle.ua_channel_laws.specs.Outgoing.Outgoing.{CallWith}
+use Rattle.ua_channel_laws.specs.ServerReads.{AtServer, ServerReads}
 use Rattle.ua_channel.specs.ServerSends.{opened_frame}
 use Rattle.ua_channel.specs.ServerTold.{Told}
 use Rattle.ua_channel.specs.declared.client.channel.ClientChannel.{ClientChannel}

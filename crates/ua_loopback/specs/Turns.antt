@@ -3,8 +3,8 @@ use Rattle.std.specs.Prelude.{ℕ, ◌+◌, length, map, List, [], ◌∷◌, �
 use Rattle.ua_frame.specs.declared.limits.Limits.{Limits}
 use Rattle.ua_channel.specs.Agreement.{agreement_of}
 use Rattle.ua_channel.specs.ClientSends.{hello_to}
-use Rattle.ua_channel.specs.Outgoing.{outgoing_told}
-use Rattle.ua_channel.specs.Outgoing.Outgoing.{CallWith}
+use Rattle.ua_channel_laws.specs.Outgoing.{outgoing_told}
+use Rattle.ua_channel_laws.specs.Outgoing.Outgoing.{CallWith}
 use Rattle.ua_channel.specs.ServerTold.{Told, Agreed, Opened, Closed}
 use Rattle.ua_services.specs.declared.request.Request.{Request}
 use Rattle.ua_client.specs.Sent.{bodies_of}

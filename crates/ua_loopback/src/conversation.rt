@@ -4,7 +4,7 @@ ghost use Rattle.std.specs.Prelude.{◌≡◌, ◌∷◌, ◌++◌, [], ℕ, Lis
 ghost use Rattle.ua_wire.specs.Counted.{text};
 ghost use Rattle.ua_frame.specs.declared.limits.Limits.{Limits};
 ghost use Rattle.ua_channel.specs.Line.{Traffic};
-ghost use Rattle.ua_channel.specs.ServerReads.{ServerCloses};
+ghost use Rattle.ua_channel_laws.specs.ServerReads.{ServerCloses};
 ghost use Rattle.ua_client.specs.Client.{IsReady, connection_of};
 ghost use Rattle.ua_client.specs.Site.{Site};
 ghost use Rattle.ua_loopback.specs.Accepted.{AreAccepted, FirstRefused, IsTurnFault, acknowledged, turn_refusal};

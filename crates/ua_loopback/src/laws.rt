@@ -2,7 +2,7 @@
 //! function that does nothing.
 //!
 //! They say it of octets alone, one turn after the other. Where both ends are, and what a server's
-//! answers bring the client, the laws of `ua_channel::both_ends` say.
+//! answers bring the client, the laws of `ua_channel_laws::both_ends` say.
 
 ghost use Rattle.std.specs.Prelude.{◌≡◌, ◌<◌, ◌≤◌, ◌+◌, ◌^◌, ◌∷◌, ◌++◌, [], ℕ, List, Option, None, IsTrue, length};
 ghost use Rattle.ua_wire.specs.Format.{Extends};
@@ -15,9 +15,9 @@ ghost use Rattle.ua_chunk.specs.Sequence.{next_number};
 ghost use Rattle.ua_services.specs.declared.request.Request.{Request};
 ghost use Rattle.ua_channel.specs.Agreement.{agreement_of};
 ghost use Rattle.ua_channel.specs.Client.{client_limits, client_next};
-ghost use Rattle.ua_channel.specs.ClientReads.{AtClient, lane_from, opened_at};
+ghost use Rattle.ua_channel_laws.specs.ClientReads.{AtClient, lane_from, opened_at};
 ghost use Rattle.ua_channel.specs.ClientSends.{hello_to};
-ghost use Rattle.ua_channel.specs.ServerReads.{AtServer, ServerCloses, ServerReads, greeted_at, with_token};
+ghost use Rattle.ua_channel_laws.specs.ServerReads.{AtServer, ServerCloses, ServerReads, greeted_at, with_token};
 ghost use Rattle.ua_channel.specs.ServerTold.{Told, Agreed, Opened, Closed};
 ghost use Rattle.ua_channel.specs.declared.client.channel.ClientChannel.{ClientChannel};
 ghost use Rattle.ua_client.specs.Calls.{Answered, sent_at};

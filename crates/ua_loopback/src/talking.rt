@@ -9,7 +9,7 @@
 
 ghost use Rattle.std.specs.Prelude.{◌≡◌, ◌⊎◌, ◌+◌, ◌<◌, ◌∷◌, ◌++◌, [], length, map, Err, None, Some, IfErr, IfOk, IsTrue, OnOk};
 ghost use Rattle.ua_wire.specs.Counted.{text};
-ghost use Rattle.ua_channel.specs.ServerReads.{ServerCloses};
+ghost use Rattle.ua_channel_laws.specs.ServerReads.{ServerCloses};
 ghost use Rattle.ua_channel.specs.ServerTold.{Closed as ToldClosed, Opened};
 ghost use Rattle.ua_client.specs.Calls.{CallsAll};
 ghost use Rattle.ua_client.specs.Client.{Closes, IsDone, IsLeft, IsReady, OpensClient, OpensNothing, client_channel, connection_of};

@@ -6,7 +6,7 @@ use Rattle.ua_builtin.specs.declared.date_time.DateTime.{DateTime}
 use Rattle.ua_frame.specs.Run.{End, Rules, Run, Going, Stopped, Over, events}
 use Rattle.ua_frame.specs.declared.frame.Frame.{Frame}
 use Rattle.ua_frame.specs.declared.limits.Limits.{Limits}
-use Rattle.ua_channel.proofs.AgreedFirst.{agrees_first, agrees_once}
+use Rattle.ua_channel_laws.proofs.AgreedFirst.{agrees_first, agrees_once}
 use Rattle.ua_channel.specs.Agreement.{Agreement}
 use Rattle.ua_channel.specs.Received.{has_some, listed}
 use Rattle.ua_channel.specs.ServerPlaces.{agreed_by}

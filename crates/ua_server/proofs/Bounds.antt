@@ -9,8 +9,8 @@ use Rattle.ua_frame.specs.Run.{events}
 use Rattle.ua_frame.specs.declared.frame.Frame.{Frame}
 use Rattle.ua_frame.specs.declared.hello.Hello.{Hello}
 use Rattle.ua_frame.specs.declared.limits.Limits.{Limits}
-use Rattle.ua_channel.proofs.Replies.{agreed_told}
-use Rattle.ua_channel.proofs.ServerReadings.{goes_behind}
+use Rattle.ua_channel_laws.proofs.Replies.{agreed_told}
+use Rattle.ua_channel_laws.proofs.ServerReadings.{goes_behind}
 use Rattle.ua_channel.specs.Agreement.{Agreement, agreement_of}
 use Rattle.ua_channel.specs.Received.{latest, received}
 use Rattle.ua_channel.specs.ServerPlaces.{agreements_in, agreed_by}

@@ -7,7 +7,7 @@ use Rattle.ua_chunk.specs.declared.lane.Lane.{Lane}
 use Rattle.ua_frame.specs.Run.{Rules, events}
 use Rattle.ua_frame.specs.declared.limits.Limits.{Limits}
 use Rattle.ua_services.specs.Response.{response}
-use Rattle.ua_channel.proofs.Replies.{reply_goes}
+use Rattle.ua_channel_laws.proofs.Replies.{reply_goes}
 use Rattle.ua_channel.specs.Agreement.{Agreement, lane_of}
 use Rattle.ua_channel.specs.Received.{received}
 use Rattle.ua_channel.specs.ServerPlaces.{agreed_by}

@@ -10,7 +10,7 @@ use Rattle.ua_frame.specs.Frames.{frames_octets}
 use Rattle.ua_frame.specs.Run.{End, Rules, Run, Going, Stopped, events}
 use Rattle.ua_frame.specs.declared.frame.Frame.{Frame}
 use Rattle.ua_frame.specs.declared.limits.Limits.{Limits}
-use Rattle.ua_channel.proofs.ReadOn.{begins_run, events_on}
+use Rattle.ua_channel_laws.proofs.ReadOn.{begins_run, events_on}
 use Rattle.ua_channel.specs.Agreement.{Agreement}
 use Rattle.ua_channel.specs.Received.{closings, listed, received}
 use Rattle.ua_channel.specs.ServerRules.{server_rules}

@@ -4,7 +4,7 @@ use Rattle.std.proofs.Common.{refl, sym, ◌∙◌, ap, subst, append_assoc, app
 use Rattle.std.proofs.Math.Seq.{take-add, take-length}
 use Rattle.std.proofs.lemmas.List.{length-drop}
 use Rattle.ua_builtin.specs.declared.date_time.DateTime.{DateTime}
-use Rattle.ua_channel.proofs.ServerReadings.{goes_behind}
+use Rattle.ua_channel_laws.proofs.ServerReadings.{goes_behind}
 use Rattle.ua_channel.specs.ServerAnswers.{Counts, Hands, AnswersAt, Progress}
 use Rattle.ua_channel.specs.ServerStands.{limits_of, channel_of, next_of, IsDone, Goes, RefusedAt}
 use Rattle.ua_channel.specs.ServerTold.{Told, GaveUp}

@@ -1,6 +1,6 @@
 use Rattle.std.proofs.Common.{subst, sym}
 use Rattle.ua_frame.specs.declared.limits.Limits.{Limits}
-use Rattle.ua_channel.specs.ServerReads.{ServerCloses}
+use Rattle.ua_channel_laws.specs.ServerReads.{ServerCloses}
 use Rattle.ua_exchange.specs.Programs.{channel}
 use Rattle.ua_exchange.specs.Turns.{all_told, up_octets}
 use Rattle.ua_exchange.proofs.Conversed.{turns-closed}

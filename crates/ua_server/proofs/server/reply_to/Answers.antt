@@ -1,7 +1,7 @@
 use Rattle.std.proofs.Common.{rules, None, ◌<◌, length, sym, Vec, Global, ◌≡◌, ◌++◌, ◌∷◌, [], ℕ, List, Result, Err, ap, subst}
 use Rattle.std.specs.List.{concat}
 use Rattle.ua_services.specs.Response.{response}
-use Rattle.ua_channel.proofs.Opened.{server_asked}
+use Rattle.ua_channel_laws.proofs.Opened.{server_asked}
 use Rattle.ua_channel.specs.ServerSends.{IsReply}
 use Rattle.ua_channel.specs.ServerStands.{next_of}
 use Rattle.ua_channel.specs.ServerTold.{Asked}

@@ -1,5 +1,0 @@
-use Rattle.ua_channel.proofs.ClientReading.{reads_renewed}
-use Rattle.ua_channel.proofs.both_ends.client_reads_renewed.Goals as goal
-
-pub returns : goal.returns
-returns c = reads_renewed

@@ -1,5 +1,0 @@
-use Rattle.ua_channel.proofs.PairedCalls.{tells_delivered}
-use Rattle.ua_channel.proofs.client_laws.client_tells_delivered.Goals as goal
-
-pub returns : goal.returns
-returns c = tells_delivered

@@ -1,5 +1,0 @@
-use Rattle.ua_channel.proofs.ServerReadings.{goes_behind}
-use Rattle.ua_channel.proofs.laws.server_goes_on.Goals as goal
-
-pub returns : goal.returns
-returns c = goes_behind

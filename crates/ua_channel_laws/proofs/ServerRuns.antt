@@ -1,0 +1,155 @@
+-- That a server stands as its laws say it behind any good frames, where its channel is open and no message is unfinished.
+use Rattle.std.proofs.Common.{◌≡◌, ℕ, ◌+◌, ◌<◌, ◌≤◌, ◌^◌, Bool, true, false, IsTrue, ◌&&◌, ◌||◌, eqb, leb, ltb, List, [], ◌∷◌, ◌++◌, Option, Some, None, length, refl, sym, ◌∙◌, ap, subst, arith, append-nil, append_assoc, length-append}
+use Rattle.std.proofs.lemmas.Bool.{and_from, and_parts, eq-eqb, eqb-false, leb-false, leb-true, lt-ltb, ltb-false, or_left, or_right}
+use Rattle.ua_frame.specs.After.{AllAfter, AllFrom}
+use Rattle.ua_frame.specs.Hello.{hello_in}
+use Rattle.ua_frame.specs.Messages.{hello}
+use Rattle.ua_frame.specs.Run.{Fits, Going, Run, events}
+use Rattle.ua_frame.specs.declared.frame.Frame.{Frame}
+use Rattle.ua_frame.specs.declared.hello.Hello.{Hello}
+use Rattle.ua_frame.specs.declared.kind.Kind.{Kind}
+use Rattle.ua_frame.specs.declared.kind.Kind.TheVariants.{Hel, Msg, Opn, Clo}
+use Rattle.ua_frame.specs.declared.kind.Kind.TheVariants as kind
+use Rattle.ua_frame.specs.declared.limits.Limits.{Limits}
+use Rattle.ua_frame.proofs.MessagesLawful.{sound_hello}
+use Rattle.ua_frame.proofs.Wholes.{encodes_whole}
+use Rattle.ua_chunk.specs.Layout.{chunk_in}
+use Rattle.ua_chunk.specs.Open.{open_ids}
+use Rattle.ua_chunk.specs.Sequence.{follows, may_follow}
+use Rattle.ua_chunk.specs.declared.chunk.Chunk.{Chunk}
+use Rattle.ua_channel.specs.Content.{Opening, closes, content, content_by, opening_of, sends}
+use Rattle.ua_channel.specs.Content.Content.{Greets, Opens}
+use Rattle.ua_channel_laws.specs.Conversation.{IsGoodHello, IsGoodRequest, MayCarry}
+use Rattle.ua_channel.specs.Received.{Received, after, or_before, received}
+use Rattle.ua_channel_laws.specs.ServerReads.{ServerReads}
+use Rattle.ua_channel.specs.ServerRefusals.{last_used}
+use Rattle.ua_channel.specs.ServerRules.{server_rules}
+use Rattle.ua_channel.specs.ServerTold.{issued}
+use Rattle.ua_channel_laws.proofs.Conversing.{content_kind}
+use Rattle.ua_channel.proofs.OneFrameMore.{received-nil, received-push}
+use Rattle.ua_channel_laws.proofs.ServerConversing.{IsPlaced, converses, nothing_placed, placed_next}
+
+-- ---- the sizes of a Hello
+
+small_read : (body : List ℕ) (h : Hello) → hello_in body ≡ Some h → h.send_buffer_size < 2 ^ 32
+unfolding hello
+small_read body h e =
+    let i = encodes_whole hello sound_hello body h e in
+    omega (arith, ap (λ (x : Hello). x.send_buffer_size) i.is, i.encoded.second_encoded.second_encoded.first_encoded.0)
+
+second_false : (a b : Bool) → (a || b) ≡ false → b ≡ false
+second_false true b e = absurd cc
+second_false false b e = e
+
+-- ---- with a frame more
+
+-- what is so of all that a server took
+record Known (b : Received) : Type 0 where
+  large : (h : Hello) → b.hello ≡ Some h → 8192 ≤ h.send_buffer_size
+  sized : (h : Hello) → b.hello ≡ Some h → h.send_buffer_size < 2 ^ 32
+  few_issued : issued b < 2 ^ 32
+  some_used : 0 < last_used b
+
+module _ (channel : ℕ) (b : Received) (known : Known b) where
+  said_is : (o : Option Hello) (g : IsGoodHello o) (h : Hello) → or_before b.hello o ≡ Some h → g.said ≡ h
+  said_is o g h e =
+      let same : Some g.said ≡ Some h = sym (ap (or_before b.hello) g.reads) ∙ e in
+      cc
+
+  greeted : (body : List ℕ) → IsGoodHello (hello_in body) → Known (after b (Greets (hello_in body)))
+  greeted body g = record {
+    large = λ h e. subst (λ (x : Hello). 8192 ≤ x.send_buffer_size) (said_is (hello_in body) g h e) (ltb-false g.said.send_buffer_size 8192 (second_false (ltb g.said.receive_buffer_size 8192) (ltb g.said.send_buffer_size 8192) g.sizes));
+    sized = λ h e. subst (λ (x : Hello). x.send_buffer_size < 2 ^ 32) (said_is (hello_in body) g h e) (small_read body g.said g.reads);
+    few_issued = known.few_issued;
+    some_used = known.some_used;
+  }
+
+  opened : (o : Opening) → IsGoodRequest channel (issued b) o → Known (after b (Opens o))
+  opened o g =
+      let left : issued b ≡ 4294967295 → ⊥ = eqb-false (issued b) 4294967295 g.left in
+      let more : length (b.openings ++ o ∷ []) ≡ length b.openings + 1 = length-append b.openings (o ∷ []) in
+      record { large = known.large; sized = known.sized; few_issued = grind (left, known.few_issued, more, arith); some_used = known.some_used }
+
+  used_on : (token : ℕ) → (leb (last_used b) token && leb token (issued b)) ≡ true → 0 < token
+  used_on token e = omega (arith, known.some_used, leb-true (last_used b) token (and_parts (leb (last_used b) token) (leb token (issued b)) e).0)
+
+  sent : (found : Option Chunk) → MayCarry channel b (sends found) → Known (after b (sends found))
+  sent None may = known
+  sent (Some c) may = record { large = known.large; sized = known.sized; few_issued = known.few_issued; some_used = used_on c.token may.taken }
+
+  closed : (found : Option Chunk) → MayCarry channel b (closes found) → Known (after b (closes found))
+  closed None may = known
+  closed (Some c) may = record { large = known.large; sized = known.sized; few_issued = known.few_issued; some_used = used_on c.token may.taken }
+
+  known_more : (f : Frame) (k : Kind) → MayCarry channel b (content_by k f) → Known (after b (content_by k f))
+  known_more f Hel may = greeted f.body may
+  known_more f kind.Ack may = record { large = known.large; sized = known.sized; few_issued = known.few_issued; some_used = known.some_used }
+  known_more f kind.Err may = known
+  known_more f Opn may = opened (opening_of f.body) may
+  known_more f Msg may = sent (chunk_in f) may
+  known_more f Clo may = closed (chunk_in f) may
+
+-- ---- behind all frames
+
+nothing_known : Known (received [])
+nothing_known =
+    rw received-nil
+    (record { large = λ h e. let never : None ≡ Some h = e in absurd cc; sized = λ h e. let never : None ≡ Some h = e in absurd cc; few_issued = omega arith; some_used = omega arith })
+
+module _ (limits : Limits) (channel : ℕ) where
+  known_next : (start : List Frame) (f : Frame) → Known (received start) → MayCarry channel (received start) (content f) → Known (received (start ++ f ∷ []))
+  known_next start f known may =
+      subst Known (sym (received-push start f ∙ ap (after (received start)) (content_kind f)))
+      (known_more channel (received start) known f f.kind (subst (MayCarry channel (received start)) (content_kind f) may))
+
+  all_from : (start fs : List Frame) → IsPlaced (received start) → Known (received start) → AllFrom (Fits (server_rules limits channel)) start fs → AllFrom (λ us f. MayCarry channel (received us) (content f)) start fs
+      → IsPlaced (received (start ++ fs)) × Known (received (start ++ fs))
+  all_from start [] placed known fits may = subst (λ (us : List Frame). IsPlaced (received us) × Known (received us)) (sym (append-nil start)) (placed, known)
+  all_from start (f ∷ fs) placed known fits may =
+      subst (λ (us : List Frame). IsPlaced (received us) × Known (received us)) (append_assoc start (f ∷ []) fs)
+      (all_from (start ++ f ∷ []) fs (placed_next limits channel start f placed fits.0.let_in.kind) (known_next start f known may.0) fits.1 may.1)
+
+  all_known : (frames : List Frame) → AllAfter (Fits (server_rules limits channel)) frames → IsPlaced (received frames) × Known (received frames)
+  unfolding AllAfter
+  all_known frames fits = all_from [] frames (nothing_placed limits channel) nothing_known fits ((converses limits channel frames).0 fits).carries
+
+-- ---- the law
+
+said_by : (o : Option Hello) (n : ℕ) → (o ≡ None → n ≡ 0) → 0 < n → (h : Hello) × (o ≡ Some h)
+said_by None n placed some = absurd (omega (arith, placed refl, some))
+said_by (Some h) n placed some = (h, refl)
+
+next_by : (small : Bool) (s : ℕ) → leb s 4294966271 ≡ small → (next : ℕ) × (follows s next ≡ true) × (next ≤ 4294966272)
+next_by true s e = (s + 1, or_left (eqb (s + 1) (s + 1)) (ltb 4294966271 s && ltb (s + 1) 1024) (eq-eqb (s + 1) (s + 1) refl), omega (arith, leb-true s 4294966271 e))
+next_by false s e = (1, or_right (eqb 1 (s + 1)) (ltb 4294966271 s && ltb 1 1024) (and_from (ltb 4294966271 s) (ltb 1 1024) (lt-ltb 4294966271 s (omega (arith, leb-false s 4294966271 e))) refl), omega arith)
+
+-- there is a number that may follow
+pub some_follows : (last : Option ℕ) → (next : ℕ) × IsTrue (may_follow last next) × (next ≤ 4294966272)
+some_follows None = (1, refl, omega arith)
+some_follows (Some s) = next_by (leb s 4294966271) s refl
+
+-- a server stands so behind its frames
+pub reads_run : (limits : Limits) (channel : ℕ) (octets : List ℕ) (frames : List Frame) → Run (server_rules limits channel) octets frames [] Going → 0 < issued (received frames) → open_ids (received frames).messages ≡ []
+    → (next : ℕ) → IsTrue (may_follow (received frames).last next) → next ≤ 4294966272
+    → (said : Hello) × ((received frames).hello ≡ Some said) × ServerReads limits channel octets (events (server_rules limits channel) frames) (record { hello = said; issued = issued (received frames); used = last_used (received frames); next = next })
+reads_run limits channel octets frames run some none next follows small =
+    let all = all_known limits channel frames run.good in
+    let h = said_by (received frames).hello (issued (received frames)) all.0 some in (
+      h.0,
+      h.1,
+      record {
+        frames = frames;
+        run = run;
+        told_is = refl;
+        hello_is = h.1;
+        large = omega (arith, limits.receives, all.1.large h.0 h.1);
+        sized = omega (arith, all.1.sized h.0 h.1);
+        issued_is = refl;
+        few_issued = all.1.few_issued;
+        used_is = refl;
+        some_used = all.1.some_used;
+        follows = follows;
+        next_small = small;
+        none_open = none;
+      },
+    )

@@ -1,0 +1,11 @@
+use Rattle.ua_channel_laws.proofs.ClientConversing.{continues, converses, none_wrong}
+use Rattle.ua_channel_laws.proofs.client_laws.client_converses.Goals as goal
+
+pub returns-clause-frames : goal.returns-clause-frames
+returns-clause-frames c = converses
+
+pub returns-clause-going : goal.returns-clause-going
+returns-clause-going c = continues
+
+pub returns-clause-none_wrong : goal.returns-clause-none_wrong
+returns-clause-none_wrong c = none_wrong

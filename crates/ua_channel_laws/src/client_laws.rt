@@ -1,0 +1,119 @@
+//! Laws of a client's channel.
+//!
+//! Each function does nothing; its contract is the law.
+
+ghost use Rattle.std.specs.Prelude.{◌≡◌, ◌↔◌, ◌∷◌, ◌++◌, [], ℕ, List, Some, length, map, false};
+ghost use Rattle.ua_builtin.specs.Reasons.{first_reason};
+ghost use Rattle.ua_builtin.specs.declared.date_time.DateTime.{DateTime};
+ghost use Rattle.ua_frame.specs.After.{AllAfter};
+ghost use Rattle.ua_frame.specs.Laws.{HasOneReading, HasReadings, StopsAtFirstWrong};
+ghost use Rattle.ua_frame.specs.declared.frame.Frame.{Frame};
+ghost use Rattle.ua_frame.specs.declared.limits.Limits.{Limits};
+ghost use Rattle.ua_frame.specs.FirstWrong.{FirstWrong};
+ghost use Rattle.ua_frame.specs.Frames.{Frames};
+ghost use Rattle.ua_frame.specs.Run.{Fits, Going, Run, events};
+ghost use Rattle.ua_chunk.specs.Delivered.{delivered};
+ghost use Rattle.ua_channel.specs.Asks.{Placed, asked_in, calls, is_in, next_id};
+ghost use Rattle.ua_channel.specs.Client.{call_refused, closing_refused, renewal_refused, ClientGoes, ClientGoesTelling, HasNoChannel, IsClientDone, SendsCall, SendsClosing, SendsRenewal, ClientStands};
+ghost use Rattle.ua_channel.specs.ClientAsks.{call_reasons, closing_reasons, renewing_reasons, IsCalled, IsClosed, IsRenewed};
+ghost use Rattle.ua_channel_laws.specs.ClientConversation.{ClientConversation, ClientContinues, IsClientConversation};
+ghost use Rattle.ua_channel.specs.ClientTable.{client_rules};
+ghost use Rattle.ua_channel.specs.ClientTokens.{responses};
+ghost use Rattle.ua_channel.specs.ClientTold.{ClientTold, Why, told_item};
+ghost use Rattle.ua_channel_laws.specs.Outgoing.{asks_at};
+ghost use Rattle.ua_channel_laws.specs.Outgoing.Outgoing.{CallWith};
+ghost use Rattle.ua_channel_laws.specs.Paired.{as_list, delivered_under, paired, told_of_calls, with_all};
+ghost use Rattle.ua_channel.specs.Received.{received};
+ghost use Rattle.ua_channel.specs.declared.client.channel.ClientChannel.{ClientChannel};
+ghost use Rattle.ua_channel.specs.declared.client.fault.AskFault.TheVariants.{NotOpen};
+
+/// Any octets, with what was asked among them, have just one reading at a client, whatever the pieces
+/// in which they come, and it stops at the first frame that is wrong, for the first reason of the table
+/// that holds of it.
+pub fn client_reads()
+    ensures some { (limits : Limits) (asks : List Placed) → HasReadings (client_rules limits asks) }
+    ensures one { (limits : Limits) (asks : List Placed) → HasOneReading (client_rules limits asks) }
+    ensures first_wrong { (limits : Limits) (asks : List Placed) → StopsAtFirstWrong (client_rules limits asks) }
+{}
+
+/// A client's channel stands after some octets and asks in one way: with these frames, this rest, and
+/// this told.
+pub fn client_stands_once()
+    ensures frames { (x : ClientChannel) (asks : List Placed) (octets : List ℕ) (fs gs : List Frame) (rest more : List ℕ) →
+        ClientStands x asks octets fs rest → ClientStands x asks octets gs more → (fs ≡ gs) × (rest ≡ more) }
+    ensures told { (x : ClientChannel) (asks : List Placed) (octets : List ℕ) (told more : List ClientTold) → ClientGoes x asks octets told → ClientGoes x asks octets more → told ≡ more }
+{}
+
+/// A channel that stands behind a frame which tells something goes on with that told.
+pub fn client_goes_on()
+    ensures { (x : ClientChannel) (asks : List Placed) (octets : List ℕ) (told : List ClientTold) (e : ClientTold) → ClientGoesTelling x asks octets told e → ClientGoes x asks octets (told ++ e ∷ []) }
+{}
+
+/// What frames tell a client of its calls is what their chunks deliver, in that order.
+pub fn client_tells_delivered()
+    ensures { (limits : Limits) (asks : List Placed) (frames : List Frame) →
+        told_of_calls (events (client_rules limits asks) frames) ≡ map told_item (delivered (received frames).messages) }
+{}
+
+/// Of frames that a client takes, all that is delivered under the request id of a call is the one item
+/// with which it is paired, or nothing; and nothing is delivered under another id.
+pub fn client_pairs()
+    ensures once { (limits : Limits) (asks : List Placed) (frames : List Frame) → AllAfter (Fits (client_rules limits asks)) frames →
+        map (with_all (received frames).messages) (calls (asked_in asks)) ≡ map as_list (paired (asked_in asks) (received frames).messages) }
+    ensures no_other { (limits : Limits) (asks : List Placed) (frames : List Frame) (id : ℕ) → AllAfter (Fits (client_rules limits asks)) frames →
+        is_in id (calls (asked_in asks)) ≡ false → delivered_under id (received frames).messages ≡ [] }
+{}
+
+/// No channel is open before the first good OPN response, and once the channel failed or was closed;
+/// then nothing can be asked.
+pub fn client_is_open()
+    ensures stands { (x : ClientChannel) (asks : List Placed) (octets : List ℕ) (frames : List Frame) (rest : List ℕ) →
+        ClientStands x asks octets frames rest → HasNoChannel x ↔ (responses (received frames).openings ≡ []) }
+    ensures done { (x : ClientChannel) → IsClientDone x → HasNoChannel x }
+    ensures asks { (x : ClientChannel) (more : ℕ) (body : List ℕ) → HasNoChannel x → call_refused x more body ≡ Some NotOpen }
+    ensures renews { (x : ClientChannel) → HasNoChannel x → renewal_refused x ≡ Some NotOpen }
+    ensures closes { (x : ClientChannel) → HasNoChannel x ↔ (closing_refused x ≡ Some NotOpen) }
+{}
+
+/// What a client sends when it is asked, by what it received and asked, wherever the octets end, in
+/// the middle of a frame or of a message too: a call goes as chunks on the channel, under the newest
+/// token and the next request id, in frames of the size that the server receives; a renewal and the
+/// CLO likewise.
+pub fn client_sends_asked()
+    ensures call { (x : ClientChannel) (asks : List Placed) (octets : List ℕ) (frames : List Frame) (rest : List ℕ) → ClientStands x asks octets frames rest →
+        (number : ℕ) (body : List ℕ) (id : ℕ) (out : List ℕ) (next : ℕ) → SendsCall x number body id out next → IsCalled (received frames) (asked_in asks) number body id out next }
+    ensures renewal { (x : ClientChannel) (asks : List Placed) (octets : List ℕ) (frames : List Frame) (rest : List ℕ) → ClientStands x asks octets frames rest →
+        (number : ℕ) (moment : DateTime) (id : ℕ) (out : List ℕ) (next : ℕ) → SendsRenewal x number moment id out next → IsRenewed (received frames) (asked_in asks) number moment id out next }
+    ensures close { (x : ClientChannel) (asks : List Placed) (octets : List ℕ) (frames : List Frame) (rest : List ℕ) → ClientStands x asks octets frames rest →
+        (number : ℕ) (moment : DateTime) (out : List ℕ) → SendsClosing x number moment out → IsClosed (received frames) (asked_in asks) number moment out }
+{}
+
+/// Why a client refuses to ask, by what it received and asked, wherever the octets end: that no
+/// channel is open, then too many unanswered calls or tokens, request ids that are used up, and a
+/// body past the server's limits.
+pub fn client_refuses_asked()
+    ensures call { (x : ClientChannel) (asks : List Placed) (octets : List ℕ) (frames : List Frame) (rest : List ℕ) → ClientStands x asks octets frames rest →
+        (more : ℕ) (body : List ℕ) → call_refused x more body ≡ first_reason (call_reasons (received frames) (asked_in asks) more body) }
+    ensures renewal { (x : ClientChannel) (asks : List Placed) (octets : List ℕ) (frames : List Frame) (rest : List ℕ) → ClientStands x asks octets frames rest →
+        renewal_refused x ≡ first_reason (renewing_reasons (received frames) (asked_in asks)) }
+    ensures close { (x : ClientChannel) (asks : List Placed) (octets : List ℕ) (frames : List Frame) (rest : List ℕ) → ClientStands x asks octets frames rest →
+        closing_refused x ≡ first_reason (closing_reasons (received frames)) }
+{}
+
+/// What is judged of a call after so many more calls is what is judged of it once these were asked,
+/// each under the next request id, with nothing received between them.
+pub fn client_judges()
+    ensures { (x y : ClientChannel) (asks : List Placed) (octets : List ℕ) (frames : List Frame) (rest : List ℕ) (bodies : List (List ℕ)) (body : List ℕ) → ClientStands x asks octets frames rest →
+        ClientStands y (asks ++ asks_at (length octets) (next_id (asked_in asks)) (map CallWith bodies)) octets frames rest → call_refused x (length bodies) body ≡ call_refused y 0 body }
+{}
+
+/// The frames that a client takes, one after the other, are just those of a conversation in plain
+/// words, or of the beginning of one. So octets have no wrong frame exactly where their frames are a
+/// conversation, and what stands behind them is less than a frame with nothing wrong in its header.
+pub fn client_converses()
+    ensures frames { (limits : Limits) (asks : List Placed) (frames : List Frame) → AllAfter (Fits (client_rules limits asks)) frames ↔ ClientConversation limits asks frames }
+    ensures going { (limits : Limits) (asks : List Placed) (octets : List ℕ) (frames : List Frame) (rest : List ℕ) →
+        Run (client_rules limits asks) octets frames rest Going ↔ ClientContinues limits asks octets frames rest }
+    ensures none_wrong { (limits : Limits) (asks : List Placed) (octets : List ℕ) (raws : List (List ℕ)) (rest : List ℕ) → Frames octets raws rest →
+        ((why : Why) → FirstWrong (client_rules limits asks) raws rest why → ⊥) ↔ IsClientConversation limits asks octets }
+{}

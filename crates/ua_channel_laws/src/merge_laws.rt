@@ -1,0 +1,97 @@
+//! Laws of messages whose chunks come merged on an open channel, with renewals of its token anywhere
+//! among them, in the middle of a message too (OPC 10000-6, 6.7.2.4).
+//!
+//! Each function does nothing; its contract is the law. They go on from where an end stands, as the laws
+//! of `both_ends` do, and say where it then stands. So `both_ends::server_follows` and `client_follows`
+//! say of a running channel what it was told behind any beginning of such octets, and `asking_laws` where
+//! a client asks on in the middle of them.
+
+ghost use Rattle.std.specs.Prelude.{◌≡◌, ◌↔◌, ◌<◌, ◌+◌, ◌++◌, ◌∷◌, [], ℕ, List, length, map};
+ghost use Rattle.std.specs.List.{AllByRecursion, filter, range_with_len};
+ghost use Rattle.ua_frame.specs.Frames.{frames_octets};
+ghost use Rattle.ua_frame.specs.declared.frame.Frame.{Frame};
+ghost use Rattle.ua_frame.specs.declared.limits.Limits.{Limits};
+ghost use Rattle.ua_chunk.specs.Cutting.{chunks_of, pieces};
+ghost use Rattle.ua_chunk.specs.Merge.{HaveOwnIds, Merges, Sent, outcome_under, outcomes, part_of, parts_of, sent_under};
+ghost use Rattle.ua_chunk.specs.Refusal.{FewOpen, TakesMessages};
+ghost use Rattle.ua_chunk.specs.declared.chunk.Chunk.{Chunk};
+ghost use Rattle.ua_chunk.specs.declared.flag.Flag.TheVariants.{F};
+ghost use Rattle.ua_chunk.specs.declared.lane.Lane.{Lane};
+ghost use Rattle.ua_channel.specs.Asks.{Placed, asked_in};
+ghost use Rattle.ua_channel_laws.specs.ClientReads.{AtClient, ClientReads};
+ghost use Rattle.ua_channel.specs.ClientTable.{client_rules};
+ghost use Rattle.ua_channel.specs.ClientTokens.{responses, tokens_of};
+ghost use Rattle.ua_channel.specs.ClientTold.{ClientTold, told_item};
+ghost use Rattle.ua_channel_laws.specs.Conversation.{FitMessages};
+ghost use Rattle.ua_channel_laws.specs.Merges.{AreMerged, ClientMerge, IsCutBody, MayComeNext, ServerMerge, is_message_under, is_told_under, placed_later, told_merged_back, told_of_merge, tokens_renewed, tokens_told, with_merged, with_merged_back};
+ghost use Rattle.ua_channel_laws.specs.Paired.{told_of_calls};
+ghost use Rattle.ua_channel.specs.Received.{messages, openings};
+ghost use Rattle.ua_channel_laws.specs.ServerMessages.{message_of, messages_in};
+ghost use Rattle.ua_channel_laws.specs.ServerReads.{AtServer, IsBodyFor, ServerReads};
+ghost use Rattle.ua_channel.specs.ServerRules.{server_rules};
+ghost use Rattle.ua_channel.specs.ServerTold.{Told};
+
+/// Chunks of which none is refused for its message are those whose messages fit, in plain words; so
+/// merged messages fit.
+pub fn messages_fit()
+    ensures taken { (limits : Limits) (cs : List Chunk) → TakesMessages limits.max_message_size limits.max_chunk_count [] cs ↔ FitMessages limits cs }
+    ensures merged { (limits : Limits) (ms : List Sent) (cs : List Chunk) → AreMerged limits ms cs → FitMessages limits cs }
+{}
+
+/// The chunks of bodies that senders cut within the limits of a receiver, under request ids of their own,
+/// each in a lane with any room and with any numbers, merged in any way with at most 4 unfinished after
+/// each, are merged messages: those that the laws below read. The chunks of one body are so alone.
+pub fn cut_bodies_merge()
+    ensures merged { (limits : Limits) (ms : List Sent) (cs : List Chunk) → AllByRecursion (IsCutBody limits) ms → HaveOwnIds ms → Merges (map parts_of ms) (map part_of cs) → FewOpen [] cs →
+        AreMerged limits ms cs }
+    ensures parts { (lane : Lane) (body : List ℕ) (number : ℕ) (m : Sent) → pieces lane.room body ≡ m.pieces ++ m.last ∷ [] → m.end ≡ F →
+        map part_of (chunks_of lane body number m.request) ≡ parts_of m }
+    ensures alone { (limits : Limits) (lane : Lane) (body : List ℕ) (number id : ℕ) → 0 < lane.room → IsBodyFor limits lane.room body →
+        (m : Sent) × (m.request ≡ id) × IsCutBody limits m × AreMerged limits (m ∷ []) (chunks_of lane body number id) }
+{}
+
+/// From where a server stands, with its channel open, it reads requests under request ids of their own,
+/// cut in any way within its limits and each ending in an F or given up by an A that reads, whose chunks
+/// come merged in any way with at most 4 unfinished after each, and OPNs that renew the token anywhere
+/// among them, from any number on that may come next. It refuses none. It stands behind them with a token
+/// more for each renewal, the last token that a chunk used, and the number that is next. So merges are
+/// chained with what comes before and behind: `server_follows` follows them all. It is told each message
+/// at its last chunk, once under its request id, and each renewal with the next token.
+pub fn server_reads_merged()
+    ensures reads { (limits : Limits) (channel : ℕ) (octets : List ℕ) (told : List Told) (at : AtServer) (first : ℕ) (ms : List Sent) (more : List Frame) (next : ℕ) →
+        ServerReads limits channel octets told at → MayComeNext (server_rules limits channel) octets first → ServerMerge limits channel (record at { next = first }) ms more next →
+        ServerReads limits channel (octets ++ frames_octets more) (told ++ told_of_merge ms at.issued more) (with_merged at more next) }
+    ensures messages { (limits : Limits) (channel : ℕ) (octets : List ℕ) (told : List Told) (at : AtServer) (first : ℕ) (ms : List Sent) (more : List Frame) (next : ℕ) →
+        ServerReads limits channel octets told at → MayComeNext (server_rules limits channel) octets first → ServerMerge limits channel (record at { next = first }) ms more next →
+        messages_in (told_of_merge ms at.issued more) ≡ map message_of (outcomes ms (messages more)) }
+    ensures once { (limits : Limits) (channel : ℕ) (octets : List ℕ) (told : List Told) (at : AtServer) (first : ℕ) (ms : List Sent) (more : List Frame) (next : ℕ) →
+        ServerReads limits channel octets told at → MayComeNext (server_rules limits channel) octets first → ServerMerge limits channel (record at { next = first }) ms more next →
+        (id : ℕ) → filter (is_message_under id) (messages_in (told_of_merge ms at.issued more)) ≡ map message_of (outcome_under (sent_under id ms)) }
+    ensures tokens { (limits : Limits) (channel : ℕ) (octets : List ℕ) (told : List Told) (at : AtServer) (first : ℕ) (ms : List Sent) (more : List Frame) (next : ℕ) →
+        ServerReads limits channel octets told at → MayComeNext (server_rules limits channel) octets first → ServerMerge limits channel (record at { next = first }) ms more next →
+        tokens_told (told_of_merge ms at.issued more) ≡ range_with_len (at.issued + 1) (length (openings more)) }
+    // The number that is next where it stands is one that may come first.
+    ensures first { (limits : Limits) (channel : ℕ) (octets : List ℕ) (told : List Told) (at : AtServer) → ServerReads limits channel octets told at →
+        MayComeNext (server_rules limits channel) octets at.next }
+{}
+
+/// The same of a client and merged replies, with the answers to renewals among them, where the client asks
+/// on in the middle of them, calls and renewals, each under the next request id. It stands behind them with
+/// the calls and renewals that were not answered, and is told each reply at its last chunk, once under the
+/// request id of its call, and each token.
+pub fn client_reads_merged()
+    ensures reads { (limits : Limits) (asks later : List Placed) (octets : List ℕ) (told : List ClientTold) (at : AtClient) (first : ℕ) (ms : List Sent) (more : List Frame) (next : ℕ) →
+        ClientReads limits asks octets told at → MayComeNext (client_rules limits asks) octets first → ClientMerge limits (record at { next = first }) (asked_in asks) later ms more next →
+        ClientReads limits (asks ++ placed_later (length octets) later) (octets ++ frames_octets more) (told ++ told_merged_back ms more) (with_merged_back at (asked_in later) more next) }
+    ensures messages { (limits : Limits) (asks later : List Placed) (octets : List ℕ) (told : List ClientTold) (at : AtClient) (first : ℕ) (ms : List Sent) (more : List Frame) (next : ℕ) →
+        ClientReads limits asks octets told at → MayComeNext (client_rules limits asks) octets first → ClientMerge limits (record at { next = first }) (asked_in asks) later ms more next →
+        told_of_calls (told_merged_back ms more) ≡ map told_item (outcomes ms (messages more)) }
+    ensures once { (limits : Limits) (asks later : List Placed) (octets : List ℕ) (told : List ClientTold) (at : AtClient) (first : ℕ) (ms : List Sent) (more : List Frame) (next : ℕ) →
+        ClientReads limits asks octets told at → MayComeNext (client_rules limits asks) octets first → ClientMerge limits (record at { next = first }) (asked_in asks) later ms more next →
+        (id : ℕ) → filter (is_told_under id) (told_merged_back ms more) ≡ map told_item (outcome_under (sent_under id ms)) }
+    ensures tokens { (limits : Limits) (asks later : List Placed) (octets : List ℕ) (told : List ClientTold) (at : AtClient) (first : ℕ) (ms : List Sent) (more : List Frame) (next : ℕ) →
+        ClientReads limits asks octets told at → MayComeNext (client_rules limits asks) octets first → ClientMerge limits (record at { next = first }) (asked_in asks) later ms more next →
+        tokens_renewed (told_merged_back ms more) ≡ tokens_of (responses (openings more)) }
+    ensures first { (limits : Limits) (asks : List Placed) (octets : List ℕ) (told : List ClientTold) (at : AtClient) → ClientReads limits asks octets told at →
+        MayComeNext (client_rules limits asks) octets at.next }
+{}
