@@ -7,9 +7,9 @@ mod items;
 mod served;
 mod serving;
 
-pub use answers::{answer_both, reply_to};
+pub use answers::{answer_both, could_take_now, reply_to};
 pub use calls::call_each;
 pub use exchanged::exchange_over;
-pub use items::{append_answers, read_one_item};
+pub use items::{append_answers, could_take, read_one_item};
 pub use served::{converse_over, write_up};
 pub use serving::serve_begun;

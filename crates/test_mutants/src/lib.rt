@@ -12,7 +12,9 @@ pub use chunks::{
     take_frame, take_octets,
 };
 pub use ends::{
-    answer_both, append_answers, call_each, converse_over, exchange_over, read_one_item, reply_to,
-    serve_begun, write_up,
+    answer_both, append_answers, call_each, converse_over, could_take, could_take_now,
+    exchange_over, read_one_item, reply_to, serve_begun, write_up,
 };
-pub use values::{read_front, read_node_id, read_one_request, read_variant, write_data_value};
+pub use values::{
+    read_front, read_kept_request, read_node_id, read_one_request, read_variant, write_data_value,
+};

@@ -4,6 +4,6 @@ mod messages;
 mod nodes;
 mod variants;
 
-pub use messages::read_one_request;
+pub use messages::{read_kept_request, read_one_request};
 pub use nodes::read_node_id;
 pub use variants::{read_front, read_variant, write_data_value};

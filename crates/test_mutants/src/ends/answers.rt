@@ -3,12 +3,13 @@
 ghost use Rattle.std.specs.Prelude.{◌≡◌, IfOk};
 ghost use Rattle.ua_services.specs.Response.{response};
 ghost use Rattle.ua_server.specs.Answer.{answer};
+ghost use Rattle.ua_server.specs.Attributes.{takes_now};
 ghost use Rattle.ua_server.specs.Reply.{answered};
 
 use std::alloc::{AllocError, Global};
-use ua_builtin::{DateTime, Source, StatusCode};
+use ua_builtin::{DateTime, NodeId, Source, StatusCode};
 use ua_server::Services;
-use ua_services::{Request, Response, response_body};
+use ua_services::{Request, Response, TakesTypes, ValueType, response_body};
 
 /// The body of the reply to a message.
 pub fn reply_to<S: Source>(
@@ -38,4 +39,11 @@ pub fn answer_both(
     let one = services.answer(alloc, first, moment);
     let two = services.answer(alloc, second, moment);
     (one, two)
+}
+
+/// Whether a node could take a value of a type now: none could before a session is activated.
+pub fn could_take_now(services: &Services, id: &NodeId, value_type: ValueType) -> bool
+    ensures taken { result ≡ takes_now services.now id.now value_type }
+{
+    services.could_take(id, value_type)
 }

@@ -1,4 +1,4 @@
-//! Items of a Read.
+//! Items of a Read, and the values that nodes could take.
 
 ghost use Rattle.std.specs.Prelude.{◌≡◌, IfOk, OnOk};
 ghost use Rattle.ua_variant.specs.View.{data_value_of};
@@ -6,11 +6,12 @@ ghost use Rattle.ua_nodes.specs.Read.{answer_octets, read_answer};
 ghost use Rattle.ua_nodes.specs.Sound.{IsSound};
 ghost use Rattle.ua_nodes.specs.Table.{node_at};
 ghost use Rattle.ua_nodes.specs.Within.{IsWithin};
+ghost use Rattle.ua_nodes.specs.Write.{nodes_take};
 
 use std::alloc::{AllocError, Global};
-use ua_builtin::{DateTime, StatusCode, UaString};
+use ua_builtin::{DateTime, NodeId, StatusCode, UaString};
 use ua_nodes::{NodeTable, Stamps};
-use ua_structures::ReadValueId;
+use ua_structures::{ReadValueId, TakesTypes, ValueType};
 use ua_variant::DataValue;
 
 /// The answer to an item of a Read, at a moment.
@@ -41,4 +42,12 @@ pub fn append_answers(
     ensures ok { OnOk result (IsWithin most (answer_octets nodes.now stamps moment) items.now out.old.items out.new.items) }
 {
     nodes.append_items(alloc, items, stamps, moment, most, out)
+}
+
+/// Whether a node could take a value of a type: one of its own type, and an array just where it holds
+/// arrays.
+pub fn could_take(nodes: &NodeTable, id: &NodeId, value_type: ValueType) -> bool
+    ensures taken { result ≡ nodes_take nodes.now id.now value_type }
+{
+    nodes.could_take(id, value_type)
 }
