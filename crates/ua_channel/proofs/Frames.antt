@@ -25,7 +25,7 @@ use Rattle.ua_channel.specs.Received.{Received, nothing_received, or_before, aft
 use Rattle.ua_channel.specs.inside.ServerParts.{AgreesTo, IsRefusalFor, IsRefused, JudgesHello, Judges, JudgesClose}
 use Rattle.ua_channel.specs.ServerStands.{HasGreeted, InServerPhase, bound_behind, bound_after}
 use Rattle.ua_channel.specs.inside.ServerFrames.{phase_gate, GoesOn, JudgesFrame, ServerTakesFrame}
-use Rattle.ua_channel.specs.ServerRules.{opening_gate, running_gate}
+use Rattle.ua_channel.specs.ServerRules.{opening_gate}
 use Rattle.ua_channel.specs.ServerTold.{Told as told, server_tells}
 use Rattle.ua_frame.specs.declared.gate.Gate.{Gate}
 use Rattle.ua_channel.specs.inside.Parts.{MayEndIn}

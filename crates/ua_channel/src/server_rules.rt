@@ -12,7 +12,7 @@ ghost use Rattle.ua_channel.specs.ServerStands.{server_side};
 ghost use Rattle.ua_channel.specs.Received.{Received};
 ghost use Rattle.ua_channel.specs.ServerStands.{InServerPhase, Stays, bound_after};
 
-use crate::agreement::{Agreement, judge_hello};
+use crate::agreement::judge_hello;
 use crate::end_core::EndRules;
 use crate::running::Running;
 use crate::server::Phase;
