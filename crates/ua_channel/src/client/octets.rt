@@ -13,7 +13,7 @@ ghost use Rattle.ua_channel.specs.inside.ClientAsking.{closing_front};
 use crate::sending::append_opening;
 use std::alloc::{AllocError, Global};
 use ua_builtin::{DateTime, UaString, Wire};
-use ua_frame::{Kind, Limits, header_octets};
+use ua_frame::{Hello, Kind, Limits, header_octets};
 use ua_services::laws::bodies_of_the_channel_have_lengths;
 use ua_services::{CloseRequest, OpenRequest, write_close_request, write_open_request};
 
@@ -32,25 +32,18 @@ const CLOSE_SIZE: u32 = 57;
 /// How long a token is asked to live, in milliseconds: an hour.
 const TOKEN_LIFETIME: u32 = 3_600_000;
 
-/// Adds the Hello of a client with these limits to the server of this URL.
-#[tactic(auto, unfolding(ua_frame::specs::Messages::hello))]
-fn append_hello(limits: &Limits, url: &UaString, out: &mut Vec<u8>) -> Result<(), AllocError>
-    requires { IsTrue (text.encodable url.now) }
-    ensures { OnOk result (out.new.items ≡ out.old.items ++ hello.canonical (hello_to limits.now url.now)) }
+/// The Hello of a client with these limits to the server of this URL.
+fn hello_of(limits: &Limits, url: &UaString) -> Result<Hello, AllocError>
+    ensures { IfOk result (λ found. found ≡ hello_to limits.now url.now) }
 {
-    let Limits {
-        receive_buffer_size,
-        send_buffer_size,
-        max_message_size,
-        max_chunk_count,
-    } = *limits;
-    0u32.append(out)?;
-    receive_buffer_size.append(out)?;
-    send_buffer_size.append(out)?;
-    max_message_size.append(out)?;
-    max_chunk_count.append(out)?;
-    url.append(out)?;
-    Ok(())
+    Ok(Hello {
+        protocol_version: 0,
+        receive_buffer_size: limits.receive_buffer_size,
+        send_buffer_size: limits.send_buffer_size,
+        max_message_size: limits.max_message_size,
+        max_chunk_count: limits.max_chunk_count,
+        endpoint_url: url.try_clone()?,
+    })
 }
 
 /// The number of octets of a URL.
@@ -72,11 +65,17 @@ pub fn hello_octets(alloc: Global, limits: &Limits, url: &UaString) -> Result<Ve
     requires { IsTrue (text.encodable url.now) }
     ensures { IfOk result (λ out. out.items ≡ frame_octets (hello_frame (hello_to limits.now url.now))) }
 {
+    let hello = hello_of(limits, url)?;
     let size = SHORT_HELLO + url_len(url);
     let mut out = Vec::with_capacity(alloc, size)?;
     out.extend_from_slice(&header_octets(Kind::Hel, b'F', size as u32))?;
-    append_hello(limits, url, &mut out)?;
-    Ok(out)
+    let written = hello.write(&mut out);
+    drop(hello);
+    // Its URL can be encoded, so a fault is want of memory.
+    match written {
+        Ok(()) => Ok(out),
+        Err(_) => Err(AllocError),
+    }
 }
 
 /// The OPN of a request on a channel, with this number and request id.
