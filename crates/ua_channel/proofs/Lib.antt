@@ -11,6 +11,7 @@ mod Ends
 mod Servers
 mod Starts
 pub mod OpeningFrames
+pub mod ChunkFrames
 mod Answering
 pub mod Askings
 pub mod AskedLater

@@ -1,6 +1,7 @@
 -- What a client sends: the HEL, the OPNs and the CLO, each a whole frame.
-use Rattle.std.specs.Prelude.{ℕ, ◌++◌, pos, List, Option}
+use Rattle.std.specs.Prelude.{◌≡◌, ◌≤◌, ℕ, ◌++◌, ◌∷◌, [], pos, List, Option}
 use Rattle.ua_builtin.specs.declared.date_time.DateTime.{DateTime}
+use Rattle.ua_frame.specs.Frames.{frame_size, frames_octets}
 use Rattle.ua_frame.specs.declared.frame.Frame.{Frame}
 use Rattle.ua_frame.specs.declared.hello.Hello.{Hello}
 use Rattle.ua_frame.specs.declared.kind.Kind.TheVariants.{Hel, Clo}
@@ -51,3 +52,17 @@ close_frame channel token number id moment = record {
   flag = 70;
   body = token_header.canonical (channel, token) ++ (sequence_header.canonical (number, id) ++ (message 452 close_request).canonical (close_request_of moment 0));
 }
+
+-- ---- where the frames of what is sent end
+
+-- each of these frames has this size, but the last, which has at most this size
+abbrev pub AreSized : ℕ → List Frame → Type 0
+AreSized size [] = ⊥
+AreSized size (f ∷ []) = frame_size f ≤ size
+AreSized size (f ∷ (g ∷ fs)) = (frame_size f ≡ size) × AreSized size (g ∷ fs)
+
+-- these octets are whole frames, each but the last of so many octets, and the last of at most so many
+pub record AreFramesOf (size : ℕ) (octets : List ℕ) : Type 0 where
+  pub frames : List Frame
+  pub whole : octets ≡ frames_octets frames
+  pub sized : AreSized size frames

@@ -3,6 +3,7 @@
 mod address;
 mod agreed;
 mod answer;
+mod asked_call;
 mod channel;
 mod event;
 mod fault;
@@ -13,6 +14,7 @@ mod phase;
 mod rules;
 mod talking;
 
+pub use asked_call::AskedCall;
 pub use channel::ClientChannel;
 pub use event::ClientEvent;
 pub use fault::{AskFault, ClientTakeFault};

@@ -1,12 +1,14 @@
 //! What a server sends.
 
-ghost use Rattle.std.specs.Prelude.{◌≡◌, ◌<◌, ◌+◌, ◌++◌, ◌^◌, ℕ, List, length, IfOk, OnOk};
+ghost use Rattle.std.specs.Prelude.{◌≡◌, ◌<◌, ◌+◌, ◌++◌, ◌^◌, ℕ, List, is_some, length, IfOk, OnOk};
 ghost use Rattle.ua_frame.specs.Frames.{frame_octets};
 ghost use Rattle.ua_frame.specs.Messages.{ack_frame};
+ghost use Rattle.ua_chunk.specs.Cutting.{cut_refusal};
 ghost use Rattle.ua_channel.specs.ServerSends.{opening_frame, opened_frame, IsReply};
 
 use crate::agreement::Agreement;
 use crate::numbers::Numbers;
+use crate::sent_reply::SentReply;
 use std::alloc::{AllocError, Global};
 use ua_builtin::{DateTime, StatusCode, Wire};
 use ua_chunk::{CutFault, Lane, NONE_POLICY, abort_octets, cut};
@@ -92,33 +94,40 @@ pub fn opened_octets(
     }
 }
 
-/// The octets of a reply: the chunks of its body, or where the client takes no such body an abort
-/// that says so. The numbers go on behind them.
+/// A reply: the chunks of its body, or where the client takes no such body an abort that says so. The
+/// numbers go on behind them.
 pub fn reply_octets(
     alloc: Global,
     lane: &Lane,
     body: &[u8],
     request: u32,
     numbers: &mut Numbers,
-) -> Result<Vec<u8>, AllocError>
+) -> Result<SentReply, AllocError>
     requires room { 0 < lane.now.room }
     requires size { lane.now.room + 24 < 2 ^ 32 }
     requires body { 0 < length body.now }
-    ensures { IfOk result (λ out. IsReply lane.now body.now numbers.old.next request out.items numbers.new.next) }
+    ensures octets { IfOk result (λ sent. IsReply lane.now body.now numbers.old.next request sent.octets.items numbers.new.next) }
+    ensures abort { IfOk result (λ sent. sent.is_abort ≡ is_some (cut_refusal lane.now body.now)) }
 {
     let number = numbers.number();
     let mut out = Vec::new(alloc);
     match cut(lane, body, number, request, &mut out) {
         Ok(next) => {
             numbers.go_on(next);
-            Ok(out)
+            Ok(SentReply {
+                octets: out,
+                is_abort: false,
+            })
         }
         Err(CutFault::OutOfMemory) => Err(AllocError),
         Err(CutFault::TooManyOctets | CutFault::TooManyChunks) => {
             let code = StatusCode::BAD_RESPONSE_TOO_LARGE;
             out.extend_from_slice(&abort_octets(lane, number, request, code))?;
             numbers.step();
-            Ok(out)
+            Ok(SentReply {
+                octets: out,
+                is_abort: true,
+            })
         }
     }
 }

@@ -7,6 +7,7 @@ use crate::end_core::EndCore;
 use crate::numbers::Numbers;
 use crate::running::Running;
 use crate::sending::{Opening, agreed_octets, opened_octets, reply_octets};
+use crate::sent_reply::SentReply;
 use crate::server_event::{Event, ServerEvent};
 use crate::server_fault::{ChannelFault, ReplyFault};
 use crate::server_rules::{ServerRules, hello_gate};
@@ -42,9 +43,9 @@ pub struct ServerChannel {
 }
 
 impl ServerChannel {
-    ghost use Rattle.std.specs.Prelude.{◌≡◌, ◌<◌, ◌≤◌, ◌+◌, ◌++◌, ◌^◌, ◌↔◌, [], ℕ, List, length, take, None, Some, Ok, Err, IfOk, IfSome, MatchOption, MatchResult, OnOk, OnErr, IsErrOf, IsTrue};
+    ghost use Rattle.std.specs.Prelude.{◌≡◌, ◌<◌, ◌≤◌, ◌+◌, ◌++◌, ◌^◌, ◌↔◌, [], ℕ, List, length, take, None, Some, Ok, Err, IfOk, IfSome, MatchOption, MatchResult, OnOk, OnErr, IsErrOf, IsTrue, is_some};
     ghost use Rattle.ua_frame.specs.declared.frame.Frame.{Frame};
-    ghost use Rattle.ua_chunk.specs.Cutting.{most_octets};
+    ghost use Rattle.ua_chunk.specs.Cutting.{cut_refusal, most_octets};
     ghost use Rattle.ua_chunk.specs.declared.lane.Lane.{Lane};
     ghost use Rattle.ua_chunk.specs.Open.{open_ids};
     ghost use Rattle.ua_channel.specs.Received.{received};
@@ -270,9 +271,39 @@ impl ServerChannel {
         }
     }
 
-    /// The octets of a reply under a request id: the chunks of its body under the last token that
-    /// the client used, or where the client takes no such body an abort that says so. Where no
+    /// The reply under a request id: the chunks of its body under the last token that the client used,
+    /// or where the client takes no such body an abort that says so; and which of both it is. Where no
     /// memory is found the channel fails.
+    pub fn respond(&mut self, id: u32, body: &[u8]) -> Result<SentReply, ReplyFault>
+        requires { 0 < length body.now }
+        ensures stands { (octets : List ℕ) (frames : List Frame) (rest : List ℕ) → Stands self.old octets frames rest
+            → OnOk result (Stands self.new octets frames rest) }
+        ensures sent { (octets : List ℕ) (frames : List Frame) (rest : List ℕ) → Stands self.old octets frames rest
+            → IfOk result (λ sent. (lane : Lane) × RepliesGo (limits_of self.old) (channel_of self.old) (received frames) lane
+            × IsReply lane body.now (next_of self.old) id sent.octets.items (next_of self.new) × (sent.is_abort ≡ is_some (cut_refusal lane body.now))) }
+        // No channel is open before the first OPN, and once the channel ended, and then alone.
+        ensures not_open { IsErrOf result NotOpen ↔ IsWithoutToken self.old }
+        ensures unchanged { IsErrOf result NotOpen → self.new ≡ self.old }
+        ensures before { (octets : List ℕ) (frames : List Frame) (rest : List ℕ) → Stands self.old octets frames rest
+            → IsErrOf result NotOpen ↔ ((received frames).openings ≡ []) }
+        ensures failed { IsErrOf result OutOfMemory → IsDone self.new }
+        ensures bound { bound_of self.new ≡ bound_of self.old }
+        ensures limits { limits_of self.new ≡ limits_of self.old }
+        ensures channel { channel_of self.new ≡ channel_of self.old }
+    {
+        let Some(lane) = self.lane() else {
+            return Err(ReplyFault::NotOpen);
+        };
+        match reply_octets(self.end.alloc, &lane, body, id, &mut self.end.numbers) {
+            Ok(sent) => Ok(sent),
+            Err(_) => {
+                self.end.fail();
+                Err(ReplyFault::OutOfMemory)
+            }
+        }
+    }
+
+    /// The octets that [`respond`](ServerChannel::respond) answers: the reply, or an abort in its place.
     pub fn reply(&mut self, id: u32, body: &[u8]) -> Result<Vec<u8>, ReplyFault>
         requires { 0 < length body.now }
         ensures stands { (octets : List ℕ) (frames : List Frame) (rest : List ℕ) → Stands self.old octets frames rest
@@ -290,15 +321,9 @@ impl ServerChannel {
         ensures limits { limits_of self.new ≡ limits_of self.old }
         ensures channel { channel_of self.new ≡ channel_of self.old }
     {
-        let Some(lane) = self.lane() else {
-            return Err(ReplyFault::NotOpen);
-        };
-        match reply_octets(self.end.alloc, &lane, body, id, &mut self.end.numbers) {
-            Ok(out) => Ok(out),
-            Err(_) => {
-                self.end.fail();
-                Err(ReplyFault::OutOfMemory)
-            }
+        match self.respond(id, body) {
+            Ok(SentReply { octets, .. }) => Ok(octets),
+            Err(fault) => Err(fault),
         }
     }
 

@@ -26,7 +26,8 @@ use Rattle.ua_channel.specs.Received.{chunks_in, latest_behind, messages, number
 use Rattle.ua_channel_laws.specs.ServerReads.{IsBodyFor}
 use Rattle.ua_channel.proofs.Askings.{and_false, and_true, eqb_sym, or_false, all-weaken}
 use Rattle.ua_channel_laws.proofs.Conversing.{messages_fit}
-use Rattle.ua_channel_laws.proofs.Written.{IsNumbered, IsOf, after_small, chunk_carried, chunk_flag, chunk_size}
+use Rattle.ua_channel.proofs.ChunkFrames.{chunk_size}
+use Rattle.ua_channel_laws.proofs.Written.{IsNumbered, IsOf, after_small, chunk_carried, chunk_flag}
 
 -- ---- chunks of a lane
 

@@ -65,7 +65,8 @@ use Rattle.ua_channel_laws.proofs.MergedFrames.{latest_or-append, none_used, tok
 use Rattle.ua_channel_laws.proofs.ServerMerges.{reads_merged}
 use Rattle.ua_channel_laws.specs.Conversation.{IsGoodRequest}
 use Rattle.ua_channel_laws.specs.Merges.{AreMerged, CarriesEither, IsChunkHere, NumbersGoOn, ServerMerge, ended_by, latest_or, told_by_merged, told_of_merge, with_merged}
-use Rattle.ua_channel_laws.proofs.Written.{IsOf, chunks_are, header_sizes, none_is, opening_carried, lets_opn, chunk_carried}
+use Rattle.ua_channel.proofs.ChunkFrames.{header_sizes}
+use Rattle.ua_channel_laws.proofs.Written.{IsOf, chunks_are, none_is, opening_carried, lets_opn, chunk_carried}
 use Rattle.ua_channel.proofs.OpeningFrames.{none_header, opening_body, opening_size}
 use Rattle.ua_channel.specs.inside.ServerParts.{IsAskedIn, OpensSo, asked_reasons}
 use Rattle.ua_channel.specs.declared.server_opening.Asked.{Asked}

@@ -1,11 +1,9 @@
 -- What the frames carry that an end writes.
-use Rattle.std.proofs.Common.{◌≡◌, ℕ, ◌+◌, ◌<◌, ◌≤◌, ◌^◌, true, IsTrue, ltb, List, [], ◌∷◌, ◌++◌, Some, length, refl, ◌∙◌, ap, arith, length-append, sym, subst}
+use Rattle.std.proofs.Common.{◌≡◌, ℕ, ◌+◌, ◌<◌, ◌≤◌, ◌^◌, true, IsTrue, ltb, List, [], ◌∷◌, ◌++◌, Some, length, refl, ◌∙◌, ap, arith, sym, subst}
 use Rattle.std.specs.List.{AllByRecursion}
 use Rattle.std.proofs.lemmas.Bool.{and_from, lt-ltb}
 use Rattle.std.proofs.lemmas.Slice.Eq.{bytes_eq-Decides}
 use Rattle.ua_wire.specs.Counted.{counted}
-use Rattle.ua_wire.specs.Number.{number_octets}
-use Rattle.ua_wire.proofs.NumbersRead.{length-number_octets}
 use Rattle.ua_frame.specs.declared.kind.Kind.TheVariants.{Msg, Opn}
 use Rattle.ua_frame.specs.Frames.{frame_size, LetsIn}
 use Rattle.ua_frame.specs.Kinds.{has_flag, least_size, lets_in}
@@ -15,7 +13,7 @@ use Rattle.ua_chunk.specs.declared.flag.Flag.TheVariants.{F, C, A}
 use Rattle.ua_chunk.specs.declared.lane.Lane.{Lane}
 use Rattle.ua_chunk.specs.Cutting.{AreFull, number_after, numbered, pieces}
 use Rattle.ua_chunk.specs.Flag.{flag_octet}
-use Rattle.ua_chunk.specs.Layout.{chunk_in, frame_of, sequence_header, token_header}
+use Rattle.ua_chunk.specs.Layout.{chunk_in, frame_of, sequence_header}
 use Rattle.ua_chunk.specs.Opening.{is_none_policy, none_policy, policy_header}
 use Rattle.ua_chunk.specs.Sequence.{next_number}
 use Rattle.ua_chunk.proofs.Carried.{chunk_found}
@@ -45,24 +43,6 @@ chunk_written c n = chunk_found (frame_of c) c (frame_of_chunk c n.channel n.tok
 -- the frame of a chunk carries it
 pub chunk_carried : (c : Chunk) → IsNumbered c → content (frame_of c) ≡ Sends c
 chunk_carried c n = content_msg (frame_of c) c refl (chunk_written c n)
-
-pub header_sizes : (channel token sequence request : ℕ) (body : List ℕ) → length (token_header.canonical (channel, token) ++ (sequence_header.canonical (sequence, request) ++ body)) ≡ 16 + length body
-header_sizes channel token sequence request body =
-    omega (
-      arith,
-      length-append (number_octets 4 channel ++ number_octets 4 token) ((number_octets 4 sequence ++ number_octets 4 request) ++ body),
-      length-append (number_octets 4 channel) (number_octets 4 token),
-      length-append (number_octets 4 sequence ++ number_octets 4 request) body,
-      length-append (number_octets 4 sequence) (number_octets 4 request),
-      length-number_octets 4 channel,
-      length-number_octets 4 token,
-      length-number_octets 4 sequence,
-      length-number_octets 4 request,
-    )
-
--- the size of the frame of a chunk
-pub chunk_size : (c : Chunk) → frame_size (frame_of c) ≡ 24 + length c.body
-chunk_size c = omega (arith, header_sizes c.channel c.token c.sequence c.request c.body)
 
 flag_known : (f : Flag) → IsTrue (has_flag Msg (flag_octet f))
 flag_known F = refl

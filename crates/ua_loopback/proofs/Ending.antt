@@ -31,7 +31,8 @@ use Rattle.ua_channel.specs.Content.Content.{Sends}
 use Rattle.ua_channel.specs.ServerSends.{replied, replied_by}
 use Rattle.ua_channel.proofs.AskedLater.{frames_octets-append}
 use Rattle.ua_channel_laws.proofs.ReadOn.{begins_run, one_octets}
-use Rattle.ua_channel_laws.proofs.Written.{IsNumbered, IsOf, chunk_carried, chunk_size, chunks_are}
+use Rattle.ua_channel.proofs.ChunkFrames.{chunk_size}
+use Rattle.ua_channel_laws.proofs.Written.{IsNumbered, IsOf, chunk_carried, chunks_are}
 
 -- ---- frames, by their octets
 

@@ -11,13 +11,14 @@ ghost use Rattle.ua_channel.specs.Client.{ClientStands, ClientGoes, ClientStarve
 ghost use Rattle.ua_channel.specs.ClientAnswers.{ClientAnswers, ComesInParts, ClientProgress, parts_handed};
 ghost use Rattle.ua_channel.specs.ClientAsks.{call_reasons, closing_reasons, renewing_reasons, AnswersFor, IsCalled, IsClosed, IsRenewed, JudgesBy};
 ghost use Rattle.ua_channel.specs.inside.ClientParts.{AnswersEvent, ComesTo, counted};
-ghost use Rattle.ua_channel.specs.ClientSends.{hello_frame, hello_to};
+ghost use Rattle.ua_channel.specs.ClientSends.{AreFramesOf, hello_frame, hello_to};
 ghost use Rattle.ua_channel.specs.ClientTold.{ClientTold};
 ghost use Rattle.ua_channel.specs.Received.{received};
 ghost use Rattle.ua_channel.specs.declared.client.fault.AskFault.TheVariants.{NotOpen};
 ghost use Rattle.ua_channel.specs.declared.client.fault.ClientTakeFault.TheVariants.{Closed, OutOfMemory};
 
 use crate::client::address::Address;
+use crate::client::asked_call::AskedCall;
 use crate::client::event::{ClientEvent, Event};
 use crate::client::fault::{AskFault, ClientTakeFault};
 use crate::client::ids::FIRST_ID;
@@ -134,7 +135,36 @@ impl ClientChannel {
         }
     }
 
-    /// The chunks of a call with this body, and the request id under which it is answered.
+    /// Asks a call with this body: its chunks, where their frames end, and the request id under which it
+    /// is answered.
+    pub fn call(&mut self, body: &[u8]) -> Result<AskedCall, AskFault>
+        requires { 0 < length body.now }
+        ensures answers { AnswersFor (call_refused self.old 0 body.now) result }
+        ensures sent { IfOk result (λ asked. SendsCall self.old (client_next self.old) body.now asked.id asked.octets.items (client_next self.new)) }
+        ensures frames { IfOk result (λ asked. AreFramesOf asked.frame_len asked.octets.items) }
+        // The same by what was received and asked, in the middle of a frame or of a message too.
+        ensures refuses { (asks : List Placed) (octets : List ℕ) (frames : List Frame) (rest : List ℕ) → ClientStands self.old asks octets frames rest
+            → AnswersFor (first_reason (call_reasons (received frames) (asked_in asks) 0 body.now)) result }
+        ensures calls { (asks : List Placed) (octets : List ℕ) (frames : List Frame) (rest : List ℕ) → ClientStands self.old asks octets frames rest
+            → IfOk result (λ asked. IsCalled (received frames) (asked_in asks) (client_next self.old) body.now asked.id asked.octets.items (client_next self.new)) }
+        ensures stands { (asks : List Placed) (octets : List ℕ) (frames : List Frame) (rest : List ℕ) → ClientStands self.old asks octets frames rest
+            → IfOk result (λ asked. ClientStands self.new (asks ++ (length octets, Call asked.id) ∷ []) octets frames rest) }
+
+        // After a fault the channel stands as before, and sends next what it would have sent.
+        ensures kept { (asks : List Placed) (octets : List ℕ) (frames : List Frame) (rest : List ℕ) → ClientStands self.old asks octets frames rest
+            → OnErr result (ClientStands self.new asks octets frames rest) }
+        ensures next { OnErr result (client_next self.new ≡ client_next self.old) }
+        ensures done { IsClientDone self.old → (result ≡ Err NotOpen) × (self.new ≡ self.old) }
+        ensures same { SameClient self.old self.new }
+        ensures bound { client_bound self.new ≡ client_bound self.old }
+    {
+        match &mut self.end.phase {
+            Phase::Open(talking) => talking.ask(self.end.alloc, body, &mut self.end.numbers),
+            _ => Err(AskFault::NotOpen),
+        }
+    }
+
+    /// The chunks that [`call`](ClientChannel::call) answers, and the request id.
     pub fn ask(&mut self, body: &[u8]) -> Result<(u32, Vec<u8>), AskFault>
         requires { 0 < length body.now }
         ensures answers { AnswersFor (call_refused self.old 0 body.now) result }
@@ -155,9 +185,9 @@ impl ClientChannel {
         ensures same { SameClient self.old self.new }
         ensures bound { client_bound self.new ≡ client_bound self.old }
     {
-        match &mut self.end.phase {
-            Phase::Open(talking) => talking.ask(self.end.alloc, body, &mut self.end.numbers),
-            _ => Err(AskFault::NotOpen),
+        match self.call(body) {
+            Ok(asked) => Ok((asked.id, asked.octets)),
+            Err(fault) => Err(fault),
         }
     }
 

@@ -11,6 +11,7 @@ ghost use Rattle.ua_channel.specs.Asks.Asking.{Call, Renewal};
 ghost use Rattle.ua_channel.specs.ClientAsks.{Talks, call_lane, renew_reasons, is_too_large, Calls, Renews, AnswersFor};
 ghost use Rattle.ua_channel.specs.inside.ClientAsking.{more_reasons, AnswersCall, JudgesCall, AsBefore};
 ghost use Rattle.ua_channel.specs.inside.ClientParts.{Judged, greeted, first_reasons, IsOpenedWith, IsOpenedBy, renewal_reasons, IsRenewedWith, TellsRenewal, token_reasons, chunk_reasons, refused_reasons, unasked_reasons, known_reasons, any_event, drops_first, left_behind, IsAccepted, IsDeliveredWith, IsTakenWith, TakesFrame, DeliversEvent};
+ghost use Rattle.ua_channel.specs.ClientSends.{AreFramesOf};
 ghost use Rattle.ua_channel.specs.ClientTable.{client_reasons, answer_gate, reply_gate};
 ghost use Rattle.ua_channel.specs.ClientTokens.{from_last};
 ghost use Rattle.ua_channel.specs.Content.{content};
@@ -19,6 +20,7 @@ ghost use Rattle.ua_channel.specs.Received.{Received};
 
 use crate::client::agreed::Agreed;
 use crate::client::answer::{Answer, judge_answer};
+use crate::client::asked_call::AskedCall;
 use crate::client::event::Event;
 use crate::client::fault::AskFault;
 use crate::client::greeting::stop_of_error;
@@ -320,17 +322,19 @@ impl Talking {
     }
 
     /// The chunks of a call under the next request id.
+    #[tactic(auto, using(crate::proofs::ChunkFrames::chunks_framed))]
     pub fn ask(
         &mut self,
         alloc: Global,
         body: &[u8],
         numbers: &mut Numbers,
-    ) -> Result<(u32, Vec<u8>), AskFault>
+    ) -> Result<AskedCall, AskFault>
         requires { 0 < length body.now }
         ensures answers { AnswersCall self.old body.now result }
-        ensures asked { IfOk result (λ r. Calls self.old numbers.old.next body.now r.0 r.1.items numbers.new.next) }
+        ensures asked { IfOk result (λ asked. Calls self.old numbers.old.next body.now asked.id asked.octets.items numbers.new.next) }
+        ensures frames { IfOk result (λ asked. AreFramesOf asked.frame_len asked.octets.items) }
         ensures talks { (limits : Limits) (before : Received) (asked : List Asking) → Talks limits self.old before asked
-            → IfOk result (λ r. Talks limits self.new before (asked ++ Call r.0 ∷ [])) }
+            → IfOk result (λ call. Talks limits self.new before (asked ++ Call call.id ∷ [])) }
         ensures agreed { self.new.agreed ≡ self.old.agreed }
         ensures unchanged { OnErr result (AsBefore self.old self.new × (numbers.new ≡ numbers.old)) }
     {
@@ -338,8 +342,9 @@ impl Talking {
             return Err(fault);
         }
         let id = self.next;
+        let lane = self.lane();
         let mut out = Vec::new(alloc);
-        let next = match cut(&self.lane(), body, numbers.number(), id, &mut out) {
+        let next = match cut(&lane, body, numbers.number(), id, &mut out) {
             Ok(next) => next,
             Err(fault) => return Err(AskFault::of_cut(fault)),
         };
@@ -347,7 +352,11 @@ impl Talking {
             Ok(()) => {
                 self.next = id + 1;
                 numbers.go_on(next);
-                Ok((id, out))
+                Ok(AskedCall {
+                    id,
+                    octets: out,
+                    frame_len: CHUNK_HEADERS + lane.room as usize,
+                })
             }
             Err(_) => Err(AskFault::OutOfMemory),
         }
