@@ -1,6 +1,7 @@
 pub mod Codes
 pub mod Shows
 mod Ends
+mod Named
 mod Rows
 mod Steps
 mod Scripts

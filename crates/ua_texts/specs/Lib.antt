@@ -1,4 +1,5 @@
 pub mod Shown
+pub mod StatusCodes
 pub mod Names
 pub mod Values
 pub mod Styles

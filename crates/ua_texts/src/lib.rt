@@ -13,10 +13,12 @@
 
 mod answer;
 mod fault;
+pub mod laws;
 mod names;
 mod object;
 mod reply;
 mod script;
+mod status_codes;
 mod style;
 mod text;
 mod value;

@@ -1,54 +1,36 @@
 //! The standard's names of status codes.
 
-ghost use Rattle.std.specs.Prelude.{◌≡◌, ◌++◌, option_map, string_bytes, OnOk};
+ghost use Rattle.std.specs.Prelude.{◌≡◌, ◌++◌, map, option_map, slice_get, string_bytes, OnOk};
 ghost use Rattle.ua_texts.specs.Names.{name_of_code, named_code};
+ghost use Rattle.ua_texts.specs.StatusCodes.{status_codes};
 
+use crate::status_codes::{STATUS_CODES, STATUS_NAMES};
 use crate::text::push_code;
 use std::alloc::AllocError;
 use ua_builtin::StatusCode;
 
-/// The standard's name of a status code (OPC 10000-6, A.2), of those that are a constant of
-/// [`StatusCode`].
+/// The standard's name of a status code (OPC 10000-6, A.2), where the table has the code.
 pub fn code_name(status: StatusCode) -> Option<&'static str>
     ensures { option_map (λ name. name.now) result ≡ name_of_code status.code }
 {
-    match status {
-        StatusCode::GOOD => Some("Good"),
-        StatusCode::BAD_ENCODING_ERROR => Some("BadEncodingError"),
-        StatusCode::BAD_DECODING_ERROR => Some("BadDecodingError"),
-        StatusCode::BAD_UNKNOWN_RESPONSE => Some("BadUnknownResponse"),
-        StatusCode::BAD_SERVICE_UNSUPPORTED => Some("BadServiceUnsupported"),
-        StatusCode::BAD_NOTHING_TO_DO => Some("BadNothingToDo"),
-        StatusCode::BAD_TOO_MANY_OPERATIONS => Some("BadTooManyOperations"),
-        StatusCode::BAD_IDENTITY_TOKEN_REJECTED => Some("BadIdentityTokenRejected"),
-        StatusCode::BAD_SESSION_ID_INVALID => Some("BadSessionIdInvalid"),
-        StatusCode::BAD_SESSION_NOT_ACTIVATED => Some("BadSessionNotActivated"),
-        StatusCode::BAD_TIMESTAMPS_TO_RETURN_INVALID => Some("BadTimestampsToReturnInvalid"),
-        StatusCode::BAD_NODE_ID_UNKNOWN => Some("BadNodeIdUnknown"),
-        StatusCode::BAD_ATTRIBUTE_ID_INVALID => Some("BadAttributeIdInvalid"),
-        StatusCode::BAD_INDEX_RANGE_INVALID => Some("BadIndexRangeInvalid"),
-        StatusCode::BAD_INDEX_RANGE_NO_DATA => Some("BadIndexRangeNoData"),
-        StatusCode::BAD_DATA_ENCODING_INVALID => Some("BadDataEncodingInvalid"),
-        StatusCode::BAD_NOT_READABLE => Some("BadNotReadable"),
-        StatusCode::BAD_NOT_WRITABLE => Some("BadNotWritable"),
-        StatusCode::BAD_REQUEST_TYPE_INVALID => Some("BadRequestTypeInvalid"),
-        StatusCode::BAD_SECURITY_MODE_REJECTED => Some("BadSecurityModeRejected"),
-        StatusCode::BAD_SECURITY_POLICY_REJECTED => Some("BadSecurityPolicyRejected"),
-        StatusCode::BAD_TOO_MANY_SESSIONS => Some("BadTooManySessions"),
-        StatusCode::BAD_MAX_AGE_INVALID => Some("BadMaxAgeInvalid"),
-        StatusCode::BAD_WRITE_NOT_SUPPORTED => Some("BadWriteNotSupported"),
-        StatusCode::BAD_TYPE_MISMATCH => Some("BadTypeMismatch"),
-        StatusCode::BAD_TCP_MESSAGE_TYPE_INVALID => Some("BadTcpMessageTypeInvalid"),
-        StatusCode::BAD_TCP_SECURE_CHANNEL_UNKNOWN => Some("BadTcpSecureChannelUnknown"),
-        StatusCode::BAD_TCP_MESSAGE_TOO_LARGE => Some("BadTcpMessageTooLarge"),
-        StatusCode::BAD_TCP_NOT_ENOUGH_RESOURCES => Some("BadTcpNotEnoughResources"),
-        StatusCode::BAD_TCP_ENDPOINT_URL_INVALID => Some("BadTcpEndpointUrlInvalid"),
-        StatusCode::BAD_SECURE_CHANNEL_TOKEN_UNKNOWN => Some("BadSecureChannelTokenUnknown"),
-        StatusCode::BAD_SEQUENCE_NUMBER_INVALID => Some("BadSequenceNumberInvalid"),
-        StatusCode::BAD_REQUEST_TOO_LARGE => Some("BadRequestTooLarge"),
-        StatusCode::BAD_RESPONSE_TOO_LARGE => Some("BadResponseTooLarge"),
-        _ => None,
+    match known_codes().binary_search(&status.code) {
+        Ok(place) => name_at(place),
+        Err(_) => None,
     }
+}
+
+/// The codes of the table, rising.
+fn known_codes() -> &'static [u32]
+    ensures { result.now ≡ map (λ row. row.0) status_codes }
+{
+    &STATUS_CODES
+}
+
+/// The name at a place of the table.
+fn name_at(place: usize) -> Option<&'static str>
+    ensures { option_map (λ name. name.now) result ≡ slice_get (map (λ row. row.1) status_codes) place }
+{
+    STATUS_NAMES.lines().nth(place)
 }
 
 /// Adds a status code, and where names are wanted, its name behind a space.
