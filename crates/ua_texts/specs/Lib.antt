@@ -1,6 +1,7 @@
 pub mod Shown
 pub mod StatusCodes
 pub mod Names
+pub mod Laws
 pub mod Values
 pub mod Styles
 pub mod Json

@@ -1,27 +1,47 @@
 -- How the program shows texts, status codes and octets.
 use Rattle.std.specs.Prelude.{ℕ, ◌-◌, ◌/◌, ◌%◌, ◌==◌, if◌then◌else◌, Bool, true, false, cond, replicate, length, List, [], ◌∷◌, ◌++◌, Option, Some, None, codes}
-use Rattle.std.specs.Char.{is_ascii_control}
+use Rattle.std.specs.Char.{encode_utf8, is_ascii_control, is_control}
 use Rattle.std.specs.Fmt.{digits, digit_glyph}
 use Rattle.std.specs.List.{flat_map}
+use Rattle.std.specs.Str.{chars}
 use Rattle.base64.specs.Engines.{standard}
 use Rattle.base64.specs.GeneralPurpose.{encode_of}
 use Rattle.hex.specs.Hex.{encode_lower}
 
 -- ---- texts
 
--- an octet of a text: a control character as `\x` and two lower case hexadecimal digits, a backslash twice, any other as it is
+-- an octet by `\x` and two lower case hexadecimal digits
+abbrev pub escaped_octet : ℕ → List ℕ
+escaped_octet b = 92 ∷ 120 ∷ digit_glyph false (b / 16) ∷ digit_glyph false (b % 16) ∷ []
+
+-- an octet of a text: below 0x20 and 0x7F by its digits, a backslash twice, any other as it is
 abbrev pub shown_octet : ℕ → List ℕ
 shown_octet b = if b == 92 then 92 ∷ 92 ∷ []
-    else (if is_ascii_control b then 92 ∷ 120 ∷ digit_glyph false (b / 16) ∷ digit_glyph false (b % 16) ∷ [] else b ∷ [])
+    else (if is_ascii_control b then escaped_octet b else b ∷ [])
 
 -- the octets of a text, each as it is shown
 unfoldable pub shown : List ℕ → List ℕ
 shown text = flat_map shown_octet text
 
+-- a character of a text: a control character (U+0000 to U+001F, U+007F to U+009F) by each of its octets in UTF-8, a backslash twice, any other as
+-- it is; so U+0085 is `\xc2\x85`
+abbrev pub escaped_char : ℕ → List ℕ
+escaped_char c = if c == 92 then 92 ∷ 92 ∷ []
+    else (if is_control c then flat_map escaped_octet (encode_utf8 c) else encode_utf8 c)
+
+-- the characters of a text, each as it is escaped
+unfoldable pub escaped : List ℕ → List ℕ
+escaped text = flat_map escaped_char (chars text)
+
 -- a String: its text, or `null`
 abbrev pub shown_string : Option (List ℕ) → List ℕ
 shown_string None = codes "null"
 shown_string (Some text) = shown text
+
+-- a String on a line of its own: its text, escaped, or `null`
+abbrev pub escaped_string : Option (List ℕ) → List ℕ
+escaped_string None = codes "null"
+escaped_string (Some text) = escaped text
 
 -- ---- numbers
 

@@ -29,5 +29,8 @@ pub use names::{code_name, push_code_as};
 pub use reply::{has_bad_code, push_endpoints, push_read_answers, push_write_answers};
 pub use script::{ScriptLine, Step, parse_script};
 pub use style::{EndpointStyle, LineStyle};
-pub use text::{push_base64, push_code, push_encoded, push_string, push_wide_pattern};
+pub use text::{
+    push_base64, push_code, push_encoded, push_escaped, push_escaped_string, push_string,
+    push_wide_pattern,
+};
 pub use value::{push_variant, type_name};

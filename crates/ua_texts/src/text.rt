@@ -3,7 +3,8 @@
 ghost use Rattle.std.specs.Prelude.{◌≡◌, ◌++◌, string_bytes, OnOk};
 ghost use Rattle.std.specs.Char.{encode_utf8};
 ghost use Rattle.uuid.specs.Text.{hyphenated_text, lower};
-ghost use Rattle.ua_texts.specs.Shown.{shown, shown_string, code_text, pattern_text, base64_text, written_text};
+ghost use Rattle.std.specs.List.{flat_map};
+ghost use Rattle.ua_texts.specs.Shown.{escaped, escaped_char as one_escaped, escaped_octet, escaped_string, shown, shown_string, code_text, pattern_text, base64_text, written_text};
 
 use base64::engine::general_purpose::STANDARD;
 use std::alloc::{AllocError, Global};
@@ -11,7 +12,7 @@ use std::fmt::Write;
 use ua_builtin::{Guid, StatusCode, UaBytes, UaString, Wire, WriteFault};
 use uuid::Uuid;
 
-/// Adds a String: control characters as `\x` and two digits, a backslash doubled, null as `null`.
+/// Adds a String: octets below 0x20 and 0x7F as `\x` and two digits, a backslash doubled, null as `null`.
 pub fn push_string(out: &mut String, text: &UaString) -> Result<(), AllocError>
     ensures { OnOk result (string_bytes out.new ≡ string_bytes out.old ++ shown_string text.now) }
 {
@@ -39,6 +40,54 @@ fn push_char(out: &mut String, c: char) -> Result<(), AllocError>
         write!(out, "\\x{:02x}", c as u32)
     } else {
         out.push(c)
+    }
+}
+
+/// Adds a text with each control character, U+0080 to U+009F among them, by its octets in UTF-8, each as
+/// `\x` and two digits, and a backslash doubled: what is added has no control character.
+pub fn push_escaped(out: &mut String, text: &str) -> Result<(), AllocError>
+    ensures { OnOk result (string_bytes out.new ≡ string_bytes out.old ++ escaped text.now) }
+{
+    for c in text.chars() {
+        push_escaped_char(out, c)?;
+    }
+    Ok(())
+}
+
+fn push_escaped_char(out: &mut String, c: char) -> Result<(), AllocError>
+    ensures { OnOk result (string_bytes out.new ≡ string_bytes out.old ++ one_escaped c) }
+{
+    if c == '\\' {
+        out.push_str("\\\\")
+    } else if c.is_control() {
+        push_escaped_octets(out, c.encode_utf8(&mut [0; 4]).as_bytes())
+    } else {
+        out.push(c)
+    }
+}
+
+fn push_escaped_octets(out: &mut String, octets: &[u8]) -> Result<(), AllocError>
+    ensures { OnOk result (string_bytes out.new ≡ string_bytes out.old ++ flat_map escaped_octet octets.now) }
+{
+    for octet in octets {
+        push_escaped_octet(out, *octet)?;
+    }
+    Ok(())
+}
+
+fn push_escaped_octet(out: &mut String, octet: u8) -> Result<(), AllocError>
+    ensures { OnOk result (string_bytes out.new ≡ string_bytes out.old ++ escaped_octet octet) }
+{
+    write!(out, "\\x{octet:02x}")
+}
+
+/// Adds a String with its text escaped, null as `null`.
+pub fn push_escaped_string(out: &mut String, text: &UaString) -> Result<(), AllocError>
+    ensures { OnOk result (string_bytes out.new ≡ string_bytes out.old ++ escaped_string text.now) }
+{
+    match text.as_str() {
+        Some(text) => push_escaped(out, text),
+        None => out.push_str("null"),
     }
 }
 
