@@ -1,6 +1,6 @@
 //! Laws of node files, of Reads and of Writes, each carried by a function without a body.
 
-ghost use Rattle.std.specs.Prelude.{◌≡◌, ◌↔◌, ◌++◌, ◌∷◌, [], IsTrue, map, ℕ, List};
+ghost use Rattle.std.specs.Prelude.{◌≡◌, ◌↔◌, ◌++◌, ◌∷◌, [], false, IsTrue, map, ℕ, List, Some};
 ghost use Rattle.std.specs.Str.{IsUtf8};
 ghost use Rattle.ua_nodes.specs.declared.fault.LineReason.{LineReason};
 ghost use Rattle.ua_nodes.specs.declared.node.Variable.{Variable};
@@ -8,7 +8,9 @@ ghost use Rattle.ua_nodes.specs.declared.stamps.Stamps.{Stamps};
 ghost use Rattle.ua_nodes.specs.NodeFile.{FileLine, node_lines, WriteNodes, IsFirstBad};
 ghost use Rattle.ua_nodes.specs.Read.{read_answer};
 ghost use Rattle.ua_nodes.specs.Sound.{IsSoundNode, IsSound, is_sound_node};
-ghost use Rattle.ua_nodes.specs.Table.{Nodes, node_at};
+ghost use Rattle.ua_nodes.specs.Table.{Nodes, node_at, same_id};
+ghost use Rattle.ua_nodes.specs.Set.{after_set, set_node};
+ghost use Rattle.ua_nodes.specs.declared.set.Reading.{Reading};
 ghost use Rattle.ua_nodes.specs.Write.{after_write, last_good, nodes_take, write_answers, written_by};
 ghost use Rattle.std.specs.Option.{option_map};
 ghost use Rattle.ua_builtin.specs.DateTime.{date_time};
@@ -76,4 +78,11 @@ pub fn a_table_stays_sound_after_a_write()
 /// What a Read of a sound table answers can be written.
 pub fn a_sound_table_answers_what_can_be_written()
     ensures { (nodes : Nodes) (item : ReadValueId) (stamps : Stamps) (moment : DateTime) → IsTrue (date_time.encodable moment) → IsSound nodes → IsTrue (data_value_encodable (read_answer (node_at nodes item.node_id) item stamps moment)) }
+{}
+
+/// What the application sets changes one node: each other one holds what it held, and this one has the
+/// value, status and source time of the reading, or what it had where that is refused.
+pub fn what_is_set_changes_one_node()
+    ensures others { (id other : NodeId) (reading : Reading) (nodes : Nodes) → same_id other id ≡ false → node_at (after_set id reading nodes) other ≡ node_at nodes other }
+    ensures own { (id : NodeId) (reading : Reading) (nodes : Nodes) (variable : Variable) → node_at nodes id ≡ Some variable → node_at (after_set id reading nodes) id ≡ Some (set_node variable reading) }
 {}

@@ -37,6 +37,7 @@ pub use laws::{
     a_loaded_table_is_sound, a_node_is_sound_where_it_passes, a_node_keeps_the_last_good_item,
     a_sound_table_answers_what_can_be_written, a_table_stays_sound_after_a_write,
     a_table_stays_sound_with_a_sound_node, values_that_their_nodes_cannot_take_change_no_write,
+    what_is_set_changes_one_node,
 };
 pub use node::{Access, Node, NodeValue, Variable};
 pub use node_file::{is_read, without_return};
