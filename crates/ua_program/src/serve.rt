@@ -2,7 +2,6 @@
 
 ghost use Rattle.std.specs.Prelude.{◌≡◌, ◌⊎◌, IfOk, IfErr, OnOk, string_bytes, true};
 ghost use Rattle.std.specs.Io.KnownBytes.{Appends};
-ghost use Rattle.ua_channel.specs.Line.{WhereTold};
 ghost use Rattle.ua_server.specs.Serving.{Serves};
 ghost use Rattle.ua_server.specs.State.{begun};
 ghost use Rattle.ua_program.specs.Refused.{RefusesNodes};
@@ -93,7 +92,7 @@ pub fn serve_line<L: Line, M: Moments>(
     number: u32,
     moments: &mut M,
 ) -> Result<String, AllocError>
-    ensures { IfOk result (λ text. TellsOf number (λ limits outcome. WhereTold (Serves limits number M.gives (begun services.old) moments.old outcome services.new moments.new) (L.traffic line.old) (L.traffic line.new)) (string_bytes text)) }
+    ensures { IfOk result (λ text. TellsOf number (λ limits outcome. Serves limits number M.gives (begun services.old) moments.old outcome services.new moments.new (L.traffic line.old) (L.traffic line.new)) (string_bytes text)) }
 {
     let outcome = serve(alloc, line, services, limits(), number, moments);
     outcome_line(alloc, number, outcome)
