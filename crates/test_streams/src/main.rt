@@ -26,6 +26,7 @@ mod rows;
 mod served;
 mod server;
 mod serving;
+mod sharing;
 mod sweeps;
 mod taking;
 mod talks;

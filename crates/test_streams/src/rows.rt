@@ -6,6 +6,7 @@ use crate::given::Given;
 use crate::lines::{Course, tell_moments};
 use crate::requests::turns_of;
 use crate::serving::Serving;
+use crate::sharing::Sharing;
 use crate::taking::take_pieces;
 use crate::told::Told;
 use crate::words::{first_number, front, limits_of, text_of};
@@ -37,6 +38,7 @@ pub struct Rows {
     machine: Machine,
     course: Course,
     serving: Serving,
+    sharing: Sharing,
     turns: Vec<Turn>,
 }
 
@@ -47,6 +49,7 @@ impl Rows {
             machine: Machine::Nothing,
             course: Course::new(alloc),
             serving: Serving::new(alloc),
+            sharing: Sharing::new(alloc),
             turns: Vec::new(alloc),
         }
     }
@@ -73,6 +76,10 @@ impl Rows {
                 let (nodes, turns) = (self.serving.nodes.as_str(), self.turns.as_slice());
                 ends::answer(&self.given, nodes, turns, words, told);
             }
+            "share" => self.sharing.begin(self.serving.nodes.as_str(), told),
+            "connection" | "at" | "set" | "holds" => self
+                .sharing
+                .answer(&self.given, kind, words, told),
             "converse" => served::answer(&self.given, &self.serving, words, told),
             _ => self.answer_alone(kind, words, told),
         }

@@ -284,7 +284,7 @@ impl Takes for Serving {
 }
 
 /// Ends the program where a server was refused memory: it is to take nothing more, and to hold nothing.
-fn tell_refusal(again: &Result<Step, StepFault>, held: usize, told: &mut Told) {
+pub fn tell_refusal(again: &Result<Step, StepFault>, held: usize, told: &mut Told) {
     match again {
         Err(StepFault::Closed) if held == 0 => told.end("step: out of memory"),
         _ => told.end("a server that was refused memory goes on"),
@@ -292,7 +292,7 @@ fn tell_refusal(again: &Result<Step, StepFault>, held: usize, told: &mut Told) {
 }
 
 /// Tells what a server says, and how its connection ends.
-fn tell_step(given: &Given, step: &Step, told: &mut Told) -> Goes {
+pub fn tell_step(given: &Given, step: &Step, told: &mut Told) -> Goes {
     if !step.out.is_empty() {
         told.event("sends");
         given.tell_frames(step.out.as_slice(), told);

@@ -120,3 +120,7 @@ value_own id v w (node ∷ nodes) h = by (same_id id node.0) refl h (value_own i
 
 pub set_own : (id : NodeId) (r : Reading) (nodes : Nodes) (v : Variable) → node_at nodes id ≡ Some v → node_at (after_set id r nodes) id ≡ Some (set_node v r)
 set_own id r nodes v h = ap (λ (n : Nodes). node_at n id) (set_some id r nodes v h) ∙ value_own id v (set_node v r) nodes h
+
+-- a reading that is not refused is what the node holds then
+pub set_holds : (v : Variable) (r : Reading) → set_refusal (Some v) r ≡ None → set_node v r ≡ stored v (given_by r) r.source_time
+set_holds v r e = ap (λ (o : Option SetFault). cond (is_none o) (stored v (given_by r) r.source_time) v) e

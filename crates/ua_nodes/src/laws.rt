@@ -1,15 +1,17 @@
 //! Laws of node files, of Reads and of Writes, each carried by a function without a body.
 
-ghost use Rattle.std.specs.Prelude.{◌≡◌, ◌↔◌, ◌++◌, ◌∷◌, [], false, IsTrue, map, ℕ, List, Some};
+ghost use Rattle.std.specs.Prelude.{◌≡◌, ◌↔◌, ◌++◌, ◌∷◌, [], false, IsTrue, map, ℕ, List, None, Some};
 ghost use Rattle.std.specs.Str.{IsUtf8};
 ghost use Rattle.ua_nodes.specs.declared.fault.LineReason.{LineReason};
+ghost use Rattle.ua_nodes.specs.declared.node.Access.{Access};
 ghost use Rattle.ua_nodes.specs.declared.node.Variable.{Variable};
+ghost use Rattle.ua_variant.specs.View.{variant_of};
 ghost use Rattle.ua_nodes.specs.declared.stamps.Stamps.{Stamps};
 ghost use Rattle.ua_nodes.specs.NodeFile.{FileLine, node_lines, WriteNodes, IsFirstBad};
 ghost use Rattle.ua_nodes.specs.Read.{read_answer};
 ghost use Rattle.ua_nodes.specs.Sound.{IsSoundNode, IsSound, is_sound_node};
 ghost use Rattle.ua_nodes.specs.Table.{Nodes, node_at, same_id};
-ghost use Rattle.ua_nodes.specs.Set.{after_set, set_node};
+ghost use Rattle.ua_nodes.specs.Set.{after_set, set_node, set_refusal};
 ghost use Rattle.ua_nodes.specs.declared.set.Reading.{Reading};
 ghost use Rattle.ua_nodes.specs.Write.{after_write, last_good, nodes_take, write_answers, written_by};
 ghost use Rattle.std.specs.Option.{option_map};
@@ -81,8 +83,12 @@ pub fn a_sound_table_answers_what_can_be_written()
 {}
 
 /// What the application sets changes one node: each other one holds what it held, and this one has the
-/// value, status and source time of the reading, or what it had where that is refused.
+/// value, status and source time of the reading, or what it had where that is refused. What a client may
+/// do with the node is no reason.
 pub fn what_is_set_changes_one_node()
     ensures others { (id other : NodeId) (reading : Reading) (nodes : Nodes) → same_id other id ≡ false → node_at (after_set id reading nodes) other ≡ node_at nodes other }
     ensures own { (id : NodeId) (reading : Reading) (nodes : Nodes) (variable : Variable) → node_at nodes id ≡ Some variable → node_at (after_set id reading nodes) id ≡ Some (set_node variable reading) }
+    ensures holds { (variable : Variable) (reading : Reading) → set_refusal (Some variable) reading ≡ None
+        → set_node variable reading ≡ record variable { value = variant_of reading.value; status = reading.status; source_time = Some reading.source_time; source_picoseconds = reading.source_picoseconds } }
+    ensures access { (variable : Variable) (reading : Reading) (access : Access) → set_refusal (Some (record variable { access = access })) reading ≡ set_refusal (Some variable) reading }
 {}

@@ -18,8 +18,10 @@ mod Turning
 mod Handling
 mod Nows
 mod NowStanding
-mod Livings
+mod Histories
 mod EndpointStays
+mod Sharings
+mod Tokens
 mod Stepped
 mod Thinned
 mod Clean

@@ -49,6 +49,16 @@ read_items s moment m = unless (first_reason (read_reasons s m)) s moment m.requ
 abbrev pub write_items : State → DateTime → WriteRequest → State × Response
 write_items s moment m = unless (first_reason (write_reasons s m)) s moment m.request_header (with_written s moment m, statuses_given s moment m)
 
+-- the header of a request under a session, whose AuthenticationToken says which session it is (OPC 10000-4, 5.7.1); none of a request that needs
+-- no session
+abbrev pub session_header : Request → Option RequestHeader
+session_header (GetEndpoints m) = None
+session_header (CreateSession m) = None
+session_header (ActivateSession m) = Some m.request_header
+session_header (CloseSession m) = Some m.request_header
+session_header (Read m) = Some m.request_header
+session_header (Write m) = Some m.request_header
+
 -- the state that a request leaves, and the response to it
 abbrev pub answer : State → DateTime → Request → State × Response
 answer s moment (GetEndpoints m) = (s, endpoints_given s moment m)

@@ -10,7 +10,8 @@ pub mod Requests
 pub mod Happening
 pub mod Stepping
 pub mod Now
-pub mod Living
+pub mod History
+pub mod Sharing
 pub mod Served
 pub mod Serving
 pub mod ServingParts

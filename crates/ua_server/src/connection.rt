@@ -1,40 +1,73 @@
 //! One of several connections over one table.
 
-ghost use Rattle.std.specs.Prelude.{◌≡◌, ◌++◌, [], ℕ, List, take, None, IfOk};
-ghost use Rattle.ua_channel.specs.ServerStands.{limits_of, channel_of, next_of, Goes};
+ghost use Rattle.std.specs.Prelude.{◌≡◌, ◌≤◌, [], ℕ, List, Err, None, IfOk, IsErrOf};
+ghost use Rattle.ua_channel.specs.Received.{received};
+ghost use Rattle.ua_channel.specs.ServerStands.{limits_of, channel_of, next_of, bound_of, bound_after, held_after, Goes, IsDone, Stands as Holds};
 ghost use Rattle.ua_channel.specs.ServerTold.{Told};
-ghost use Rattle.ua_server.specs.Living.{Happening, Lives, LivesOn};
+ghost use Rattle.ua_frame.specs.declared.frame.Frame.{Frame};
+ghost use Rattle.ua_server.specs.History.{ConnectionEvent, StandsOver, StepOver};
 ghost use Rattle.ua_server.specs.Now.{StepNow};
-ghost use Rattle.ua_server.specs.Served.{at_seat, channel_at};
+ghost use Rattle.ua_server.specs.Served.{channel_at, session_at, with_own_session};
+ghost use Rattle.ua_server.specs.Sharing.{SharedEvent, StandsAmong, StepAmong, opened, shared_over, told_by};
 ghost use Rattle.ua_server.specs.State.{State};
+ghost use Rattle.ua_server.specs.Stepping.{StepStands, Takes};
+ghost use Rattle.ua_server.specs.declared.step.StepFault.TheVariants as step_fault;
 
 use crate::server::Server;
 use crate::services::Services;
-use crate::session::Seat;
+use crate::session::SessionSlot;
 use crate::step::{Step, StepFault};
 use std::alloc::Global;
 use ua_builtin::DateTime;
 use ua_frame::Limits;
 
 /// A server on one of several connections over the same services, with its own session.
+///
+/// Each message is answered from the nodes that all messages completed before it, on whichever
+/// connection, and all changes by the application left.
 #[derive(Drop)]
 pub struct Connection {
     server: Server,
-    seat: Seat,
+    slot: SessionSlot,
 }
 
 impl Connection {
-    /// Waits for the HEL of a client, with these limits; the channel will have this id.
+    /// Waits for the HEL of a client, with these limits; the channel will have this id, which no other
+    /// open channel of the server has (OPC 10000-6, 6.7.2).
     pub fn new(alloc: Global, limits: Limits, channel_id: u32) -> Connection
-        ensures lives { (first : State) → Lives (channel_at result) [] [] first first }
-        ensures seat { result.seat.session ≡ None }
+        ensures among { (channels : ℕ → ℕ) (k : ℕ) (es : List SharedEvent) (first now : State) → channels k ≡ channel_id → told_by k es ≡ [] → (shared_over channels (opened first) es).state ≡ now
+            → StandsAmong channels k (channel_at result) (session_at result) [] es first now }
+        ensures history { (first : State) → StandsOver (channel_at result) [] [] first first }
+        ensures holds { Holds (channel_at result) [] [] [] }
+        ensures session { session_at result ≡ None }
         ensures limits { limits_of (channel_at result) ≡ limits }
         ensures channel { channel_of (channel_at result) ≡ channel_id }
     {
         Connection {
             server: Server::new(alloc, limits, channel_id),
-            seat: Seat::empty(),
+            slot: SessionSlot::empty(),
         }
+    }
+
+    /// How many octets are held, as [`Server::held`]: they are never more than
+    /// [`bound`](Connection::bound) says, whatever the client sends and other connections do.
+    pub fn held(&self) -> usize
+        ensures held { (octets : List ℕ) (frames : List Frame) (rest : List ℕ) → Holds (channel_at self.now) octets frames rest
+            → result ≡ held_after (received frames) rest }
+        ensures bound { (octets : List ℕ) (frames : List Frame) (rest : List ℕ) → Holds (channel_at self.now) octets frames rest
+            → result ≤ bound_after (limits_of (channel_at self.now)) (received frames) }
+        ensures done { IsDone (channel_at self.now) → result ≡ 0 }
+    {
+        self.server.held()
+    }
+
+    /// The most octets that may be held, as [`Server::bound`].
+    pub fn bound(&self) -> usize
+        ensures stands { (octets : List ℕ) (frames : List Frame) (rest : List ℕ) → Holds (channel_at self.now) octets frames rest
+            → result ≡ bound_after (limits_of (channel_at self.now)) (received frames) }
+        ensures is { result ≡ bound_of (channel_at self.now) }
+    {
+        self.server.bound()
     }
 
     /// What [`Server::step`] does, from the session of this connection; the session that the services
@@ -45,18 +78,30 @@ impl Connection {
         piece: &[u8],
         moment: DateTime,
     ) -> Result<Step, StepFault>
+        // Among all connections over these services: what this one is sent, and where each other one stands.
+        ensures among { (channels : ℕ → ℕ) (k : ℕ) (octets : List ℕ) (es : List SharedEvent) (first : State) → StandsAmong channels k (channel_at self.old) (session_at self.old) octets es first services.old
+            → StepAmong (limits_of (channel_at self.old)) channels k moment piece.now result (channel_at self.new) (session_at self.new) octets es first services.old services.new }
+        // By what stands alone, however that came to be.
         ensures now { (octets : List ℕ) (told : List Told) → Goes (channel_at self.old) octets told
-            → StepNow (limits_of (channel_at self.old)) (channel_of (channel_at self.old)) (next_of (channel_at self.old)) moment piece.now result (channel_at self.new) octets told (at_seat self.old services.old) (at_seat self.new services.new) }
-        ensures lives { (octets : List ℕ) (hs : List Happening) (first : State) → Lives (channel_at self.old) octets hs first (at_seat self.old services.old)
-            → IfOk result (λ step. step.end ≡ None → LivesOn (channel_at self.new) (channel_of (channel_at self.old)) (octets ++ take step.taken piece.now) step.out.items hs first (at_seat self.new services.new)) }
+            → StepNow (limits_of (channel_at self.old)) (channel_of (channel_at self.old)) (next_of (channel_at self.old)) moment piece.now result (channel_at self.new) octets told (with_own_session self.old services.old) (with_own_session self.new services.new) }
+        // The same over the events of this connection, whatever changed the services before.
+        ensures history { (octets : List ℕ) (hs : List ConnectionEvent) (first : State) → StandsOver (channel_at self.old) octets hs first (with_own_session self.old services.old)
+            → StepOver (limits_of (channel_at self.old)) (channel_of (channel_at self.old)) moment piece.now result (channel_at self.new) octets hs first (with_own_session self.old services.old) (with_own_session self.new services.new) }
+        // Where it then stands is the same whatever the services are.
+        ensures stands { (octets : List ℕ) (told : List Told) → Goes (channel_at self.old) octets told → StepStands piece.now result (channel_at self.new) octets told }
         ensures apart { services.new.session ≡ services.old.session }
         ensures endpoint { services.new.endpoint ≡ services.old.endpoint }
+        ensures progress { IfOk result (λ step. Takes piece.now step) }
+        // After want of memory, the bound is what it was before the call.
+        ensures starved { (octets : List ℕ) (told : List Told) → Goes (channel_at self.old) octets told
+            → IsErrOf result step_fault.OutOfMemory → bound_of (channel_at self.new) ≡ bound_of (channel_at self.old) }
+        ensures closed { IsDone (channel_at self.old) → (result ≡ Err step_fault.Closed) × (self.new ≡ self.old) × (services.new ≡ services.old) }
         ensures limits { limits_of (channel_at self.new) ≡ limits_of (channel_at self.old) }
         ensures channel { channel_of (channel_at self.new) ≡ channel_of (channel_at self.old) }
     {
-        services.swap_seat(&mut self.seat);
+        services.swap_session(&mut self.slot);
         let step = self.server.step(services, piece, moment);
-        services.swap_seat(&mut self.seat);
+        services.swap_session(&mut self.slot);
         step
     }
 }

@@ -1,19 +1,31 @@
 //! Laws of what a server says, each carried by a function without a body.
 
-ghost use Rattle.std.specs.Prelude.{◌≡◌, ◌≤◌, ◌++◌, ◌∷◌, [], ℕ, List, length, take, Option, Result};
+ghost use Rattle.std.specs.Prelude.{◌≡◌, ◌≤◌, ◌++◌, ◌∷◌, [], ℕ, List, length, Option, Some, Result, Ok};
 ghost use Rattle.ua_builtin.specs.declared.date_time.DateTime.{DateTime};
 ghost use Rattle.ua_channel.specs.ServerStands.{limits_of, channel_of, next_of};
 ghost use Rattle.ua_channel.specs.declared.server.ServerChannel.{ServerChannel};
 ghost use Rattle.ua_frame.specs.Run.{End, Going};
 ghost use Rattle.ua_channel.specs.ServerTold.{Told};
 ghost use Rattle.ua_nodes.specs.Table.{Nodes};
-ghost use Rattle.ua_server.specs.Living.{Happening, Became, Lives, LivesOn, become, heard, spoken, told_in};
-ghost use Rattle.ua_server.specs.Now.{NowGoes, StepNow};
+ghost use Rattle.ua_server.specs.History.{ConnectionEvent, Became, IsUndisturbed, StandsOver, StepOver, course_over, with_changes, moments_of, output_over, told_in};
+ghost use Rattle.ua_server.specs.Now.{StepNow};
 ghost use Rattle.ua_server.specs.Stepping.{Stands, StepAnswers};
 ghost use Rattle.ua_server.specs.declared.step.Step.{Step};
 ghost use Rattle.ua_server.specs.declared.step.StepFault.{StepFault};
-ghost use Rattle.ua_server.specs.Said.{start, with_more, said_of, left_by, last_words, said, left, used_in};
-ghost use Rattle.ua_server.specs.State.{State, with_session};
+ghost use Rattle.ua_server.specs.Said.{Course, start, with_more, said_of, left_by, last_words, said, left, used_in};
+ghost use Rattle.ua_server.specs.Sharing.{SharedEvent, SharedState, Changed, StandsAmong, at_moment, course_at, opened, seen_by, sent_to, shared_over, told_by};
+ghost use Rattle.ua_services.specs.declared.request.Request.{Request};
+ghost use Rattle.ua_structures.specs.declared.header.RequestHeader.{RequestHeader};
+ghost use Rattle.ua_services.specs.Request.{request_read};
+ghost use Rattle.ua_services.specs.declared.request.Request.TheVariants as kinds;
+ghost use Rattle.ua_structures.specs.declared.attribute.ReadRequest.{ReadRequest};
+ghost use Rattle.ua_structures.specs.declared.attribute.WriteRequest.{WriteRequest};
+ghost use Rattle.ua_structures.specs.declared.session.ActivateSessionRequest.{ActivateSessionRequest};
+ghost use Rattle.ua_structures.specs.declared.session.CloseSessionRequest.{CloseSessionRequest};
+ghost use Rattle.ua_server.specs.Answer.{fault_of, session_header};
+ghost use Rattle.ua_server.specs.Reply.{answered};
+ghost use Rattle.ua_server.specs.Status.{bad_session_id_invalid};
+ghost use Rattle.ua_server.specs.State.{State, begun, session_token, with_nodes, with_session};
 ghost use Rattle.ua_server.specs.declared.session.Session.{Session};
 
 /// What is said of what is told in two parts is said of the first, and then of the second from where
@@ -41,18 +53,75 @@ pub fn what_stands_answers_as_all_that_was_told()
         → StepAnswers (limits_of old) (channel_of old) moment piece result new octets told first moments before now }
 {}
 
-/// A server whose nodes change lives on by that, and by each step: what is said of all that happened is
-/// what was said before, and then what the step says. Where no nodes change, it is what is said of what
-/// is told.
-pub fn a_server_lives_on_by_changes_and_steps()
-    ensures became { (x : ServerChannel) (octets : List ℕ) (hs : List Happening) (first now : State) (nodes : Nodes) (made : ℕ)
-        → Lives x octets hs first now → Lives x octets (hs ++ Became nodes made ∷ []) first (become now nodes made) }
-    ensures beside { (x : ServerChannel) (octets : List ℕ) (hs : List Happening) (first s s' : State) (mine : Option Session) → s'.endpoint ≡ s.endpoint
-        → Lives x octets hs first (with_session s mine) → Lives x octets (hs ++ Became s'.nodes s'.made ∷ []) first (with_session s' mine) }
-    ensures steps { (old new : ServerChannel) (moment : DateTime) (piece : List ℕ) (n : ℕ) (out octets : List ℕ) (hs : List Happening) (first before now : State)
-        → Lives old octets hs first before → channel_of new ≡ channel_of old
-        → NowGoes (channel_of old) (next_of old) moment piece n out new octets (told_in hs) before now
-        → LivesOn new (channel_of old) (octets ++ take n piece) out hs first now }
-    ensures unchanged { (channel : ℕ) (s : State) (told : List Told) (moments : List DateTime)
-        → spoken channel (start s []) (heard told moments) ≡ said_of channel (start s moments) told }
+/// A server goes on over the events of a connection by each change of its nodes, by the application or
+/// by another connection, and by each step. Where nothing is changed from outside, what it sends and how
+/// it is left is what is said of what is told, and left by it.
+pub fn a_history_goes_on_by_changes_and_steps()
+    ensures became { (x : ServerChannel) (octets : List ℕ) (hs : List ConnectionEvent) (first now : State) (nodes : Nodes) (made : ℕ)
+        → StandsOver x octets hs first now → StandsOver x octets (hs ++ Became nodes made ∷ []) first (with_changes now nodes made) }
+    ensures beside { (x : ServerChannel) (octets : List ℕ) (hs : List ConnectionEvent) (first s s' : State) (mine : Option Session) → s'.endpoint ≡ s.endpoint
+        → StandsOver x octets hs first (with_session s mine) → StandsOver x octets (hs ++ Became s'.nodes s'.made ∷ []) first (with_session s' mine) }
+    ensures steps { (old new : ServerChannel) (moment : DateTime) (piece octets : List ℕ) (hs : List ConnectionEvent) (first before now : State) (result : Result Step StepFault)
+        → StandsOver old octets hs first before → channel_of new ≡ channel_of old
+        → StepNow (limits_of old) (channel_of old) (next_of old) moment piece result new octets (told_in hs) before now
+        → StepOver (limits_of old) (channel_of old) moment piece result new octets hs first before now }
+    ensures unchanged { (channel : ℕ) (s : State) (hs : List ConnectionEvent) → IsUndisturbed hs
+        → output_over channel (start s []) hs ≡ said_of channel (start s (moments_of hs)) (told_in hs) }
+    ensures left { (channel : ℕ) (s : State) (hs : List ConnectionEvent) → IsUndisturbed hs
+        → course_over channel (start s []) hs ≡ left_by channel (start s (moments_of hs)) (told_in hs) }
+    ensures stands { (x : ServerChannel) (octets : List ℕ) (hs : List ConnectionEvent) (first now : State) → StandsOver x octets hs first now → IsUndisturbed hs
+        → Stands x octets (told_in hs) first (moments_of hs) now }
+{}
+
+/// Events in two parts are answered as the first, and then as the second from where the first leaves the
+/// server; what one connection tells and is sent at a moment is nothing to another.
+pub fn events_are_answered_in_parts()
+    ensures shared { (channels : ℕ → ℕ) (p : SharedState) (a b : List SharedEvent) → shared_over channels p (a ++ b) ≡ shared_over channels (shared_over channels p a) b }
+    ensures sent { (channels : ℕ → ℕ) (k : ℕ) (p : SharedState) (a b : List SharedEvent) → sent_to channels k p (a ++ b) ≡ sent_to channels k p a ++ sent_to channels k (shared_over channels p a) b }
+    ensures told { (k : ℕ) (a b : List SharedEvent) → told_by k (a ++ b) ≡ told_by k a ++ told_by k b }
+    ensures others_told { (j k : ℕ) (moment : DateTime) (told : List Told) → (j ≡ k → ⊥) → told_by j (at_moment k moment told) ≡ [] }
+    ensures others_sent { (channels : ℕ → ℕ) (j k : ℕ) (p : SharedState) (moment : DateTime) (told : List Told) → (j ≡ k → ⊥) → sent_to channels j p (at_moment k moment told) ≡ [] }
+    ensures output { (channel : ℕ) (c : Course) (a b : List ConnectionEvent) → output_over channel c (a ++ b) ≡ output_over channel c a ++ output_over channel (course_over channel c a) b }
+    ensures course { (channel : ℕ) (c : Course) (a b : List ConnectionEvent) → course_over channel c (a ++ b) ≡ course_over channel (course_over channel c a) b }
+{}
+
+/// One server that handles every message in the order of completion, `shared_over`, answers each of its
+/// connections so: what it is sent, and how far it is, is what is said of its own frames where everything
+/// else that happened, in other connections and by the application, changed the nodes and the number of
+/// sessions made. That running connections are this one server is the clause `among` of
+/// [`Connection::step`](crate::Connection::step).
+pub fn each_connection_is_answered_as_by_one_server()
+    ensures sent { (channels : ℕ → ℕ) (k : ℕ) (first : State) (es : List SharedEvent)
+        → sent_to channels k (opened first) es ≡ output_over (channels k) (start (begun first) []) (seen_by channels k (opened first) es) }
+    ensures left { (channels : ℕ → ℕ) (k : ℕ) (first : State) (es : List SharedEvent)
+        → course_at (shared_over channels (opened first) es) k ≡ course_over (channels k) (start (begun first) []) (seen_by channels k (opened first) es) }
+    ensures told { (channels : ℕ → ℕ) (k : ℕ) (first : State) (es : List SharedEvent)
+        → told_in (seen_by channels k (opened first) es) ≡ told_by k es }
+{}
+
+/// A connection that stands among others stands by itself, over the events as it sees them. It stands
+/// where the application changed the nodes, too, and is sent nothing there.
+pub fn one_of_several_connections_stands_by_itself()
+    ensures alone { (channels : ℕ → ℕ) (k : ℕ) (x : ServerChannel) (session : Option Session) (octets : List ℕ) (es : List SharedEvent) (first now : State)
+        → StandsAmong channels k x session octets es first now
+        → StandsOver x octets (seen_by channels k (opened first) es) (begun first) (with_session now session) }
+    ensures changed { (channels : ℕ → ℕ) (k : ℕ) (x : ServerChannel) (session : Option Session) (octets : List ℕ) (es : List SharedEvent) (first now : State) (nodes : Nodes)
+        → StandsAmong channels k x session octets es first now
+        → StandsAmong channels k x session octets (es ++ Changed nodes ∷ []) first (with_nodes now nodes) }
+    ensures silent { (channels : ℕ → ℕ) (k : ℕ) (p : SharedState) (nodes : Nodes) → (sent_to channels k p (Changed nodes ∷ []) ≡ []) × (told_by k (Changed nodes ∷ []) ≡ []) }
+{}
+
+/// A message that is a request under the AuthenticationToken of a session that another connection has, or
+/// had, is answered by Bad_SessionIdInvalid, and changes nothing: sessions of one connection say nothing to
+/// another.
+pub fn a_token_of_another_connection_is_no_token()
+    ensures refused { (channels : ℕ → ℕ) (j k : ℕ) (first : State) (before es : List SharedEvent) (theirs : Session) (octets : List ℕ) (m : Request) (asking : RequestHeader) (moment : DateTime)
+        → (k ≡ j → ⊥) → ((shared_over channels (opened first) before).own j).session ≡ Some theirs
+        → request_read octets ≡ Ok m → session_header m ≡ Some asking → asking.authentication_token ≡ session_token theirs.number
+        → answered (course_at (shared_over channels (opened first) (before ++ es)) k).state moment octets
+        ≡ ((course_at (shared_over channels (opened first) (before ++ es)) k).state, fault_of asking.request_handle bad_session_id_invalid moment) }
+    ensures activate { (m : ActivateSessionRequest) → session_header (kinds.ActivateSession m) ≡ Some m.request_header }
+    ensures close { (m : CloseSessionRequest) → session_header (kinds.CloseSession m) ≡ Some m.request_header }
+    ensures read { (m : ReadRequest) → session_header (kinds.Read m) ≡ Some m.request_header }
+    ensures write { (m : WriteRequest) → session_header (kinds.Write m) ≡ Some m.request_header }
 {}

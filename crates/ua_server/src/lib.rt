@@ -6,6 +6,9 @@
 //! moments. Below it stands [`Services::answer`]: the response to one request, and the state that it
 //! leaves.
 //!
+//! Several connections over one table are [`Connection`]s over one [`Services`]: each is answered as by one
+//! server that handles every message in the order of completion ([`laws`]).
+//!
 //! ```
 //! let nodes = NodeTable::load(alloc, "ns=1;s=Pump\trw\tPump\tInt32\t5\n")?;
 //! let mut services = Services::new(nodes, endpoint);
@@ -39,6 +42,6 @@ pub use serve_fault::ServeFault;
 pub use server::Server;
 pub use services::Services;
 pub use serving::{serve, serve_watched};
-pub use session::Seat;
+pub use session::SessionSlot;
 pub use step::{End, Step, StepFault};
 pub use watch::{AnsweredRequest, Unwatched, Watch};

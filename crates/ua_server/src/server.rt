@@ -159,7 +159,7 @@ impl Server {
     ghost use Rattle.ua_channel.specs.ServerTold.{Told};
     ghost use Rattle.ua_channel.specs.declared.server.ServerChannel.{ServerChannel};
     ghost use Rattle.ua_frame.specs.declared.frame.Frame.{Frame};
-    ghost use Rattle.ua_server.specs.Living.{Happening, Lives, LivesOn};
+    ghost use Rattle.ua_server.specs.History.{ConnectionEvent, StandsOver, StepOver};
     ghost use Rattle.ua_server.specs.Now.{AdvanceNow, NowBehind, StepNow};
     ghost use Rattle.ua_server.specs.Served.{channel_in};
     ghost use Rattle.ua_server.specs.Serving.{IsClean};
@@ -170,7 +170,7 @@ impl Server {
     /// Waits for the HEL of a client, with these limits; the channel will have this id.
     pub fn new(alloc: Global, limits: Limits, channel_id: u32) -> Server
         ensures stands { (first : State) → Stands (channel_in result) [] [] first [] first }
-        ensures lives { (first : State) → Lives (channel_in result) [] [] first first }
+        ensures history { (first : State) → StandsOver (channel_in result) [] [] first first }
         ensures holds { Holds (channel_in result) [] [] [] }
         ensures limits { limits_of (channel_in result) ≡ limits }
         ensures channel { channel_of (channel_in result) ≡ channel_id }
@@ -217,9 +217,9 @@ impl Server {
         // By what stands alone, however that came to be.
         ensures now { (octets : List ℕ) (told : List Told) → Goes (channel_in self.old) octets told
             → StepNow (limits_of (channel_in self.old)) (channel_of (channel_in self.old)) (next_of (channel_in self.old)) moment piece.now result (channel_in self.new) octets told services.old services.new }
-        // It lives on, whatever happened to its services before.
-        ensures lives { (octets : List ℕ) (hs : List Happening) (first : State) → Lives (channel_in self.old) octets hs first services.old
-            → IfOk result (λ step. step.end ≡ None → LivesOn (channel_in self.new) (channel_of (channel_in self.old)) (octets ++ take step.taken piece.now) step.out.items hs first services.new) }
+        // The same over the events of the connection, whatever changed its services before.
+        ensures history { (octets : List ℕ) (hs : List ConnectionEvent) (first : State) → StandsOver (channel_in self.old) octets hs first services.old
+            → StepOver (limits_of (channel_in self.old)) (channel_of (channel_in self.old)) moment piece.now result (channel_in self.new) octets hs first services.old services.new }
         // Where it then stands is the same whatever the services are.
         ensures stands { (octets : List ℕ) (told : List Told) → Goes (channel_in self.old) octets told → StepStands piece.now result (channel_in self.new) octets told }
         ensures endpoint { services.new.endpoint ≡ services.old.endpoint }

@@ -7,10 +7,11 @@ ghost use Rattle.ua_nodes.specs.Sound.{IsSound};
 ghost use Rattle.ua_services.specs.Response.{response};
 ghost use Rattle.ua_server.specs.Answer.{fault_of, answer};
 ghost use Rattle.ua_server.specs.Endpoint.{Fits};
+ghost use Rattle.ua_server.specs.Served.{session_in};
 ghost use Rattle.ua_server.specs.State.{fresh, begun, with_nodes, with_session};
 
 use crate::endpoint::Endpoint;
-use crate::session::{Seat, Session};
+use crate::session::{Session, SessionSlot};
 use std::alloc::{AllocError, Global};
 use std::marker::Model;
 use std::mem;
@@ -69,7 +70,8 @@ impl Services {
 
     /// The nodes as they are.
     pub fn nodes(&self) -> &NodeTable
-        ensures { result.now ≡ self.now.nodes }
+        ensures is { result.now ≡ self.now.nodes }
+        ensures sound { IsSound result.now }
     {
         &self.nodes
     }
@@ -91,12 +93,12 @@ impl Services {
         self.nodes.set(id, reading)
     }
 
-    /// The session that there is, if there is one, and that of the seat change places. Takes no memory.
-    pub fn swap_seat(&mut self, seat: &mut Seat)
-        ensures services { self.new ≡ with_session self.old seat.old.session }
-        ensures seat { seat.new.session ≡ self.old.session }
+    /// The session that there is, if there is one, and that of the slot change places. Takes no memory.
+    pub fn swap_session(&mut self, slot: &mut SessionSlot)
+        ensures services { self.new ≡ with_session self.old (session_in slot.old) }
+        ensures slot { session_in slot.new ≡ self.old.session }
     {
-        mem::swap(&mut self.session, &mut seat.session);
+        mem::swap(&mut self.session, &mut slot.session);
     }
 
     /// The ServiceFault of this code, to the request with this RequestHandle, at a moment

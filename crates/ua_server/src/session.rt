@@ -1,6 +1,7 @@
 //! A session.
 
 ghost use Rattle.std.specs.Prelude.{◌≡◌, None};
+ghost use Rattle.ua_server.specs.Served.{session_in};
 ghost use Rattle.ua_server.specs.State.{session_id, session_token};
 
 use ua_builtin::{Identifier, NodeId};
@@ -13,18 +14,19 @@ pub struct Session {
 }
 
 /// What a connection has of the state of a server, beside its channel: its session, if there is one.
-/// It is made empty, and filled by [`Services::swap_seat`](crate::Services::swap_seat) alone.
+/// It is made empty, and filled by [`Services::swap_session`](crate::Services::swap_session) alone;
+/// from then on it belongs to the services that filled it.
 #[derive(Drop)]
-pub struct Seat {
+pub struct SessionSlot {
     pub(crate) session: Option<Session>,
 }
 
-impl Seat {
+impl SessionSlot {
     /// Without a session.
-    pub fn empty() -> Seat
-        ensures { result ≡ record { session = None } }
+    pub fn empty() -> SessionSlot
+        ensures { session_in result ≡ None }
     {
-        Seat { session: None }
+        SessionSlot { session: None }
     }
 }
 

@@ -1,6 +1,6 @@
-use Rattle.ua_server.specs.Living.{told_in}
-use Rattle.ua_server.proofs.Livings.{lives_step}
-use Rattle.std.proofs.Common.{Ok}
+use Rattle.ua_server.specs.History.{told_in}
+use Rattle.ua_server.proofs.Histories.{step_over}
+use Rattle.std.proofs.Common.{Ok, Err}
 use Rattle.ua_channel.specs.ServerStands.{channel_of, next_of}
 use Rattle.ua_server.specs.Served.{channel_in}
 use Rattle.ua_server.specs.declared.step.StepFault.TheVariants as step_fault
@@ -23,7 +23,12 @@ returns-in-Ok-clause-answers c = λ octets told first moments s.
     as-told (channel_in c.args.self.now) (channel_in c.advance.new.self) c.args.moment c.args.piece.now octets told first moments c.args.services.now c.advance.new.services (Ok c.in-Ok.found.0) s
     c.advance.ensures.channel (returns-in-Ok-clause-now c octets told s.goes)
 
-pub returns-in-Ok-clause-lives : goal.returns-in-Ok-clause-lives
-returns-in-Ok-clause-lives c = λ octets hs first s.
-    lives_step (channel_in c.args.self.now) (channel_in c.advance.new.self) c.args.moment c.args.piece.now octets hs first c.args.services.now c.advance.new.services (Ok c.in-Ok.found.0) s
+pub returns-in-Ok-clause-history : goal.returns-in-Ok-clause-history
+returns-in-Ok-clause-history c = λ octets hs first s.
+    step_over (channel_in c.args.self.now) (channel_in c.advance.new.self) c.args.moment c.args.piece.now octets hs first c.args.services.now c.advance.new.services (Ok c.in-Ok.found.0) s
     c.advance.ensures.channel (returns-in-Ok-clause-now c octets (told_in hs) s.goes)
+
+pub returns-in-Err-clause-history : goal.returns-in-Err-clause-history
+returns-in-Err-clause-history c = λ octets hs first s.
+    step_over (channel_in c.args.self.now) (channel_in c.advance.new.self) c.args.moment c.args.piece.now octets hs first c.args.services.now c.advance.new.services (Err c.in-Err.fault) s
+    c.advance.ensures.channel (c.in-Err.ensures.now octets (told_in hs) s.goes)
