@@ -55,6 +55,12 @@ where_told P None new before e h = absurd (none_some before e)
 where_told P (Some t) None before e h = absurd h
 where_told P (Some t) (Some u) before e h = record { after = u; is = refl; holds = subst (λ (z : Traffic). P z u) (same_some t before e) h }
 
+-- what holds of a line that told its octets, and can hold of none that tells them no longer
+pub where_line : (P : Option Traffic → Option Traffic → Type 0) → ((t : Traffic) → P (Some t) None → ⊥) → (old new : Option Traffic) (before : Traffic) → old ≡ Some before → P old new → WasTold (λ (a b : Traffic). P (Some a) (Some b)) before new
+where_line P silent None new before e h = absurd (none_some before e)
+where_line P silent (Some t) None before e h = absurd (silent t h)
+where_line P silent (Some t) (Some u) before e h = record { after = u; is = refl; holds = subst (λ (z : Traffic). P (Some z) (Some u)) (same_some t before e) h }
+
 pub wrote : (line new : Option Traffic) (before after : Traffic) (sent : List ℕ) → line ≡ Some before → new ≡ Some after → after.written ≡ before.written ++ sent → Wrote line new sent
 wrote line new before after sent p q e = subst (λ (z : Option Traffic). Wrote z new sent) (sym p) (subst (λ (z : Option Traffic). Wrote (Some before) z sent) (sym q) e)
 
@@ -359,18 +365,18 @@ noted_led {W = W} gives notes a b (Given t ∷ es) l = subst (λ (w : W). Leads 
 noted_led gives notes a b (Noted r ∷ es) l = (l.0.1, l.1.0, noted_led gives notes l.0 b es l.2)
 
 module _ {M : Type 0} (gives : M → ℤ → M → Type 0) (limits : Limits) (channel : ℕ) (first : State) (a : Result Ending ServeFault) (now : State) (line after : Option Traffic) (traffic : Traffic) (is : line ≡ Some traffic) where
-  served_so : (before last : M) → ¬ (IsErrOf a fault.OutOfMemory) → WhereTold (Serves limits channel gives first before a now last) line after
+  served_so : (before last : M) → ¬ (IsErrOf a fault.OutOfMemory) → Serves limits channel gives first before a now last line after
       → (asked : List AnsweredRequest) × WasTold (ServedSo limits channel gives first before a now last asked) traffic after
   served_so before last had h =
-      let w = where_told (Serves limits channel gives first before a now last) line after traffic is h in
+      let w = where_line (λ (x y : Option Traffic). Serves limits channel gives first before a now last x y) (λ u s. s.moved) line after traffic is h in
       let s = w.holds in
       let r = noted_of limits channel first a s.read s.written (map moment_of s.ticks) now (w.after.coming []) s.comes_to had in
       (r.0, record { after = w.after; is = w.is; holds = record { read = s.read; written = s.written; ticks = s.ticks; moved = s.moved; given = s.given; comes = record { to = s.comes_to; tells = r.1 } } })
 
-  watched_so : {W : Type 0} (notes : W → AnsweredRequest → W → Type 0) (before last : M × W) → WhereTold (ServesTelling limits channel gives notes first before a now last) line after
+  watched_so : {W : Type 0} (notes : W → AnsweredRequest → W → Type 0) (before last : M × W) → ServesTelling limits channel gives notes first before a now last line after
       → (asked : List AnsweredRequest) × WasTold (ServedSo limits channel gives first before.0 a now last.0 asked) traffic after × Leads notes before.1 asked last.1
   watched_so notes before last h =
-      let w = where_told (ServesTelling limits channel gives notes first before a now last) line after traffic is h in
+      let w = where_line (λ (x y : Option Traffic). ServesTelling limits channel gives notes first before a now last x y) (λ u s. s.moved) line after traffic is h in
       let s = w.holds in (
         noted_in s.happened,
         record { after = w.after; is = w.is; holds = record { read = s.read; written = s.written; ticks = ticks_in s.happened; moved = s.moved; given = given-led gives notes before last s.happened s.led; comes = record { to = s.comes_to; tells = s.tells } } },
@@ -380,21 +386,21 @@ module _ {M : Type 0} (gives : M → ℤ → M → Type 0) (limits : Limits) (ch
 module _ {M : Type 0} (gives : M → ℤ → M → Type 0) (once : (m x y : M) (t u : ℤ) → gives m t x → gives m u y → (t ≡ u) × (x ≡ y))
     (limits : Limits) (channel : ℕ) (one two : State) (before again last other_last : M) (a b : Result Ending ServeFault) (now then : State)
     (line after other later : Option Traffic) (coming : List ℕ) (same : one ≡ two) (alike : before ≡ again) (lines : LinesAlike line other coming) (had : HadMemory fault.OutOfMemory a b) (faults : ServesAlike a b line after other later) where
-  pub served_alike : WhereTold (Serves limits channel gives (begun one) before a now last) line after → WhereTold (Serves limits channel gives (begun two) again b then other_last) other later → ServedOnce a b line after other later now then × (last ≡ other_last)
+  pub served_alike : Serves limits channel gives (begun one) before a now last line after → Serves limits channel gives (begun two) again b then other_last other later → ServedOnce a b line after other later now then × (last ≡ other_last)
   served_alike h k =
       let p = served_so gives limits channel (begun one) a now line after lines.first lines.first_is before last had.first h in
       let q = served_so gives limits channel (begun one) b then other later lines.second lines.second_is before other_last had.second
-      (subst (λ (s : State). WhereTold (Serves limits channel gives (begun s) before b then other_last) other later) (sym same)
-      (subst (λ (m : M). WhereTold (Serves limits channel gives (begun two) m b then other_last) other later) (sym alike) k)) in
+      (subst (λ (s : State). Serves limits channel gives (begun s) before b then other_last other later) (sym same)
+      (subst (λ (m : M). Serves limits channel gives (begun two) m b then other_last other later) (sym alike) k)) in
       let o = by_faults gives once limits channel (begun one) before last other_last a b now then p.0 q.0 line after other later coming lines had p.1 q.1 faults in
       (o.0, o.2)
 
-  pub watched_alike : {W V : Type 0} (notes : W → AnsweredRequest → W → Type 0) (others : V → AnsweredRequest → V → Type 0) (w x : W) (v y : V) → WhereTold (ServesTelling limits channel gives notes (begun one) (before, w) a now (last, x)) line after
-      → WhereTold (ServesTelling limits channel gives others (begun two) (again, v) b then (other_last, y)) other later → ServedOnce a b line after other later now then × (last ≡ other_last) × ToldAlike notes others w x v y
+  pub watched_alike : {W V : Type 0} (notes : W → AnsweredRequest → W → Type 0) (others : V → AnsweredRequest → V → Type 0) (w x : W) (v y : V) → ServesTelling limits channel gives notes (begun one) (before, w) a now (last, x) line after
+      → ServesTelling limits channel gives others (begun two) (again, v) b then (other_last, y) other later → ServedOnce a b line after other later now then × (last ≡ other_last) × ToldAlike notes others w x v y
   watched_alike {V = V} notes others w x v y h k =
       let p = watched_so gives limits channel (begun one) a now line after lines.first lines.first_is notes (before, w) (last, x) h in
       let q = watched_so gives limits channel (begun one) b then other later lines.second lines.second_is others (before, v) (other_last, y)
-      (subst (λ (s : State). WhereTold (ServesTelling limits channel gives others (begun s) (before, v) b then (other_last, y)) other later) (sym same)
-      (subst (λ (m : M). WhereTold (ServesTelling limits channel gives others (begun two) (m, v) b then (other_last, y)) other later) (sym alike) k)) in
+      (subst (λ (s : State). ServesTelling limits channel gives others (begun s) (before, v) b then (other_last, y) other later) (sym same)
+      (subst (λ (m : M). ServesTelling limits channel gives others (begun two) (m, v) b then (other_last, y) other later) (sym alike) k)) in
       let o = by_faults gives once limits channel (begun one) before last other_last a b now then p.0 q.0 line after other later coming lines had p.1 q.1 faults in
       (o.0, o.2, record { requests = p.0; first = p.2; second = subst (λ (rs : List AnsweredRequest). Leads others v rs y) (sym o.1) q.2 })

@@ -1,6 +1,5 @@
 //! A line that is served.
 
-ghost use Rattle.ua_channel.specs.Line.{WhereTold};
 ghost use Rattle.ua_server.specs.Serving.{Serves, LineFailed};
 ghost use Rattle.ua_server.specs.State.{begun};
 
@@ -18,7 +17,7 @@ pub fn serve_begun<L: Line, M: Moments>(
     channel_id: u32,
     moments: &mut M,
 ) -> Result<End, ServeFault>
-    ensures serves { WhereTold (Serves limits channel_id M.gives (begun services.old) moments.old result services.new moments.new) (L.traffic line.old) (L.traffic line.new) }
+    ensures serves { Serves limits channel_id M.gives (begun services.old) moments.old result services.new moments.new (L.traffic line.old) (L.traffic line.new) }
     ensures failed { LineFailed (L.failures line.old) result (L.failures line.new) }
 {
     serve(alloc, line, services, limits, channel_id, moments)
