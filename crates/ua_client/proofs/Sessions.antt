@@ -25,13 +25,14 @@ use Rattle.ua_channel.specs.declared.client.channel.ClientChannel.{ClientChannel
 use Rattle.ua_client.specs.Calls.{Answered, BreaksAt}
 use Rattle.ua_client.specs.Kept.{CallsGroup, GroupAt}
 use Rattle.ua_client.specs.Hearing.{channel_of, most_reads, StopsAt}
-use Rattle.ua_client.specs.Session.{ActivatesBehind, BeginsSessionAs, CallsOneAt, DoesIdle, IsFailure, IsReplied, LacksToken, MakesRequest, Replies, ServesAt, activating_at, brings_any, brings_token, creating_at, is_reply, reply_failure, token_in}
+use Rattle.ua_client.specs.Session.{ActivatesBehind, BeginsAt, BeginsSessionAs, CallsOneAt, DoesIdle, FailsAt, IsFailure, IsReplied, LacksToken, MakesRequest, Replies, ServesAt, TriesSession, activating_at, brings_any, brings_token, creating_at, is_reply, reply_failure, session_alone, token_in}
 use Rattle.ua_client.specs.Renewing.{IsIdle, IsSettled, StandsSettled}
 use Rattle.ua_client.specs.Site.{Site, At, id_at}
 use Rattle.ua_client.specs.declared.connection.Connection.{Connection}
 use Rattle.ua_client.specs.declared.fault.CallsFault.{CallsFault}
 use Rattle.ua_client.specs.declared.fault.ClientFault.{ClientFault}
 use Rattle.ua_client.specs.declared.fault.ClientFault.TheVariants as fault
+use Rattle.ua_client.specs.declared.fault.SessionFault.{SessionFault}
 use Rattle.ua_client.specs.declared.reply.Reply.{Reply}
 use Rattle.ua_client.specs.declared.reply.Reply.TheVariants.{Response as Responds, Aborted}
 use Rattle.ua_client.proofs.GroupCalls.{moves-nothing}
@@ -299,12 +300,12 @@ module _ (url : Option (List ℕ)) (moment : DateTime) (request : Request) (old 
 -- CreateSession failed
 pub begins-first : (policy_id : Option (List ℕ)) (moment : DateTime) (old new : Connection) (before after : Option Traffic) (left : ℕ) (f : ClientFault)
     → DoesIdle {A = NodeId} (λ s sent taken. ServesAt (creating_at (url_of (channel_of old)) moment s) brings_token s new sent taken (Err f)) old new before after most_reads left (Err f)
-    → ((s : Site) → At (channel_of old) s → IsIdle (channel_of old) s) → BeginsSessionAs policy_id moment old new before after (Err f)
+    → ((s : Site) → At (channel_of old) s → IsIdle (channel_of old) s) → TriesSession policy_id moment old new before after (Err (record { token = None; fault = f }))
 begins-first policy_id moment old new before after left f d idle = record {
   sent = d.sent;
   moves = d.moves;
   same = d.same;
-  answers = λ s at. inl (d.answers s at (idle s at));
+  answers = λ s at. d.answers s at (idle s at);
   stops = stops-as NodeId NodeId most_reads left most_reads d.moves.got new after f d.stops;
 }
 
@@ -358,7 +359,7 @@ module _ (policy_id : Option (List ℕ)) (moment : DateTime) (old mid new : Conn
 
   -- both are done
   pub begins-both : DoesIdle {A = Unit {0}} (λ s sent taken. ServesAt (activating_at policy_id token moment s) brings_any s new sent taken (Ok tt)) mid new between after left less (Ok tt)
-      → BeginsSessionAs policy_id moment old new before after (Ok token)
+      → TriesSession policy_id moment old new before after (Ok token)
   begins-both e = record {
     sent = d.sent ++ e.sent;
     moves = moves-behind old mid new d.sent e.sent before between after d.moves e.moves;
@@ -369,11 +370,53 @@ module _ (policy_id : Option (List ℕ)) (moment : DateTime) (old mid new : Conn
 
   -- ActivateSession failed
   pub begins-second : (f : ClientFault) → DoesIdle {A = Unit {0}} (λ s sent taken. ServesAt (activating_at policy_id token moment s) brings_any s new sent taken (Err f)) mid new between after left less (Err f)
-      → BeginsSessionAs policy_id moment old new before after (Err f)
+      → TriesSession policy_id moment old new before after (Err (record { token = Some token; fault = f }))
   begins-second f e = record {
     sent = d.sent ++ e.sent;
     moves = moves-behind old mid new d.sent e.sent before between after d.moves e.moves;
     same = same-then e.same;
-    answers = λ s at. inr (second (Err f) (λ given. Unit {0}) tt e s at);
+    answers = λ s at. second (Err f) (λ given. given ≡ token) refl e s at;
     stops = stops-then (Unit {0}) NodeId most_reads left less most_reads d.moves.got e.moves.got new after f d.stops e.stops;
   }
+
+-- ---- without the token
+
+-- whatever the token is
+behind-any : (url policy_id : Option (List ℕ)) (moment : DateTime) (s : Site) (new : Connection) (sent taken : List ℕ) (P : NodeId → Type 0) (result : Result (Unit {0}) ClientFault)
+    → ActivatesBehind url policy_id moment s new sent taken P result → ActivatesBehind url policy_id moment s new sent taken (λ given. Unit {0}) result
+behind-any url policy_id moment s new sent taken P result a = record {
+  token = a.token;
+  between = a.between;
+  channel = a.channel;
+  same = a.same;
+  at = a.at;
+  settled = a.settled;
+  reply = a.reply;
+  sent_before = a.sent_before;
+  sent_then = a.sent_then;
+  sent_parts = a.sent_parts;
+  taken_before = a.taken_before;
+  taken_then = a.taken_then;
+  taken_parts = a.taken_parts;
+  created = a.created;
+  good = a.good;
+  brought = a.brought;
+  further = (tt, a.further.1);
+}
+
+failed-there : (url policy_id : Option (List ℕ)) (moment : DateTime) (s : Site) (new : Connection) (sent taken : List ℕ) (token : Option NodeId) (f : ClientFault)
+    → FailsAt url policy_id moment s new sent taken token f → BeginsAt url policy_id moment s new sent taken (Err f)
+failed-there url policy_id moment s new sent taken None f h = inl h
+failed-there url policy_id moment s new sent taken (Some token) f a = inr (behind-any url policy_id moment s new sent taken (λ given. given ≡ token) (Err f) a)
+
+-- a session that is begun, without the token of one that was created and not activated
+pub begins-told : (policy_id : Option (List ℕ)) (moment : DateTime) (old new : Connection) (before after : Option Traffic) (result : Result NodeId SessionFault)
+    → TriesSession policy_id moment old new before after result → BeginsSessionAs policy_id moment old new before after (session_alone result)
+begins-told policy_id moment old new before after (Ok token) d = record { sent = d.sent; moves = d.moves; same = d.same; answers = d.answers; stops = d.stops }
+begins-told policy_id moment old new before after (Err c) d = record {
+  sent = d.sent;
+  moves = d.moves;
+  same = d.same;
+  answers = λ s at. failed-there (url_of (channel_of old)) policy_id moment s new d.sent d.moves.taken c.token c.fault (d.answers s at);
+  stops = d.stops;
+}

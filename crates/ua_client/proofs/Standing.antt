@@ -1,6 +1,6 @@
 -- A channel of which a client may be called stands at a settled place; so it does behind each call after which the client is not done.
-use Rattle.std.specs.Prelude.{◌≡◌, ℕ, false, List, [], Option, Ok, Err}
-use Rattle.std.proofs.Common.{sym, subst, inl, inr}
+use Rattle.std.specs.Prelude.{◌≡◌, ℕ, false, List, [], Option, Some, None, Ok, Err}
+use Rattle.std.proofs.Common.{sym, subst}
 use Rattle.std.proofs.Math.Logic.{∥∥₁_map}
 use Rattle.ua_builtin.specs.declared.date_time.DateTime.{DateTime}
 use Rattle.ua_builtin.specs.declared.node_id.NodeId.{NodeId}
@@ -14,12 +14,13 @@ use Rattle.ua_client.specs.Hearing.{channel_of}
 use Rattle.ua_client.specs.Kept.{CallsInto}
 use Rattle.ua_client.specs.Opening.{IsOpened, Opens}
 use Rattle.ua_client.specs.Renewing.{IsRefusal, IsSettled, Renews, RenewsAt, StandsSettled}
-use Rattle.ua_client.specs.Session.{BeginsAt, BeginsSessionAs, ServesAt, activating_at, brings_any, brings_token, creating_at}
+use Rattle.ua_client.specs.Session.{FailsAt, ServesAt, TriesSession, activating_at, brings_any, brings_token, creating_at}
 use Rattle.ua_client.specs.Site.{Site, At}
 use Rattle.ua_client.specs.declared.connection.Connection.{Connection}
 use Rattle.ua_client.specs.declared.fault.CallsFault.{CallsFault}
 use Rattle.ua_client.specs.declared.fault.ClientFault.{ClientFault}
 use Rattle.ua_client.specs.declared.fault.ClientFault.TheVariants as fault
+use Rattle.ua_client.specs.declared.fault.SessionFault.{SessionFault}
 use Rattle.ua_client.specs.declared.reply.Reply.{Reply}
 
 -- a settled place at which a channel stands
@@ -83,18 +84,18 @@ service-standing request brings s new sent taken fault.OutOfMemory e settled h =
 service-standing request brings s new sent taken fault.TooLong e settled h = absurd cc
 
 module _ (policy_id : Option (List ℕ)) (moment : DateTime) (old new : Connection) (before after : Option Traffic) (stands : StandsSettled (channel_of old)) where
-  pub stands-begun : (token : NodeId) → BeginsSessionAs policy_id moment old new before after (Ok token) → StandsSettled (channel_of new)
+  pub stands-begun : (token : NodeId) → TriesSession policy_id moment old new before after (Ok token) → StandsSettled (channel_of new)
   stands-begun token c = ∥∥₁_map stands (λ (w : Settled (channel_of old)).
       let a = c.answers w.0 w.1 in
       let b = a.further.1 in
       (b.behind, b.at, b.settled (a.settled w.2)))
 
-  pub stands-unbegun : (f : ClientFault) → ends f ≡ false → BeginsSessionAs policy_id moment old new before after (Err f) → StandsSettled (channel_of new)
-  stands-unbegun f e c = ∥∥₁_map stands (λ (w : Settled (channel_of old)). by w.0 w.2 (c.answers w.0 w.1))
+  pub stands-unbegun : (failed : SessionFault) → ends failed.fault ≡ false → TriesSession policy_id moment old new before after (Err failed) → StandsSettled (channel_of new)
+  stands-unbegun failed e c = ∥∥₁_map stands (λ (w : Settled (channel_of old)). by w.0 w.2 failed.token (c.answers w.0 w.1))
     where
-      by : (s : Site) → IsSettled s → BeginsAt (url_of (channel_of old)) policy_id moment s new c.sent c.moves.taken (Err f) → Settled (channel_of new)
-      by s settled (inl h) = service-standing (creating_at (url_of (channel_of old)) moment s) brings_token s new c.sent c.moves.taken f e settled h
-      by s settled (inr a) = service-standing (activating_at policy_id a.token moment a.between) brings_any a.between new a.sent_then a.taken_then f e (a.settled settled) a.further.1
+      by : (s : Site) → IsSettled s → (token : Option NodeId) → FailsAt (url_of (channel_of old)) policy_id moment s new c.sent c.moves.taken token failed.fault → Settled (channel_of new)
+      by s settled None h = service-standing (creating_at (url_of (channel_of old)) moment s) brings_token s new c.sent c.moves.taken failed.fault e settled h
+      by s settled (Some token) a = service-standing (activating_at policy_id a.token moment a.between) brings_any a.between new a.sent_then a.taken_then failed.fault e (a.settled settled) a.further.1
 
 -- ---- a renewal
 

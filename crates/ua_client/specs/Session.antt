@@ -21,6 +21,7 @@ use Rattle.ua_client.specs.Renewing.{IsIdle, IsSettled}
 use Rattle.ua_client.specs.Site.{Site, At, id_at}
 use Rattle.ua_client.specs.declared.connection.Connection.{Connection}
 use Rattle.ua_client.specs.declared.fault.ClientFault.{ClientFault}
+use Rattle.ua_client.specs.declared.fault.SessionFault.{SessionFault}
 use Rattle.ua_client.specs.declared.fault.ClientFault.TheVariants as fault
 use Rattle.ua_client.specs.declared.reply.Reply.{Reply}
 use Rattle.ua_client.specs.declared.reply.Reply.TheVariants.{Response as Responds, Aborted}
@@ -151,6 +152,26 @@ BeginsAt url policy_id moment s new sent taken (Ok token) = ActivatesBehind url 
 BeginsAt url policy_id moment s new sent taken (Err f) =
     ServesAt (creating_at url moment s) brings_token s new sent taken (Err f) ⊎ ActivatesBehind url policy_id moment s new sent taken (λ given. Unit {0}) (Err f)
 
+-- the fault of a session that was not begun, without the token that was brought by then
+abbrev pub session_alone : {A : Type 0} → Result A SessionFault → Result A ClientFault
+session_alone (Ok found) = Ok found
+session_alone (Err c) = Err c.fault
+
+-- of a client that is done
+abbrev pub session_closed : SessionFault
+session_closed = record { token = None; fault = fault.Closed }
+
+-- a session that was to be begun there was not, by this fault: with no token it is the fault of CreateSession, with one that of
+-- ActivateSession, behind CreateSession, which brought just this token
+abbrev pub FailsAt : Option (List ℕ) → Option (List ℕ) → DateTime → Site → Connection → List ℕ → List ℕ → Option NodeId → ClientFault → Type 0
+FailsAt url policy_id moment s new sent taken None f = ServesAt (creating_at url moment s) brings_token s new sent taken (Err f)
+FailsAt url policy_id moment s new sent taken (Some token) f = ActivatesBehind url policy_id moment s new sent taken (λ given. given ≡ token) (Err f)
+
+-- the same of a session that is begun there, with the token of one that was created and not activated
+abbrev pub TriesAt : Option (List ℕ) → Option (List ℕ) → DateTime → Site → Connection → List ℕ → List ℕ → Result NodeId SessionFault → Type 0
+TriesAt url policy_id moment s new sent taken (Ok token) = ActivatesBehind url policy_id moment s new sent taken (λ given. given ≡ token) (Ok tt)
+TriesAt url policy_id moment s new sent taken (Err c) = FailsAt url policy_id moment s new sent taken c.token c.fault
+
 -- what was done over a line, by what that is to come to where the client stands, with so many reads left before and after
 pub record Does {A : Type 0} (P : Site → List ℕ → List ℕ → Type 0) (old new : Connection) (before after : Option Traffic) (reads left : ℕ) (result : Result A ClientFault) : Type 0 where
   pub sent : List ℕ
@@ -167,6 +188,11 @@ DoesIdle P old new before after reads left result = Does (λ s sent taken. IsIdl
 abbrev pub BeginsSessionAs : Option (List ℕ) → DateTime → Connection → Connection → Option Traffic → Option Traffic → Result NodeId ClientFault → Type 0
 BeginsSessionAs policy_id moment old new before after result =
     Does (λ s sent taken. BeginsAt (url_of (channel_of old)) policy_id moment s new sent taken result) old new before after most_reads most_reads result
+
+-- the same, with the token of a session that was created and not activated
+abbrev pub TriesSession : Option (List ℕ) → DateTime → Connection → Connection → Option Traffic → Option Traffic → Result NodeId SessionFault → Type 0
+TriesSession policy_id moment old new before after result =
+    Does (λ s sent taken. TriesAt (url_of (channel_of old)) policy_id moment s new sent taken result) old new before after most_reads most_reads (session_alone result)
 
 -- a session is begun by the token policy `anonymous`
 abbrev pub BeginsSession : DateTime → Connection → Connection → Option Traffic → Option Traffic → Result NodeId ClientFault → Type 0

@@ -5,7 +5,7 @@ ghost use Rattle.ua_client.specs.Renewing.{StandsSettled};
 
 use crate::collecting::no_replies;
 use crate::connection::Connection;
-use crate::fault::{CallsFault, ClientFault};
+use crate::fault::{CallsFault, ClientFault, SessionFault};
 use crate::laws::clients_are_settled;
 use crate::reply::{Reply, only_reply};
 use std::alloc::Global;
@@ -40,7 +40,7 @@ impl Client {
     ghost use Rattle.ua_client.specs.Hearing.{failures_behind, fault_alone};
     ghost use Rattle.ua_client.specs.Kept.{CallsInto, closed_at};
     ghost use Rattle.ua_client.specs.Renewing.{Renews, IsRefusal};
-    ghost use Rattle.ua_client.specs.Session.{BeginsSession, BeginsSessionAs};
+    ghost use Rattle.ua_client.specs.Session.{BeginsSession, BeginsSessionAs, TriesSession, session_alone, session_closed};
     ghost use Rattle.ua_client.specs.Site.{Site, At, id_at, usable_id};
     ghost use Rattle.ua_client.specs.declared.fault.ClientFault.TheVariants.{Closed};
 
@@ -103,8 +103,9 @@ impl Client {
     ///
     /// It answers `Service` with the code of a ServiceFault, of an answer that the server gave up, or of a
     /// bad ServiceResult. After `Service`, `TooLarge`, `NotWritable` and `Exhausted` the client may be
-    /// called again: what was asked was answered. A session that was created by then stays at the server.
-    /// After any other fault it is done.
+    /// called again: what was asked was answered. After any other fault it is done.
+    ///
+    /// A session that was created by then stays at the server: [`Client::try_begin_session`] names it.
     pub fn begin_session_as<L: Line>(
         &mut self,
         line: &mut L,
@@ -116,17 +117,40 @@ impl Client {
         ensures closed { IsDone self.old → (result ≡ Err Closed) × (self.new ≡ self.old) × (line.new ≡ line.old) }
         ensures failed { L.failures line.new ≡ failures_behind (L.failures line.old) result }
     {
-        if self.is_done {
-            return Err(ClientFault::Closed);
-        }
-        let begun = self
-            .connection
-            .begin_session(self.alloc, line, policy_id, moment);
-        match begun {
+        match self.try_begin_session(line, policy_id, moment) {
             Ok(token) => Ok(token),
-            Err(fault) => {
-                self.is_done = fault.ends();
-                Err(fault)
+            Err(failed) => Err(failed.fault),
+        }
+    }
+
+    /// Begins a session, as [`Client::begin_session_as`] does. Where CreateSession brought a token and
+    /// ActivateSession failed, the fault has that token: the session stays at the server, and a client that
+    /// may be called again can close it by a CloseSession under the token (OPC 10000-4, 5.7.4).
+    pub fn try_begin_session<L: Line>(
+        &mut self,
+        line: &mut L,
+        policy_id: UaString,
+        moment: DateTime,
+    ) -> Result<NodeId, SessionFault>
+        ensures begins { IsReady self.old → TriesSession policy_id moment (connection_of self.old) (connection_of self.new) (L.traffic line.old) (L.traffic line.new) result }
+        ensures left { IsReady self.old → IsLeft (session_alone result) self.new }
+        ensures closed { IsDone self.old → (result ≡ Err session_closed) × (self.new ≡ self.old) × (line.new ≡ line.old) }
+        ensures failed { L.failures line.new ≡ failures_behind (L.failures line.old) (session_alone result) }
+    {
+        if self.is_done {
+            return Err(SessionFault {
+                token: None,
+                fault: ClientFault::Closed,
+            });
+        }
+        match self
+            .connection
+            .begin_session(self.alloc, line, policy_id, moment)
+        {
+            Ok(token) => Ok(token),
+            Err(failed) => {
+                self.is_done = failed.fault.ends();
+                Err(failed)
             }
         }
     }

@@ -2,7 +2,7 @@
 
 use std::alloc::AllocError;
 use thiserror::Error;
-use ua_builtin::StatusCode;
+use ua_builtin::{NodeId, StatusCode};
 
 /// Why a call of a client did not do what it is for. After all of these but `Service`, `TooLarge`,
 /// `NotWritable`, `Exhausted` and `TooManyTokens` the client is done, and answers `Closed`.
@@ -101,6 +101,17 @@ impl CallsFault {
             fault: self.fault,
         }
     }
+}
+
+/// Why a session was not begun, and which session was created by then.
+#[derive(Debug, Drop, Error)]
+#[error("{fault}")]
+pub struct SessionFault {
+    /// The AuthenticationToken that CreateSession brought: its session stays at the server until it is
+    /// closed under this token, or its time is over. None where CreateSession brought none.
+    pub token: Option<NodeId>,
+    /// Why the session was not begun.
+    pub fault: ClientFault,
 }
 
 impl From<AllocError> for ClientFault {

@@ -30,5 +30,5 @@ mod sending;
 mod session;
 
 pub use client::Client;
-pub use fault::{CallsFault, ClientFault};
+pub use fault::{CallsFault, ClientFault, SessionFault};
 pub use reply::Reply;

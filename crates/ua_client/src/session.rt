@@ -3,12 +3,12 @@
 ghost use Rattle.std.specs.Prelude.{◌≡◌, None, IfOk, IfErr};
 ghost use Rattle.ua_channel.specs.Client.{url_of};
 ghost use Rattle.ua_client.specs.Hearing.{channel_of, failures_behind};
-ghost use Rattle.ua_client.specs.Session.{BeginsSessionAs, CallsOneAt, DoesIdle, IsFailure, LacksToken, MakesRequest, ServesAt, activating_at, brings_any, brings_token, creating_at, is_reply, reply_failure, response_failure};
+ghost use Rattle.ua_client.specs.Session.{CallsOneAt, DoesIdle, IsFailure, LacksToken, MakesRequest, ServesAt, TriesSession, activating_at, brings_any, brings_token, creating_at, is_reply, reply_failure, response_failure, session_alone};
 ghost use Rattle.ua_client.specs.Renewing.{StandsSettled};
 ghost use Rattle.ua_client.specs.Site.{Site, At};
 
 use crate::connection::Connection;
-use crate::fault::ClientFault;
+use crate::fault::{ClientFault, SessionFault};
 use crate::laws::clients_are_settled;
 use crate::reply::{Reply, only_reply};
 use std::alloc::{AllocError, Global};
@@ -192,20 +192,23 @@ impl Connection {
         line: &mut L,
         policy_id: UaString,
         moment: DateTime,
-    ) -> Result<NodeId, ClientFault>
+    ) -> Result<NodeId, SessionFault>
         requires settled { StandsSettled (channel_of self.old) }
-        ensures begins { BeginsSessionAs policy_id moment self.old self.new (L.traffic line.old) (L.traffic line.new) result }
-        ensures failed { L.failures line.new ≡ failures_behind (L.failures line.old) result }
+        ensures begins { TriesSession policy_id moment self.old self.new (L.traffic line.old) (L.traffic line.new) result }
+        ensures failed { L.failures line.new ≡ failures_behind (L.failures line.old) (session_alone result) }
     {
         clients_are_settled();
         let mut reads = u64::MAX;
         let token = match self.create_session(alloc, line, &mut reads, moment) {
             Ok(token) => token,
-            Err(fault) => return Err(fault),
+            Err(fault) => return Err(SessionFault { token: None, fault }),
         };
         match self.activate_session(alloc, line, &mut reads, &token, policy_id, moment) {
             Ok(()) => Ok(token),
-            Err(fault) => Err(fault),
+            Err(fault) => Err(SessionFault {
+                token: Some(token),
+                fault,
+            }),
         }
     }
 }

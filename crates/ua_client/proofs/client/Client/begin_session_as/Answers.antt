@@ -1,14 +1,12 @@
-use Rattle.std.proofs.Common.{sym, ◌∙◌}
-use Rattle.ua_client.proofs.Standing.{stands-begun, stands-unbegun}
+use Rattle.std.specs.Prelude.{Ok, Err}
+use Rattle.ua_client.specs.Client.{connection_of}
+use Rattle.ua_client.proofs.Sessions.{begins-told}
 use Rattle.ua_client.proofs.client.Client.begin_session_as.Goals as goal
 
-pub invariant_of-self : goal.invariant_of-self
-invariant_of-self g c = record {
-  settled = λ ready. stands-begun c.args.policy_id c.args.moment c.args.self.now.connection c.begin_session-begun.new.self (g.L.Line.traffic c.args.line.now) (g.L.Line.traffic c.begin_session-begun.new.line) (c.args.self.now.settled ready) c.in-Ok.token c.in-Ok.ensures.begins;
-}
+pub returns-in-Ok-clause-begins : goal.returns-in-Ok-clause-begins
+returns-in-Ok-clause-begins g c = λ ready.
+    begins-told c.args.policy_id c.args.moment (connection_of c.args.self.now) (connection_of c.try_begin_session.new.self) (g.L.Line.traffic c.args.line.now) (g.L.Line.traffic c.try_begin_session.new.line) (Ok c.in-Ok.token) (c.in-Ok.ensures.begins ready)
 
-pub invariant_of-self-in-Err : goal.invariant_of-self-in-Err
-invariant_of-self-in-Err g c = record {
-  settled = λ goes. stands-unbegun c.args.policy_id c.args.moment c.args.self.now.connection c.begin_session-begun.new.self (g.L.Line.traffic c.args.line.now) (g.L.Line.traffic c.begin_session-begun.new.line) (c.args.self.now.settled c.if-self.false) c.in-Err.fault
-      (sym c.ends-self.ensures ∙ goes) c.in-Err.ensures.begins;
-}
+pub returns-in-Err-clause-begins : goal.returns-in-Err-clause-begins
+returns-in-Err-clause-begins g c = λ ready.
+    begins-told c.args.policy_id c.args.moment (connection_of c.args.self.now) (connection_of c.try_begin_session.new.self) (g.L.Line.traffic c.args.line.now) (g.L.Line.traffic c.try_begin_session.new.line) (Err c.in-Err.failed) (c.in-Err.ensures.begins ready)
