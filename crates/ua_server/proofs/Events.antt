@@ -18,7 +18,7 @@ use Rattle.ua_channel.specs.ServerTold.{Told, Asked}
 use Rattle.ua_channel.specs.declared.server.ServerChannel.{ServerChannel}
 use Rattle.ua_server.specs.Reply.{answered}
 use Rattle.ua_chunk.specs.Cutting.{cut_refusal}
-use Rattle.ua_server.proofs.Octets.{with-code}
+use Rattle.ua_server.proofs.SentAs.{with-code}
 use Rattle.ua_server.specs.Requests.{code_by, request_answered}
 use Rattle.ua_server.specs.Said.{lane_at}
 use Rattle.ua_server.specs.State.{State}
@@ -58,10 +58,10 @@ replied-there x octets before id token message g lane body out next goes reply =
     reply-at (channel_of x) token (agreed_by before) there.0 lane body (next_of x) id out next there.1 there.2 reply
 
 -- what is told of a message, by the reply that goes there
-pub noted-there : (x : ServerChannel) (octets : List ℕ) (before : List Told) (id token : ℕ) (message : List ℕ) (g : GoesTelling x octets before (Asked id token message)) (lane : Lane) (s : State) (moment : DateTime) (body out : List ℕ) (next : ℕ) (request sent : AnsweredRequest)
+pub noted-there : (x : ServerChannel) (octets : List ℕ) (before : List Told) (id token : ℕ) (message : List ℕ) (g : GoesTelling x octets before (Asked id token message)) (lane : Lane) (s : State) (moment : DateTime) (body : List ℕ) (request sent : AnsweredRequest)
     → RepliesGo (limits_of x) (channel_of x) (received (g.frames ++ g.frame ∷ [])) lane → ((code : StatusCode) → code_by (cut_refusal lane body) code ≡ code_by (cut_refusal lane (response.canonical (answered s moment message).1)) code) → request ≡ request_answered None s moment message
     → sent ≡ with-code request (code_by (cut_refusal lane body) request.code) → sent ≡ request_answered (lane_at (channel_of x) token (agreed_by before)) s moment message
-noted-there x octets before id token message g lane s moment body out next request sent goes is asked as_sent =
+noted-there x octets before id token message g lane s moment body request sent goes is asked as_sent =
     let there = reply_goes x octets before id token message (g.frames ++ g.frame ∷ []) [] lane g g.stands goes in
     let r = (answered s moment message).1 in
     let at : Option Lane → AnsweredRequest = λ o. request_answered o s moment message in

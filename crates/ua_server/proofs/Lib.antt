@@ -25,7 +25,7 @@ mod Tokens
 mod Stepped
 mod Thinned
 mod Clean
-mod Octets
+mod SentAs
 pub mod Happened
 pub mod RequestsInParts
 pub mod SaidInParts

@@ -80,10 +80,3 @@ requests_of channel c (t ∷ told) = with_first (request_at channel c t) (reques
 -- the requests that a server in this state answers of what it is told, at these moments
 unfoldable pub requests : ℕ → State → List Told → List DateTime → List AnsweredRequest
 requests channel s told moments = requests_of channel (start s moments) told
-
--- ---- octets
-
--- the fourth octet of a frame is the flag of an abort (OPC 10000-6, 6.7.3)
-abbrev pub is_abort : List ℕ → Bool
-is_abort (a ∷ (b ∷ (c ∷ (flag ∷ rest)))) = nat_eq flag 0x41
-is_abort octets = false

@@ -103,10 +103,10 @@ fn reply_to(
             return Err(StepFault::OutOfMemory);
         }
     };
-    match channel.reply(id, &body) {
-        Ok(out) => {
-            let request = request.sent_as(&out);
-            Ok((out, request))
+    match channel.respond(id, &body) {
+        Ok(sent) => {
+            let request = request.sent_as(sent.is_abort);
+            Ok((sent.octets, request))
         }
         Err(ReplyFault::OutOfMemory) => Err(StepFault::OutOfMemory),
         Err(ReplyFault::NotOpen) => Err(StepFault::Closed),

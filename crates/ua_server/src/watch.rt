@@ -2,7 +2,7 @@
 
 ghost use Rattle.std.specs.Prelude.{◌≡◌};
 ghost use Rattle.ua_server.specs.Happening.{IsTold};
-ghost use Rattle.ua_server.specs.Requests.{is_abort, items_asked};
+ghost use Rattle.ua_server.specs.Requests.{items_asked};
 
 use crate::attributes::item_count;
 use ua_builtin::StatusCode;
@@ -65,29 +65,18 @@ pub(crate) fn items_asked(request: &Request) -> usize
     }
 }
 
-/// Whether a frame gives up a message.
-fn is_abort(frame: &[u8]) -> bool
-    ensures { result ≡ is_abort frame.now }
-{
-    match frame {
-        [_, _, _, flag, ..] => *flag == b'A',
-        _ => false,
-    }
-}
-
 impl AnsweredRequest {
-    ghost use Rattle.std.specs.Prelude.{◌≡◌, ◌<◌, ℕ, List, length};
-    ghost use Rattle.ua_channel.specs.ServerSends.{IsReply};
+    ghost use Rattle.std.specs.Prelude.{◌≡◌, ℕ, List, is_some};
     ghost use Rattle.ua_chunk.specs.Cutting.{cut_refusal};
     ghost use Rattle.ua_chunk.specs.declared.lane.Lane.{Lane};
     ghost use Rattle.ua_server.specs.Requests.{code_by};
 
-    /// What is told once its answer goes as these octets, which may be an abort.
-    pub(crate) fn sent_as(self, octets: &[u8]) -> AnsweredRequest
-        ensures { (lane : Lane) (body : List ℕ) (number id next : ℕ) → 0 < length body → IsReply lane body number id octets.now next
+    /// What is told once its answer goes, or an abort in its place.
+    pub(crate) fn sent_as(self, is_abort: bool) -> AnsweredRequest
+        ensures { (lane : Lane) (body : List ℕ) → is_abort ≡ is_some (cut_refusal lane body)
             → result ≡ record self { code = code_by (cut_refusal lane body) self.code } }
     {
-        if is_abort(octets) {
+        if is_abort {
             AnsweredRequest {
                 kind: self.kind,
                 items: self.items,
