@@ -63,13 +63,23 @@ static void talk(void) {
         fetch(&client, reply, &reply_count);
 }
 
-/* Asks what stands in `request`, and says under which id it is answered, and by how many octets. */
+/* Which response octets are, and its ServiceResult. */
+static void say_kind(const uint8_t *octets, size_t count) {
+    uint32_t response, service_result;
+    check(ua_response_kind(octets, count, &response, &service_result), "response_kind");
+    printf(" response %u %08X", (unsigned)response, (unsigned)service_result);
+}
+
+/* Asks what stands in `request`, and says under which id it is answered, by how many octets, and by which response. */
 static void ask(uint32_t status, const char *what) {
     check(status, what);
     check(ua_client_ask(&client, request, request_count, &id), "ask");
     talk();
-    printf("%s %zu event %u id %u code %08X reply %zu\n", what, request_count, (unsigned)event, (unsigned)id,
+    printf("%s %zu event %u id %u code %08X reply %zu", what, request_count, (unsigned)event, (unsigned)id,
            (unsigned)code, reply_count);
+    if (event == UA_ANSWERED)
+        say_kind(reply, reply_count);
+    printf("\n");
 }
 
 static void say_text(const char *what, uint32_t status) {
@@ -135,11 +145,12 @@ static void go_on(void) {
     printf("renew event %u id %u\n", (unsigned)event, (unsigned)id);
     ask(ua_create_session_request(TEXT(long_url), moment, 3, REQUEST), "create_session");
     say_text("token", ua_session_token(reply, reply_count, INTO, &code));
-    ask(ua_activate_session_request(text, text_count, moment, 4, REQUEST), "activate_session");
+    ask(ua_activate_session_request_as(text, text_count, TEXT("other"), moment, 4, REQUEST), "activate_session_as");
     ask(ua_read_request(TEXT("ns=2;i=2"), moment, 5, TEXT("ns=1;s=" LONG "\nns=1;s=Pump\ni=9"), TEXT(""), REQUEST), "read");
     say_text("lines", ua_response_text(TEXT("ns=1;s=" LONG "\nns=1;s=Pump\ni=9"), reply, reply_count, INTO, &code));
     ask(ua_write_request(TEXT("ns=2;i=2"), moment, 6, TEXT("ns=1;s=" LONG), TEXT("String"), TEXT(LONG "b"), REQUEST), "write");
     say_text("lines", ua_response_text(TEXT("ns=1;s=" LONG), reply, reply_count, INTO, &code));
+    ask(ua_close_session_request(TEXT("i=5"), moment, 7, REQUEST), "close_session"); /* the token of no session */
 }
 
 /* A reply that is given up, a stream that the server refuses, and what the client says of that. */
@@ -164,6 +175,12 @@ static void make(void) {
     say_digits("read", request, request_count);
     check(ua_close_session_request(TEXT("ns=2;s=" LONG), moment, 6, REQUEST), "close_session");
     say_digits("close_session", request, request_count);
+    check(ua_activate_session_request_as(TEXT("ns=2;i=1"), TEXT(LONG), moment, 3, REQUEST), "activate_session_as");
+    say_digits("activate_session_as", request, request_count);
+    printf("refused"); /* a ReadResponse without results, whose ServiceResult is bad */
+    say_kind((const uint8_t *)"\x01\0\x7A\x02" "\0\0\0\0\0\0\0\0" "\x05\0\0\0" "\0\0\x73\x80" "\0"
+             "\xFF\xFF\xFF\xFF" "\0\0\0" "\xFF\xFF\xFF\xFF" "\xFF\xFF\xFF\xFF", 36);
+    printf("\n");
     check(ua_encode_value(TEXT("Int32"), TEXT("6"), INTO), "encode");
     say_digits("encode", text, text_count);
     check(ua_encode_value(TEXT("Int32[]"), TEXT("10,20"), INTO), "encode");
@@ -176,6 +193,20 @@ static void make(void) {
     say_text("decode", ua_decode_value((const uint8_t *)"\x06\x06\0\0\0", 5, INTO));
 }
 
+/* Words for numbers, and null pointers, whose length is 0. */
+static void name(void) {
+    printf("version %s\n", ua_version() == UA_VERSION ? "same" : "another");
+    say_text("status 18", ua_status_text(UA_TOO_SMALL, INTO));
+    printf("status 23: %u\n", (unsigned)ua_status_text(23, INTO));
+    say_text("code 80340000", ua_code_name(0x80340000, INTO));
+    printf("code 80340001: %u\n", (unsigned)ua_code_name(0x80340001, INTO));
+    check(ua_encode_value(TEXT("String"), NULL, 0, INTO), "encode");
+    say_digits("encode", text, text_count);
+    printf("encode %u", (unsigned)ua_encode_value(TEXT("Int32"), TEXT("6"), NULL, 0, &text_count));
+    printf(" needs %zu\n", text_count);
+    ua_free(NULL);
+}
+
 int main(int count, char **words) {
     if (count != 3)
         return 2;
@@ -183,6 +214,7 @@ int main(int count, char **words) {
     go_on();
     fail();
     make();
+    name();
     ua_free(&client);
     ua_free(&server);
     return 0;

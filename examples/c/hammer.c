@@ -172,6 +172,8 @@ static uint32_t ask(void) {
         status = checked(ua_get_endpoints_request(TEXT(url), 7, 1, text, make_room(), &needed));
     else if (choice < 6)
         status = checked(ua_create_session_request(TEXT(url), 7, 1, text, make_room(), &needed));
+    else if (choice < 8)
+        status = checked(ua_activate_session_request_as(TEXT(token), TEXT("anonymous"), 7, 1, text, make_room(), &needed));
     else if (choice < 12)
         status = checked(ua_activate_session_request(TEXT(token), 7, 1, text, make_room(), &needed));
     else if (choice < 14)
@@ -200,7 +202,9 @@ static uint32_t ask(void) {
 /* What the calls without a handle make of octets. */
 static void read_octets(const uint8_t *octets, size_t size) {
     const char *read = asked_nodes[next(3)];
-    uint32_t code = 7;
+    uint32_t code = 7, response = 7, service_result = 7;
+    if (said(ua_response_kind(octets, size, &response, &service_result)) == UA_OK ? response == 0 : response || service_result)
+        fail("a response");
     uint32_t status = checked(ua_session_token(octets, size, text, make_room(), &needed, &code));
     if (status == UA_OK && needed < sizeof token) {
         memcpy(token, text, needed);

@@ -12,6 +12,8 @@ from ctypes import byref, c_int64, c_size_t, c_uint32
 
 OK, TOO_SMALL = 0, 18
 SEND, OPEN, ANSWERED = 1, 2, 3
+# A status code is bad from here on.
+BAD = 0x80000000
 
 
 class Handle(ctypes.Structure):
@@ -84,7 +86,8 @@ class Client:
             room = ctypes.create_string_buffer(needed.value)
 
     def ask(self, name, *texts):
-        """Asks the request that a call of this name makes of these texts, and answers the body of its reply."""
+        """Asks the request that a call of this name makes of these texts, and answers the body of its reply, if the
+        service succeeded."""
         request = getattr(self.calls, name)
         token, *others = texts
         pairs = [word for text in others for word in (text, c_size_t(len(text)))]
@@ -92,7 +95,11 @@ class Client:
         number = c_uint32()
         check(self.calls.ua_client_ask(byref(self.handle), body, c_size_t(len(body)), byref(number)), 'ask')
         self.send()
-        return self.wait_for(ANSWERED)
+        reply, response, result = self.wait_for(ANSWERED), c_uint32(), c_uint32()
+        check(self.calls.ua_response_kind(reply, c_size_t(len(reply)), byref(response), byref(result)), 'response_kind')
+        if result.value >= BAD:
+            sys.exit('read.py: %s: service %08X' % (name, result.value))
+        return reply
 
     def begin(self):
         reply, code = self.ask('ua_create_session_request', self.url), c_uint32()

@@ -9,10 +9,12 @@
  * - A handle begins as `struct ua_handle h = {0};`. C never reads or writes what is in it, copies it,
  *   or moves it to another address while a call runs. The calls below alone change it. `ua_free` ends
  *   it; it may then be used again, as one that begins.
- * - A pointer is never null, also where a length is 0. `const uint8_t *p, size_t p_len` are so many
- *   octets that may be read during the call and that nothing writes meanwhile; a length is at most
- *   half the address space. `uint8_t *buffer, size_t buffer_len` are so many octets that may be read
- *   and written. Pointers of one call lead to memory that does not overlap, but where each is `const`.
+ * - A pointer is never null, but where the length behind it is 0, and at `ua_free`. (What calls the
+ *   library without this header, as ctypes does, hands over no null pointer there either.)
+ *   `const uint8_t *p, size_t p_len` are so many octets that may be read during the call and that
+ *   nothing writes meanwhile; a length is at most half the address space. `uint8_t *buffer,
+ *   size_t buffer_len` are so many octets that may be read and written. Pointers of one call lead to memory
+ *   that does not overlap, but where each is `const`.
  * - A handle is in one call at a time, and stays on the thread that made it.
  * - `malloc`, `realloc` and `free` are those of one allocator, which aligns a block to each power of
  *   two up to 16 that divides its size. No call is made from a signal handler, or from the child of a
@@ -43,6 +45,12 @@
 extern "C" {
 #endif
 
+/* The version of this header, as `ua_version` says that of the library. */
+#define UA_VERSION_MAJOR 0
+#define UA_VERSION_MINOR 1
+#define UA_VERSION_PATCH 0
+#define UA_VERSION (UA_VERSION_MAJOR * 65536u + UA_VERSION_MINOR * 256u + UA_VERSION_PATCH)
+
 /* Statuses. */
 enum {
     UA_OK = 0,               /* the call did what it is for */
@@ -67,7 +75,8 @@ enum {
     UA_BAD_SIDE = 19,        /* the side is neither 0 nor 1 */
     UA_BAD_OCTETS = 20,      /* the octets encode nothing that the call takes */
     UA_SERVICE = 21,         /* the service failed, with `code` */
-    UA_UNKNOWN = 22          /* the response is that of another request, or has not as many answers */
+    UA_UNKNOWN = 22          /* the response is that of another request, or has not as many answers;
+                                nothing has this number */
 };
 
 /* Events of ua_client_take. */
@@ -80,6 +89,17 @@ enum {
     UA_RENEWED = 5,          /* a renewal was answered by the token `id` */
     UA_FAILED = 6,           /* this end refused what came, for `code` (status UA_REFUSED) */
     UA_FAILED_BY_PEER = 7    /* the server refused, for `code` (status UA_REFUSED) */
+};
+
+/* Responses, by the number of their binary encoding (OPC 10000-6, A.3). */
+enum {
+    UA_GET_ENDPOINTS_RESPONSE = 431,
+    UA_CREATE_SESSION_RESPONSE = 464,
+    UA_ACTIVATE_SESSION_RESPONSE = 470,
+    UA_CLOSE_SESSION_RESPONSE = 476,
+    UA_READ_RESPONSE = 634,
+    UA_WRITE_RESPONSE = 676,
+    UA_SERVICE_FAULT = 397
 };
 
 /* A handle of a server or a client. It begins as {0}. */
@@ -177,8 +197,8 @@ uint32_t ua_client_ask(struct ua_handle *handle, const uint8_t *body, size_t bod
  * UA_TOO_MANY_TOKENS, UA_EXHAUSTED, UA_NO_MEMORY, UA_FETCH_FIRST, UA_NO_HANDLE, UA_OTHER_HANDLE. */
 uint32_t ua_client_renew(struct ua_handle *handle, int64_t moment, uint32_t *id);
 
-/* Closes the channel; the CLO waits: send it. UA_NOT_OPEN, UA_EXHAUSTED, UA_NO_MEMORY,
- * UA_FETCH_FIRST, UA_NO_HANDLE, UA_OTHER_HANDLE. */
+/* Closes the channel; the CLO waits: send it. UA_NOT_OPEN, UA_NO_MEMORY, UA_FETCH_FIRST,
+ * UA_NO_HANDLE, UA_OTHER_HANDLE. */
 uint32_t ua_client_close(struct ua_handle *handle, int64_t moment);
 
 /* ---- no handle: with UA_OK the front of the buffer is written, and `needed` is how many octets that
@@ -218,10 +238,16 @@ uint32_t ua_create_session_request(const uint8_t *url, size_t url_len, int64_t m
                                    uint32_t request, uint8_t *buffer, size_t buffer_len,
                                    size_t *needed);
 
-/* An ActivateSession under this token, by a user without a name. */
+/* An ActivateSession under this token, by a user without a name, under the token policy `anonymous`. */
 uint32_t ua_activate_session_request(const uint8_t *token, size_t token_len, int64_t moment,
                                      uint32_t request, uint8_t *buffer, size_t buffer_len,
                                      size_t *needed);
+
+/* The same under the token policy with this PolicyId, as the server's endpoint names it. */
+uint32_t ua_activate_session_request_as(const uint8_t *token, size_t token_len,
+                                        const uint8_t *policy, size_t policy_len, int64_t moment,
+                                        uint32_t request, uint8_t *buffer, size_t buffer_len,
+                                        size_t *needed);
 
 /* A CloseSession under this token. */
 uint32_t ua_close_session_request(const uint8_t *token, size_t token_len, int64_t moment,
@@ -241,9 +267,18 @@ uint32_t ua_write_request(const uint8_t *token, size_t token_len, int64_t moment
                           size_t type_len, const uint8_t *text, size_t text_len, uint8_t *buffer,
                           size_t buffer_len, size_t *needed);
 
-/* ---- what a reply says: UA_TOO_SMALL, as above; UA_BAD_OCTETS: the body is that of no response that
- * this library reads; UA_SERVICE: it is a ServiceFault with `code`, which is 0 at every other status;
- * UA_UNKNOWN: it is the response to another request; UA_NO_MEMORY */
+/* ---- what a reply says: UA_BAD_OCTETS: the body is that of no response that this library reads;
+ * UA_NO_MEMORY */
+
+/* Which response a body is, as a number above, and its ServiceResult: that the service failed is told
+ * by a `service_result` whose top bit is set, also where the response is of the request's own kind. Both
+ * numbers are 0 at every status but UA_OK. */
+uint32_t ua_response_kind(const uint8_t *body, size_t body_len, uint32_t *response,
+                          uint32_t *service_result);
+
+/* ---- the same with UA_TOO_SMALL, as above; UA_SERVICE: it is a ServiceFault with `code`, which is 0 at
+ * every other status; UA_UNKNOWN: it is the response to another request. A bad ServiceResult of a
+ * response of the request's own kind is not told: ask ua_response_kind first */
 
 /* The text of the AuthenticationToken in the reply to a CreateSession. It names the token for the
  * requests above; an identifier that is null reads as an empty one there. */
@@ -257,6 +292,20 @@ uint32_t ua_session_token(const uint8_t *body, size_t body_len, uint8_t *buffer,
 uint32_t ua_response_text(const uint8_t *nodes, size_t nodes_len, const uint8_t *body,
                           size_t body_len, uint8_t *buffer, size_t buffer_len, size_t *needed,
                           uint32_t *code);
+
+/* ---- the library, and words for numbers: UA_TOO_SMALL, as above; UA_UNKNOWN: nothing has this number */
+
+/* The version of the library: UA_VERSION of the header that it came with. */
+uint32_t ua_version(void);
+
+/* What a status of this header means, in a few words. */
+uint32_t ua_status_text(uint32_t status, uint8_t *buffer, size_t buffer_len, size_t *needed);
+
+/* The name of a status code of OPC UA (OPC 10000-6, A.2), as `BadNodeIdUnknown`, of those that `ua`
+ * prints by name. */
+uint32_t ua_code_name(uint32_t code, uint8_t *buffer, size_t buffer_len, size_t *needed);
+
+#include "ua_null.h"
 
 #ifdef __cplusplus
 }

@@ -5,19 +5,20 @@ use Rattle.ua_channel.specs.declared.client.channel.ClientChannel.{ClientChannel
 use Rattle.ua_frame.specs.declared.limits.Limits.{Limits}
 use Rattle.ua_wire.specs.Counted.{text}
 use Rattle.ua_c.specs.Limits.{AreEnough, AreThese}
-use Rattle.ua_c.specs.Making.{IsStation, IsUrlOf, MakesClient, MakesServer, Seats}
+use Rattle.ua_c.specs.Making.{IsStation, MakesClient, MakesServer, Seats}
+use Rattle.ua_c.specs.Texts.{IsStringOf}
 use Rattle.ua_c.specs.declared.holding.Holding.{Holding}
 use Rattle.ua_c.specs.declared.holding.Machine.TheVariants as machine
 use Rattle.ua_c.specs.declared.limits.UaLimits.{UaLimits}
 use Rattle.ua_c.specs.declared.station.Station.{Station}
 
 -- the same URL, as it came
-as_it_came : (octets : List ℕ) (url : Option (List ℕ)) → IsUrlOf octets url → IsUrlOf octets (Some octets)
+as_it_came : (octets : List ℕ) (url : Option (List ℕ)) → IsStringOf octets url → IsStringOf octets (Some octets)
 as_it_came octets url u = record { is = refl; utf8 = u.utf8; writable = subst (λ (t : Option (List ℕ)). IsTrue (text.encodable t)) u.is u.writable }
 
 -- a client was made
 pub client_made : (limits : UaLimits) (octets : List ℕ) (old new : Option Holding) (status : ℕ) (these : Limits) (url : Option (List ℕ)) (client : ClientChannel)
-    → AreEnough limits → AreThese limits these → IsUrlOf octets url → ClientStands client [] [] [] [] → client_limits client ≡ these → url_of client ≡ url → client_next client ≡ 2
+    → AreEnough limits → AreThese limits these → IsStringOf octets url → ClientStands client [] [] [] [] → client_limits client ≡ these → url_of client ≡ url → client_next client ≡ 2
     → Seats (machine.Client client) old new status → MakesClient limits octets old new status
 client_made limits octets old new status these url client enough are u stands limits_is url_is next_is seated = inl (record {
   these = these;

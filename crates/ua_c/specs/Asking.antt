@@ -1,19 +1,21 @@
 -- What a client does for C: each clause of the calls of `ClientChannel`, over what a handle holds.
-use Rattle.std.specs.Prelude.{◌≡◌, ◌⊎◌, ◌<◌, ◌++◌, ◌∷◌, [], ℕ, List, length, take, true, false, Some, Result, Ok, Err, IfOk, OnOk, OnErr, IsErrOf}
+use Rattle.std.specs.Prelude.{◌≡◌, ◌⊎◌, ◌<◌, ◌≤◌, ◌++◌, ◌∷◌, [], ℕ, List, length, take, true, false, Some, Result, Ok, Err, IfOk, OnOk, OnErr, IsErrOf}
 use Rattle.std.specs.List.{concat}
 use Rattle.std.specs.declared.alloc.Global.{Global}
 use Rattle.std_alloc.specs.declared.vec.Vec.{Vec}
+use Rattle.ua_builtin.specs.Reasons.{first_reason}
 use Rattle.ua_builtin.specs.declared.date_time.DateTime.{DateTime}
 use Rattle.ua_frame.specs.Frames.{frame_octets}
 use Rattle.ua_frame.specs.declared.frame.Frame.{Frame}
 use Rattle.ua_frame.specs.declared.limits.Limits.{Limits}
-use Rattle.ua_channel.specs.Asks.{Placed}
+use Rattle.ua_channel.specs.Asks.{Placed, asked_in}
 use Rattle.ua_channel.specs.Asks.Asking.{Call, Renewal}
-use Rattle.ua_channel.specs.Client.{ClientStands, ClientGoes, IsClientDone, SameClient, client_limits, url_of, client_next, client_bound, call_refused, renewal_refused, closing_refused, SendsCall, SendsRenewal, SendsClosing}
+use Rattle.ua_channel.specs.Client.{ClientStands, ClientGoes, ClientStarvedAt, IsClientDone, SameClient, client_limits, url_of, client_next, client_bound, call_refused, renewal_refused, closing_refused, SendsCall, SendsRenewal, SendsClosing}
 use Rattle.ua_channel.specs.ClientAnswers.{ClientAnswers, ComesInParts, ClientProgress, parts_handed}
-use Rattle.ua_channel.specs.ClientAsks.{AnswersFor}
+use Rattle.ua_channel.specs.ClientAsks.{AnswersFor, IsCalled, IsClosed, IsRenewed, call_reasons, closing_reasons, renewing_reasons}
 use Rattle.ua_channel.specs.ClientSends.{hello_frame, hello_to}
 use Rattle.ua_channel.specs.ClientTold.{ClientTold as ToldOfFrame}
+use Rattle.ua_channel.specs.Received.{received}
 use Rattle.ua_channel.specs.declared.client.channel.ClientChannel.{ClientChannel}
 use Rattle.ua_channel.specs.declared.client.event.ClientEvent.{ClientEvent}
 use Rattle.ua_channel.specs.declared.client.event.ClientEvent.TheVariants as event
@@ -99,6 +101,8 @@ pub record TakesAs (client : ClientChannel) (piece : List ℕ) (moment : DateTim
       → IfOk answer (λ r. ComesInParts (parts_handed r.1) new asks (octets ++ take r.0 piece))
   pub progress : ClientProgress piece answer
   pub closed : IsClientDone client → (answer ≡ Err take_fault.Closed) × (new ≡ client)
+  pub starves : (asks : List Placed) (octets : List ℕ) (told : List ToldOfFrame) → ClientGoes client asks octets told → IsErrOf answer take_fault.OutOfMemory
+      → (n : ℕ) × (n ≤ length piece) × ClientStarvedAt new asks (octets ++ take n piece) told
   pub starved : IsErrOf answer take_fault.OutOfMemory → client_bound new ≡ client_bound client
   pub same : SameClient client new
   pub next : client_next new ≡ client_next client
@@ -107,6 +111,10 @@ pub record TakesAs (client : ClientChannel) (piece : List ℕ) (moment : DateTim
 pub record AsksAs (client : ClientChannel) (body : List ℕ) (answer : Result (ℕ × Vec ℕ Global) AskFault) (new : ClientChannel) : Type 0 where
   pub answers : AnswersFor (call_refused client 0 body) answer
   pub sent : IfOk answer (λ r. SendsCall client (client_next client) body r.0 r.1.items (client_next new))
+  pub refuses : (asks : List Placed) (octets : List ℕ) (frames : List Frame) (rest : List ℕ) → ClientStands client asks octets frames rest
+      → AnswersFor (first_reason (call_reasons (received frames) (asked_in asks) 0 body)) answer
+  pub calls : (asks : List Placed) (octets : List ℕ) (frames : List Frame) (rest : List ℕ) → ClientStands client asks octets frames rest
+      → IfOk answer (λ r. IsCalled (received frames) (asked_in asks) (client_next client) body r.0 r.1.items (client_next new))
   pub stands : (asks : List Placed) (octets : List ℕ) (frames : List Frame) (rest : List ℕ) → ClientStands client asks octets frames rest
       → IfOk answer (λ r. ClientStands new (asks ++ (length octets, Call r.0) ∷ []) octets frames rest)
   pub kept : (asks : List Placed) (octets : List ℕ) (frames : List Frame) (rest : List ℕ) → ClientStands client asks octets frames rest
@@ -120,6 +128,10 @@ pub record AsksAs (client : ClientChannel) (body : List ℕ) (answer : Result (�
 pub record RenewsAs (client : ClientChannel) (moment : DateTime) (answer : Result (ℕ × Vec ℕ Global) AskFault) (new : ClientChannel) : Type 0 where
   pub answers : AnswersFor (renewal_refused client) answer
   pub sent : IfOk answer (λ r. SendsRenewal client (client_next client) moment r.0 r.1.items (client_next new))
+  pub refuses : (asks : List Placed) (octets : List ℕ) (frames : List Frame) (rest : List ℕ) → ClientStands client asks octets frames rest
+      → AnswersFor (first_reason (renewing_reasons (received frames) (asked_in asks))) answer
+  pub renews : (asks : List Placed) (octets : List ℕ) (frames : List Frame) (rest : List ℕ) → ClientStands client asks octets frames rest
+      → IfOk answer (λ r. IsRenewed (received frames) (asked_in asks) (client_next client) moment r.0 r.1.items (client_next new))
   pub stands : (asks : List Placed) (octets : List ℕ) (frames : List Frame) (rest : List ℕ) → ClientStands client asks octets frames rest
       → IfOk answer (λ r. ClientStands new (asks ++ (length octets, Renewal r.0) ∷ []) octets frames rest)
   pub unchanged : OnErr answer (new ≡ client)
@@ -130,6 +142,10 @@ pub record RenewsAs (client : ClientChannel) (moment : DateTime) (answer : Resul
 pub record ClosesAs (client : ClientChannel) (moment : DateTime) (answer : Result (Vec ℕ Global) AskFault) (new : ClientChannel) : Type 0 where
   pub answers : AnswersFor (closing_refused client) answer
   pub sent : IfOk answer (λ out. SendsClosing client (client_next client) moment out.items)
+  pub refuses : (asks : List Placed) (octets : List ℕ) (frames : List Frame) (rest : List ℕ) → ClientStands client asks octets frames rest
+      → AnswersFor (first_reason (closing_reasons (received frames))) answer
+  pub closes : (asks : List Placed) (octets : List ℕ) (frames : List Frame) (rest : List ℕ) → ClientStands client asks octets frames rest
+      → IfOk answer (λ out. IsClosed (received frames) (asked_in asks) (client_next client) moment out.items)
   pub done : OnOk answer (IsClientDone new)
   pub unchanged : OnErr answer (new ≡ client)
   pub same : SameClient client new

@@ -10,3 +10,4 @@ pub mod Serving
 pub mod Status
 pub mod Texts
 pub mod Waiting
+pub mod Words

@@ -1,18 +1,18 @@
 -- Servers and clients as they begin.
-use Rattle.std.specs.Prelude.{◌≡◌, ◌⊎◌, ℕ, List, [], Option, Some, Result, Ok, Err, IsTrue, codes}
+use Rattle.std.specs.Prelude.{◌≡◌, ◌⊎◌, ℕ, List, [], Option, Some, Result, Ok, Err, codes}
 use Rattle.std.specs.Str.{IsUtf8}
 use Rattle.ua_channel.specs.declared.client.channel.ClientChannel.{ClientChannel}
 use Rattle.ua_frame.specs.declared.limits.Limits.{Limits}
 use Rattle.ua_nodes.specs.NodeFile.{IsFirstBad, WriteNodes, node_lines}
 use Rattle.ua_nodes.specs.Table.{Nodes}
 use Rattle.ua_nodes.specs.declared.fault.LineReason.{LineReason}
-use Rattle.ua_wire.specs.Counted.{text}
 use Rattle.ua_server.specs.State.{fresh}
 use Rattle.ua_server.specs.declared.endpoint.Endpoint.{Endpoint}
 use Rattle.ua_c.specs.Asking.{IsNewClient}
 use Rattle.ua_c.specs.Limits.{AreEnough, AreThese}
 use Rattle.ua_c.specs.Serving.{IsFresh}
 use Rattle.ua_c.specs.Status.{ok, no_memory, bad_limits, bad_nodes, bad_text}
+use Rattle.ua_c.specs.Texts.{IsNoString, IsStringOf}
 use Rattle.ua_c.specs.declared.holding.Holding.{Holding}
 use Rattle.ua_c.specs.declared.holding.Machine.{Machine}
 use Rattle.ua_c.specs.declared.holding.Machine.TheVariants as machine
@@ -20,21 +20,6 @@ use Rattle.ua_c.specs.declared.limits.UaLimits.{UaLimits}
 use Rattle.ua_c.specs.declared.station.Station.{Station}
 
 -- ---- texts
-
--- octets are a URL: UTF-8, and no more than a String can encode
-pub record IsUrl (octets : List ℕ) : Type 0 where
-  pub utf8 : IsUtf8 octets
-  pub writable : IsTrue (text.encodable (Some octets))
-
--- a String is the URL that these octets are
-pub record IsUrlOf (octets : List ℕ) (url : Option (List ℕ)) : Type 0 where
-  pub is : url ≡ Some octets
-  pub utf8 : IsUtf8 octets
-  pub writable : IsTrue (text.encodable url)
-
--- memory was refused, or octets are no URL
-abbrev pub IsNoUrl : List ℕ → ℕ → Type 0
-IsNoUrl octets status = (status ≡ no_memory) ⊎ ((status ≡ bad_text) × ¬ (IsUrl octets))
 
 -- the line of this number is the first bad one of a node file
 pub record IsBadAt (octets : List ℕ) (line : ℕ) : Type 0 where
@@ -62,27 +47,27 @@ pub record IsMadeClient (limits : UaLimits) (url : List ℕ) (old new : Option H
   pub client : ClientChannel
   pub enough : AreEnough limits
   pub are_these : AreThese limits these
-  pub is_url : IsUrlOf url (Some url)
+  pub is_url : IsStringOf url (Some url)
   pub made : IsNewClient these url client
   pub seated : Seats (machine.Client client) old new status
 
 -- a client was made, or the handle is as it was
 abbrev pub MakesClient : UaLimits → List ℕ → Option Holding → Option Holding → ℕ → Type 0
-MakesClient limits url old new status = IsMadeClient limits url old new status ⊎ ((new ≡ old) × (((status ≡ bad_limits) × ¬ (AreEnough limits)) ⊎ IsNoUrl url status))
+MakesClient limits url old new status = IsMadeClient limits url old new status ⊎ ((new ≡ old) × (((status ≡ bad_limits) × ¬ (AreEnough limits)) ⊎ IsNoString url status))
 
 -- a server over the nodes of a file waits for a client
 pub record IsStation (nodes : List ℕ) (limits : Limits) (url : List ℕ) (channel : ℕ) (station : Station) : Type 0 where
   pub table : Nodes
   pub utf8 : IsUtf8 nodes
   pub written : WriteNodes (node_lines nodes) table
-  pub is_url : IsUrlOf url (Some url)
+  pub is_url : IsStringOf url (Some url)
   pub services_is : station.services ≡ fresh table (endpoint_of (Some url) limits.max_message_size)
   pub server_is : IsFresh limits channel station.server
   pub limits_is : station.limits ≡ limits
 
 -- why there is none
 abbrev pub IsNoStation : List ℕ → List ℕ → ℕ → ℕ → Type 0
-IsNoStation nodes url line status = (IsNoUrl url status × (line ≡ 0)) ⊎ RefusesNodes nodes line status
+IsNoStation nodes url line status = (IsNoString url status × (line ≡ 0)) ⊎ RefusesNodes nodes line status
 
 abbrev pub MakesStation : List ℕ → Limits → List ℕ → ℕ → ℕ → Result Station ℕ → Type 0
 MakesStation nodes limits url channel line (Ok station) = (line ≡ 0) × IsStation nodes limits url channel station

@@ -5,7 +5,7 @@ use Rattle.std.specs.Str.{IsUtf8}
 use Rattle.ua_builtin.specs.NodeText.{NamesNode}
 use Rattle.ua_builtin.specs.declared.date_time.DateTime.{DateTime}
 use Rattle.ua_builtin.specs.declared.node_id.NodeId.{NodeId}
-use Rattle.ua_services.specs.SessionRequests.{part_of_node, read, value_alone, write}
+use Rattle.ua_services.specs.SessionRequests.{activate_session_as, part_of_node, read, value_alone, write}
 use Rattle.ua_services.specs.Request.{request}
 use Rattle.ua_services.specs.declared.request.Request.{Request}
 use Rattle.ua_structures.specs.Plain.{value_for_node}
@@ -13,9 +13,8 @@ use Rattle.ua_structures.specs.declared.attribute.ReadValueId.{ReadValueId}
 use Rattle.ua_texts.specs.Script.{range_of}
 use Rattle.ua_variant.specs.View.{variant_of}
 use Rattle.ua_variant.specs.declared.values.Variant.{Variant}
-use Rattle.ua_c.specs.Making.{IsNoUrl, IsUrl}
 use Rattle.ua_c.specs.Status.{no_memory, bad_text}
-use Rattle.ua_c.specs.Texts.{HasNoValue, IsKept, IsValueOf, Puts}
+use Rattle.ua_c.specs.Texts.{HasNoValue, IsKept, IsNoString, IsString, IsValueOf, Puts}
 
 -- ---- the texts of NodeIds
 
@@ -76,8 +75,8 @@ IsNoRange octets status = (status ≡ no_memory) ⊎ ((status ≡ bad_text) × �
 
 -- the request of a URL, or why there is none
 abbrev pub MakesOfUrl : (Option (List ℕ) → Request) → List ℕ → Result Request ℕ → Type 0
-MakesOfUrl request_of url (Ok r) = IsUrl url × (r ≡ request_of (Some url))
-MakesOfUrl request_of url (Err status) = IsNoUrl url status
+MakesOfUrl request_of url (Ok r) = IsString url × (r ≡ request_of (Some url))
+MakesOfUrl request_of url (Err status) = IsNoString url status
 
 -- the request under the token of a text
 pub record IsUnder (request_of : NodeId → Request) (token : List ℕ) (r : Request) : Type 0 where
@@ -89,6 +88,18 @@ pub record IsUnder (request_of : NodeId → Request) (token : List ℕ) (r : Req
 abbrev pub MakesUnder : (NodeId → Request) → List ℕ → Result Request ℕ → Type 0
 MakesUnder request_of token (Ok r) = IsUnder request_of token r
 MakesUnder request_of token (Err status) = IsNoNode token status
+
+-- an ActivateSession under the token of a text, by the token policy that has another one as its PolicyId
+pub record IsActivation (token policy : List ℕ) (moment : DateTime) (handle : ℕ) (r : Request) : Type 0 where
+  pub id : NodeId
+  pub is_token : IsNodeText token id
+  pub is_policy : IsString policy
+  pub is : r ≡ activate_session_as (Some policy) id moment handle
+
+-- the same, or why there is none
+abbrev pub MakesActivation : List ℕ → List ℕ → DateTime → ℕ → Result Request ℕ → Type 0
+MakesActivation token policy moment handle (Ok r) = IsActivation token policy moment handle r
+MakesActivation token policy moment handle (Err status) = IsNoNode token status ⊎ IsNoString policy status
 
 -- the items of a Read of the Values of nodes, or of the parts of them that an index range names
 abbrev pub items_of : Option (List ℕ) → List NodeId → List ReadValueId

@@ -5,7 +5,7 @@ use Rattle.std_alloc.specs.declared.string.String.{String}
 use Rattle.ua_builtin.specs.NodeText.{NamesNode, filled, node_text}
 use Rattle.ua_builtin.specs.declared.node_id.NodeId.{NodeId}
 use Rattle.ua_services.specs.Message.{IsBody, IsNoBody}
-use Rattle.ua_services.specs.Response.{response}
+use Rattle.ua_services.specs.Response.{header_of, kind_of, response, responses}
 use Rattle.ua_services.specs.declared.response.Response.{Response}
 use Rattle.ua_services.specs.declared.response.Response.TheVariants.{CreateSession}
 use Rattle.ua_texts.specs.Answers.{read_lines, write_lines}
@@ -14,7 +14,7 @@ use Rattle.ua_texts.specs.Styles.{plain, plain_endpoints}
 use Rattle.ua_texts.specs.declared.fault.AnswerFault.{AnswerFault}
 use Rattle.ua_texts.specs.declared.fault.AnswerFault.TheVariants.{Service, Unknown, OutOfMemory}
 use Rattle.ua_c.specs.Requests.{AreNoNodes, AreNodeTexts}
-use Rattle.ua_c.specs.Status.{no_memory, bad_octets, service, unknown}
+use Rattle.ua_c.specs.Status.{ok, no_memory, bad_octets, service, unknown}
 use Rattle.ua_c.specs.Texts.{IsKept, Puts}
 
 -- ---- texts
@@ -45,6 +45,17 @@ abbrev pub TellsNone : (Response → Type 0) → Response → ℕ → ℕ → Ty
 TellsNone IsOther r code status = ((status ≡ no_memory) × (code ≡ 0))
     ⊎ ((status ≡ service) × (fault_in r ≡ Some (record { code = code })))
     ⊎ ((status ≡ unknown) × (code ≡ 0) × (fault_in r ≡ None) × IsOther r)
+
+-- ---- kinds
+
+-- the number of the binary encoding of a response (OPC 10000-6, A.3), and the ServiceResult in its header
+abbrev pub IsKindOf : Response → ℕ → ℕ → Type 0
+IsKindOf r kind service_result = (kind ≡ responses.number (kind_of r)) × (service_result ≡ (header_of r).service_result.code)
+
+-- those of the response that octets are the body of, or why there are none
+abbrev pub KindBy : List ℕ → ℕ → ℕ → ℕ → Type 0
+KindBy body kind service_result status = ((status ≡ ok) × OfResponse body (λ r. IsKindOf r kind service_result))
+    ⊎ (IsNoResponse body status × (kind ≡ 0) × (service_result ≡ 0))
 
 -- ---- tokens
 

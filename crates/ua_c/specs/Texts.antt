@@ -1,8 +1,9 @@
 -- What needs no handle: octets as lines, and values as texts.
-use Rattle.std.specs.Prelude.{◌≡◌, ◌⊎◌, ◌≤◌, ◌<◌, ℕ, List, ◌++◌, length, drop, Bool, Some, None, IsTrue, IsFalse}
+use Rattle.std.specs.Prelude.{◌≡◌, ◌⊎◌, ◌≤◌, ◌<◌, ℕ, List, ◌++◌, length, drop, Bool, Option, Some, None, IsTrue, IsFalse}
 use Rattle.std.specs.Str.{IsUtf8}
 use Rattle.ua_nodes.specs.TypeName.{type_denoted}
 use Rattle.ua_nodes.specs.ValueText.{value_denoted}
+use Rattle.ua_wire.specs.Counted.{text as counted_text}
 use Rattle.ua_wire.specs.Format.{IsWhole, Within, most_levels}
 use Rattle.ua_pair.specs.Dissected.{AreLines, plain}
 use Rattle.ua_pair.specs.declared.side.Side.{Side}
@@ -24,6 +25,23 @@ Puts octets before after needed status = (needed ≡ length octets)
 -- nothing was written
 abbrev pub IsKept : List ℕ → List ℕ → ℕ → Type 0
 IsKept before after needed = (needed ≡ 0) × (after ≡ before)
+
+-- ---- Strings
+
+-- octets are a String: UTF-8, and no more than can be encoded
+pub record IsString (octets : List ℕ) : Type 0 where
+  pub utf8 : IsUtf8 octets
+  pub writable : IsTrue (counted_text.encodable (Some octets))
+
+-- a String is the one that these octets are
+pub record IsStringOf (octets : List ℕ) (value : Option (List ℕ)) : Type 0 where
+  pub is : value ≡ Some octets
+  pub utf8 : IsUtf8 octets
+  pub writable : IsTrue (counted_text.encodable value)
+
+-- memory was refused, or octets are no String
+abbrev pub IsNoString : List ℕ → ℕ → Type 0
+IsNoString octets status = (status ≡ no_memory) ⊎ ((status ≡ bad_text) × ¬ (IsString octets))
 
 -- ---- lines
 

@@ -21,6 +21,7 @@ mod status;
 mod texts;
 mod told;
 mod waiting;
+mod words;
 
 pub use handle::UaHandle;
 pub use limits::UaLimits;

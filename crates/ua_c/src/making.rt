@@ -7,7 +7,7 @@ ghost use Rattle.ua_nodes.specs.NodeFile.{WriteNodes, node_lines};
 ghost use Rattle.ua_nodes.specs.Sound.{IsSound};
 ghost use Rattle.ua_wire.specs.Counted.{text};
 ghost use Rattle.ua_server.specs.State.{fresh};
-ghost use Rattle.ua_c.specs.Making.{IsNoUrl, IsUrlOf, MakesClient, MakesServer, MakesStation, RefusesNodes, Seats, endpoint_of};
+ghost use Rattle.ua_c.specs.Making.{MakesClient, MakesServer, MakesStation, RefusesNodes, Seats, endpoint_of};
 ghost use Rattle.ua_c.specs.Status.{no_memory};
 
 use crate::handle::UaHandle;
@@ -15,10 +15,11 @@ use crate::holding::{Holding, Machine};
 use crate::limits::{UaLimits, allowed};
 use crate::station::Station;
 use crate::status::{BAD_LIMITS, BAD_NODES, BAD_TEXT, NO_MEMORY, OK};
+use crate::texts::string_of;
 use crate::waiting::Waiting;
 use std::alloc::{AllocError, Global};
 use std::str;
-use ua_builtin::{UaString, Wire};
+use ua_builtin::UaString;
 use ua_channel::ClientChannel;
 use ua_frame::Limits;
 use ua_nodes::{LoadFault, NodeTable};
@@ -41,24 +42,6 @@ fn seat(alloc: Global, machine: Machine, out: &mut UaHandle) -> u32
     }
 }
 
-/// The URL that octets are, or a status.
-pub(crate) fn url_of(alloc: Global, octets: &[u8]) -> Result<UaString, u32>
-    ensures url { IfOk result (λ url. IsUrlOf octets.now url) }
-    ensures fault { IfErr result (λ status. IsNoUrl octets.now status) }
-{
-    let Ok(text) = str::from_utf8(octets) else {
-        return Err(BAD_TEXT);
-    };
-    let Ok(url) = UaString::from_str(alloc, text) else {
-        return Err(NO_MEMORY);
-    };
-    if url.is_encodable() {
-        Ok(url)
-    } else {
-        Err(BAD_TEXT)
-    }
-}
-
 /// Makes a client of these limits for the server of this URL, and puts it into a handle.
 #[unsafe(no_mangle)]
 pub extern "C" fn ua_client_new(
@@ -72,7 +55,7 @@ pub extern "C" fn ua_client_new(
     let Some(limits) = allowed(limits) else {
         return BAD_LIMITS;
     };
-    match url_of(alloc, url) {
+    match string_of(alloc, url) {
         Ok(url) => {
             let client = ClientChannel::new(alloc, limits, url);
             seat(alloc, Machine::Client(client), out)
@@ -142,7 +125,7 @@ fn station(
     ensures { MakesStation nodes.now limits url.now channel line.new result }
 {
     *line = 0;
-    let url = url_of(alloc, url)?;
+    let url = string_of(alloc, url)?;
     let nodes = nodes_of(alloc, nodes, line)?;
     match services(alloc, nodes, url, limits.max_message_size) {
         Ok(services) => Ok(Station::new(alloc, services, limits, channel)),

@@ -2,17 +2,17 @@
 
 ghost use Rattle.std.specs.Prelude.{◌≡◌, IfOk, IfErr};
 ghost use Rattle.ua_services.specs.SessionRequests.{activate_session, close_session, create_session, get_endpoints};
-ghost use Rattle.ua_c.specs.Requests.{AreNamed, AreNoNodes, AreNodeTexts, AreUnnamed, IsNoNode, IsNoRange, IsNodeText, IsRangeText, IsUnnamed, Makes, MakesOfUrl, MakesRead, MakesUnder, MakesWrite, Names, PutsBody, PutsMade, items_of};
+ghost use Rattle.ua_c.specs.Requests.{AreNamed, AreNoNodes, AreNodeTexts, AreUnnamed, IsNoNode, IsNoRange, IsNodeText, IsRangeText, IsUnnamed, Makes, MakesActivation, MakesOfUrl, MakesRead, MakesUnder, MakesWrite, Names, PutsBody, PutsMade, items_of};
 
-use crate::making::url_of;
 use crate::status::{BAD_TEXT, NO_MEMORY};
-use crate::texts::{put, value_of};
+use crate::texts::{put, string_of, value_of};
 use std::alloc::{AllocError, Global};
 use std::str;
 use ua_builtin::{DateTime, NodeId, TextFault, UaString, WriteFault};
 use ua_services::session_requests::{
-    activate_session_request, close_session_request, create_session_request, get_endpoints_request,
-    read_item, read_request, write_item, write_request,
+    activate_session_request, activate_session_request_as, close_session_request,
+    create_session_request, get_endpoints_request, read_item, read_request, write_item,
+    write_request,
 };
 use ua_services::{ReadValueId, Request, request_body};
 
@@ -114,7 +114,7 @@ fn put_made(alloc: Global, made: Result<Request, u32>, buffer: &mut [u8], needed
 fn creating(alloc: Global, url: &[u8], moment: DateTime, handle: u32) -> Result<Request, u32>
     ensures { MakesOfUrl (λ u. create_session u moment handle) url.now result }
 {
-    let url = match url_of(alloc, url) {
+    let url = match string_of(alloc, url) {
         Ok(url) => url,
         Err(status) => return Err(status),
     };
@@ -135,6 +135,31 @@ fn activating(alloc: Global, token: &[u8], moment: DateTime, handle: u32) -> Res
     match activate_session_request(alloc, token, moment, handle) {
         Ok(request) => Ok(request),
         Err(_) => Err(NO_MEMORY),
+    }
+}
+
+/// A request of ActivateSession under a token, by the token policy with this PolicyId.
+fn activating_as(
+    alloc: Global,
+    token: &[u8],
+    policy: &[u8],
+    moment: DateTime,
+    handle: u32,
+) -> Result<Request, u32>
+    ensures { MakesActivation token.now policy.now moment handle result }
+{
+    let policy = match string_of(alloc, policy) {
+        Ok(policy) => policy,
+        Err(status) => return Err(status),
+    };
+    let token = match node_of(alloc, token) {
+        Ok(token) => token,
+        Err(status) => return Err(status),
+    };
+    match activate_session_request_as(alloc, token, policy, moment, handle) {
+        Ok(request) => Ok(request),
+        Err(WriteFault::NotWritable) => Err(BAD_TEXT),
+        Err(WriteFault::OutOfMemory) => Err(NO_MEMORY),
     }
 }
 
@@ -226,7 +251,7 @@ pub extern "C" fn ua_get_endpoints_request(
 ) -> u32
     ensures { Makes (λ made. MakesOfUrl (λ u. get_endpoints u (record { ticks = moment }) handle) url.now made) buffer.old buffer.new needed.new result }
 {
-    let made = match url_of(alloc, url) {
+    let made = match string_of(alloc, url) {
         Ok(url) => Ok(get_endpoints_request(url, DateTime { ticks: moment }, handle)),
         Err(status) => Err(status),
     };
@@ -262,6 +287,24 @@ pub extern "C" fn ua_activate_session_request(
     ensures { Makes (λ made. MakesUnder (λ id. activate_session id (record { ticks = moment }) handle) token.now made) buffer.old buffer.new needed.new result }
 {
     let made = activating(alloc, token, DateTime { ticks: moment }, handle);
+    put_made(alloc, made, buffer, needed)
+}
+
+/// The body of an ActivateSession under this token, by a user without a name, under the token policy
+/// with this PolicyId.
+#[unsafe(no_mangle)]
+pub extern "C" fn ua_activate_session_request_as(
+    alloc: Global,
+    token: &[u8],
+    policy: &[u8],
+    moment: i64,
+    handle: u32,
+    buffer: &mut [u8],
+    needed: &mut usize,
+) -> u32
+    ensures { Makes (λ made. MakesActivation token.now policy.now (record { ticks = moment }) handle made) buffer.old buffer.new needed.new result }
+{
+    let made = activating_as(alloc, token, policy, DateTime { ticks: moment }, handle);
     put_made(alloc, made, buffer, needed)
 }
 

@@ -1,14 +1,14 @@
 //! Responses as texts.
 
 ghost use Rattle.std.specs.Prelude.{◌≡◌, [], length, string_bytes, IfOk, IfErr, OnOk};
-ghost use Rattle.ua_c.specs.Responses.{AddsFor, HasNoLines, HasNoToken, IsNoResponse, IsRefusedFor, IsResponse, IsToken, IsTold, LinesBy, PutsReply, Replies, TellsNone, TokenBy, octets_in};
+ghost use Rattle.ua_c.specs.Responses.{AddsFor, HasNoLines, HasNoToken, IsKindOf, IsNoResponse, IsRefusedFor, IsResponse, IsToken, IsTold, KindBy, LinesBy, PutsReply, Replies, TellsNone, TokenBy, octets_in};
 
 use crate::requests::nodes_of;
-use crate::status::{BAD_OCTETS, NO_MEMORY, SERVICE, UNKNOWN};
+use crate::status::{BAD_OCTETS, NO_MEMORY, OK, SERVICE, UNKNOWN};
 use crate::texts::put;
 use std::alloc::Global;
 use ua_builtin::{NodeId, Octets};
-use ua_services::{Response, ResponseFault, read_response};
+use ua_services::{Response, ResponseFault, by_kind, read_response, responses};
 use ua_texts::{
     AnswerFault, EndpointStyle, LineStyle, push_endpoints, push_read_answers, push_write_answers,
 };
@@ -24,6 +24,14 @@ fn response_of(alloc: Global, body: &[u8]) -> Result<Response, u32>
         Err(ResponseFault::OutOfMemory) => Err(NO_MEMORY),
         Err(_) => Err(BAD_OCTETS),
     }
+}
+
+/// The number of the encoding of a response (OPC 10000-6, A.3), and its ServiceResult.
+fn kind_of(response: &Response) -> (u32, u32)
+    ensures { IsKindOf response.now result.0 result.1 }
+{
+    let number = responses!(by_kind, response, _message, number => number);
+    (number, response.header().service_result.code)
 }
 
 /// The text of the token in a response to CreateSession, or a status and the code of a failed service.
@@ -145,6 +153,30 @@ fn put_text(made: Result<String, u32>, buffer: &mut [u8], needed: &mut usize) ->
             *needed = 0;
             status
         }
+    }
+}
+
+/// Which response a body is, by the number of its encoding, and its ServiceResult.
+#[unsafe(no_mangle)]
+pub extern "C" fn ua_response_kind(
+    alloc: Global,
+    body: &[u8],
+    response: &mut u32,
+    service_result: &mut u32,
+) -> u32
+    ensures { KindBy body.now response.new service_result.new result }
+{
+    *response = 0;
+    *service_result = 0;
+    match response_of(alloc, body) {
+        Ok(message) => {
+            let (number, code) = kind_of(&message);
+            drop(message);
+            *response = number;
+            *service_result = code;
+            OK
+        }
+        Err(status) => status,
     }
 }
 

@@ -3,13 +3,13 @@
 ghost use Rattle.std.specs.Prelude.{◌≡◌, ◌⊎◌, IfOk, IfErr, MatchOption, string_bytes};
 ghost use Rattle.ua_pair.specs.Dissected.{AreLines, plain};
 ghost use Rattle.ua_c.specs.Status.{no_memory};
-ghost use Rattle.ua_c.specs.Texts.{DecodesTo, DissectsTo, EncodesTo, HasNoValue, IsEncodingOf, IsNoEncoding, IsNoSide, IsNoValueEncoded, IsSide, IsTextOf, IsValueOf, Puts};
+ghost use Rattle.ua_c.specs.Texts.{DecodesTo, DissectsTo, EncodesTo, HasNoValue, IsEncodingOf, IsNoEncoding, IsNoSide, IsNoString, IsNoValueEncoded, IsSide, IsStringOf, IsTextOf, IsValueOf, Puts};
 
 use crate::status::{BAD_OCTETS, BAD_SIDE, BAD_TEXT, NO_MEMORY, OK, TOO_SMALL};
 use crate::waiting::move_front;
 use std::alloc::{AllocError, Global};
 use std::str;
-use ua_builtin::{Wire, WriteFault};
+use ua_builtin::{UaString, Wire, WriteFault};
 use ua_nodes::{ValueFault, parse_type, parse_value};
 use ua_pair::{Side, dissect};
 use ua_texts::push_variant;
@@ -25,6 +25,24 @@ pub(crate) fn put(octets: &[u8], buffer: &mut [u8], needed: &mut usize) -> u32
     }
     move_front(octets, buffer);
     OK
+}
+
+/// The String that octets are, or a status.
+pub(crate) fn string_of(alloc: Global, octets: &[u8]) -> Result<UaString, u32>
+    ensures value { IfOk result (λ value. IsStringOf octets.now value) }
+    ensures fault { IfErr result (λ status. IsNoString octets.now status) }
+{
+    let Ok(text) = str::from_utf8(octets) else {
+        return Err(BAD_TEXT);
+    };
+    let Ok(value) = UaString::from_str(alloc, text) else {
+        return Err(NO_MEMORY);
+    };
+    if value.is_encodable() {
+        Ok(value)
+    } else {
+        Err(BAD_TEXT)
+    }
 }
 
 /// The side of a number.
