@@ -10,8 +10,8 @@ ghost use Rattle.test_determinism.specs.Clients.{AsksAlike, ClientsAlike, Closes
 ghost use Rattle.test_determinism.specs.Pinned.{HadMemory, SameBy};
 
 use ua_builtin::DateTime;
-use ua_channel_laws::client_laws::client_is_open;
 use ua_channel::{AskFault, ClientChannel, ClientEvent, ClientTakeFault};
+use ua_channel_laws::client_laws::client_is_open;
 
 /// Hands the same octets to two channels that stand alike: the answers are one, with as many octets
 /// taken, and the channels stand alike behind them, or have both ended.

@@ -14,8 +14,8 @@ use crate::piece::Piece;
 use crate::sending::write_whole;
 use std::alloc::Global;
 use ua_builtin::{DateTime, UaString};
-use ua_channel_laws::client_laws::client_goes_on;
 use ua_channel::{ClientChannel, ClientEvent, Line};
+use ua_channel_laws::client_laws::client_goes_on;
 use ua_frame::Limits;
 
 impl Connection {

@@ -10,8 +10,8 @@ use crate::fault::ClientFault;
 use crate::laws::clients_are_settled;
 use crate::sending::write_whole;
 use ua_builtin::DateTime;
-use ua_channel_laws::client_laws::client_goes_on;
 use ua_channel::{AskFault, ClientEvent, Line};
+use ua_channel_laws::client_laws::client_goes_on;
 
 /// What a refusal to ask a renewal comes to.
 fn of_ask(fault: AskFault) -> ClientFault
