@@ -1,5 +1,5 @@
 -- What calls of a client over a line to a server come to, behind a talk so far.
-use Rattle.std.proofs.Common.{◌≡◌, ◌⊎◌, inl, inr, ℕ, IsTrue, List, [], ◌∷◌, ◌++◌, Option, Some, None, Result, Ok, Err, map, ◌∙◌, ap}
+use Rattle.std.proofs.Common.{◌≡◌, ◌⊎◌, inl, inr, ℕ, IsTrue, List, [], ◌∷◌, ◌++◌, Option, Some, None, Result, Ok, Err, map, ◌∙◌, ap, subst}
 use Rattle.ua_builtin.specs.DateTime.{date_time}
 use Rattle.ua_builtin.specs.declared.date_time.DateTime.{DateTime}
 use Rattle.ua_frame.specs.declared.limits.Limits.{Limits}
@@ -8,29 +8,35 @@ use Rattle.ua_channel.specs.Line.{Traffic, WhereTold}
 use Rattle.ua_channel_laws.specs.ServerReads.{ServerCloses}
 use Rattle.ua_channel.specs.ServerTold.{Closed}
 use Rattle.ua_services.specs.declared.request.Request.{Request}
+use Rattle.ua_server.specs.State.{State}
 use Rattle.ua_client.specs.Carried.{Carries}
-use Rattle.ua_client.specs.Calls.{AnsweredAll, BrokenAll, all_of}
+use Rattle.ua_client.specs.Calls.{AnsweredAll, BrokenAll, CallsAll, all_of}
 use Rattle.ua_client.specs.Client.{Closes, IsLeft, IsReady, OpensClient, OpensNothing, client_channel, connection_of}
-use Rattle.ua_client.specs.Hearing.{Moves}
+use Rattle.ua_client.specs.Hearing.{Moves, StopsAt, most_reads}
+use Rattle.ua_client.specs.Kept.{CallsInto}
 use Rattle.ua_client.specs.Renewing.{Renews}
 use Rattle.ua_client.specs.Site.{At}
 use Rattle.ua_client.specs.declared.client.Client.{Client}
+use Rattle.ua_client.specs.declared.fault.CallsFault.{CallsFault}
 use Rattle.ua_client.specs.declared.fault.ClientFault.{ClientFault}
 use Rattle.ua_client.specs.declared.fault.ClientFault.TheVariants as fault
 use Rattle.ua_client.specs.declared.fault.ClientFault.TheVariants.{OutOfMemory}
 use Rattle.ua_client.specs.declared.reply.Reply.{Reply}
 use Rattle.ua_client.proofs.Settled.{NonePending}
-use Rattle.ua_loopback.specs.Accepted.{IsTurnFault, turn_refusal}
+use Rattle.ua_loopback.specs.Accepted.{IsTurnFault, tokens_held, turn_refusal}
 use Rattle.ua_loopback.specs.Beginning.{Beginning}
-use Rattle.ua_loopback.specs.Replies.{lane_back, requests_replies, turn_state}
+use Rattle.ua_loopback.specs.Faults.{FailsBehind, IsOutside}
+use Rattle.ua_loopback.specs.Replies.{HaveMisanswer, lane_back, requests_replies, turn_state}
 use Rattle.ua_loopback.specs.Says.{left_by, said_to}
 use Rattle.ua_loopback.specs.Sends.{closing_behind}
 use Rattle.ua_loopback.specs.Talking.{IsBehindFirst, IsLineTo, IsSentOver, IsTalking, Reads, SoFar, acked_in, closed_octets, id_in, newest_in, octets_of, opening, state_in, told_in, with_turn}
 use Rattle.ua_loopback.specs.Turns.{turn_told}
 use Rattle.ua_loopback.specs.inside.Talking.{CanOpen}
 use Rattle.ua_loopback.proofs.Begun.{SettlesOpened, opened_ready, opened_talk, settled_there}
+use Rattle.ua_loopback.proofs.Faults.{calls_fail, close_fails, renewal_fails}
 use Rattle.ua_loopback.proofs.OneTurn.{calls_refused, calls_replied, calls_sent, calls_talk, closes_left, closes_read, closes_silent, closing_is, first_talk, renewing_not, renewing_sent, renewing_talks, turn_left, turn_read}
 use Rattle.ua_loopback.proofs.Replying.{some-append}
+use Rattle.ua_loopback.proofs.Staying.{ToldBehind}
 
 -- ---- it opens
 
@@ -120,6 +126,20 @@ module _ (t : SoFar) (x : Client) (before : Option Traffic) (k : IsTalking t x b
         };
       }
 
+    module _ (never_before : ToldBehind) (f : ClientFault) (q : BrokenAll requests k.site (connection_of y) sent moves.taken f) where
+      pub asks_fails : (A : Type 0) → StopsAt {A = A} most_reads most_reads moves.got (connection_of y) after (Err f) → FailsBehind (HaveMisanswer (state_in t) t.server.moment requests) f
+      asks_fails A stops =
+          subst (λ (s : State). FailsBehind (HaveMisanswer s t.server.moment requests) f) k.talks.state_is
+          (calls_fail t.server t.limits t.url t.octets (told_in t) (newest_in t) (id_in t) (tokens_held 1 t.turns) k.site (connection_of x) before k.talks.talking (connection_of y) after sent moves same law never_before requests f q A stops)
+
+  pub all_fails : {A : Type 0} {view : A → List Reply} (y : Client) (after : Option Traffic) (law : NonePending) (moment : DateTime) (requests : List Request) (never_before : ToldBehind) (f : ClientFault)
+      → CallsAll {A = A} view requests (connection_of x) (connection_of y) before after (Err f) → FailsBehind (HaveMisanswer (state_in t) t.server.moment requests) f
+  all_fails {A} {view} y after law moment requests never_before f c = asks_fails y after law moment requests c.sent c.moves c.same never_before f (c.answers k.site stands_there) A c.stops
+
+  pub into_fails : (y : Client) (after : Option Traffic) (law : NonePending) (moment : DateTime) (requests : List Request) (never_before : ToldBehind) (f : CallsFault) (had have : List Reply)
+      → CallsInto {A = Unit {0}} requests (connection_of x) (connection_of y) before after (Err f) had have → FailsBehind (HaveMisanswer (state_in t) t.server.moment requests) f.fault
+  into_fails y after law moment requests never_before f had have c = asks_fails y after law moment requests c.sent c.moves c.same never_before f.fault (c.answers k.site stands_there).broken (Unit {0}) c.stops
+
   -- ---- it renews its token
 
   module _ (y : Client) (after : Option Traffic) (moment : DateTime) where
@@ -138,6 +158,11 @@ module _ (t : SoFar) (x : Client) (before : Option Traffic) (k : IsTalking t x b
     pub renews_not : (f : ClientFault) → IsTurnFault f → Renews {A = Unit {0}} moment (connection_of x) (connection_of y) before after (Err f) → turn_refusal (acked_in t) t.turns None ≡ Some f
     renews_not f is c = renewing_not t k.site (connection_of x) before k.talks (connection_of y) after moment f is c stands_there
 
+    pub renews_fails : IsTrue (date_time.encodable moment) → (f : ClientFault) → Renews {A = Unit {0}} moment (connection_of x) (connection_of y) before after (Err f) → FailsBehind ⊥ f
+    renews_fails dated f c =
+        renewal_fails t.server t.limits t.url t.octets (told_in t) (newest_in t) (id_in t) (tokens_held 1 t.turns) k.site (connection_of x) before k.talks.talking (connection_of y) after c.sent c.moves c.same moment dated k.talks.dated
+        (Unit {0}) f (c.answers k.site stands_there) (c.judged k.site stands_there) c.stops
+
   -- ---- it closes
 
   module _ (moment : DateTime) where
@@ -154,3 +179,6 @@ module _ (t : SoFar) (x : Client) (before : Option Traffic) (k : IsTalking t x b
 
     pub left_there : left_by t.server (closed_octets t moment) ≡ state_in t
     left_there = closes_left t k.site (connection_of x) before k.talks moment
+
+    pub closes_fails : (after : Option Traffic) (f : ClientFault) → Closes {A = Unit {0}} moment (client_channel x) before after (Err f) → IsOutside f
+    closes_fails after f c = close_fails (Unit {0}) k.site moment c.sent f (c.answers k.site stands_there)

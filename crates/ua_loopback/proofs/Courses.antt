@@ -1,9 +1,10 @@
 -- A client's turns over a line, one behind the other.
-use Rattle.std.proofs.Common.{◌≡◌, ◌⊎◌, inl, inr, ℕ, ◌+◌, ◌<◌, ◌≤◌, IsTrue, List, [], ◌∷◌, ◌++◌, Option, Some, None, Result, Ok, Err, get_or, length, map, take, drop, refl, sym, ◌∙◌, ap, subst, append-nil, append_assoc, arith}
+use Rattle.std.proofs.Common.{◌≡◌, ◌⊎◌, inl, inr, ℕ, ◌+◌, ◌<◌, ◌≤◌, IsTrue, List, [], ◌∷◌, ◌++◌, Option, Some, None, Result, Ok, Err, get_or, length, map, take, drop, refl, sym, ◌∙◌, ap, subst, append-nil, append_assoc, arith, length-append}
 use Rattle.std.specs.Prelude.{IfErr, OnOk}
 use Rattle.std.proofs.lemmas.List.{length-map, length-take-le, map-append, take-append-drop, take_all, take_more}
 use Rattle.ua_builtin.specs.DateTime.{date_time}
 use Rattle.ua_builtin.specs.declared.date_time.DateTime.{DateTime}
+use Rattle.ua_frame.specs.Agreement.{url_length}
 use Rattle.ua_frame.specs.Run.{End, Going, Over, Stopped}
 use Rattle.ua_frame.specs.declared.limits.Limits.{Limits}
 use Rattle.ua_channel.specs.Line.{Traffic, WhereTold}
@@ -16,8 +17,9 @@ use Rattle.ua_server.specs.declared.step.End.TheVariants as ending
 use Rattle.ua_client.specs.Carried.{Carries}
 use Rattle.ua_client.specs.Client.{Closes, ClosesAt, IsReady, OpensClient, OpensNothing, closing_at, connection_of}
 use Rattle.ua_client.specs.Hearing.{channel_of, untaken_of}
-use Rattle.ua_client.specs.Kept.{CallsInto}
-use Rattle.ua_client.specs.Renewing.{IsRenewed, Renews, renewal_at}
+use Rattle.ua_client.specs.Calls.{AreGroups, all_of}
+use Rattle.ua_client.specs.Kept.{CallsInto, KeepsAt}
+use Rattle.ua_client.specs.Renewing.{IsRefusal, IsRenewed, Renews, RenewsAt, renewal_at}
 use Rattle.ua_client.specs.Site.{Site}
 use Rattle.ua_client.specs.declared.client.Client.{Client}
 use Rattle.ua_client.specs.declared.connection.Connection.{Connection}
@@ -34,20 +36,63 @@ use Rattle.ua_loopback.specs.Beginning.{Beginning}
 use Rattle.ua_loopback.specs.Course.{Converses, Course, Stays, opening_octets}
 use Rattle.ua_loopback.specs.Course.Course.{Asked, Renewed}
 use Rattle.ua_loopback.specs.Kept.{EndsAt, LeavesAt, Served, traffic_of}
-use Rattle.ua_loopback.specs.Replies.{lane_back, turn_replies, turns_replies, turns_state}
+use Rattle.ua_loopback.specs.Faults.{BehindRefused, FailsBehind}
+use Rattle.ua_loopback.specs.Replies.{HasMisanswer, HaveMisanswers, lane_back, turn_replies, turns_replies, turns_state}
 use Rattle.ua_loopback.specs.Sends.{closing_behind, conversation_octets, turns_octets}
 use Rattle.ua_loopback.specs.Says.{end_by, left_by, said_to, state_told}
-use Rattle.ua_loopback.specs.Talking.{IsLineTo, SoFar, TalksAt, acked_in, closed_octets, octets_of, state_in, newest_in, with_turn}
-use Rattle.ua_loopback.specs.inside.Talking.{CanOpen, StaysTalking, Talked, Went}
+use Rattle.ua_loopback.specs.Talking.{IsLineTo, IsTalking, SoFar, TalksAt, acked_in, closed_octets, octets_of, state_in, newest_in, with_turn}
+use Rattle.ua_loopback.specs.inside.Talking.{CanOpen, StaysBefore, StaysBehind, StaysTalking, Talked, Went, WentBefore}
 use Rattle.ua_loopback.specs.Turns.{conversation_told, opening_told, turns_told}
 use Rattle.ua_loopback.specs.declared.stage.Stage.{Stage}
 use Rattle.ua_loopback.specs.declared.stage.Stage.TheVariants as stage
 use Rattle.ua_loopback.proofs.Begun.{SettlesOpened, went_first}
-use Rattle.ua_loopback.proofs.OneTurn.{calls_refused, calls_replied, calls_sent, calls_talk, closes_read, closes_silent, closing_is, renewing_not, renewing_sent, renewing_talks}
+use Rattle.ua_loopback.proofs.Faults.{fails_by, misanswers_in}
+use Rattle.ua_loopback.proofs.OneTurn.{calls_refused, calls_replied, calls_sent, calls_talk, closes_read, closes_silent, closing_is, first_at, first_octets, first_replied, first_sent, first_talk, renewing_not, renewing_sent, renewing_talks, talk_left}
 use Rattle.ua_loopback.proofs.Pushes.{octets_push, replies_push}
 use Rattle.ua_loopback.proofs.Replying.{some-append, state_closed}
 use Rattle.ua_loopback.proofs.Saying.{end_is, left_by_run}
-use Rattle.ua_loopback.proofs.Talks.{got_on, rounds_octets}
+use Rattle.ua_loopback.proofs.Talks.{breaks_refused, got_on, rounds_octets}
+
+-- ---- a turn that is refused
+
+-- none of a group's replies is kept
+none_kept : (requests : List Request) (s : Site) (new : Connection) (taken : List ℕ) (f : ClientFault) (n : ℕ) (kept : List Reply) → IsTurnFault f → KeepsAt requests s new taken f n kept → kept ≡ []
+none_kept requests s new taken fault.NotWritable n kept reason h = h.1
+none_kept requests s new taken fault.Exhausted n kept reason h = h.1
+none_kept requests s new taken fault.TooLarge n kept reason h = h.1
+none_kept requests s new taken fault.TooManyTokens n kept reason h = absurd h
+none_kept requests s new taken (fault.Peer code) n kept reason h = absurd reason
+none_kept requests s new taken (fault.Refused code) n kept reason h = absurd reason
+none_kept requests s new taken (fault.Service code) n kept reason h = absurd reason
+none_kept requests s new taken fault.Ended n kept reason h = absurd reason
+none_kept requests s new taken fault.Read n kept reason h = absurd reason
+none_kept requests s new taken fault.Write n kept reason h = absurd reason
+none_kept requests s new taken fault.TooLong n kept reason h = absurd reason
+none_kept requests s new taken fault.UnknownResponse n kept reason h = absurd reason
+none_kept requests s new taken fault.OutOfMemory n kept reason h = absurd reason
+none_kept requests s new taken fault.Closed n kept reason h = absurd reason
+
+-- a renewal that is refused is not asked
+is_refusal : (s : Site) (moment : DateTime) (new : ClientChannel) (sent taken : List ℕ) (f : ClientFault) → IsTurnFault f → RenewsAt {A = Unit {0}} s moment new sent taken (Err f) → IsRefusal {A = Unit {0}} (Err f)
+is_refusal s moment new sent taken fault.NotWritable reason h = absurd h
+is_refusal s moment new sent taken fault.Exhausted reason h = tt
+is_refusal s moment new sent taken fault.TooLarge reason h = absurd h
+is_refusal s moment new sent taken fault.TooManyTokens reason h = tt
+is_refusal s moment new sent taken (fault.Peer code) reason h = absurd reason
+is_refusal s moment new sent taken (fault.Refused code) reason h = absurd reason
+is_refusal s moment new sent taken (fault.Service code) reason h = absurd reason
+is_refusal s moment new sent taken fault.Ended reason h = absurd reason
+is_refusal s moment new sent taken fault.Read reason h = absurd reason
+is_refusal s moment new sent taken fault.Write reason h = absurd reason
+is_refusal s moment new sent taken fault.TooLong reason h = absurd reason
+is_refusal s moment new sent taken fault.UnknownResponse reason h = absurd reason
+is_refusal s moment new sent taken fault.OutOfMemory reason h = absurd reason
+is_refusal s moment new sent taken fault.Closed reason h = absurd reason
+
+-- groups before one are groups
+groups_front : (groups : List (List Request)) (group : List Request) → AreGroups (groups ++ group ∷ []) → AreGroups groups
+groups_front [] group h = tt
+groups_front (g ∷ groups) group h = (h.0, h.1, λ some. h.2 (omega (arith, some, length-append groups (group ∷ []))), groups_front groups group h.3)
 
 -- ---- a turn
 
@@ -147,6 +192,65 @@ module _ (b : Beginning) (limits : Limits) (url : Option (List ℕ)) (moment : D
 
   pub renewed_not : (t : Option (List Request)) (f : ClientFault) → t ≡ None → Renews {A = Unit {0}} moment x y now after (Err f) → IsTurnFault f → turn_refusal (acked_in talk) turns t ≡ Some f
   renewed_not t f is c reason = ap (turn_refusal (acked_in talk) turns) is ∙ renewing_not talk was.site x now s.talks y after moment f reason c was.at
+
+  -- and what stands before it was done
+
+  asked_before : NonePending → (requests : List Request) (f : CallsFault) → CallsInto {A = Unit {0}} requests x y now after (Err f) had have → IsTurnFault f.fault → StaysBehind b limits url moment opened turns (Some requests) y first after have
+  asked_before law requests f c reason =
+      let q = c.answers was.site was.at in
+      let a = q.broken in
+      let asked : List Request = all_of a.groups in
+      let none = breaks_refused a.group a.behind y a.sent_then a.taken_then f.fault reason a.breaks in
+      let added_is : c.added ≡ a.replies = q.added_is ∙ (ap (λ (rs : List Reply). a.replies ++ rs) (none_kept a.group a.behind y a.taken_then f.fault q.place q.kept reason q.keeps) ∙ append-nil a.replies) in
+      let have_is : have ≡ had ++ a.replies = c.have_is ∙ ap (λ (rs : List Reply). had ++ rs) added_is in
+      let before_is : c.sent ≡ a.sent_before = a.sent_parts ∙ (ap (λ (o : List ℕ). a.sent_before ++ o) none.0 ∙ append-nil a.sent_before) in
+      let sent_is : c.sent ≡ octets_of talk moment (Some asked) = first_sent talk was.site x now s.talks y after c.sent c.moves c.same law moment requests f.fault reason a in
+      let octets_are = first_octets talk was.site x now s.talks y after c.sent c.moves c.same law moment requests f.fault reason a in
+      record {
+        done = turns ++ Some asked ∷ [];
+        done_is = (asked, a.group ++ a.others, a.parts, refl);
+        stays = record {
+          stays = record {
+            site = a.behind;
+            at = first_at talk was.site x now s.talks y after c.sent c.moves c.same law moment requests f.fault reason a;
+            sent = was.sent ++ c.sent;
+            course = subst (λ (o : List ℕ). Course moment opened (turns ++ Some asked ∷ []) a.behind (was.sent ++ o) have) (sym before_is)
+                (subst (λ (r : List Reply). Course moment opened (turns ++ Some asked ∷ []) a.behind (was.sent ++ a.sent_before) r) (sym have_is)
+                (Asked (Some asked) a.groups was.course refl (groups_front a.groups a.group a.sized) a.rounds));
+            got = was.got ++ c.moves.got;
+            carried = carried_on c.moves.got c.sent c.moves.carried;
+            got_is = got_on was.got c.moves.got was.site.octets (untaken_of x) c.moves.taken (untaken_of y) was.got_is c.moves.parts ∙ ap (λ (o : List ℕ). o ++ untaken_of y) (sym octets_are);
+          };
+          sent_is = more_sent (Some asked) c.sent sent_is;
+          replied = more_replied (Some asked) a.replies have_is (first_replied talk was.site x now s.talks y after c.sent c.moves c.same law moment requests f.fault reason a);
+          talks = talks_on (Some asked) a.behind c.sent sent_is (first_talk talk was.site x now s.talks y after c.sent c.moves c.same law moment requests f.fault reason a);
+        };
+      }
+
+  pub stays_before : NonePending → (t : Option (List Request)) (requests : List Request) (f : CallsFault) → t ≡ Some requests → CallsInto {A = Unit {0}} requests x y now after (Err f) had have → IsTurnFault f.fault
+      → StaysBehind b limits url moment opened turns t y first after have
+  stays_before law t requests f is c reason = subst (λ (o : Option (List Request)). StaysBehind b limits url moment opened turns o y first after have) (sym is) (asked_before law requests f c reason)
+
+  pub renewed_before : (t : Option (List Request)) (f : ClientFault) → t ≡ None → Renews {A = Unit {0}} moment x y now after (Err f) → (IsRefusal {A = Unit {0}} (Err f) → (y ≡ x) × (after ≡ now)) → have ≡ had → IsTurnFault f
+      → StaysBehind b limits url moment opened turns t y first after have
+  renewed_before t f is c unchanged same reason =
+      let u = unchanged (is_refusal was.site moment (channel_of y) c.sent c.moves.taken f reason (c.answers was.site was.at)) in
+      subst (λ (o : Option (List Request)). StaysBehind b limits url moment opened turns o y first after have) (sym is) (record {
+        done = turns;
+        done_is = refl;
+        stays = subst (λ (z : Connection). StaysTalking b limits url moment opened turns z first after have) (sym u.0)
+            (subst (λ (l : Option Traffic). StaysTalking b limits url moment opened turns x first l have) (sym u.1)
+            (subst (λ (rs : List Reply). StaysTalking b limits url moment opened turns x first now rs) (sym same) s));
+      })
+
+-- why it fails that a client talks to a server and takes this turn
+pub asked_fails : (b : Beginning) (limits : Limits) (url : Option (List ℕ)) (moment : DateTime) (opened : Site) (turns : List (Option (List Request))) (x : Client) (first now : Option Traffic) (had : List Reply) → StaysTalking b limits url moment opened turns (connection_of x) first now had
+    → IsReady x → (t asked : Option (List Request)) → t ≡ asked → (f : ClientFault) → ((talk : SoFar) → IsTalking talk x now → FailsBehind (HasMisanswer (state_in talk) talk.server.moment asked) f)
+    → FailsBehind (HasMisanswer (turns_state b.first b.moment turns) b.moment t) f
+asked_fails b limits url moment opened turns x first now had s ready t asked is f fails =
+    let talk : SoFar = record { server = b; limits = limits; url = url; turns = turns; octets = opening_octets limits url moment ++ s.stays.sent } in
+    subst (λ (o : Option (List Request)). FailsBehind (HasMisanswer (turns_state b.first b.moment turns) b.moment o) f) (sym is)
+    (fails talk (record { ready = ready; site = s.stays.site; talks = s.talks }))
 
 -- ---- the end
 
@@ -264,6 +368,50 @@ module _ {A : Type 0} (turn_of : A → Option (List Request)) where
         accepted = done.talks.accepted;
         refused = refused b limits url opened (map turn_of (take index turns)) first done;
       }
+
+  -- what stands before it was done
+  pub before_next : (moment : DateTime) (turns : List A) (index : ℕ) (x y z : Client) (before now after : Option Traffic) (had have later : List Reply) (t : A) → TakenSoFar moment turns index x y before now had have
+      → index < length turns → t ≡ get_or turns index t
+      → ((b : Beginning) (limits : Limits) (url : Option (List ℕ)) (opened : Site) (done : List (Option (List Request))) (first : Option Traffic) → StaysTalking b limits url moment opened done (connection_of y) first now have
+      → StaysBehind b limits url moment opened done (turn_of t) (connection_of z) first after later)
+      → (b : Beginning) (limits : Limits) (url : Option (List ℕ)) (opened : Site) (first : Option Traffic) → StaysTalking b limits url moment opened [] (connection_of x) first before had
+      → StaysBefore b limits url moment opened (map turn_of turns) index (connection_of z) first after later
+  before_next moment turns index x y z before now after had have later t so less is refused b limits url opened first s =
+      let behind = refused b limits url opened (map turn_of (take index turns)) first (so.stays b limits url opened first s) in
+      record {
+        done = behind.done;
+        done_is = record {
+          before = map turn_of (take index turns);
+          turn = turn_of t;
+          behind = map turn_of (drop (index + 1) turns);
+          parts =
+              ap (map turn_of) (sym (take-append-drop (index + 1) turns))
+              ∙ (map-append turn_of (take (index + 1) turns) (drop (index + 1) turns)
+              ∙ (ap (λ (ts : List (Option (List Request))). ts ++ map turn_of (drop (index + 1) turns)) (turns_on turns index t less is)
+              ∙ append_assoc (map turn_of (take index turns)) (turn_of t ∷ []) (map turn_of (drop (index + 1) turns))));
+          place_is = length-map (take index turns) turn_of ∙ length-take-le index turns (omega (arith, less));
+          done_is = behind.done_is;
+        };
+        stays = behind.stays;
+      }
+
+  -- or fails
+  pub fails_next : (moment : DateTime) (turns : List A) (index : ℕ) (x y : Client) (before now : Option Traffic) (had have : List Reply) (t : A) (f : ClientFault) → TakenSoFar moment turns index x y before now had have
+      → index < length turns → t ≡ get_or turns index t
+      → ((b : Beginning) (limits : Limits) (url : Option (List ℕ)) (opened : Site) (done : List (Option (List Request))) (first : Option Traffic) → StaysTalking b limits url moment opened done (connection_of y) first now have
+      → FailsBehind (HasMisanswer (turns_state b.first b.moment done) b.moment (turn_of t)) f)
+      → (b : Beginning) (limits : Limits) (url : Option (List ℕ)) (opened : Site) (first : Option Traffic) → StaysTalking b limits url moment opened [] (connection_of x) first before had
+      → FailsBehind (HaveMisanswers b.first b.moment (map turn_of turns)) f
+  fails_next moment turns index x y before now had have t f so less is fails b limits url opened first s =
+      let done : List (Option (List Request)) = map turn_of (take index turns) in
+      let rest : List (Option (List Request)) = map turn_of (drop (index + 1) turns) in
+      let parts : map turn_of turns ≡ done ++ turn_of t ∷ rest =
+      ap (map turn_of) (sym (take-append-drop (index + 1) turns))
+      ∙ (map-append turn_of (take (index + 1) turns) (drop (index + 1) turns)
+      ∙ (ap (λ (ts : List (Option (List Request))). ts ++ rest) (turns_on turns index t less is) ∙ append_assoc done (turn_of t ∷ []) rest)) in
+      fails_by (HasMisanswer (turns_state b.first b.moment done) b.moment (turn_of t)) (HaveMisanswers b.first b.moment (map turn_of turns)) f
+      (λ h. subst (λ (ts : List (Option (List Request))). HaveMisanswers b.first b.moment ts) (sym parts) (misanswers_in b.first b.moment done (turn_of t) rest h))
+      (fails b limits url opened done first (so.stays b limits url opened first s))
 
   pub taken_all : (moment : DateTime) (turns : List A) (index : ℕ) (x y : Client) (before now : Option Traffic) (had have : List Reply) → TakenSoFar moment turns index x y before now had have → length turns ≤ index
       → (b : Beginning) (limits : Limits) (url : Option (List ℕ)) (opened : Site) (first : Option Traffic) → StaysTalking b limits url moment opened [] (connection_of x) first before had
@@ -426,6 +574,41 @@ pub refused_on : (r : Result (Unit {0}) ClientFault) (b : Beginning) (limits : L
 refused_on (Ok found) b limits channel services url moment turns old place is able none nothing_read t = tt
 refused_on (Err f) b limits channel services url moment turns old place is able none nothing_read t = λ reason.
     subst (λ (d : Beginning). FirstRefused (acknowledged d.limits limits url) turns place f) is (t reason b (subst (λ (d : Beginning). CanOpen d limits url moment) (sym is) able) (line_begins b old none nothing_read))
+
+-- and what stands before it was done, and no more
+behind_refused : (b : Beginning) (limits : Limits) (url : Option (List ℕ)) (moment : DateTime) (turns : List (Option (List Request))) (place : ℕ) (old new : Served) (replies : List Reply) → old.up ≡ []
+    → WentBefore b limits url moment turns place (Some (traffic_of b old)) (Some (traffic_of b new)) replies → BehindRefused b limits url moment turns place new.up replies
+behind_refused b limits url moment turns place old new replies none w =
+    let s = w.stays.stays in
+    let opening : List ℕ = opening_octets limits url moment in
+    let talk : SoFar = record { server = b; limits = limits; url = url; turns = w.stays.done; octets = opening ++ s.stays.sent } in
+    let up_is : new.up ≡ opening ++ s.stays.sent = s.stays.carried.written ∙ ap (λ (o : List ℕ). o ++ (opening ++ s.stays.sent)) none in
+    record {
+      done = w.stays.done;
+      done_is = w.stays.done_is;
+      sent = up_is ∙ ap (λ (o : List ℕ). opening ++ o) s.sent_is;
+      replied = s.replied;
+      state = ap (left_by b) up_is ∙ talk_left talk s.stays.site w.connection (Some (traffic_of b new)) s.talks;
+    }
+
+pub before_on : (r : Result (Unit {0}) ClientFault) (b : Beginning) (limits : Limits) (channel : ℕ) (services : State) (url : Option (List ℕ)) (moment : DateTime) (turns : List (Option (List Request))) (old new : Served) (place : ℕ) (replies : List Reply) (up : List ℕ)
+    → b ≡ record { limits = limits; channel = channel; first = services; moment = moment } → CanOpen (record { limits = limits; channel = channel; first = services; moment = moment }) limits url moment → old.up ≡ [] → old.read ≡ 0
+    → IfErr r (λ f. IsTurnFault f → (b' : Beginning) → CanOpen b' limits url moment → IsLineTo b' [] [] (Some (traffic_of b old)) → WentBefore b' limits url moment turns place (Some (traffic_of b old)) (Some (traffic_of b new)) replies)
+    → up ≡ new.up → IfErr r (λ f. IsTurnFault f → BehindRefused (record { limits = limits; channel = channel; first = services; moment = moment }) limits url moment turns place up replies)
+before_on (Ok found) b limits channel services url moment turns old new place replies up is able none nothing_read t p = tt
+before_on (Err f) b limits channel services url moment turns old new place replies up is able none nothing_read t p = λ reason.
+    subst (λ (u : List ℕ). BehindRefused (record { limits = limits; channel = channel; first = services; moment = moment }) limits url moment turns place u replies) (sym p)
+    (subst (λ (d : Beginning). BehindRefused d limits url moment turns place new.up replies) is
+    (behind_refused b limits url moment turns place old new replies none (t reason b (subst (λ (d : Beginning). CanOpen d limits url moment) (sym is) able) (line_begins b old none nothing_read))))
+
+-- it does not fail for what the server says
+pub fails_on : (r : Result (Unit {0}) ClientFault) (b : Beginning) (limits : Limits) (channel : ℕ) (services : State) (url : Option (List ℕ)) (moment : DateTime) (turns : List (Option (List Request))) (old : Served)
+    → b ≡ record { limits = limits; channel = channel; first = services; moment = moment } → CanOpen (record { limits = limits; channel = channel; first = services; moment = moment }) limits url moment → old.up ≡ [] → old.read ≡ 0
+    → IfErr r (λ f. (b' : Beginning) → CanOpen b' limits url moment → IsLineTo b' [] [] (Some (traffic_of b old)) → url_length url ≤ 4095 → FailsBehind (HaveMisanswers b'.first b'.moment turns) f)
+    → IfErr r (λ f. url_length url ≤ 4095 → FailsBehind (HaveMisanswers services moment turns) f)
+fails_on (Ok found) b limits channel services url moment turns old is able none nothing_read t = tt
+fails_on (Err f) b limits channel services url moment turns old is able none nothing_read t = λ short.
+    subst (λ (d : Beginning). FailsBehind (HaveMisanswers d.first d.moment turns) f) is (t b (subst (λ (d : Beginning). CanOpen d limits url moment) (sym is) able) (line_begins b old none nothing_read) short)
 
 -- and the client sent just these octets
 pub sent_on : (r : Result (Unit {0}) ClientFault) (b : Beginning) (limits : Limits) (channel : ℕ) (services : State) (url : Option (List ℕ)) (moment : DateTime) (turns : List (Option (List Request))) (old new : Served) (replies : List Reply) (up : List ℕ)

@@ -16,6 +16,7 @@ pub mod Renewed
 mod Rounds
 mod Talks
 mod OneTurn
+mod Faults
 mod Refused
 mod Begun
 pub mod Pushes

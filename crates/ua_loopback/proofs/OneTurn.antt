@@ -133,12 +133,23 @@ module _ (t : SoFar) (site : Site) (x : Connection) (before : Option Traffic) (s
       pub calls_refused : turn_refusal (acked_in t) t.turns (Some requests) ≡ Some f
       calls_refused = asked_refused b t.limits t.url t.octets (told_in t) (newest_in t) (id_in t) held site x before s.talking y after sent moves same law requests f is q
 
+      first_there : Behind b t.limits t.url t.octets (told_in t) (newest_in t) (id_in t) held site.number sent q.replies (all_of q.groups) q.behind
+      first_there = first_behind b t.limits t.url t.octets (told_in t) (newest_in t) (id_in t) held site x before s.talking y after sent moves same law requests f is q
+
+      pub first_at : At (channel_of y) q.behind
+      first_at = refused_at b t.limits t.url t.octets (told_in t) (newest_in t) (id_in t) held site x before s.talking y after sent moves same law requests f is q
+
+      pub first_octets : q.behind.octets ≡ site.octets ++ moves.taken
+      first_octets = refused_octets b t.limits t.url t.octets (told_in t) (newest_in t) (id_in t) held site x before s.talking y after sent moves same law requests f is q
+
+      pub first_sent : sent ≡ octets_of t moment (Some (all_of q.groups))
+      first_sent = asked_sent moment (all_of q.groups) q.replies q.behind first_at first_octets first_there
+
+      pub first_replied : map (λ (r : Reply). Some r) q.replies ≡ requests_replies (lane_back b t.limits t.url (newest_in t)) (state_in t) b.moment (all_of q.groups)
+      first_replied = asked_replies moment (all_of q.groups) q.replies q.behind first_at first_octets first_there
+
       pub first_talk : TalksAt (with_turn t moment (Some (all_of q.groups))) q.behind y after
-      first_talk =
-          asked_more moment (all_of q.groups) q.replies q.behind
-          (refused_at b t.limits t.url t.octets (told_in t) (newest_in t) (id_in t) held site x before s.talking y after sent moves same law requests f is q)
-          (refused_octets b t.limits t.url t.octets (told_in t) (newest_in t) (id_in t) held site x before s.talking y after sent moves same law requests f is q)
-          (first_behind b t.limits t.url t.octets (told_in t) (newest_in t) (id_in t) held site x before s.talking y after sent moves same law requests f is q)
+      first_talk = asked_more moment (all_of q.groups) q.replies q.behind first_at first_octets first_there
 
 -- the token is renewed
 module _ (t : SoFar) (site : Site) (x : Connection) (before : Option Traffic) (s : TalksAt t site x before) (y : Connection) (after : Option Traffic) (moment : DateTime) where

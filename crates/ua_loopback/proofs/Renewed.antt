@@ -139,6 +139,10 @@ module _ (b : Beginning) (url : Option (List ℕ)) (octets : List ℕ) (told : L
         ap (λ (k : ℕ). site.octets ++ frame_octets (opened_frame k c.next id 0 token 3600000 b.moment)) t.together.in_step.channel_is
         ∙ (ap (λ (o : List ℕ). o ++ renewal_answer b c.next id token) t.taken ∙ sym renewal_said)
 
+    -- the client reads it
+    pub renewal_heard : ClientReads (client_limits x) (asks_renewed site) (said_to b (octets ++ renewal_at site moment)) (site.told ++ heard.Renewed token ∷ []) now
+    renewal_heard = subst (λ (o : List ℕ). ClientReads (client_limits x) (asks_renewed site) o (site.told ++ heard.Renewed token ∷ []) now) answer_is reads_it
+
     in_step_now : AreInStep b.limits (client_limits x) url b.channel (with_token s) now
     in_step_now =
         in_step_answer b.limits (client_limits x) url b.channel (with_token s) waiting (in_step_renewal b.limits (client_limits x) url b.channel s c t.together.in_step id) (next_number c.next)

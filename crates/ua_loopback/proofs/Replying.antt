@@ -1,8 +1,8 @@
 -- What becomes of requests: each is answered in the state that those before it left, and its reply is the one that is read of that answer.
-use Rattle.std.proofs.Common.{◌≡◌, ℕ, suc, ◌+◌, Bool, true, IsTrue, Ok, Result, List, [], ◌∷◌, ◌++◌, Option, Some, None, length, map, replicate, refl, sym, ◌∙◌, ap, subst, arith, append-nil, append_assoc, length-append}
+use Rattle.std.proofs.Common.{◌≡◌, inl, inr, ℕ, zero, suc, ◌+◌, Bool, true, false, IsTrue, Ok, Result, List, [], ◌∷◌, ◌++◌, Option, Some, None, length, map, replicate, refl, sym, ◌∙◌, ap, subst, arith, append-nil, append_assoc, length-append}
 use Rattle.std.specs.Prelude.{cond}
 use Rattle.std.specs.List.{AllByRecursion}
-use Rattle.std.proofs.lemmas.Bool.{eq-eqb}
+use Rattle.std.proofs.lemmas.Bool.{eq-eqb, ne_eqb}
 use Rattle.std.proofs.lemmas.List.{length-map}
 use Rattle.ua_builtin.specs.Status.{of_code}
 use Rattle.ua_builtin.specs.declared.date_time.DateTime.{DateTime}
@@ -28,13 +28,13 @@ use Rattle.ua_server.specs.Answer.{answer}
 use Rattle.ua_server.specs.Reply.{answered, answered_by}
 use Rattle.ua_server.specs.Said.{Course, behind_first, first_of, left, left_by, say, start, used_in, with_more}
 use Rattle.ua_server.specs.State.{State}
-use Rattle.ua_client.specs.Replies.{AreReplies, IsReplyBy}
+use Rattle.ua_client.specs.Replies.{AreReplies, IsAt, IsMisanswer, IsNoAnswer, IsReplyBy}
 use Rattle.ua_client.specs.Sent.{bodies_of}
 use Rattle.ua_client.specs.Told.{is_told_of, told_of}
 use Rattle.ua_client.specs.declared.reply.Reply.{Reply}
 use Rattle.ua_client.specs.declared.reply.Reply.TheVariants as reply
 use Rattle.ua_loopback.specs.Beginning.{Beginning}
-use Rattle.ua_loopback.specs.Replies.{reply_read, reply_unless, requests_replies, state_behind}
+use Rattle.ua_loopback.specs.Replies.{HaveMisanswer, reply_read, reply_unless, requests_replies, state_behind}
 use Rattle.ua_loopback.specs.Says.{spent, state_told}
 use Rattle.ua_loopback.specs.Turns.{calls_told}
 use Rattle.ua_loopback.proofs.Answering.{answer_told, answers_told}
@@ -154,6 +154,68 @@ replies_are back state moments id (msg ∷ ms) m rest before all (r ∷ rs) fits
     ap (λ (o : Option Reply). o ∷ map (λ (s : Reply). Some s) rs) one
     ∙ (ap (λ (os : List (Option Reply)). reply_unless (cut_refusal back body) body ∷ os) later
     ∙ ap (λ (g : State × Response). reply_unless (cut_refusal back (response.canonical g.1)) (response.canonical g.1) ∷ requests_replies back g.0 m ms) given_is)
+
+-- ---- answers that are none
+
+-- the first that is told of a call
+picks : (k : ℕ) (us : List Heard) (t : Heard) (ws : List Heard) → told_of k us ≡ [] → is_told_of k t ≡ true → told_of k (us ++ t ∷ ws) ≡ t ∷ told_of k ws
+picks k us t ws none is =
+    filter_append (is_told_of k) us (t ∷ ws) ∙ (ap (λ (ts : List Heard). ts ++ told_of k (t ∷ ws)) none ∙ ap (λ (b : Bool). cond b (t ∷ told_of k ws) (told_of k ws)) is)
+
+passes : (k : ℕ) (us : List Heard) (t : Heard) → told_of k us ≡ [] → is_told_of k t ≡ false → told_of k (us ++ t ∷ []) ≡ []
+passes k us t none is =
+    filter_append (is_told_of k) us (t ∷ []) ∙ (ap (λ (ts : List Heard). ts ++ told_of k (t ∷ [])) none ∙ ap (λ (b : Bool). cond b (t ∷ []) []) is)
+
+of_itself : (o : Option CutFault) (id k : ℕ) (body : List ℕ) → k ≡ id → is_told_of k (told_reply o id body) ≡ true
+of_itself None id k body e = eq-eqb id k (sym e)
+of_itself (Some fault) id k body e = eq-eqb id k (sym e)
+
+of_no_other : (o : Option CutFault) (id k : ℕ) (body : List ℕ) → (id ≡ k → ⊥) → is_told_of k (told_reply o id body) ≡ false
+of_no_other None id k body e = ne_eqb id k e
+of_no_other (Some fault) id k body e = ne_eqb id k e
+
+first_is : (us ws : List Heard) (t u : Heard) → t ∷ us ≡ u ∷ ws → t ≡ u
+first_is us ws t u e = cc
+
+answered_by_it : (o : Option CutFault) (id k : ℕ) (body octets : List ℕ) → told_reply o id body ≡ heard.Answered k octets → octets ≡ body
+answered_by_it None id k body octets e = cc
+answered_by_it (Some fault) id k body octets e = let no : ◌≡◌ {A = Heard} (heard.GaveUp id (of_code 0x80B9_0000)) (heard.Answered k octets) = e in absurd cc
+
+-- a message that is told of one of these requests and is no answer to it is the answer of the server
+pub misanswered_at : (back : Lane) (state : State) (moments : List DateTime) (id k : ℕ) (ms : List Request) (m : DateTime) (rest : List DateTime) (before all : List Heard) (place : ℕ) (asked : Request) (us : List Heard) (last : Heard) (ws : List Heard)
+    → AreWritable ms → moments ≡ replicate (length ms) m ++ rest → all ≡ before ++ answers_told back state moments id (bodies_of ms) → k ≡ id + place → told_of k before ≡ [] → IsAt ms place asked
+    → all ≡ us ++ last ∷ ws → told_of k us ≡ [] → IsMisanswer (kind_of asked) k last → HaveMisanswer state m ms
+misanswered_at back state moments id k [] m rest before all place asked us last ws fits e is k_is none at parts first h = absurd at
+misanswered_at back state moments id k (msg ∷ ms) m rest before all zero asked us last ws fits e is k_is none at parts first h =
+    let given : State × Response = answered state (first_of moments) (request.canonical msg) in
+    let body : List ℕ = response.canonical given.1 in
+    let x : Heard = answer_told back id given.1 in
+    let behind : List Heard = answers_told back given.0 (behind_first moments) (id + 1) (bodies_of ms) in
+    let given_is : given ≡ answer state m msg = ap (λ (t : DateTime). answered state t (request.canonical msg)) (ap first_of e) ∙ answered_is state m msg fits.0 in
+    let here : told_of k all ≡ x ∷ told_of k behind = ap (told_of k) is ∙ picks k before x behind none (of_itself (cut_refusal back body) id k body (omega (arith, k_is))) in
+    let there : told_of k all ≡ last ∷ told_of k ws = ap (told_of k) parts ∙ picks k us last ws first (ap (is_told_of k) h.1 ∙ eq-eqb k k refl) in
+    let same : x ≡ last = first_is (told_of k behind) (told_of k ws) x last (sym here ∙ there) in
+    inl (subst (λ (g : State × Response). IsNoAnswer (kind_of msg) (response.canonical g.1)) given_is
+    (subst (λ (o : List ℕ). IsNoAnswer (kind_of msg) o) (answered_by_it (cut_refusal back body) id k body h.0 (same ∙ h.1)) (subst (λ (r : Request). IsNoAnswer (kind_of r) h.0) at h.2)))
+misanswered_at back state moments id k (msg ∷ ms) m rest before all (suc n) asked us last ws fits e is k_is none at parts first h =
+    let given : State × Response = answered state (first_of moments) (request.canonical msg) in
+    let body : List ℕ = response.canonical given.1 in
+    let x : Heard = answer_told back id given.1 in
+    let behind : List Heard = answers_told back given.0 (behind_first moments) (id + 1) (bodies_of ms) in
+    let given_is : given ≡ answer state m msg = ap (λ (t : DateTime). answered state t (request.canonical msg)) (ap first_of e) ∙ answered_is state m msg fits.0 in
+    let later = misanswered_at back given.0 (behind_first moments) (id + 1) k ms m rest (before ++ x ∷ []) all n asked us last ws fits.1 (ap behind_first e) (is ∙ sym (append_assoc before (x ∷ []) behind)) (omega (arith, k_is))
+    (passes k before x none (of_no_other (cut_refusal back body) id k body (λ same. omega (arith, same, k_is)))) at parts first h in
+    inr (subst (λ (g : State × Response). HaveMisanswer g.0 m ms) given_is later)
+
+-- the same by the answers to requests behind others
+pub misanswered_behind : (s : State) (m : DateTime) (ms ns : List Request) → HaveMisanswer (state_behind s m ms) m ns → HaveMisanswer s m (ms ++ ns)
+misanswered_behind s m [] ns h = h
+misanswered_behind s m (r ∷ ms) ns h = inr (misanswered_behind (answer s m r).0 m ms ns h)
+
+pub misanswered_among : (s : State) (m : DateTime) (ms ns : List Request) → HaveMisanswer s m ms → HaveMisanswer s m (ms ++ ns)
+misanswered_among s m [] ns h = absurd h
+misanswered_among s m (r ∷ ms) ns (inl h) = inl h
+misanswered_among s m (r ∷ ms) ns (inr h) = inr (misanswered_among (answer s m r).0 m ms ns h)
 
 -- ---- requests behind others
 

@@ -181,7 +181,7 @@ module _ (b : Beginning) (limits : Limits) (url : Option (List ℕ)) (octets : L
     settled_then = answered-settled requests site behind taken replies t.settled a
 
     took_group : behind.octets ≡ said_to b (octets ++ sent_at site requests)
-    took_group = answered_taken b url octets told s x site behind c requests taken replies t.on t.serving some a y at same_limits law settled_then came down front said
+    took_group = answered_taken b url octets told s x site c requests t.on t.serving some a.judged behind taken replies a y at same_limits law settled_then came down front said
 
     ids_then : id_at behind ≡ id + length requests
     ids_then =
@@ -193,7 +193,7 @@ module _ (b : Beginning) (limits : Limits) (url : Option (List ℕ)) (octets : L
 
     pub group_served : IsServed b limits url (octets ++ sent_at site requests) (told ++ calls_told token id (bodies_of requests)) token (id + length requests) (held_behind_calls held (length requests)) behind y
     group_served =
-        let d = stay_together b url octets told s x site behind c requests taken replies t.on t.serving some a y at same_limits took_group in
+        let d = stay_together b url octets told s x site c requests t.on t.serving some a.judged behind taken replies a y at same_limits took_group in
         let most = few_ids c.ack (id_at site) requests (requests_asked b.limits url b.channel octets told s x site c t.on t.serving.together requests a.judged) some in
         record {
           limits_are = same;
@@ -213,7 +213,7 @@ module _ (b : Beginning) (limits : Limits) (url : Option (List ℕ)) (octets : L
     pub group_replied : AreWritable requests → map (λ (r : Reply). Some r) replies ≡ requests_replies (lane_back b limits url token) (state_told b told) b.moment requests
     group_replied fits =
         let hello_is : s.hello ≡ hello_to limits url = t.serving.together.in_step.hello_is ∙ ap (λ (l : Limits). hello_to l url) t.limits_are in
-        let all = told_together b url octets told s x site behind c requests taken replies t.on t.serving some a y at same_limits took_group in
+        let all = told_together b url octets told s x site c requests t.on t.serving some a.judged behind taken replies a y at same_limits took_group in
         let moments = moments_there b told c.newest (id_at site) (bodies_of requests) ∙ ap (λ (n : ℕ). replicate n b.moment ++ []) (length-map requests request.canonical) in
         replies_are (lane_of b.channel c.newest (agreement_of b.limits s.hello)) (state_told b told)
         ((left b.channel b.first told (spent told b.moment)).moments ++ spent (calls_told c.newest (id_at site) (bodies_of requests)) b.moment) (id_at site) requests b.moment [] site.told behind.told replies

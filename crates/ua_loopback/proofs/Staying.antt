@@ -1,5 +1,5 @@
 -- That both ends in one process stay in step.
-use Rattle.std.proofs.Common.{◌≡◌, ◌⊎◌, inl, inr, ℕ, ◌+◌, ◌<◌, ◌≤◌, ◌^◌, List, [], ◌∷◌, ◌++◌, Option, Some, length, refl, sym, ◌∙◌, ap, subst, arith, length-append}
+use Rattle.std.proofs.Common.{◌≡◌, ◌⊎◌, inl, inr, ℕ, ◌+◌, ◌<◌, ◌≤◌, ◌^◌, List, [], ◌∷◌, ◌++◌, Option, Some, None, length, replicate, refl, sym, ◌∙◌, ap, subst, arith, append_assoc, length-append}
 use Rattle.std.specs.List.{AllByRecursion}
 use Rattle.std.proofs.lemmas.List.{length-map}
 use Rattle.ua_wire.specs.Format.{Extends}
@@ -11,20 +11,21 @@ use Rattle.ua_chunk.specs.declared.lane.Lane.{Lane}
 use Rattle.ua_chunk.proofs.Lists.{filter_append}
 use Rattle.ua_channel.specs.Agreement.{Agreement, agreement_of, lane_of}
 use Rattle.ua_channel.specs.Asks.{Placed, asked_in, next_id}
-use Rattle.ua_channel.specs.Client.{client_limits}
+use Rattle.ua_channel.specs.Client.{ClientEnded, ClientGoes, client_limits}
 use Rattle.ua_channel_laws.specs.ClientReads.{AtClient, ClientReads, lane_from}
-use Rattle.ua_channel.specs.ClientTold.{ClientTold as Heard}
+use Rattle.ua_channel.specs.ClientTold.{ClientTold as Heard, Why}
 use Rattle.ua_channel_laws.specs.InStep.{AreInStep}
 use Rattle.ua_channel_laws.specs.ServerReads.{AtServer, ServerReads}
 use Rattle.ua_channel.specs.ServerTold.{Told}
 use Rattle.ua_channel.specs.declared.client.channel.ClientChannel.{ClientChannel}
-use Rattle.ua_channel_laws.proofs.Following.{client_told}
+use Rattle.ua_channel_laws.proofs.Following.{client_begins, client_not_failed, client_told}
 use Rattle.ua_services.specs.Request.{request}
 use Rattle.ua_services.specs.declared.request.Request.{Request}
 use Rattle.ua_server.specs.Said.{Course, left, left_by, said, said_of, with_more}
 use Rattle.ua_server.proofs.SaidInParts.{course}
-use Rattle.ua_client.specs.Calls.{Answered, LastCame, asked_at, sent_at}
+use Rattle.ua_client.specs.Calls.{Answered, GoesOn, LastCame, asked_at, refusal_at, sent_at}
 use Rattle.ua_client.specs.Renewing.{IsSettled}
+use Rattle.ua_client.specs.Replies.{AreAwaited, IsMisanswered}
 use Rattle.ua_client.specs.Sent.{bodies_of}
 use Rattle.ua_client.specs.Site.{Site, At, id_at}
 use Rattle.ua_client.specs.Told.{is_told_of, told_of}
@@ -33,6 +34,7 @@ use Rattle.ua_client.proofs.Askings.{next-calls}
 use Rattle.ua_client.proofs.Settled.{NonePending}
 use Rattle.ua_loopback.specs.Accepted.{held_behind_calls}
 use Rattle.ua_loopback.specs.Beginning.{Beginning}
+use Rattle.ua_loopback.specs.Replies.{HaveMisanswer}
 use Rattle.ua_loopback.specs.Says.{said_to, spent}
 use Rattle.ua_loopback.specs.Together.{AreServing, behind_calls}
 use Rattle.ua_loopback.specs.Turns.{calls_told}
@@ -40,8 +42,13 @@ use Rattle.ua_loopback.proofs.Answering.{AreHeard, answers_told, calls_asked, ca
 use Rattle.ua_loopback.proofs.Ending.{LastChunk}
 use Rattle.ua_loopback.proofs.Lists.{meets}
 use Rattle.ua_loopback.proofs.Reaching.{few_ids, numbers_read, requests_asked, requests_read}
+use Rattle.ua_loopback.proofs.Replying.{AreWritable, misanswered_at, moments_there}
 use Rattle.ua_loopback.proofs.Saying.{left_on, said_by_run, said_on}
-use Rattle.ua_loopback.proofs.Untaken.{took_all, took_no_more}
+use Rattle.ua_loopback.proofs.Untaken.{never_missing, took_all, took_no_more}
+
+-- that nothing is told of a call before it is asked
+abbrev pub ToldBehind : Type 0
+ToldBehind = (x : ClientChannel) (asks : List Placed) (octets : List ℕ) (told : List Heard) (n : ℕ) → ClientGoes x asks octets told → told_of (next_id (asked_in asks) + n) told ≡ []
 
 -- ---- what a server says of more
 
@@ -64,8 +71,9 @@ some_bodies requests some = omega (arith, some, length-map requests request.cano
 
 -- ---- a turn
 
-module _ (b : Beginning) (url : Option (List ℕ)) (octets : List ℕ) (told : List Told) (s : AtServer) (x : ClientChannel) (site behind : Site) (c : AtClient) (requests : List Request) (taken : List ℕ) (replies : List Reply)
-    (on : b.channel < 2 ^ 32) (t : AreServing b url octets told s x site c) (some : 0 < length requests) (a : Answered requests site behind taken replies) where
+-- requests are asked, against which there is nothing
+module _ (b : Beginning) (url : Option (List ℕ)) (octets : List ℕ) (told : List Told) (s : AtServer) (x : ClientChannel) (site : Site) (c : AtClient) (requests : List Request)
+    (on : b.channel < 2 ^ 32) (t : AreServing b url octets told s x site c) (some : 0 < length requests) (judged : refusal_at site requests ≡ None) where
   abbrev lane : Lane
   lane = lane_from c
 
@@ -88,7 +96,7 @@ module _ (b : Beginning) (url : Option (List ℕ)) (octets : List ℕ) (told : L
   moments = before.moments ++ spent calls b.moment
 
   server_then : ServerReads b.limits b.channel (octets ++ sent_at site requests) (told ++ calls) then_at
-  server_then = requests_read b.limits url b.channel octets told s x site c on t.together requests a.judged
+  server_then = requests_read b.limits url b.channel octets told s x site c on t.together requests judged
 
   step_then : AreInStep b.limits (client_limits x) url b.channel then_at (with_calls c (id_at site) bodies)
   step_then = calls_in_step b.limits (client_limits x) url b.channel s c (id_at site) t.together.in_step t.together.client_reads.newest_is bodies
@@ -107,11 +115,6 @@ module _ (b : Beginning) (url : Option (List ℕ)) (octets : List ℕ) (told : L
       subst (λ (n : ℕ). AllByRecursion (λ (token : ℕ). token ≤ n) (with_calls c (id_at site) bodies).tokens) (sym (issued_stays s lane bodies))
       (subst (λ (ns : List ℕ). AllByRecursion (λ (token : ℕ). token ≤ s.issued) ns) (sym (tokens_stay c (id_at site) bodies)) t.issued)
 
-  spare_then : then_at.issued < id_at behind
-  spare_then =
-      let ids : id_at behind ≡ id_at site + length bodies = ap (λ (p : List Placed). next_id (asked_in p)) a.asks ∙ next-calls site.asks (length site.octets) (id_at site) bodies in
-      omega (arith, ids, issued_stays s lane bodies, t.spare)
-
   abbrev told_then : List Heard
   told_then = site.told ++ answers_told (lane_of b.channel lane.token g) before.state moments (id_at site) bodies
 
@@ -121,7 +124,7 @@ module _ (b : Beginning) (url : Option (List ℕ)) (octets : List ℕ) (told : L
       replies_read b.limits (client_limits x) url b.channel on then_at few_used lane (used_last s lane bodies (some_bodies requests some))
       (asked_at site requests) site.octets site.told (with_calls c (id_at site) bodies) before.state before.number moments (id_at site) bodies
       (calls_asked (client_limits x) site.asks site.octets site.told c t.together.client_reads bodies) step_then (t.says_next ∙ sym (next_stays c (id_at site) bodies))
-      (waits c (id_at site) bodies) (few_ids c.ack (id_at site) requests (requests_asked b.limits url b.channel octets told s x site c on t.together requests a.judged) some) tokens_then (newest_stays c (id_at site) bodies)
+      (waits c (id_at site) bodies) (few_ids c.ack (id_at site) requests (requests_asked b.limits url b.channel octets told s x site c on t.together requests judged) some) tokens_then (newest_stays c (id_at site) bodies)
     where
       next_stays : (d : AtClient) (id : ℕ) (bs : List (List ℕ)) → (with_calls d id bs).next ≡ d.next
       next_stays d id [] = refl
@@ -144,68 +147,108 @@ module _ (b : Beginning) (url : Option (List ℕ)) (octets : List ℕ) (told : L
       heard_then.held
       ∙ (ap (λ (ks : List ℕ). held_behind_calls (length ks) (length bodies)) (tokens_stay c (id_at site) bodies) ∙ ap (λ (n : ℕ). held_behind_calls (length c.tokens) n) (length-map requests request.canonical))
 
-  module _ (y : ClientChannel) (stands : At y behind) (same : client_limits y ≡ client_limits x) where
-    -- the client reads what the server says of it
-    reads_then : ClientReads (client_limits y) behind.asks (said_to b (octets ++ sent_at site requests)) told_then heard_then.at
-    reads_then =
-        subst (λ (l : Limits). ClientReads l behind.asks (said_to b (octets ++ sent_at site requests)) told_then heard_then.at) (sym same)
-        (subst (λ (p : List Placed). ClientReads (client_limits x) p (said_to b (octets ++ sent_at site requests)) told_then heard_then.at) (sym a.asks)
-        (subst (λ (o : List ℕ). ClientReads (client_limits x) (asked_at site requests) o told_then heard_then.at) (sym said_then) heard_then.reads))
+  -- the client reads what the server says of them
+  reads_asked : (limits : Limits) → limits ≡ client_limits x → ClientReads limits (asked_at site requests) (said_to b (octets ++ sent_at site requests)) told_then heard_then.at
+  reads_asked limits same =
+      subst (λ (l : Limits). ClientReads l (asked_at site requests) (said_to b (octets ++ sent_at site requests)) told_then heard_then.at) (sym same)
+      (subst (λ (o : List ℕ). ClientReads (client_limits x) (asked_at site requests) o told_then heard_then.at) (sym said_then) heard_then.reads)
 
-    -- which ends with the chunk of a reply
-    ends_then : LastChunk (client_limits y) behind.asks (said_to b (octets ++ sent_at site requests))
-    ends_then =
-        subst (λ (l : Limits). LastChunk l behind.asks (said_to b (octets ++ sent_at site requests))) (sym same)
-        (subst (λ (p : List Placed). LastChunk (client_limits x) p (said_to b (octets ++ sent_at site requests))) (sym a.asks)
-        (subst (LastChunk (client_limits x) (asked_at site requests)) (sym said_then) (heard_then.ends (some_bodies requests some))))
+  -- something was told of each call there
+  each_told : (k : ℕ) → id_at site ≤ k → k < id_at site + length requests → 0 < length (told_of k told_then)
+  each_told k from to =
+      let some_told = told_each (lane_of b.channel lane.token g) before.state moments (id_at site) bodies k from (omega (arith, to, length-map requests request.canonical)) in
+      let answers : List Heard = answers_told (lane_of b.channel lane.token g) before.state moments (id_at site) bodies in
+      omega (arith, some_told, ap length (filter_append (is_told_of k) site.told answers), length-append (told_of k site.told) (told_of k answers))
 
-    -- where it took a front of that, it took all of it
-    pub answered_took : NonePending → IsSettled behind → Extends behind.octets (said_to b (octets ++ sent_at site requests)) → behind.octets ≡ said_to b (octets ++ sent_at site requests)
-    answered_took law settled front =
-        took_all law y behind stands settled (said_to b (octets ++ sent_at site requests)) reads_then.frames reads_then.run (ends_then reads_then.frames reads_then.run) front
+  -- what becomes of a channel of the client that took a front of what the server says, or all of it
+  module _ (y : ClientChannel) (same : client_limits y ≡ client_limits x) (taken : List ℕ) where
+    -- it does not fail
+    pub asked_fails_not : (heard : List Heard) (why : Why) → ClientEnded y (asked_at site requests) taken heard why → Extends taken (said_to b (octets ++ sent_at site requests)) → ⊥
+    asked_fails_not heard why ended front =
+        client_not_failed y (asked_at site requests) taken front.more heard told_then heard_then.at why ended
+        (subst (λ (o : List ℕ). ClientReads (client_limits y) (asked_at site requests) o told_then heard_then.at) front.parts (reads_asked (client_limits y) same))
 
-    -- something was told of each call there
-    each_told : (k : ℕ) → id_at site ≤ k → k < id_at site + length requests → 0 < length (told_of k told_then)
-    each_told k from to =
-        let some_told = told_each (lane_of b.channel lane.token g) before.state moments (id_at site) bodies k from (omega (arith, to, length-map requests request.canonical)) in
-        let answers : List Heard = answers_told (lane_of b.channel lane.token g) before.state moments (id_at site) bodies in
-        omega (arith, some_told, ap length (filter_append (is_told_of k) site.told answers), length-append (told_of k site.told) (told_of k answers))
+    -- behind all of it no reply is missing
+    pub asked_misses_not : GoesOn y (asked_at site requests) taken site.told (AreAwaited requests (id_at site)) → taken ≡ said_to b (octets ++ sent_at site requests) → ⊥
+    asked_misses_not h all =
+        let told_is : site.told ++ h.0 ≡ told_then =
+        client_told y (asked_at site requests) taken (site.told ++ h.0) told_then heard_then.at h.1
+        (subst (λ (o : List ℕ). ClientReads (client_limits y) (asked_at site requests) o told_then heard_then.at) (sym all) (reads_asked (client_limits y) same)) in
+        never_missing requests (id_at site) (site.told ++ h.0) h.2.slots h.2.slots_are (λ k from to. subst (λ (ts : List Heard). 0 < length (told_of k ts)) (sym told_is) (each_told k from to)) h.2.missing
 
-    -- where octets begin with what it took, and with what the server says, it took just that
-    pub answered_taken : NonePending → IsSettled behind → LastCame y requests (id_at site) behind.asks behind.octets behind.told → (down : List ℕ) → Extends behind.octets down → Extends (said_to b (octets ++ sent_at site requests)) down
-        → behind.octets ≡ said_to b (octets ++ sent_at site requests)
-    answered_taken law settled came down got said = by (meets behind.octets (said_to b (octets ++ sent_at site requests)) got.more said.more (sym got.parts ∙ said.parts))
-      where
-        by : (((more : List ℕ) × (said_to b (octets ++ sent_at site requests) ≡ behind.octets ++ more)) ⊎ ((more : List ℕ) × (behind.octets ≡ said_to b (octets ++ sent_at site requests) ++ more))) → behind.octets ≡ said_to b (octets ++ sent_at site requests)
-        by (inl p) = answered_took law settled (record { more = p.0; parts = p.1 })
-        by (inr p) = took_no_more y requests (id_at site) behind came (said_to b (octets ++ sent_at site requests)) told_then heard_then.at reads_then each_told p.0 p.1
+    -- a message that is no answer to its request is one with which the server answered it
+    pub asked_misanswered : ToldBehind → At x site → GoesOn y (asked_at site requests) taken site.told (IsMisanswered requests (id_at site)) → Extends taken (said_to b (octets ++ sent_at site requests)) → AreWritable requests
+        → HaveMisanswer before.state b.moment requests
+    asked_misanswered law at h front fits =
+        let begins = client_begins y (asked_at site requests) taken front.more (site.told ++ h.0) told_then heard_then.at h.1
+        (subst (λ (o : List ℕ). ClientReads (client_limits y) (asked_at site requests) o told_then heard_then.at) front.parts (reads_asked (client_limits y) same)) in
+        let moments_are = moments_there b told lane.token (id_at site) bodies ∙ ap (λ (n : ℕ). replicate n b.moment ++ []) (length-map requests request.canonical) in
+        let all_is : told_then ≡ h.2.before ++ h.2.last ∷ begins.0 = begins.1 ∙ (ap (λ (ts : List Heard). ts ++ begins.0) h.2.told_is ∙ append_assoc h.2.before (h.2.last ∷ []) begins.0) in
+        misanswered_at (lane_of b.channel lane.token g) before.state moments (id_at site) (id_at site + h.2.place) requests b.moment [] site.told told_then h.2.place h.2.request h.2.before h.2.last begins.0 fits moments_are refl refl
+        (law x site.asks site.octets site.told h.2.place at.goes) h.2.request_is all_is h.2.untold h.2.misanswers
 
-    module _ (took : behind.octets ≡ said_to b (octets ++ sent_at site requests)) where
-      here : ClientReads (client_limits y) behind.asks behind.octets told_then heard_then.at
-      here = subst (λ (o : List ℕ). ClientReads (client_limits y) behind.asks o told_then heard_then.at) (sym took) reads_then
+  -- they are answered
+  module _ (behind : Site) (taken : List ℕ) (replies : List Reply) (a : Answered requests site behind taken replies) where
+    spare_then : then_at.issued < id_at behind
+    spare_then =
+        let ids : id_at behind ≡ id_at site + length bodies = ap (λ (p : List Placed). next_id (asked_in p)) a.asks ∙ next-calls site.asks (length site.octets) (id_at site) bodies in
+        omega (arith, ids, issued_stays s lane bodies, t.spare)
 
-      -- what the client was told by then
-      pub told_together : behind.told ≡ site.told ++ answers_told (lane_of b.channel c.newest (agreement_of b.limits s.hello)) before.state moments (id_at site) bodies
-      told_together =
-          client_told y behind.asks behind.octets behind.told told_then heard_then.at stands.goes here
-          ∙ ap (λ (h : Hello). site.told ++ answers_told (lane_of b.channel c.newest (agreement_of b.limits h)) before.state moments (id_at site) bodies) (hello_stays s lane bodies)
+    module _ (y : ClientChannel) (stands : At y behind) (same : client_limits y ≡ client_limits x) where
+      -- the client reads what the server says of it
+      reads_then : ClientReads (client_limits y) behind.asks (said_to b (octets ++ sent_at site requests)) told_then heard_then.at
+      reads_then =
+          subst (λ (l : Limits). ClientReads l behind.asks (said_to b (octets ++ sent_at site requests)) told_then heard_then.at) (sym same)
+          (subst (λ (p : List Placed). ClientReads (client_limits x) p (said_to b (octets ++ sent_at site requests)) told_then heard_then.at) (sym a.asks)
+          (subst (λ (o : List ℕ). ClientReads (client_limits x) (asked_at site requests) o told_then heard_then.at) (sym said_then) heard_then.reads))
 
-      serving_then : AreServing b url (octets ++ sent_at site requests) (told ++ calls) then_at y behind heard_then.at
-      serving_then = record {
-        together = record {
-          server_reads = server_then;
-          stands = stands;
-          client_reads = subst (λ (h : List Heard). ClientReads (client_limits y) behind.asks behind.octets h heard_then.at) (sym (client_told y behind.asks behind.octets behind.told told_then heard_then.at stands.goes here)) here;
-          in_step = subst (λ (l : Limits). AreInStep b.limits l url b.channel then_at heard_then.at) (sym same) heard_then.in_step;
-          number_is = a.number ∙ numbers_read b.limits url b.channel octets told s x site c on t.together requests;
-        };
-        taken = took;
-        agreed = ap (λ (k : Course). k.agreement) left_then_is ∙ heard_then.agreed;
-        says_next = ap (λ (k : Course). k.number) left_then_is ∙ heard_then.number_is;
-        issued = heard_then.issued;
-        spare = spare_then;
-      }
+      -- which ends with the chunk of a reply
+      ends_then : LastChunk (client_limits y) behind.asks (said_to b (octets ++ sent_at site requests))
+      ends_then =
+          subst (λ (l : Limits). LastChunk l behind.asks (said_to b (octets ++ sent_at site requests))) (sym same)
+          (subst (λ (p : List Placed). LastChunk (client_limits x) p (said_to b (octets ++ sent_at site requests))) (sym a.asks)
+          (subst (LastChunk (client_limits x) (asked_at site requests)) (sym said_then) (heard_then.ends (some_bodies requests some))))
 
-      -- both are in step behind requests that are answered, and the client's calls go under the token that they went under
-      pub stay_together : (d : AtClient) × AreServing b url (octets ++ sent_at site requests) (told ++ calls) then_at y behind d × (d.newest ≡ c.newest) × (length d.tokens ≡ held_behind_calls (length c.tokens) (length requests))
-      stay_together = (heard_then.at, serving_then, newest_then, held_then)
+      -- where it took a front of that, it took all of it
+      pub answered_took : NonePending → IsSettled behind → Extends behind.octets (said_to b (octets ++ sent_at site requests)) → behind.octets ≡ said_to b (octets ++ sent_at site requests)
+      answered_took law settled front =
+          took_all law y behind stands settled (said_to b (octets ++ sent_at site requests)) reads_then.frames reads_then.run (ends_then reads_then.frames reads_then.run) front
+
+      -- where octets begin with what it took, and with what the server says, it took just that
+      pub answered_taken : NonePending → IsSettled behind → LastCame y requests (id_at site) behind.asks behind.octets behind.told → (down : List ℕ) → Extends behind.octets down → Extends (said_to b (octets ++ sent_at site requests)) down
+          → behind.octets ≡ said_to b (octets ++ sent_at site requests)
+      answered_taken law settled came down got said = by (meets behind.octets (said_to b (octets ++ sent_at site requests)) got.more said.more (sym got.parts ∙ said.parts))
+        where
+          by : (((more : List ℕ) × (said_to b (octets ++ sent_at site requests) ≡ behind.octets ++ more)) ⊎ ((more : List ℕ) × (behind.octets ≡ said_to b (octets ++ sent_at site requests) ++ more))) → behind.octets ≡ said_to b (octets ++ sent_at site requests)
+          by (inl p) = answered_took law settled (record { more = p.0; parts = p.1 })
+          by (inr p) = took_no_more y requests (id_at site) behind came (said_to b (octets ++ sent_at site requests)) told_then heard_then.at reads_then each_told p.0 p.1
+
+      module _ (took : behind.octets ≡ said_to b (octets ++ sent_at site requests)) where
+        here : ClientReads (client_limits y) behind.asks behind.octets told_then heard_then.at
+        here = subst (λ (o : List ℕ). ClientReads (client_limits y) behind.asks o told_then heard_then.at) (sym took) reads_then
+
+        -- what the client was told by then
+        pub told_together : behind.told ≡ site.told ++ answers_told (lane_of b.channel c.newest (agreement_of b.limits s.hello)) before.state moments (id_at site) bodies
+        told_together =
+            client_told y behind.asks behind.octets behind.told told_then heard_then.at stands.goes here
+            ∙ ap (λ (h : Hello). site.told ++ answers_told (lane_of b.channel c.newest (agreement_of b.limits h)) before.state moments (id_at site) bodies) (hello_stays s lane bodies)
+
+        serving_then : AreServing b url (octets ++ sent_at site requests) (told ++ calls) then_at y behind heard_then.at
+        serving_then = record {
+          together = record {
+            server_reads = server_then;
+            stands = stands;
+            client_reads = subst (λ (h : List Heard). ClientReads (client_limits y) behind.asks behind.octets h heard_then.at) (sym (client_told y behind.asks behind.octets behind.told told_then heard_then.at stands.goes here)) here;
+            in_step = subst (λ (l : Limits). AreInStep b.limits l url b.channel then_at heard_then.at) (sym same) heard_then.in_step;
+            number_is = a.number ∙ numbers_read b.limits url b.channel octets told s x site c on t.together requests;
+          };
+          taken = took;
+          agreed = ap (λ (k : Course). k.agreement) left_then_is ∙ heard_then.agreed;
+          says_next = ap (λ (k : Course). k.number) left_then_is ∙ heard_then.number_is;
+          issued = heard_then.issued;
+          spare = spare_then;
+        }
+
+        -- both are in step behind requests that are answered, and the client's calls go under the token that they went under
+        pub stay_together : (d : AtClient) × AreServing b url (octets ++ sent_at site requests) (told ++ calls) then_at y behind d × (d.newest ≡ c.newest) × (length d.tokens ≡ held_behind_calls (length c.tokens) (length requests))
+        stay_together = (heard_then.at, serving_then, newest_then, held_then)

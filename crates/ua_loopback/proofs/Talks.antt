@@ -76,7 +76,7 @@ talking_as b limits url octets others told more token k id n held h site x now p
 -- ---- a turn
 
 -- a group that is refused for such a fault was not asked
-breaks_refused : (group : List Request) (s : Site) (new : Connection) (sent taken : List ℕ) (f : ClientFault) → IsTurnFault f → BreaksAt group s new sent taken f → (sent ≡ []) × (taken ≡ []) × At (channel_of new) s × (refusal_at s group ≡ Some f)
+pub breaks_refused : (group : List Request) (s : Site) (new : Connection) (sent taken : List ℕ) (f : ClientFault) → IsTurnFault f → BreaksAt group s new sent taken f → (sent ≡ []) × (taken ≡ []) × At (channel_of new) s × (refusal_at s group ≡ Some f)
 breaks_refused group s new sent taken fault.NotWritable h k = k
 breaks_refused group s new sent taken fault.Exhausted h k = k
 breaks_refused group s new sent taken fault.TooLarge h k = k

@@ -147,7 +147,7 @@ told_further : (id : ℕ) (us vs : List ClientTold) → 0 < length (told_of id u
 told_further id us vs some = omega (arith, some, ap length (filter_append (is_told_of id) us vs), length-append (told_of id us) (told_of id vs))
 
 -- where something was told of each call no reply is missing
-never_missing : (requests : List Request) (id : ℕ) (told : List ClientTold) (slots : List (Option Reply)) → AreSlots requests id told slots → ((k : ℕ) → id ≤ k → k < id + length requests → 0 < length (told_of k told)) → list_any is_none slots ≡ true → ⊥
+pub never_missing : (requests : List Request) (id : ℕ) (told : List ClientTold) (slots : List (Option Reply)) → AreSlots requests id told slots → ((k : ℕ) → id ≤ k → k < id + length requests → 0 < length (told_of k told)) → list_any is_none slots ≡ true → ⊥
 never_missing [] id told [] h each e = false_not_true e
 never_missing [] id told (slot ∷ slots) h each e = h
 never_missing (r ∷ rs) id told [] h each e = h

@@ -1,8 +1,9 @@
 -- A client over any line to a server, between two of its calls: what it did so far, and where both ends are.
-use Rattle.std.specs.Prelude.{◌≡◌, ℕ, ◌+◌, ◌<◌, ◌≤◌, ◌^◌, ◌++◌, IsTrue, List, [], ◌∷◌, length, Option, Some, None}
+use Rattle.std.specs.Prelude.{◌≡◌, ◌⊎◌, ℕ, ◌+◌, ◌<◌, ◌≤◌, ◌^◌, ◌++◌, IsTrue, List, [], ◌∷◌, length, map, Option, Some, None}
 use Rattle.ua_builtin.specs.DateTime.{date_time}
 use Rattle.ua_builtin.specs.declared.date_time.DateTime.{DateTime}
 use Rattle.ua_builtin.specs.declared.node_id.NodeId.{NodeId}
+use Rattle.ua_builtin.specs.declared.status_code.StatusCode.{StatusCode}
 use Rattle.ua_frame.specs.declared.ack.Ack.{Ack}
 use Rattle.ua_frame.specs.declared.limits.Limits.{Limits}
 use Rattle.ua_channel.specs.Client.{client_limits, url_of}
@@ -18,13 +19,18 @@ use Rattle.ua_server.specs.State.{State}
 use Rattle.ua_client.specs.Client.{IsReady, connection_of}
 use Rattle.ua_client.specs.Hearing.{channel_of, untaken_of}
 use Rattle.ua_client.specs.Renewing.{IsSettled}
+use Rattle.ua_client.specs.Session.{reply_failure}
 use Rattle.ua_client.specs.Site.{Site, id_at}
 use Rattle.ua_client.specs.declared.client.Client.{Client}
 use Rattle.ua_client.specs.declared.connection.Connection.{Connection}
+use Rattle.ua_client.specs.declared.fault.ClientFault.{ClientFault}
+use Rattle.ua_client.specs.declared.fault.ClientFault.TheVariants as fault
+use Rattle.ua_client.specs.declared.reply.Reply.{Reply}
 use Rattle.ua_loopback.specs.Accepted.{AreAccepted, acknowledged, tokens_held}
 use Rattle.ua_loopback.specs.Beginning.{Beginning}
 use Rattle.ua_loopback.specs.Course.{opening_octets}
-use Rattle.ua_loopback.specs.Replies.{turns_state}
+use Rattle.ua_loopback.specs.Faults.{FailsBehind}
+use Rattle.ua_loopback.specs.Replies.{HaveMisanswer, lane_back, requests_replies, turns_state}
 use Rattle.ua_loopback.specs.Says.{said_to, state_told}
 use Rattle.ua_loopback.specs.Sends.{closing_behind, turn_octets, turns_number}
 use Rattle.ua_loopback.specs.Together.{AreServing}
@@ -99,6 +105,28 @@ with_turn t moment turn = record { server = t.server; limits = t.limits; url = t
 -- RequestHandle of each is its request id (OPC 10000-4, 5.7.2 and 5.7.3)
 abbrev pub session_requests : SoFar → Option (List ℕ) → NodeId → DateTime → List Request
 session_requests t policy_id token moment = create_session t.url moment (id_in t) ∷ activate_session_as policy_id token moment (id_in t + 1) ∷ []
+
+-- the first of them, or both
+abbrev pub AreSession : SoFar → Option (List ℕ) → DateTime → List Request → Type 0
+AreSession t policy_id moment requests = (requests ≡ create_session t.url moment (id_in t) ∷ []) ⊎ ((token : NodeId) × (requests ≡ session_requests t policy_id token moment))
+
+-- by the server's reply to the last of these the service failed, with this code
+pub record RefusesSession (t : SoFar) (policy_id : Option (List ℕ)) (moment : DateTime) (code : StatusCode) : Type 0 where
+  pub requests : List Request
+  pub are : AreSession t policy_id moment requests
+  pub before : List Reply
+  pub last : Reply
+  pub replied : map (λ (r : Reply). Some r) (before ++ last ∷ []) ≡ requests_replies (lane_back t.server t.limits t.url (newest_in t)) (state_in t) t.server.moment requests
+  pub failed : reply_failure last ≡ Some code
+
+-- the server's answer to one of these is no response that answers it
+abbrev pub MisanswersSession : SoFar → Option (List ℕ) → DateTime → Type 0
+MisanswersSession t policy_id moment = (requests : List Request) × AreSession t policy_id moment requests × HaveMisanswer (state_in t) t.server.moment requests
+
+-- why a session is not begun behind a talk
+abbrev pub FailsSession : SoFar → Option (List ℕ) → DateTime → ClientFault → Type 0
+FailsSession t policy_id moment (fault.Service code) = RefusesSession t policy_id moment code
+FailsSession t policy_id moment other = FailsBehind (MisanswersSession t policy_id moment) other
 
 -- all octets with those of the CLO at this moment
 abbrev pub closed_octets : SoFar → DateTime → List ℕ

@@ -1,7 +1,8 @@
 //! A client and a server that talk to each other.
 
-ghost use Rattle.std.specs.Prelude.{◌≡◌, ◌∷◌, ◌++◌, [], ℕ, List, Option, Some, IsTrue, IfErr, IfOk, OnOk, length, map};
+ghost use Rattle.std.specs.Prelude.{◌≡◌, ◌≤◌, ◌∷◌, ◌++◌, [], ℕ, List, Option, Some, IsTrue, IfErr, IfOk, OnOk, length, map};
 ghost use Rattle.ua_wire.specs.Counted.{text};
+ghost use Rattle.ua_frame.specs.Agreement.{url_length};
 ghost use Rattle.ua_frame.specs.declared.limits.Limits.{Limits};
 ghost use Rattle.ua_channel.specs.Line.{Traffic};
 ghost use Rattle.ua_channel_laws.specs.ServerReads.{ServerCloses};
@@ -13,13 +14,14 @@ ghost use Rattle.ua_loopback.specs.Course.{Converses};
 ghost use Rattle.ua_server.specs.declared.step.End.TheVariants.{Closed};
 ghost use Rattle.ua_loopback.specs.Kept.{EndsAt, LeavesAt};
 ghost use Rattle.ua_loopback.specs.Says.{left_by, said_to};
-ghost use Rattle.ua_loopback.specs.Replies.{turns_replies, turns_state};
+ghost use Rattle.ua_loopback.specs.Faults.{BehindRefused, FailsBehind, IsOutside};
+ghost use Rattle.ua_loopback.specs.Replies.{HasMisanswer, HaveMisanswers, turns_replies, turns_state};
 ghost use Rattle.ua_loopback.specs.Sends.{conversation_octets};
 ghost use Rattle.ua_loopback.specs.Turns.{conversation_told};
 ghost use Rattle.ua_loopback.specs.declared.stage.Stage.TheVariants.{Ended};
 ghost use Rattle.ua_services.specs.declared.request.Request.{Request};
 ghost use Rattle.ua_loopback.specs.Talking.{IsLineTo};
-ghost use Rattle.ua_loopback.specs.inside.Talking.{CanOpen, StaysTalking, Talked, Went};
+ghost use Rattle.ua_loopback.specs.inside.Talking.{CanOpen, StaysBefore, StaysBehind, StaysTalking, Talked, Went, WentBefore};
 
 use crate::served_line::{Began, ServedLine};
 use crate::stage::Stage;
@@ -65,6 +67,7 @@ fn begin<L: Line>(
     ensures went { IfOk result (λ client. (b : Beginning) → CanOpen b limits url moment → IsLineTo b [] [] (L.traffic line.old) → Went b limits url moment (connection_of client) (L.traffic line.old) (L.traffic line.new)) }
     ensures ready { IfOk result (λ client. IsReady client) }
     ensures faults { IfErr result (λ fault. IsTurnFault fault → ⊥) }
+    ensures fails { IfErr result (λ fault. (b : Beginning) → CanOpen b limits url moment → IsLineTo b [] [] (L.traffic line.old) → url_length url ≤ 4095 → IsOutside fault) }
 {
     clients_are_settled();
     match talking::open(alloc, line, limits, url, moment) {
@@ -86,6 +89,10 @@ fn take_turn<T: AsTurn, L: Line>(
         → StaysTalking b limits url moment opened (turns ++ T.turn turn.now ∷ []) (connection_of client.new) first (L.traffic line.new) replies.new.items) }
     ensures refused { IfErr result (λ fault. IsTurnFault fault → (b : Beginning) (limits : Limits) (url : Option (List ℕ)) (opened : Site) (turns : List (Option (List Request))) (first : Option Traffic) → StaysTalking b limits url moment opened turns (connection_of client.old) first (L.traffic line.old) replies.old.items
         → turn_refusal (acknowledged b.limits limits url) turns (T.turn turn.now) ≡ Some fault) }
+    ensures fails { IfErr result (λ fault. (b : Beginning) (limits : Limits) (url : Option (List ℕ)) (opened : Site) (turns : List (Option (List Request))) (first : Option Traffic) → StaysTalking b limits url moment opened turns (connection_of client.old) first (L.traffic line.old) replies.old.items
+        → FailsBehind (HasMisanswer (turns_state b.first b.moment turns) b.moment (T.turn turn.now)) fault) }
+    ensures before { IfErr result (λ fault. IsTurnFault fault → (b : Beginning) (limits : Limits) (url : Option (List ℕ)) (opened : Site) (turns : List (Option (List Request))) (first : Option Traffic) → StaysTalking b limits url moment opened turns (connection_of client.old) first (L.traffic line.old) replies.old.items
+        → StaysBehind b limits url moment opened turns (T.turn turn.now) (connection_of client.new) first (L.traffic line.new) replies.new.items) }
     ensures ready { OnOk result (IsReady client.new) }
 {
     clients_are_settled();
@@ -117,6 +124,10 @@ fn take_turns<T: AsTurn, L: Line>(
     ensures taken { OnOk result (taken.new ≡ length turns.now) }
     ensures refused { IfErr result (λ fault. IsTurnFault fault → (b : Beginning) (limits : Limits) (url : Option (List ℕ)) (opened : Site) (first : Option Traffic) → StaysTalking b limits url moment opened [] (connection_of client.old) first (L.traffic line.old) replies.old.items
         → FirstRefused (acknowledged b.limits limits url) (map T.turn turns.now) taken.new fault) }
+    ensures fails { IfErr result (λ fault. (b : Beginning) (limits : Limits) (url : Option (List ℕ)) (opened : Site) (first : Option Traffic) → StaysTalking b limits url moment opened [] (connection_of client.old) first (L.traffic line.old) replies.old.items
+        → FailsBehind (HaveMisanswers b.first b.moment (map T.turn turns.now)) fault) }
+    ensures before { IfErr result (λ fault. IsTurnFault fault → (b : Beginning) (limits : Limits) (url : Option (List ℕ)) (opened : Site) (first : Option Traffic) → StaysTalking b limits url moment opened [] (connection_of client.old) first (L.traffic line.old) replies.old.items
+        → StaysBefore b limits url moment opened (map T.turn turns.now) taken.new (connection_of client.new) first (L.traffic line.new) replies.new.items) }
     ensures ready { OnOk result (IsReady client.new) }
 {
     for turn in turns {
@@ -145,6 +156,8 @@ fn talk<T: AsTurn, L: Line>(
     ensures talked { OnOk result ((b : Beginning) → CanOpen b limits url moment → IsLineTo b [] [] (L.traffic line.old) → Talked b limits url moment (map T.turn turns.now) (L.traffic line.old) (L.traffic line.new) replies.new.items) }
     ensures taken { OnOk result (taken.new ≡ length turns.now) }
     ensures refused { IfErr result (λ fault. IsTurnFault fault → (b : Beginning) → CanOpen b limits url moment → IsLineTo b [] [] (L.traffic line.old) → FirstRefused (acknowledged b.limits limits url) (map T.turn turns.now) taken.new fault) }
+    ensures fails { IfErr result (λ fault. (b : Beginning) → CanOpen b limits url moment → IsLineTo b [] [] (L.traffic line.old) → url_length url ≤ 4095 → FailsBehind (HaveMisanswers b.first b.moment (map T.turn turns.now)) fault) }
+    ensures before { IfErr result (λ fault. IsTurnFault fault → (b : Beginning) → CanOpen b limits url moment → IsLineTo b [] [] (L.traffic line.old) → WentBefore b limits url moment (map T.turn turns.now) taken.new (L.traffic line.old) (L.traffic line.new) replies.new.items) }
 {
     let mut client = match begin(alloc, line, limits, url, moment) {
         Ok(client) => client,
@@ -187,6 +200,8 @@ fn converse_with<T: AsTurn, W: Began>(
     ensures accepted { OnOk result.outcome (AreAccepted (acknowledged limits limits url) (map T.turn turns.now)) }
     ensures taken { OnOk result.outcome (result.taken ≡ length turns.now) }
     ensures refused { IfErr result.outcome (λ fault. IsTurnFault fault → FirstRefused (acknowledged limits limits url) (map T.turn turns.now) result.taken fault) }
+    ensures fails { IfErr result.outcome (λ fault. url_length url ≤ 4095 → FailsBehind (HaveMisanswers services moment (map T.turn turns.now)) fault) }
+    ensures before { IfErr result.outcome (λ fault. IsTurnFault fault → BehindRefused (record { limits = limits; channel = channel_id; first = services; moment = moment }) limits url moment (map T.turn turns.now) result.taken result.up.items result.replies.items) }
 {
     let mut line: ServedLine<W> = ServedLine::new(
         alloc, limits, channel_id, services, moment, writes, reads,
@@ -259,6 +274,12 @@ pub fn converse<T: AsTurn>(
     ensures accepted { OnOk result.outcome (AreAccepted (acknowledged limits limits url) (map T.turn turns.now)) }
     ensures taken { OnOk result.outcome (result.taken ≡ length turns.now) }
     ensures refused { IfErr result.outcome (λ fault. IsTurnFault fault → FirstRefused (acknowledged limits limits url) (map T.turn turns.now) result.taken fault) }
+    // Then what was sent, the replies and the state that was left are those of what stands before it, and of no more.
+    ensures before { IfErr result.outcome (λ fault. IsTurnFault fault → BehindRefused (record { limits = limits; channel = channel_id; first = services; moment = moment }) limits url moment (map T.turn turns.now) result.taken result.up.items result.replies.items) }
+
+    // It does not fail for what the server says, which takes a URL of at most 4095 octets (OPC 10000-6, 7.1.2.3): UnknownResponse comes
+    // only where the server answered a request by no response.
+    ensures fails { IfErr result.outcome (λ fault. url_length url ≤ 4095 → FailsBehind (HaveMisanswers services moment (map T.turn turns.now)) fault) }
 {
     converse_with::<T, Brand>(
         alloc, services, limits, channel_id, url, turns, moment, writes, reads,

@@ -1,14 +1,15 @@
 //! Calls of a client over any line whose octets down are what a server says of its octets up.
 //!
-//! Each function is the call of [`Client`] of its name, with what that comes to over such a line where it
-//! succeeds, at a server whose answers all have one moment, call by call, whatever the limits of both ends:
-//! behind a talk so far the server reads just what the call asks, each request whole, once, in order and
-//! under its own request id; each reply is that of its own request in the state that those before it left;
-//! and behind the call the client is behind the talk with this turn more, so that the next call says the
-//! same again. [`open`] begins a talk.
+//! Each function is the call of [`Client`] of its name, with what that comes to over such a line, at a
+//! server whose answers all have one moment, call by call, whatever the limits of both ends. Where it
+//! succeeds, behind a talk so far the server reads just what the call asks, each request whole, once, in
+//! order and under its own request id; each reply is that of its own request in the state that those before
+//! it left; and behind the call the client is behind the talk with this turn more, so that the next call
+//! says the same again. Where it fails, that is not for what the server says. [`open`] begins a talk.
 
-ghost use Rattle.std.specs.Prelude.{◌≡◌, ◌⊎◌, ◌+◌, ◌<◌, ◌∷◌, ◌++◌, [], length, map, Err, None, Some, IfErr, IfOk, IsTrue, OnOk};
+ghost use Rattle.std.specs.Prelude.{◌≡◌, ◌⊎◌, ◌+◌, ◌<◌, ◌≤◌, ◌∷◌, ◌++◌, [], length, map, Err, None, Some, IfErr, IfOk, IsTrue, OnOk};
 ghost use Rattle.ua_wire.specs.Counted.{text};
+ghost use Rattle.ua_frame.specs.Agreement.{url_length};
 ghost use Rattle.ua_channel_laws.specs.ServerReads.{ServerCloses};
 ghost use Rattle.ua_channel.specs.ServerTold.{Closed as ToldClosed, Opened};
 ghost use Rattle.ua_client.specs.Calls.{CallsAll};
@@ -21,16 +22,17 @@ ghost use Rattle.ua_client.specs.Session.{BeginsSessionAs};
 ghost use Rattle.ua_client.specs.declared.fault.ClientFault.TheVariants.{Closed};
 ghost use Rattle.ua_loopback.specs.Accepted.{IsTurnFault, turn_refusal};
 ghost use Rattle.ua_loopback.specs.Beginning.{Beginning};
-ghost use Rattle.ua_loopback.specs.Replies.{lane_back, requests_replies, state_behind};
+ghost use Rattle.ua_loopback.specs.Faults.{FailsBehind, IsOutside};
+ghost use Rattle.ua_loopback.specs.Replies.{HaveMisanswer, lane_back, requests_replies, state_behind};
 ghost use Rattle.ua_loopback.specs.Says.{left_by, said_to};
-ghost use Rattle.ua_loopback.specs.Talking.{CanBegin, IsBehindFirst, IsLineTo, IsSentOver, IsTalking, Reads, SoFar, acked_in, closed_octets, id_in, opening, session_requests, state_in, newest_in, octets_of, told_in, with_turn};
+ghost use Rattle.ua_loopback.specs.Talking.{CanBegin, FailsSession, IsBehindFirst, IsLineTo, IsSentOver, IsTalking, Reads, SoFar, acked_in, closed_octets, id_in, opening, session_requests, state_in, newest_in, octets_of, told_in, with_turn};
 ghost use Rattle.ua_loopback.specs.Sends.{closing_behind};
 ghost use Rattle.ua_loopback.specs.Turns.{calls_told};
 
 use std::alloc::Global;
 use ua_builtin::{DateTime, NodeId, UaString};
 use ua_channel::Line;
-use ua_client::laws::clients_are_settled;
+use ua_client::laws::{calls_are_told_behind, clients_are_settled};
 use ua_client::{CallsFault, Client, ClientFault, Reply};
 use ua_frame::Limits;
 use ua_services::Request;
@@ -49,6 +51,8 @@ pub fn open<L: Line>(
 
     // Over a line to a server its talk begins: the server agreed, and issued the first token.
     ensures begins { IfOk result (λ client. (b : Beginning) → CanBegin b → IsLineTo b [] [] (L.traffic line.old) → IsTalking (opening b limits url moment) client (L.traffic line.new)) }
+    // It does not fail for what the server says, which takes a URL of at most 4095 octets (OPC 10000-6, 7.1.2.3).
+    ensures fails { IfErr result (λ fault. (b : Beginning) → CanBegin b → IsLineTo b [] [] (L.traffic line.old) → url_length url ≤ 4095 → IsOutside fault) }
 {
     clients_are_settled();
     match Client::open(alloc, line, limits, url, moment) {
@@ -76,8 +80,11 @@ pub fn begin_session_as<L: Line>(
     // The server reads just these, and its services are as they leave them.
     ensures reaches { IfOk result (λ token. (t : SoFar) → IsTalking t client.old (L.traffic line.old) → Reads t.server (with_turn t moment (Some (session_requests t policy_id token moment))).octets (told_in t ++ calls_told (newest_in t) (id_in t) (bodies_of (session_requests t policy_id token moment)))) }
     ensures state { IfOk result (λ token. (t : SoFar) → IsTalking t client.old (L.traffic line.old) → left_by t.server (with_turn t moment (Some (session_requests t policy_id token moment))).octets ≡ state_behind (state_in t) t.server.moment (session_requests t policy_id token moment)) }
+    // It does not fail for what the server says but where that says so: Service comes only where its reply to one of the two is that the service failed, with this code.
+    ensures fails { IfErr result (λ fault. (t : SoFar) → IsTalking t client.old (L.traffic line.old) → FailsSession t policy_id moment fault) }
 {
     clients_are_settled();
+    calls_are_told_behind();
     match client.begin_session_as(line, policy_id, moment) {
         Ok(token) => Ok(token),
         Err(fault) => Err(fault),
@@ -109,8 +116,11 @@ pub fn call_all<L: Line>(
     // A fault that is a reason against a request is the first against them, and the talk goes on with the first of these requests, which were asked.
     ensures refused { IfErr result (λ fault. IsTurnFault fault → (t : SoFar) → IsTalking t client.old (L.traffic line.old) → turn_refusal (acked_in t) t.turns (Some requests.now) ≡ Some fault) }
     ensures before { IfErr result (λ fault. IsTurnFault fault → (t : SoFar) → IsTalking t client.old (L.traffic line.old) → IsBehindFirst t moment requests.now client.new (L.traffic line.new)) }
+    // It does not fail for what the server says, whose replies come and are read: UnknownResponse comes only where the server answered no response.
+    ensures fails { IfErr result (λ fault. (t : SoFar) → IsTalking t client.old (L.traffic line.old) → FailsBehind (HaveMisanswer (state_in t) t.server.moment requests.now) fault) }
 {
     clients_are_settled();
+    calls_are_told_behind();
     match client.call_all(line, requests, moment) {
         Ok(replies) => Ok(replies),
         Err(fault) => Err(fault),
@@ -140,8 +150,10 @@ pub fn call_into<L: Line>(
     ensures stays { OnOk result ((t : SoFar) → IsTalking t client.old (L.traffic line.old) → IsTalking (with_turn t moment (Some requests.now)) client.new (L.traffic line.new)) }
     ensures refused { IfErr result (λ calls. IsTurnFault calls.fault → (t : SoFar) → IsTalking t client.old (L.traffic line.old) → turn_refusal (acked_in t) t.turns (Some requests.now) ≡ Some calls.fault) }
     ensures before { IfErr result (λ calls. IsTurnFault calls.fault → (t : SoFar) → IsTalking t client.old (L.traffic line.old) → IsBehindFirst t moment requests.now client.new (L.traffic line.new)) }
+    ensures fails { IfErr result (λ calls. (t : SoFar) → IsTalking t client.old (L.traffic line.old) → FailsBehind (HaveMisanswer (state_in t) t.server.moment requests.now) calls.fault) }
 {
     clients_are_settled();
+    calls_are_told_behind();
     match client.call_into(line, requests, moment, replies) {
         Ok(()) => Ok(()),
         Err(calls) => Err(calls),
@@ -170,6 +182,8 @@ pub fn renew<L: Line>(
     ensures stays { OnOk result ((t : SoFar) → IsTalking t client.old (L.traffic line.old) → IsTalking (with_turn t moment None) client.new (L.traffic line.new)) }
     // A fault that is a reason against a renewal is the first against it.
     ensures refused { IfErr result (λ fault. IsTurnFault fault → (t : SoFar) → IsTalking t client.old (L.traffic line.old) → turn_refusal (acked_in t) t.turns None ≡ Some fault) }
+    // It does not fail for what the server says.
+    ensures fails { IfErr result (λ fault. (t : SoFar) → IsTalking t client.old (L.traffic line.old) → FailsBehind ⊥ fault) }
 {
     match client.renew(line, moment) {
         Ok(()) => Ok(()),
@@ -195,6 +209,7 @@ pub fn close<L: Line>(
     // It says nothing of that, so that the client took all that it said; and its services are as the talk left them.
     ensures silent { OnOk result ((t : SoFar) → IsTalking t client.old (L.traffic line.old) → said_to t.server (closed_octets t moment) ≡ said_to t.server t.octets) }
     ensures state { OnOk result ((t : SoFar) → IsTalking t client.old (L.traffic line.old) → left_by t.server (closed_octets t moment) ≡ state_in t) }
+    ensures fails { IfErr result (λ fault. (t : SoFar) → IsTalking t client.old (L.traffic line.old) → IsOutside fault) }
 {
     match client.close(line, moment) {
         Ok(()) => Ok(()),

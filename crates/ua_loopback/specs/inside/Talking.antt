@@ -20,6 +20,7 @@ use Rattle.ua_client.specs.declared.reply.Reply.{Reply}
 use Rattle.ua_loopback.specs.Accepted.{AreAccepted, acknowledged}
 use Rattle.ua_loopback.specs.Beginning.{Beginning}
 use Rattle.ua_loopback.specs.Course.{Course, Stays, opening_octets}
+use Rattle.ua_loopback.specs.Faults.{DoneBefore, IsDoneOf}
 use Rattle.ua_loopback.specs.Replies.{turns_replies, turns_state}
 use Rattle.ua_loopback.specs.Says.{said_to, state_told}
 use Rattle.ua_loopback.specs.Sends.{conversation_octets, turns_octets}
@@ -67,3 +68,21 @@ pub record Talked (b : Beginning) (limits : Limits) (url : Option (List ℕ)) (m
   pub state_is : state_told b (opening_told b.limits limits url ++ turns_told 1 2 turns) ≡ turns_state b.first b.moment turns
   pub took : last.octets ≡ said_to b (opening_octets limits url moment ++ (sent ++ closing_at last moment))
   pub closes : ServerCloses b.limits b.channel (opening_octets limits url moment ++ (sent ++ closing_at last moment)) (conversation_told b.limits limits url turns)
+
+-- it did what stands before the turn at this place, which is refused, and both are in step behind that
+pub record StaysBefore (b : Beginning) (limits : Limits) (url : Option (List ℕ)) (moment : DateTime) (opened : Site) (turns : List (Option (List Request))) (place : ℕ) (x : Connection) (first now : Option Traffic) (replies : List Reply) : Type 0 where
+  pub done : List (Option (List Request))
+  pub done_is : DoneBefore turns place done
+  pub stays : StaysTalking b limits url moment opened done x first now replies
+
+-- the same of one turn behind others
+pub record StaysBehind (b : Beginning) (limits : Limits) (url : Option (List ℕ)) (moment : DateTime) (opened : Site) (before : List (Option (List Request))) (turn : Option (List Request)) (x : Connection) (first now : Option Traffic) (replies : List Reply) : Type 0 where
+  pub done : List (Option (List Request))
+  pub done_is : IsDoneOf before turn done
+  pub stays : StaysTalking b limits url moment opened done x first now replies
+
+-- the same of a client that opened its channel before
+pub record WentBefore (b : Beginning) (limits : Limits) (url : Option (List ℕ)) (moment : DateTime) (turns : List (Option (List Request))) (place : ℕ) (first now : Option Traffic) (replies : List Reply) : Type 0 where
+  pub opened : Site
+  pub connection : Connection
+  pub stays : StaysBefore b limits url moment opened turns place connection first now replies

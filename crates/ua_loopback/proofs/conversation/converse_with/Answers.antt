@@ -3,7 +3,7 @@ use Rattle.std.specs.Prelude.{List, ℕ}
 use Rattle.ua_loopback.specs.Kept.{EndsAt, LeavesAt, Served}
 use Rattle.ua_loopback.specs.Turns.{conversation_told}
 use Rattle.ua_loopback.specs.declared.stage.Stage.{Stage}
-use Rattle.ua_loopback.proofs.Courses.{accepted_on, closed_on, closed_well, conversed_on, left_well, refused_on, replied_on, sent_on, state_on}
+use Rattle.ua_loopback.proofs.Courses.{accepted_on, before_on, closed_on, closed_well, conversed_on, fails_on, left_well, refused_on, replied_on, sent_on, state_on}
 use Rattle.ua_loopback.proofs.Fitting.{can_open}
 use Rattle.ua_loopback.proofs.conversation.converse_with.Goals as goal
 
@@ -113,3 +113,27 @@ returns-clause-state g c =
     state_on c.talk-outcome.result g.W.Began.beginning c.args.limits c.args.channel_id c.args.services c.args.url c.args.moment (map g.T.AsTurn.turn c.args.turns.now) c.new-line.result c.talk-outcome.new.line c.talk-outcome.new.replies.items c.into_parts-up.result.0.items c.into_parts-up.result.2
     c.requires.began (can_open c.args.limits c.args.channel_id c.args.services c.args.url c.args.moment receive send octets chunks channel dated c.requires.url)
     (ap (λ (l : Served). l.up) c.new-line.ensures) (ap (λ (l : Served). l.read) c.new-line.ensures) c.talk-outcome.ensures.talked c.into_parts-up.ensures.up (returns-clause-left g c)
+
+pub returns-clause-fails : goal.returns-clause-fails
+returns-clause-fails g c =
+    let dated : FitsSigned w64 c.args.moment.ticks = search rules in
+    let channel : Fits w32 c.args.channel_id = search rules in
+    let receive : Fits w32 c.args.limits.receive_buffer_size = search rules in
+    let send : Fits w32 c.args.limits.send_buffer_size = search rules in
+    let octets : Fits w32 c.args.limits.max_message_size = search rules in
+    let chunks : Fits w32 c.args.limits.max_chunk_count = search rules in
+    fails_on c.talk-outcome.result g.W.Began.beginning c.args.limits c.args.channel_id c.args.services c.args.url c.args.moment (map g.T.AsTurn.turn c.args.turns.now) c.new-line.result
+    c.requires.began (can_open c.args.limits c.args.channel_id c.args.services c.args.url c.args.moment receive send octets chunks channel dated c.requires.url)
+    (ap (λ (l : Served). l.up) c.new-line.ensures) (ap (λ (l : Served). l.read) c.new-line.ensures) c.talk-outcome.ensures.fails
+
+pub returns-clause-before : goal.returns-clause-before
+returns-clause-before g c =
+    let dated : FitsSigned w64 c.args.moment.ticks = search rules in
+    let channel : Fits w32 c.args.channel_id = search rules in
+    let receive : Fits w32 c.args.limits.receive_buffer_size = search rules in
+    let send : Fits w32 c.args.limits.send_buffer_size = search rules in
+    let octets : Fits w32 c.args.limits.max_message_size = search rules in
+    let chunks : Fits w32 c.args.limits.max_chunk_count = search rules in
+    before_on c.talk-outcome.result g.W.Began.beginning c.args.limits c.args.channel_id c.args.services c.args.url c.args.moment (map g.T.AsTurn.turn c.args.turns.now) c.new-line.result c.talk-outcome.new.line c.talk-outcome.new.taken c.talk-outcome.new.replies.items c.into_parts-up.result.0.items
+    c.requires.began (can_open c.args.limits c.args.channel_id c.args.services c.args.url c.args.moment receive send octets chunks channel dated c.requires.url)
+    (ap (λ (l : Served). l.up) c.new-line.ensures) (ap (λ (l : Served). l.read) c.new-line.ensures) c.talk-outcome.ensures.before c.into_parts-up.ensures.up

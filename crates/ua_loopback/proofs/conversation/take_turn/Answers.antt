@@ -1,6 +1,7 @@
-use Rattle.std.proofs.Common.{FitsSigned, refl, rules, w64}
+use Rattle.std.proofs.Common.{FitsSigned, ap, refl, rules, w64}
+use Rattle.std.specs.Prelude.{None, Some}
 use Rattle.ua_client.specs.Client.{connection_of}
-use Rattle.ua_loopback.proofs.Courses.{asked_not, renewed_not, stays_asked, stays_renewed}
+use Rattle.ua_loopback.proofs.Courses.{asked_fails, asked_not, renewed_before, renewed_not, stays_asked, stays_before, stays_renewed}
 use Rattle.ua_loopback.proofs.Fitting.{moment_fits}
 use Rattle.ua_loopback.proofs.conversation.take_turn.Goals as goal
 
@@ -26,3 +27,25 @@ pub returns-in-Err-renew-clause-refused : goal.returns-in-Err-renew-clause-refus
 returns-in-Err-renew-clause-refused g c = λ reason b limits url opened turns first s.
     renewed_not b limits url c.args.moment opened turns (connection_of c.args.client.now) (connection_of c.renew.new.client) first (g.L.Line.traffic c.args.line.now) (g.L.Line.traffic c.renew.new.line)
     c.args.replies.now.items c.args.replies.now.items s (g.T.AsTurn.turn c.args.turn.now) c.in-Err-renew.fault (c.in-None.ensures.renews refl) (c.in-Err-renew.ensures.renews c.requires) reason
+
+pub returns-in-Err-clause-fails : goal.returns-in-Err-clause-fails
+returns-in-Err-clause-fails g c = λ b limits url opened turns first s.
+    asked_fails b limits url c.args.moment opened turns c.args.client.now first (g.L.Line.traffic c.args.line.now) c.args.replies.now.items s c.requires (g.T.AsTurn.turn c.args.turn.now) (Some c.in-Some.requests.now)
+    c.in-Some.ensures.asks c.in-Err.calls.fault c.in-Err.ensures.fails
+
+pub returns-in-Err-renew-clause-fails : goal.returns-in-Err-renew-clause-fails
+returns-in-Err-renew-clause-fails g c = λ b limits url opened turns first s.
+    asked_fails b limits url c.args.moment opened turns c.args.client.now first (g.L.Line.traffic c.args.line.now) c.args.replies.now.items s c.requires (g.T.AsTurn.turn c.args.turn.now) None
+    (c.in-None.ensures.renews refl) c.in-Err-renew.fault c.in-Err-renew.ensures.fails
+
+pub returns-in-Err-clause-before : goal.returns-in-Err-clause-before
+returns-in-Err-clause-before g c = λ reason b limits url opened turns first s.
+    stays_before b limits url c.args.moment opened turns (connection_of c.args.client.now) (connection_of c.call_into.new.client) first (g.L.Line.traffic c.args.line.now) (g.L.Line.traffic c.call_into.new.line)
+    c.args.replies.now.items c.call_into.new.replies.items s c.clients_are_settled.ensures.none_pending (g.T.AsTurn.turn c.args.turn.now) c.in-Some.requests.now c.in-Err.calls
+    c.in-Some.ensures.asks (c.in-Err.ensures.calls c.requires) reason
+
+pub returns-in-Err-renew-clause-before : goal.returns-in-Err-renew-clause-before
+returns-in-Err-renew-clause-before g c = λ reason b limits url opened turns first s.
+    renewed_before b limits url c.args.moment opened turns (connection_of c.args.client.now) (connection_of c.renew.new.client) first (g.L.Line.traffic c.args.line.now) (g.L.Line.traffic c.renew.new.line)
+    c.args.replies.now.items c.args.replies.now.items s (g.T.AsTurn.turn c.args.turn.now) c.in-Err-renew.fault (c.in-None.ensures.renews refl) (c.in-Err-renew.ensures.renews c.requires)
+    (λ refused. let same = c.in-Err-renew.ensures.unchanged refused in (ap connection_of same.0, ap g.L.Line.traffic same.1)) refl reason

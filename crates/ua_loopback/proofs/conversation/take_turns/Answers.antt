@@ -1,6 +1,8 @@
 use Rattle.std.proofs.Common.{◌+◌, ℕ, ap, map, subst, sym}
+use Rattle.ua_client.specs.Client.{connection_of}
 use Rattle.ua_loopback.specs.Accepted.{FirstRefused, acknowledged}
-use Rattle.ua_loopback.proofs.Courses.{refused_next, taken_all, taken_more, taken_none}
+use Rattle.ua_loopback.specs.inside.Talking.{StaysBefore}
+use Rattle.ua_loopback.proofs.Courses.{before_next, fails_next, refused_next, taken_all, taken_more, taken_none}
 use Rattle.ua_loopback.proofs.conversation.take_turns.Goals as goal
 
 pub loop-turn-init : goal.loop-turn-init
@@ -23,3 +25,15 @@ returns-in-Err-clause-refused g c = λ reason b limits url opened first s.
     subst (λ (n : ℕ). FirstRefused (acknowledged b.limits limits url) (map g.T.AsTurn.turn c.args.turns.now) n c.in-Err.fault) (sym c.loop-turn.invariant.1)
     (refused_next g.T.AsTurn.turn c.args.moment c.args.turns.now c.loop-turn.turn-index c.args.client.now c.loop-turn.client (g.L.Line.traffic c.args.line.now) (g.L.Line.traffic c.loop-turn.line) c.args.replies.now.items c.loop-turn.replies.items c.turn-item.result
     c.in-Err.fault c.loop-turn.invariant.0 c.loop-turn-test.true c.turn-item.is (λ b' limits' url' opened' done first' s'. c.in-Err.ensures.refused reason b' limits' url' opened' done first' s') b limits url opened first s)
+
+pub returns-in-Err-clause-fails : goal.returns-in-Err-clause-fails
+returns-in-Err-clause-fails g c = λ b limits url opened first s.
+    fails_next g.T.AsTurn.turn c.args.moment c.args.turns.now c.loop-turn.turn-index c.args.client.now c.loop-turn.client (g.L.Line.traffic c.args.line.now) (g.L.Line.traffic c.loop-turn.line) c.args.replies.now.items c.loop-turn.replies.items c.turn-item.result
+    c.in-Err.fault c.loop-turn.invariant.0 c.loop-turn-test.true c.turn-item.is c.in-Err.ensures.fails b limits url opened first s
+
+pub returns-in-Err-clause-before : goal.returns-in-Err-clause-before
+returns-in-Err-clause-before g c = λ reason b limits url opened first s.
+    subst (λ (n : ℕ). StaysBefore b limits url c.args.moment opened (map g.T.AsTurn.turn c.args.turns.now) n (connection_of c.take_turn.new.client) first (g.L.Line.traffic c.take_turn.new.line) c.take_turn.new.replies.items) (sym c.loop-turn.invariant.1)
+    (before_next g.T.AsTurn.turn c.args.moment c.args.turns.now c.loop-turn.turn-index c.args.client.now c.loop-turn.client c.take_turn.new.client (g.L.Line.traffic c.args.line.now) (g.L.Line.traffic c.loop-turn.line) (g.L.Line.traffic c.take_turn.new.line)
+    c.args.replies.now.items c.loop-turn.replies.items c.take_turn.new.replies.items c.turn-item.result c.loop-turn.invariant.0 c.loop-turn-test.true c.turn-item.is
+    (λ b' limits' url' opened' done first' s'. c.in-Err.ensures.before reason b' limits' url' opened' done first' s') b limits url opened first s)

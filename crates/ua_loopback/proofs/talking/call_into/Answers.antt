@@ -1,4 +1,4 @@
-use Rattle.ua_loopback.proofs.Calling.{asks_first, asks_on, asks_refused, asks_sent, asks_added, leaves_turn, reads_turn, stands_there}
+use Rattle.ua_loopback.proofs.Calling.{asks_first, asks_on, asks_refused, asks_sent, asks_added, into_fails, leaves_turn, reads_turn, stands_there}
 use Rattle.ua_loopback.proofs.talking.call_into.Goals as goal
 use Rattle.std.specs.Prelude.{Some}
 
@@ -47,3 +47,8 @@ returns-in-Ok-clause-sends g c = λ t k.
     let calls = c.in-Ok.ensures.calls k.ready in
     asks_sent t c.args.client.now before k c.call_into.new.self after c.clients_are_settled.ensures.none_pending c.args.moment c.args.requests.now calls.sent calls.moves calls.same
     calls.added (calls.answers k.site (stands_there t c.args.client.now before k))
+
+pub returns-in-Err-clause-fails : goal.returns-in-Err-clause-fails
+returns-in-Err-clause-fails g c = λ t k.
+    into_fails t c.args.client.now (g.L.Line.traffic c.args.line.now) k c.call_into.new.self (g.L.Line.traffic c.call_into.new.line) c.clients_are_settled.ensures.none_pending c.args.moment c.args.requests.now
+    c.calls_are_told_behind.ensures c.in-Err.calls c.args.replies.now.items c.call_into.new.replies.items (c.in-Err.ensures.calls k.ready)

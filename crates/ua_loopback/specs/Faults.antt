@@ -1,0 +1,60 @@
+-- Why a call of a client may fail that talks to a server, and what was done before a turn that is refused.
+use Rattle.std.specs.Prelude.{◌≡◌, ℕ, ◌++◌, List, [], ◌∷◌, length, map, Option, Some, None}
+use Rattle.ua_builtin.specs.declared.date_time.DateTime.{DateTime}
+use Rattle.ua_frame.specs.declared.limits.Limits.{Limits}
+use Rattle.ua_services.specs.declared.request.Request.{Request}
+use Rattle.ua_client.specs.declared.fault.ClientFault.{ClientFault}
+use Rattle.ua_client.specs.declared.fault.ClientFault.TheVariants as fault
+use Rattle.ua_client.specs.declared.reply.Reply.{Reply}
+use Rattle.ua_loopback.specs.Accepted.{acknowledged}
+use Rattle.ua_loopback.specs.Beginning.{Beginning}
+use Rattle.ua_loopback.specs.Course.{opening_octets}
+use Rattle.ua_loopback.specs.Replies.{turns_replies, turns_state}
+use Rattle.ua_loopback.specs.Says.{left_by}
+use Rattle.ua_loopback.specs.Sends.{turns_octets}
+
+-- ---- faults
+
+-- a fault that what the server says has no part in: the line failed to read or to write, memory was refused, or as many reads were made as a
+-- call may make
+abbrev pub IsOutside : ClientFault → Type 0
+IsOutside fault.Read = Unit {0}
+IsOutside fault.Write = Unit {0}
+IsOutside fault.OutOfMemory = Unit {0}
+IsOutside fault.TooLong = Unit {0}
+IsOutside other = ⊥
+
+-- a fault of a turn behind a talk: one of these, or a reason against the turn; or UnknownResponse, where this is so of the server's answers
+abbrev pub FailsBehind : Type 0 → ClientFault → Type 0
+FailsBehind Misanswers fault.UnknownResponse = Misanswers
+FailsBehind Misanswers fault.NotWritable = Unit {0}
+FailsBehind Misanswers fault.Exhausted = Unit {0}
+FailsBehind Misanswers fault.TooLarge = Unit {0}
+FailsBehind Misanswers fault.TooManyTokens = Unit {0}
+FailsBehind Misanswers other = IsOutside other
+
+-- ---- a turn that is refused
+
+-- what was done of these turns and of one behind them that is refused: of the requests that it asks the first, in the groups before the one
+-- that is refused; of a renewal nothing
+abbrev pub IsDoneOf : List (Option (List Request)) → Option (List Request) → List (Option (List Request)) → Type 0
+IsDoneOf before None done = done ≡ before
+IsDoneOf before (Some requests) done = (asked : List Request) × (others : List Request) × (requests ≡ asked ++ others) × (done ≡ before ++ Some asked ∷ [])
+
+-- what was done of turns of which the one at this place is refused
+pub record DoneBefore (turns : List (Option (List Request))) (place : ℕ) (done : List (Option (List Request))) : Type 0 where
+  pub before : List (Option (List Request))
+  pub turn : Option (List Request)
+  pub behind : List (Option (List Request))
+  pub parts : turns ≡ before ++ turn ∷ behind
+  pub place_is : length before ≡ place
+  pub done_is : IsDoneOf before turn done
+
+-- a client with these limits, at a server that began so, did what stands before the turn at this place, which is refused: what it sent, the
+-- replies, and the state that it left are those of what was done, and of no more
+pub record BehindRefused (b : Beginning) (limits : Limits) (url : Option (List ℕ)) (moment : DateTime) (turns : List (Option (List Request))) (place : ℕ) (up : List ℕ) (replies : List Reply) : Type 0 where
+  pub done : List (Option (List Request))
+  pub done_is : DoneBefore turns place done
+  pub sent : up ≡ opening_octets limits url moment ++ turns_octets (acknowledged b.limits limits url) b.channel moment 1 2 2 done
+  pub replied : map (λ (r : Reply). Some r) replies ≡ turns_replies b limits url b.first 1 done
+  pub state : left_by b up ≡ turns_state b.first b.moment done
