@@ -5,5 +5,4 @@ use Rattle.ua_pair.proofs.fields.secure_channel.OpenResponseLines.push_lines.Goa
 pub returns : goal.returns
 unfolding open_response_entries
 returns c =
-    then_behind _ _ _ _ (then_behind _ _ _ _ (then_behind _ _ _ _ (then_behind _ _ _ _ (then_behind _ _ _ _ (then_behind _ _ _ _
-    c.in_ok-push_part.ensures c.in_ok-push_field.ensures) c.in_ok-push_field-2.ensures) c.in_ok-push_field-3.ensures) c.in_ok-push_field-4.ensures) c.in_ok-push_field-5.ensures) c.in_ok-push_field-6.ensures
+    rw c.of.ensures at (rw (then_behind _ _ _ _ (then_behind _ _ _ _ c.in_ok-push_part.ensures c.in_ok-push_field.ensures) c.in_ok-push_part-2.ensures) at c.push_field-2.ensures)
