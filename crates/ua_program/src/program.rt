@@ -157,7 +157,7 @@ fn tell_number<E: Write>(alloc: Global, bad: BadNumber<'_>, why: bool, err: &mut
 fn number_text(alloc: Global, bad: BadNumber<'_>, why: bool) -> Result<String, AllocError> {
     let mut text = format!(in alloc; "ua: {bad}\n")?;
     if why {
-        push_word(alloc, &mut text, bad.word())?;
+        push_word(&mut text, bad.word())?;
     }
     Ok(text)
 }
@@ -185,7 +185,7 @@ fn tell_why<E: Write>(alloc: Global, fault: &Fault<'_>, reason: &Reason, err: &m
 /// What is told of a fault and its reason.
 fn fault_text(alloc: Global, fault: &Fault<'_>, reason: &Reason) -> Result<String, AllocError> {
     let mut text = format!(in alloc; "ua: {fault}\n")?;
-    push_reason(alloc, &mut text, reason)?;
+    push_reason(&mut text, reason)?;
     Ok(text)
 }
 

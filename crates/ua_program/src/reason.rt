@@ -8,10 +8,10 @@ use crate::output::Stop;
 use std::alloc::{AllocError, Global};
 use std::fmt::Write;
 use std::io;
-use ua_builtin::{NodeId, TextFault, UaString};
+use ua_builtin::{NodeId, TextFault};
 use ua_nodes::{LineReason, MOST_OCTETS, ValueFault, parse_type, parse_value, without_return};
 use ua_session::LoopFault;
-use ua_texts::push_string;
+use ua_texts::push_escaped;
 
 /// What is known of a fault beside its own text: it is told with `--why`.
 #[derive(Drop, Debug)]
@@ -46,19 +46,19 @@ pub fn cannot_connect<'a>(error: io::Error) -> Stop<'a>
     Stop::Because(Fault::CannotConnect, Reason::System(error))
 }
 
-/// Adds the line of a reason. A text has its control characters as `\x` and two digits, and a
-/// backslash doubled.
-pub fn push_reason(alloc: Global, out: &mut String, reason: &Reason) -> Result<(), AllocError> {
+/// Adds the line of a reason. A text has each control character by its octets in UTF-8, each as `\x`
+/// and two digits, and a backslash doubled.
+pub fn push_reason(out: &mut String, reason: &Reason) -> Result<(), AllocError> {
     match reason {
         Reason::System(error) => write!(out, "  because {error}\n"),
-        Reason::Text(text) => push_word(alloc, out, text),
+        Reason::Text(text) => push_word(out, text),
     }
 }
 
 /// Adds the line of a word that is blamed.
-pub fn push_word(alloc: Global, out: &mut String, word: &str) -> Result<(), AllocError> {
+pub fn push_word(out: &mut String, word: &str) -> Result<(), AllocError> {
     out.push_str("  because ")?;
-    push_string(out, &UaString::from_str(alloc, word)?)?;
+    push_escaped(out, word)?;
     out.push_str("\n")
 }
 
