@@ -24,7 +24,7 @@ use Rattle.ua_diagnostic.specs.Formats.{diagnostic_format}
 use Rattle.ua_diagnostic.specs.View.{diagnostic_of}
 use Rattle.ua_diagnostic.specs.declared.diagnostic_info.DiagnosticInfo.{DiagnosticInfo}
 use Rattle.ua_texts.specs.Names.{named_code}
-use Rattle.ua_texts.specs.Shown.{shown, shown_string, pattern_text, base64_text, written_text}
+use Rattle.ua_texts.specs.Shown.{escaped, escaped_string, pattern_text, base64_text, written_text}
 use Rattle.ua_texts.specs.Values.{boolean_text}
 use Rattle.ua_pair.specs.Tree.{Tree, same_text, text}
 
@@ -57,7 +57,7 @@ double d = same_text (pattern_text 16 d.bits)
 
 -- a String: its text, control characters and backslashes escaped
 abbrev pub string : Option (List ℕ) → Tree
-string s = same_text (shown_string s)
+string s = same_text (escaped_string s)
 
 -- a ByteString, in base64
 abbrev pub byte_string : Option (List ℕ) → Tree
@@ -85,7 +85,7 @@ optional_code value = text (λ names. text_or_null (status_code_text names) valu
 
 -- a NodeId: its text, control characters and backslashes escaped; the null NodeId is `i=0`
 abbrev pub node_id : NodeId → Tree
-node_id id = same_text (shown (node_text id))
+node_id id = same_text (escaped (node_text id))
 
 -- ---- values that are shown by their octets
 

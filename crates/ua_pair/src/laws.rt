@@ -16,8 +16,8 @@ pub fn one_reading()
     ensures { (options : DissectOptions) (octets lines others : List ℕ) → AreLines options octets lines → AreLines options octets others → lines ≡ others }
 {}
 
-/// A String and a NodeId end no line: no text from the network has a control character as it is
-/// shown.
+/// The URL of a HEL and the reason of an ERR end no line: as it is shown, a text has no octet below 0x20
+/// and no 0x7F. The texts of fields have no control character at all: `ua_texts::laws` says so.
 #[tactic(auto, using(crate::proofs::OneLine::shown_plain))]
 pub fn shown_texts_have_no_control()
     ensures { (text : List ℕ) → HasNoControl (shown text) }

@@ -12,7 +12,7 @@ use ua_builtin::{
     DateTime, DoubleBits, ExtensionObject, LocalizedText, NodeId, QualifiedName, StatusCode,
     UaBytes, UaString,
 };
-use ua_texts::{push_base64, push_code_as, push_string, push_variant, push_wide_pattern};
+use ua_texts::{push_base64, push_code_as, push_escaped_string, push_variant, push_wide_pattern};
 use ua_variant::{DiagnosticInfo, HeldVariant};
 
 /// A value whose text is shown where it is there.
@@ -181,7 +181,7 @@ impl Lines for UaString {
     #[tactic(auto, unfolding(crate::specs::Tree::line))]
     fn push_lines(&self, _alloc: Global, out: &mut String, place: Place) -> Result<(), AllocError> {
         push_start(out, place)?;
-        push_string(out, self)?;
+        push_escaped_string(out, self)?;
         out.push_str("\n")
     }
 }

@@ -2,21 +2,21 @@
 
 ghost use Rattle.std.specs.Prelude.{◌≡◌, ◌++◌, cond, codes, string_bytes, OnOk};
 ghost use Rattle.ua_builtin.specs.NodeText.{node_text};
-ghost use Rattle.ua_texts.specs.Shown.{shown, written_text};
+ghost use Rattle.ua_texts.specs.Shown.{escaped, written_text};
 ghost use Rattle.ua_pair.specs.Tree.{line};
 
 use crate::fields::lines::{Place, push_line, push_start};
 use std::alloc::{AllocError, Global};
-use ua_builtin::{NodeId, UaString, Wire};
-use ua_texts::{push_encoded, push_string};
+use ua_builtin::{NodeId, Wire};
+use ua_texts::{push_encoded, push_escaped};
 
 /// Adds the text of a NodeId, control characters and backslashes escaped: a text from the network
 /// breaks no line.
 pub(crate) fn push_node(alloc: Global, out: &mut String, node: &NodeId) -> Result<(), AllocError>
-    ensures { OnOk result (string_bytes out.new ≡ string_bytes out.old ++ shown (node_text node.now)) }
+    ensures { OnOk result (string_bytes out.new ≡ string_bytes out.old ++ escaped (node_text node.now)) }
 {
-    let name = UaString::new(Some(node.to_text(alloc)?));
-    push_string(out, &name)
+    let text = node.to_text(alloc)?;
+    push_escaped(out, &text)
 }
 
 /// Adds the line of a value that is shown by its octets, a null one as `null`.
