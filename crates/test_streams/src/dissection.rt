@@ -29,8 +29,11 @@ impl Dissection {
     }
 
     /// The answer of the dissector to a step: the lines that come with more octets, or of all the last
-    /// one.
+    /// one; or whether a frame was refused.
     pub fn step(&mut self, given: &Given, kind: &str, words: &str, told: &mut Told) {
+        if kind == "refused" {
+            return told.shown(&self.dissector.has_refused());
+        }
         let mut octets = Vec::new(told.alloc());
         for word in words.split_whitespace() {
             given.push_word(word, &mut octets, told);

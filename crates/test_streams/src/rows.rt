@@ -136,7 +136,8 @@ impl Rows {
             | "call-all"
             | "call-into"
             | "next"
-            | "last" => self.step(kind, words, told),
+            | "last"
+            | "refused" => self.step(kind, words, told),
             _ => self.serving.answer(&self.given, kind, words, told),
         }
     }

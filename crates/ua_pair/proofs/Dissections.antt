@@ -116,7 +116,7 @@ stays_at d options o told more fs rest (Stopped code) run told_are at place stil
 }
 stays_at d options o told more fs rest Over run told_are at place still = absurd at
 
-stays : (d : Dissector) (options : DissectOptions) (o told more : List ℕ) → is_going d.state ≡ false → StandsBehind d options o told → StandsBehind d options (o ++ more) told
+pub stays : (d : Dissector) (options : DissectOptions) (o told more : List ℕ) → is_going d.state ≡ false → StandsBehind d options o told → StandsBehind d options (o ++ more) told
 stays d options o told more still s = stays_at d options o told more s.are.frames s.are.rest s.are.end s.are.run s.are.told_are s.at s.place still
 
 module _ (d e : Dissector) (octets : List ℕ) (goes : is_going d.state ≡ true) (some : 0 < length octets) where

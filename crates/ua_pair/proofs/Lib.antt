@@ -9,3 +9,4 @@ mod Readings
 mod Refusals
 mod RestLines
 mod Standings
+mod Refusing

@@ -92,6 +92,22 @@ is_going state.Going = true
 is_going (state.Refused code) = false
 is_going state.Closed = false
 
+-- a frame was refused
+abbrev pub is_refused : State → Bool
+is_refused state.Going = false
+is_refused (state.Refused code) = true
+is_refused state.Closed = false
+
+-- a dissector met a frame that is refused: nothing behind it counts
+abbrev pub HasRefusedOne : Dissector → Type 0
+HasRefusedOne d = is_refused d.state ≡ true
+
+-- octets end at a frame that is refused
+abbrev pub is_stopped : End ℕ → Bool
+is_stopped Going = false
+is_stopped (Stopped code) = true
+is_stopped Over = false
+
 -- wherever the old one stood, with this piece the new one stands, and these lines more are told
 abbrev pub MovesOn : Dissector → Dissector → List ℕ → List ℕ → Type 0
 MovesOn old new piece lines = (options : DissectOptions) (octets told : List ℕ) → StandsBehind old options octets told → StandsBehind new options (octets ++ piece) (told ++ lines)

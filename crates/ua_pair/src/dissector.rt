@@ -1,11 +1,11 @@
 //! The dissector of the octets that one side sent.
 
-ghost use Rattle.std.specs.Prelude.{◌≡◌, ◌++◌, ◌≤◌, [], ℕ, List, IsErr, OnOk, OnErr, IfOk, string_bytes};
+ghost use Rattle.std.specs.Prelude.{◌≡◌, ◌++◌, ◌≤◌, [], ℕ, List, true, IsErr, IsOk, OnOk, OnErr, IfOk, string_bytes};
 ghost use Rattle.ua_wire.specs.Format.{Extends};
 ghost use Rattle.ua_frame.specs.declared.frame.Frame.{Frame};
 ghost use Rattle.ua_frame.specs.Frames.{IsSized, LetsIn};
 ghost use Rattle.ua_pair.specs.Dissected.{every_frame as open_gate};
-ghost use Rattle.ua_pair.specs.Dissecting.{StandsBehind, TellsMore, EndsLines, AreHeld, IsClosed, most_held, Holds, GoesOn, FrameTold, Takes, TakesNext, is_going};
+ghost use Rattle.ua_pair.specs.Dissecting.{StandsBehind, TellsMore, EndsLines, AreHeld, IsClosed, most_held, Holds, GoesOn, FrameTold, Takes, TakesNext, is_going, is_refused, is_stopped, HasRefusedOne};
 ghost use Rattle.ua_pair.specs.Told.{place_behind};
 
 use crate::fault::DissectFault;
@@ -64,6 +64,16 @@ impl Dissector {
         match self.state {
             State::Going => true,
             State::Refused(_) | State::Closed => false,
+        }
+    }
+
+    /// Whether it met a frame that is refused.
+    fn is_refused(&self) -> bool
+        ensures { result ≡ is_refused self.now.state }
+    {
+        match self.state {
+            State::Refused(_) => true,
+            State::Going | State::Closed => false,
         }
     }
 
@@ -151,9 +161,10 @@ impl Dissector {
         Ok(())
     }
 
-    /// Takes the next octets, and adds the lines of the frames and messages that are whole by then.
-    /// After an error, which is want of memory, the text is as it was, and the dissector takes nothing
-    /// more. Places go up to 18446744073709551615; beyond, there is an error, too.
+    /// Takes the next octets, and adds the lines of the frames and messages that are whole by then; none
+    /// where a frame was refused before, which [`has_refused`](Dissector::has_refused) tells. After an
+    /// error, which is want of memory, the text is as it was, and the dissector takes nothing more. Places
+    /// go up to 18446744073709551615; beyond, there is an error, too.
     pub fn take(&mut self, piece: &[u8], out: &mut String) -> Result<(), AllocError>
         // What is told by then is told by the octets alone, however they were cut.
         ensures told { (options : DissectOptions) (octets told : List ℕ) → StandsBehind self.old options octets told
@@ -161,7 +172,12 @@ impl Dissector {
         ensures err { OnErr result (string_bytes out.new ≡ string_bytes out.old) }
         ensures failed { OnErr result (IsClosed self.new) }
         ensures closed { IsClosed self.old → IsErr result }
+        // Behind a frame that is refused nothing more is said, whatever comes, and no memory is asked for.
+        ensures rests { HasRefusedOne self.old → IsOk result × (string_bytes out.new ≡ string_bytes out.old) × HasRefusedOne self.new }
     {
+        if self.is_refused() {
+            return Ok(());
+        }
         let len = out.len();
         let taken = self.take_all(piece, out);
         if taken.is_err() {
@@ -201,6 +217,16 @@ impl Dissector {
         let mut line = String::new(self.alloc);
         self.push_last(&mut line)?;
         out.push_str(&line)
+    }
+
+    /// Whether a frame was refused among the octets that were taken. What comes behind it has no lines, so
+    /// the last line can be told at once.
+    pub fn has_refused(&self) -> bool
+        ensures refused { (options : DissectOptions) (octets told : List ℕ) (s : StandsBehind self.now options octets told) → result ≡ is_stopped s.are.end }
+        ensures stays { (options : DissectOptions) (octets told more : List ℕ) → result ≡ true → StandsBehind self.now options octets told → StandsBehind self.now options (octets ++ more) told }
+        ensures rests { result ≡ true → HasRefusedOne self.now }
+    {
+        self.is_refused()
     }
 
     /// How many octets are held: those of a frame that is not whole, and those of unfinished

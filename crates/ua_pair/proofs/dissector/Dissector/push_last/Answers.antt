@@ -1,4 +1,3 @@
-use Rattle.std.proofs.Common.{◌≡◌, string_bytes}
 use Rattle.std.proofs.lemmas.Result.{on_ok_weaker}
 use Rattle.ua_pair.proofs.Dissections.{ends_refused}
 use Rattle.ua_pair.proofs.dissector.Dissector.push_last.Goals as goal
