@@ -16,5 +16,6 @@ pub use ends::{
     exchange_over, read_one_item, reply_to, serve_begun, write_up,
 };
 pub use values::{
-    read_front, read_kept_request, read_node_id, read_one_request, read_variant, write_data_value,
+    name_status, read_front, read_kept_request, read_node_id, read_one_request, read_variant,
+    write_data_value,
 };
