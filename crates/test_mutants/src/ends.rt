@@ -8,8 +8,10 @@ mod served;
 mod serving;
 
 pub use answers::{answer_both, could_take_now, reply_to};
-pub use calls::call_each;
+pub use calls::{
+    begin_by, call_behind, call_each, close_channel, open_over, renew_token, try_begin_by,
+};
 pub use exchanged::exchange_over;
 pub use items::{append_answers, could_take, read_one_item};
-pub use served::{converse_over, write_up};
+pub use served::{converse_over, renew_in_talk, write_up};
 pub use serving::serve_begun;

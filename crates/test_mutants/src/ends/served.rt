@@ -1,19 +1,26 @@
 //! A client and a server in one process.
 
-ghost use Rattle.std.specs.Prelude.{◌≡◌, IsTrue, OnOk, Some};
+ghost use Rattle.std.specs.Prelude.{◌≡◌, ◌≤◌, IfErr, IsTrue, OnOk, Some, map};
 ghost use Rattle.ua_wire.specs.Counted.{text};
 ghost use Rattle.ua_channel.specs.Line.{Takes, WhereTold};
+ghost use Rattle.ua_frame.specs.Agreement.{url_length};
+ghost use Rattle.ua_loopback.specs.Accepted.{IsTurnFault};
+ghost use Rattle.ua_loopback.specs.Asked.{asked_by};
 ghost use Rattle.ua_loopback.specs.Beginning.{Beginning};
+ghost use Rattle.ua_loopback.specs.Faults.{BehindRefused, FailsBehind};
 ghost use Rattle.ua_loopback.specs.Kept.{LeavesAt, traffic_of};
+ghost use Rattle.ua_loopback.specs.Replies.{HaveMisanswers};
 ghost use Rattle.ua_loopback.specs.Says.{left_by};
+ghost use Rattle.ua_loopback.specs.Talking.{IsTalking, SoFar};
 ghost use Rattle.ua_loopback.specs.declared.stage.Stage.TheVariants.{Ended};
 ghost use Rattle.ua_server.specs.declared.step.End.TheVariants.{Closed};
 
 use std::alloc::Global;
 use ua_builtin::{DateTime, UaString};
 use ua_channel::{Line, LineFault};
+use ua_client::{Client, ClientFault};
 use ua_frame::Limits;
-use ua_loopback::{Began, ServedLine, Transcript, Turn, converse};
+use ua_loopback::{Began, ServedLine, Transcript, Turn, converse, talking};
 use ua_server::Services;
 
 /// Writes octets to a line to a server.
@@ -42,9 +49,22 @@ pub fn converse_over(
     ensures services { LeavesAt result.stage (record { limits = limits; channel = channel_id; first = services; moment = moment }) result.up.items result.services }
     ensures closed { OnOk result.outcome (result.stage ≡ Ended Closed) }
     ensures left { OnOk result.outcome (result.services ≡ left_by (record { limits = limits; channel = channel_id; first = services; moment = moment }) result.up.items) }
+    ensures before { IfErr result.outcome (λ fault. IsTurnFault fault → BehindRefused (record { limits = limits; channel = channel_id; first = services; moment = moment }) limits url moment (map asked_by turns.now) result.taken result.up.items result.replies.items) }
+    ensures fails { IfErr result.outcome (λ fault. url_length url ≤ 4095 → FailsBehind (HaveMisanswers services moment (map asked_by turns.now)) fault) }
 {
     let _before = before;
     converse(
         alloc, services, limits, channel_id, url, turns, moment, writes, reads,
     )
+}
+
+/// Renews the token of a client that talks to a server.
+pub fn renew_in_talk<L: Line>(
+    client: &mut Client,
+    line: &mut L,
+    moment: DateTime,
+) -> Result<(), ClientFault>
+    ensures { IfErr result (λ fault. (t : SoFar) → IsTalking t client.old (L.traffic line.old) → FailsBehind ⊥ fault) }
+{
+    talking::renew(client, line, moment)
 }
