@@ -6,7 +6,7 @@ use crate::requests::{requests_of, tell_response};
 use crate::told::Told;
 use crate::words::{limits_of, text_of};
 use ua_builtin::{DateTime, StatusCode, Wire};
-use ua_client::{Client, ClientFault, Reply};
+use ua_client::{Client, ClientFault, Reply, SessionFault};
 use ua_services::Request;
 
 /// Opens a client.
@@ -44,6 +44,7 @@ pub fn step(
             Err(fault) => failed(client, course, fault, moment, told),
         },
         "begin-as" => begin_as(client, course, row.1, moment, told),
+        "try-begin" => try_begin(client, course, row.1, moment, told),
         "call" => call(given, client, course, row.1, told),
         "call-all" => call_all(given, client, course, row.1, told),
         "call-into" => call_into(given, client, course, row.1, told),
@@ -68,6 +69,30 @@ fn begin_as(client: &mut Client, course: &mut Course, id: &str, moment: DateTime
     match client.begin_session_as(&mut course.line, id, moment) {
         Ok(token) => told.node(&token),
         Err(fault) => failed(client, course, fault, moment, told),
+    }
+}
+
+/// Begins a session by the token policy with this id, and tells its token, or the fault and behind it the
+/// token of a session that was created.
+fn try_begin(
+    client: &mut Client,
+    course: &mut Course,
+    id: &str,
+    moment: DateTime,
+    told: &mut Told,
+) {
+    let Some(id) = text_of(id, told) else {
+        return;
+    };
+    match client.try_begin_session(&mut course.line, id, moment) {
+        Ok(token) => told.node(&token),
+        Err(SessionFault { token, fault }) => {
+            failed(client, course, fault, moment, told);
+            match token {
+                Some(token) => told.node(&token),
+                None => told.word("none"),
+            }
+        }
     }
 }
 

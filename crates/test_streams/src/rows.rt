@@ -132,6 +132,7 @@ impl Rows {
             | "close"
             | "begin"
             | "begin-as"
+            | "try-begin"
             | "call"
             | "call-all"
             | "call-into"
