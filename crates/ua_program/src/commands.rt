@@ -8,14 +8,18 @@ use std::alloc::{AllocError, Global};
 enum Kind {
     /// One that the command needs, by its place.
     Needed,
+    /// A number that the command needs, by its place.
+    Number,
     /// One or more at the last place.
     Several,
     /// A flag, as `--hex`.
     Flag,
     /// A text, as `--range 1:2`.
     Text,
-    /// A text that is this one where nothing is said, as `--cut 7`.
+    /// A text that is this one where nothing is said, as `--policy auto`.
     TextOr(&'static str),
+    /// A number that is this one where nothing is said, as `--cut 7`.
+    NumberOr(&'static str),
 }
 
 /// A word of a command: its name, what it is, and its help.
@@ -36,7 +40,7 @@ struct Words {
 
 const PORT: Word = Word {
     name: "PORT",
-    kind: Kind::Needed,
+    kind: Kind::Number,
     help: "a port of this machine, from 1 to 65535",
 };
 
@@ -110,7 +114,7 @@ const SERVE: &[Word] = &[
     PORT,
     Word {
         name: "connections",
-        kind: Kind::TextOr("1"),
+        kind: Kind::NumberOr("1"),
         help: "how many connections are served, from 1 to 65535, or all",
     },
     Word {
@@ -141,7 +145,7 @@ const READ: &[Word] = &[
     },
     Word {
         name: "attribute",
-        kind: Kind::TextOr("13"),
+        kind: Kind::NumberOr("13"),
         help: "the number of the attribute that is read, from 1 to 27",
     },
     Word {
@@ -194,7 +198,7 @@ const LOOP: &[Word] = &[
     },
     Word {
         name: "cut",
-        kind: Kind::TextOr("65535"),
+        kind: Kind::NumberOr("65535"),
         help: "how many octets each end takes at once, from 1 to 65535",
     },
     Word {
@@ -256,6 +260,8 @@ fn arg<'a>(alloc: Global, word: &Word) -> Arg<'a> {
     let arg = Arg::new(alloc, word.name).help(word.help);
     match word.kind {
         Kind::Needed => arg.required(true),
+        // A negative number is a word that is no number of those that are taken, and not an option.
+        Kind::Number => arg.required(true).allow_negative_numbers(true),
         Kind::Several => arg
             .required(true)
             .action(ArgAction::Set)
@@ -263,6 +269,10 @@ fn arg<'a>(alloc: Global, word: &Word) -> Arg<'a> {
         Kind::Flag => arg.long(word.name).action(ArgAction::SetTrue),
         Kind::Text => arg.long(word.name),
         Kind::TextOr(text) => arg.long(word.name).default_value(text),
+        Kind::NumberOr(text) => arg
+            .long(word.name)
+            .default_value(text)
+            .allow_negative_numbers(true),
     }
 }
 

@@ -2,9 +2,10 @@
 //! printed. `ua_cli` hands its words and streams to [`run`].
 //!
 //! ```
+//! let mut input: &[u8] = &[]; // read where FILE is `-`
 //! let mut out = Vec::new(alloc);
 //! let mut err = Vec::new(alloc);
-//! let status = run(&rt, &["ua", "dissect", "data/hello.bin"], &mut out, &mut err);
+//! let status = run(&rt, &["ua", "dissect", "data/hello.bin"], &mut input, &mut out, &mut err);
 //! // 0, and the lines of the octets of that file in `out`
 //! ```
 #![tactic(auto)]
