@@ -1,9 +1,9 @@
 //! By which token policy of a server a session is begun.
 
-ghost use Rattle.std.specs.Prelude.{◌≡◌, Ok, Some, option_map};
+ghost use Rattle.std.specs.Prelude.{◌≡◌, Ok, Some, option_map, is_some};
 ghost use Rattle.std.specs.List.{find};
 ghost use Rattle.ua_client.specs.declared.reply.Reply.TheVariants.{Response as Responds};
-ghost use Rattle.ua_session.specs.Policy.{ChoosesAmong, ChoosesBy, anonymous_id_in, chosen_id, is_anonymous, is_unsecured};
+ghost use Rattle.ua_session.specs.Policy.{ChoosesAmong, ChoosesBy, anonymous_id_in, chosen_id, is_anonymous, is_fit, is_tcp, is_text_of, is_unsecured};
 
 use crate::answer::response_of;
 use crate::fault::AskFault;
@@ -18,6 +18,9 @@ const NO_SECURITY: &str = "http://opcfoundation.org/UA/SecurityPolicy#None";
 /// The MessageSecurityMode None (OPC 10000-4, 7.20).
 const NO_SECURITY_MODE: i32 = 1;
 
+/// The URI of the transport profile of UA TCP (OPC 10000-4, 7.14).
+const UA_TCP: &str = "http://opcfoundation.org/UA-Profile/Transport/uatcp-uasc-uabinary";
+
 /// The UserTokenType Anonymous (OPC 10000-4, 7.43).
 const ANONYMOUS: i32 = 0;
 
@@ -26,31 +29,38 @@ const ANONYMOUS: i32 = 0;
 pub enum TokenPolicy {
     /// The one with this PolicyId.
     Named(UaString),
-    /// The first one of the first endpoint without security, for which the server is asked.
+    /// The first one of the first endpoint by UA TCP and without security that has one, for which the
+    /// server is asked.
     Auto,
+}
+
+/// Whether a text is this one, and not null.
+fn is_text(text: &UaString, wanted: &str) -> bool
+    ensures { result ≡ is_text_of wanted.now text.now }
+{
+    match text.as_str() {
+        Some(text) => text == wanted,
+        None => false,
+    }
 }
 
 fn is_unsecured(endpoint: &EndpointDescription) -> bool
     ensures { result ≡ is_unsecured endpoint.now }
 {
     endpoint.security_mode == NO_SECURITY_MODE
-        && match endpoint.security_policy_uri.as_str() {
-            Some(uri) => uri == NO_SECURITY,
-            None => false,
-        }
+        && is_text(&endpoint.security_policy_uri, NO_SECURITY)
+}
+
+fn is_tcp(endpoint: &EndpointDescription) -> bool
+    ensures { result ≡ is_tcp endpoint.now }
+{
+    is_text(&endpoint.transport_profile_uri, UA_TCP)
 }
 
 fn is_anonymous(policy: &UserTokenPolicy) -> bool
     ensures { result ≡ is_anonymous policy.now }
 {
     policy.token_type == ANONYMOUS
-}
-
-/// The first endpoint without security.
-fn find_unsecured(endpoints: &[EndpointDescription]) -> Option<&EndpointDescription>
-    ensures { option_map (λ endpoint. endpoint.now) result ≡ find is_unsecured endpoints.now }
-{
-    endpoints.iter().find(|endpoint| is_unsecured(endpoint))
 }
 
 /// The first anonymous token policy.
@@ -71,13 +81,28 @@ fn anonymous_id_in(endpoint: &EndpointDescription) -> Option<&UaString>
     }
 }
 
-/// The PolicyId of the first anonymous token policy of the first endpoint with the security policy None
-/// and the mode None, 1; it may be null. `None` where there is no such endpoint, or it has no such policy.
+/// Whether a session can be begun by an endpoint.
+fn is_fit(endpoint: &EndpointDescription) -> bool
+    ensures { result ≡ is_fit endpoint.now }
+{
+    is_unsecured(endpoint) && is_tcp(endpoint) && anonymous_id_in(endpoint).is_some()
+}
+
+/// The first endpoint by which a session can be begun.
+fn find_fit(endpoints: &[EndpointDescription]) -> Option<&EndpointDescription>
+    ensures { option_map (λ endpoint. endpoint.now) result ≡ find is_fit endpoints.now }
+{
+    endpoints.iter().find(|endpoint| is_fit(endpoint))
+}
+
+/// The PolicyId of the first anonymous token policy of the first endpoint that has one and is by UA TCP,
+/// with the security policy None and the mode None, 1; it may be null. `None` where there is no such
+/// endpoint.
 #[tactic(auto, unfolding(crate::specs::Policy::chosen_id))]
 pub fn chosen_id(endpoints: &[EndpointDescription]) -> Option<&UaString>
     ensures { option_map (λ id. id.now) result ≡ chosen_id endpoints.now }
 {
-    match find_unsecured(endpoints) {
+    match find_fit(endpoints) {
         Some(endpoint) => anonymous_id_in(endpoint),
         None => None,
     }
