@@ -11,12 +11,12 @@ use Rattle.ua_structures.specs.Plain.{value_for_node}
 use Rattle.ua_structures.specs.declared.attribute.ReadValueId.{ReadValueId}
 use Rattle.ua_structures.specs.declared.attribute.WriteValue.{WriteValue}
 use Rattle.ua_texts.specs.Answers.{read_lines, write_lines}
-use Rattle.ua_texts.specs.Replies.{AreAnswers, has_bad, statuses_in, values_in}
+use Rattle.ua_texts.specs.Replies.{AreAnswers, statuses_in, values_in}
 use Rattle.ua_texts.specs.declared.style.LineStyle.{LineStyle}
 use Rattle.ua_variant.specs.View.{variant_of}
 use Rattle.ua_variant.specs.declared.values.DataValue.{DataValue}
 use Rattle.ua_variant.specs.declared.values.Variant.{Variant}
-use Rattle.ua_session.specs.Replies.{IsRefusedBy}
+use Rattle.ua_session.specs.Replies.{IsRefusedBy, is_bad_response}
 use Rattle.ua_session.specs.declared.fault.AskFault.{AskFault}
 use Rattle.ua_session.specs.declared.question.Question.{Question}
 use Rattle.ua_session.specs.declared.question.Question.TheVariants.{Read, Write}
@@ -60,9 +60,9 @@ abbrev pub AnswersNothing : Question → Reply → Type 0
 AnswersNothing (Read nodes attribute part) reply = (each : List DataValue) → values_of reply ≡ Some each → length each ≢ length nodes.items
 AnswersNothing (Write node value) reply = (each : List StatusCode) → statuses_of reply ≡ Some each → length each ≢ 1
 
--- what is said of the results of a Read or a Write in a reply: whether any of them has a bad code
+-- what is said of a reply to a Read or a Write: whether it has a bad code, its own or that of a result
 abbrev pub verdict_of : Reply → Verdict
-verdict_of (Responds m) = cond (has_bad m) SomeBad AllGood
+verdict_of (Responds m) = cond (is_bad_response m) SomeBad AllGood
 verdict_of (Aborted code) = AllGood
 
 -- the lines of the answers in a reply are added, or none, and why not is told

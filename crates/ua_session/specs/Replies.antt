@@ -1,12 +1,14 @@
 -- What is made of replies.
-use Rattle.std.specs.Prelude.{◌≡◌, ℕ, List, Option, Some, None, Result, Ok, Err}
+use Rattle.std.specs.Prelude.{◌≡◌, ◌||◌, ℕ, Bool, false, List, Option, Some, None, Result, Ok, Err}
+use Rattle.ua_builtin.specs.Status.{is_bad}
 use Rattle.ua_builtin.specs.declared.status_code.StatusCode.{StatusCode}
 use Rattle.ua_client.specs.declared.fault.ClientFault.TheVariants.{UnknownResponse}
 use Rattle.ua_client.specs.declared.reply.Reply.{Reply}
 use Rattle.ua_client.specs.declared.reply.Reply.TheVariants.{Response as Responds, Aborted}
 use Rattle.ua_services.specs.declared.response.Response.{Response}
+use Rattle.ua_services.specs.declared.response.Response.TheVariants.{Read, Write}
 use Rattle.ua_structures.specs.declared.discovery.EndpointDescription.{EndpointDescription}
-use Rattle.ua_texts.specs.Replies.{AreEndpoints, endpoints_in, fault_in}
+use Rattle.ua_texts.specs.Replies.{AreEndpoints, endpoints_in, fault_in, has_bad}
 use Rattle.ua_texts.specs.declared.style.EndpointStyle.{EndpointStyle}
 use Rattle.ua_session.specs.declared.fault.AskFault.{AskFault}
 use Rattle.ua_session.specs.declared.fault.AskFault.TheVariants.{Service, Connection, NoMemory, NoPolicy}
@@ -22,6 +24,16 @@ failure_in (Aborted code) = Some code
 abbrev pub endpoints_of : Reply → Option (Option (List EndpointDescription))
 endpoints_of (Responds m) = endpoints_in m
 endpoints_of (Aborted code) = None
+
+-- the response to a Read or a Write says that the service failed: its ServiceResult is bad (OPC 10000-4, 7.33)
+abbrev pub has_failed : Response → Bool
+has_failed (Read m) = is_bad m.response_header.service_result
+has_failed (Write m) = is_bad m.response_header.service_result
+has_failed other = false
+
+-- the response to a Read or a Write has a bad code: its own, or that of a result
+abbrev pub is_bad_response : Response → Bool
+is_bad_response response = has_bad response || has_failed response
 
 -- ---- what is made of it
 

@@ -19,7 +19,8 @@ use Rattle.ua_server.specs.declared.step.End.TheVariants.{Closed, NoClose, Cut, 
 use Rattle.ua_services.specs.declared.response.Response.{Response}
 use Rattle.ua_texts.specs.Answers.{read_line, write_line}
 use Rattle.ua_texts.specs.Names.{named_code}
-use Rattle.ua_texts.specs.Replies.{fault_in, has_bad, statuses_in, values_in}
+use Rattle.ua_texts.specs.Replies.{fault_in, statuses_in, values_in}
+use Rattle.ua_session.specs.Replies.{is_bad_response}
 use Rattle.ua_texts.specs.Styles.{plain}
 use Rattle.ua_texts.specs.declared.script.ScriptLine.{ScriptLine}
 use Rattle.ua_texts.specs.declared.script.Step.{Step}
@@ -88,9 +89,9 @@ replies_told names (step ∷ steps) (reply ∷ replies) = reply_told names step 
 
 -- ---- bad codes
 
--- a reply has a result whose code is bad; one that the server gave up has none
+-- a reply has a bad code, its own or that of a result; one that the server gave up has none
 abbrev pub is_bad_reply : Reply → Bool
-is_bad_reply (Responds response) = has_bad response
+is_bad_reply (Responds response) = is_bad_response response
 is_bad_reply (Aborted code) = false
 
 -- the same of a reply, if there is one
@@ -98,7 +99,7 @@ abbrev pub is_bad_told : Option Reply → Bool
 is_bad_told None = false
 is_bad_told (Some reply) = is_bad_reply reply
 
--- any reply to a script that is run over these nodes has a result whose code is bad
+-- any reply to a script that is run over these nodes has a bad code
 abbrev pub script_has_bad : Nodes → List ScriptLine → Bool
 script_has_bad nodes lines = list_any is_bad_told (turns_replies (begun_over nodes) script_moment (script_turns lines))
 

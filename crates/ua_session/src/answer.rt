@@ -1,13 +1,13 @@
 //! What is made of replies.
 
-ghost use Rattle.std.specs.Prelude.{string_bytes};
-ghost use Rattle.ua_session.specs.Replies.{Expects, GivesResponse, PrintsEndpoints};
+ghost use Rattle.std.specs.Prelude.{◌≡◌, string_bytes};
+ghost use Rattle.ua_session.specs.Replies.{Expects, GivesResponse, PrintsEndpoints, has_failed, is_bad_response};
 
 use crate::fault::AskFault;
 use std::alloc::Global;
 use ua_client::Reply;
 use ua_services::Response;
-use ua_texts::{EndpointStyle, push_endpoints};
+use ua_texts::{EndpointStyle, has_bad_code, push_endpoints};
 
 /// The response that a reply is. That the server gave its answer up is a fault.
 pub fn response_of(called: Result<Reply, AskFault>) -> Result<Response, AskFault>
@@ -35,6 +35,24 @@ pub fn print_endpoints(
     drop(response);
     pushed?;
     Ok(out.push_str(&lines)?)
+}
+
+/// Whether the response to a Read or a Write has a bad code: its own ServiceResult, or that of a result.
+pub fn is_bad_response(response: &Response) -> bool
+    ensures { result ≡ is_bad_response response.now }
+{
+    has_bad_code(response) || has_failed(response)
+}
+
+/// Whether the ServiceResult of a response to a Read or a Write is bad.
+fn has_failed(response: &Response) -> bool
+    ensures { result ≡ has_failed response.now }
+{
+    match response {
+        Response::Read(message) => message.response_header.service_result.is_bad(),
+        Response::Write(message) => message.response_header.service_result.is_bad(),
+        _ => false,
+    }
 }
 
 /// Whether a reply says that the service is done.

@@ -6,7 +6,7 @@ ghost use Rattle.ua_session.specs.Replies.{IsRefusedBy};
 ghost use Rattle.ua_session.specs.Told.{of_answer};
 ghost use Rattle.ua_client.specs.declared.reply.Reply.TheVariants.{Response as Responds};
 
-use crate::answer::response_of;
+use crate::answer::{is_bad_response, response_of};
 use crate::fault::AskFault;
 use crate::verdict::Verdict;
 use std::alloc::{AllocError, Global};
@@ -15,7 +15,7 @@ use ua_builtin::{DateTime, NodeId, UaString};
 use ua_client::Reply;
 use ua_services::session_requests::{read_attribute_item, read_request, write_item, write_request};
 use ua_services::{ReadValueId, Request, Response, WriteValue};
-use ua_texts::{AnswerFault, LineStyle, has_bad_code, push_read_answers, push_write_answers};
+use ua_texts::{AnswerFault, LineStyle, push_read_answers, push_write_answers};
 use ua_variant::Variant;
 
 /// What is asked in a session.
@@ -58,11 +58,11 @@ fn write_items(alloc: Global, node: &NodeId, value: &Variant) -> Result<Vec<Writ
     Ok(items)
 }
 
-/// Whether the answers in a response have a bad code.
+/// Whether a response has a bad code, its own or that of an answer.
 fn verdict_of(response: &Response) -> Verdict
     ensures { result ≡ verdict_of (Responds response.now) }
 {
-    if has_bad_code(response) {
+    if is_bad_response(response) {
         return Verdict::SomeBad;
     }
     Verdict::AllGood

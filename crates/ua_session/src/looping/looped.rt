@@ -11,13 +11,14 @@ ghost use Rattle.ua_session.specs.ScriptPrinted.{AreLoopLines, told_fault, is_ba
 ghost use Rattle.ua_session.specs.Script.{script_moment, script_turns as turns_of_script};
 ghost use Rattle.ua_nodes.specs.Sound.{IsSound};
 
+use crate::answer::is_bad_response;
 use crate::looping::fault::LoopFault;
 use crate::looping::printed::push_transcript;
 use crate::looping::script::{MOMENT, script_turns};
 use std::alloc::Global;
 use ua_exchange::{PairFault, Reply, Transcript, exchange};
 use ua_nodes::NodeTable;
-use ua_texts::{ScriptLine, has_bad_code};
+use ua_texts::ScriptLine;
 
 /// How many turns stand in front of those of the lines: they begin the session.
 const OPENING_TURNS: usize = 2;
@@ -34,8 +35,8 @@ pub struct Looped {
     pub text: String,
     /// The first fault among the replies, if there is one.
     pub fault: Option<LoopFault>,
-    /// Whether any reply has a result with a bad code. Where there is no fault, each such result is
-    /// printed.
+    /// Whether any reply to a Read or a Write has a bad code: its own, or that of a result. Where there
+    /// is no fault, each such result is printed.
     pub has_bad: bool,
 }
 
@@ -84,12 +85,12 @@ fn converse(
     }
 }
 
-/// Whether a reply has a result with a bad code.
+/// Whether a reply has a bad code, its own or that of a result.
 fn is_bad(reply: &Reply) -> bool
     ensures { result ≡ is_bad_reply reply.now }
 {
     match reply {
-        Reply::Response(response) => has_bad_code(response),
+        Reply::Response(response) => is_bad_response(response),
         Reply::Aborted(_) => false,
     }
 }
