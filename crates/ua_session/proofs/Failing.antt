@@ -1,5 +1,5 @@
 -- How often a line fails in a conversation.
-use Rattle.std.proofs.Common.{◌≡◌, ◌⊎◌, ◌∙◌, inl, inr, ap, refl, sym, subst, ℕ, ℤ, Bool, true, false, cond, List, Option, Result, Ok, Err}
+use Rattle.std.proofs.Common.{◌≡◌, ◌⊎◌, ◌∙◌, ◌-◌, Some, None, inl, inr, ap, refl, sym, subst, ℕ, ℤ, Bool, true, false, cond, List, Option, Result, Ok, Err}
 use Rattle.std.specs.Prelude.{MatchResult}
 use Rattle.ua_builtin.specs.declared.date_time.DateTime.{DateTime}
 use Rattle.ua_builtin.specs.declared.node_id.NodeId.{NodeId}
@@ -19,9 +19,12 @@ use Rattle.ua_session.specs.Line.{LineFailed, LineState}
 use Rattle.ua_session.specs.Policy.{ChoosesBy}
 use Rattle.ua_session.specs.Question.{PrintsAnswers}
 use Rattle.ua_session.specs.Replies.{Expects, IsRefusedBy, PrintsEndpoints}
-use Rattle.ua_session.specs.Session.{AsksByPolicy, AsksInSession, AsksUnder, FindsPolicy}
-use Rattle.ua_session.specs.Steps.{Asks, CallsClient, ClosesClient, OpensPort, first_of, told}
+use Rattle.ua_session.specs.Session.{AsksByPolicy, AsksInSession, AsksUnder, EndsUnbegun, FindsPolicy, handle_unbegun}
+use Rattle.ua_session.specs.Steps.{Asks, Begins, CallsClient, ClosesClient, OpensPort, first_of, told, told_session}
 use Rattle.ua_session.specs.Told.{of_client}
+use Rattle.ua_client.specs.Session.{session_alone}
+use Rattle.ua_client.specs.declared.fault.SessionFault.{SessionFault}
+use Rattle.ua_session.specs.declared.fault.NotBegun.{NotBegun}
 use Rattle.ua_session.specs.declared.fault.AskFault.{AskFault}
 use Rattle.ua_session.specs.declared.fault.AskFault.TheVariants.{Connection, NoMemory, NoPolicy, Service}
 use Rattle.ua_session.specs.declared.policy.TokenPolicy.{TokenPolicy}
@@ -231,13 +234,52 @@ stage_behind {A} d e c (Err f) result P Q h found fault stage =
     let it = fault f h in
     rw (it.1, it.2) (handed (Err f) result (same_hands A f result it.0) stage)
 
+-- a result without the token
+abbrev alone : Result NodeId NotBegun → Result NodeId AskFault
+alone (Ok token) = Ok token
+alone (Err refused) = Err refused.fault
+
+alone_told : (answer : Result NodeId SessionFault) → alone (told_session answer) ≡ told (session_alone answer)
+alone_told (Ok token) = refl
+alone_told (Err refused) = refl
+
+begins_stage : {policy_id : Option (List ℕ)} {moment : DateTime} {old new : Client} {before after : LineState} (result : Result NodeId NotBegun)
+    → Begins policy_id moment old new before after result → Stage old.is_done new.is_done before.failures after.failures (alone result)
+begins_stage {old = old} {new = new} {before = before} {after = after} result begins =
+    call_stage {Does = λ answer. Unit {0}} {old = old} {new = new} {before = before} {after = after} (alone result) (record {
+      answer = session_alone begins.answer;
+      does = λ r. (tt, (begins.does r).1);
+      stays = λ d. let s = begins.stays d in (ap session_alone s.0, s.1, s.2);
+      fails = begins.fails;
+      told_is = ap alone begins.told_is ∙ alone_told begins.answer;
+    })
+
+-- the end of a session that was not begun
+unbegun_stage : {M : Type 0} (gives : M → ℤ → M → Type 0) (token : Option NodeId) (handle : ℕ) (first last : M) (old new : Client) (before after : LineState) (d : Bool) (n : ℕ) (fault : AskFault)
+    → EndsUnbegun gives token handle first last old new before after → Stage {A = NodeId} d old.is_done n before.failures (Err fault) → Stage {A = Verdict} d new.is_done n after.failures (Err fault)
+unbegun_stage gives None handle first last old new before after d n fault h stage =
+    let done : new.is_done ≡ old.is_done = ap (λ (x : Client). x.is_done) h.1 in
+    let count : after.failures ≡ before.failures = ap (λ (s : LineState). s.failures) h.2 in
+    let tells : Hands {A = NodeId} {B = Verdict} (Err fault) (Err fault) = (λ g. g, λ x. x) in
+    rw (done, count) (handed {A = NodeId} {B = Verdict} (Err fault) (Err fault) tells stage)
+unbegun_stage gives (Some token) handle first last old new before after d n fault h stage =
+    joined {A = NodeId} d old.is_done new.is_done (Err fault) h.ended (Err fault) (λ g k. g, λ x. tt, λ x. tt) stage
+    (handed h.ends.called h.ended (expects_hands h.ends.called h.ended h.ends.expects) (call_stage h.ends.called h.ends.calls))
+
 session_stage : {M : Type 0} {gives : M → ℤ → M → Type 0} {style : LineStyle} {question : Question} {policy_id : Option (List ℕ)} {handle : ℕ} {first last : M} {old new : Client} {before after : LineState} {had have : List ℕ} (result : Result Verdict AskFault)
     → AsksInSession gives style question policy_id handle first last old new before after had have result → Stage old.is_done new.is_done before.failures after.failures result
-session_stage {old = old} {new = new} result asks =
-    stage_behind old.is_done asks.client.is_done new.is_done asks.begun result _ _ asks.further
-    (λ token under. under_stage result under)
-    (λ f h. (h.0, ap (λ (x : Client). x.is_done) h.2, ap (λ (s : LineState). s.failures) h.3))
-    (call_stage asks.begun asks.begins)
+session_stage {gives = gives} {style = style} {question = question} {handle = handle} {last = last} {old = old} {new = new} {before = before} {after = after} {had = had} {have = have} result asks =
+    begun_stage asks.begun asks.further (begins_stage asks.begun asks.begins)
+  where
+    begun_stage : (begun : Result NodeId NotBegun)
+        → MatchResult begun
+        (λ token. AsksUnder gives style question token handle asks.behind last asks.client new asks.once_begun after had have result)
+        (λ refused. (result ≡ Err refused.fault) × (have ≡ had) × EndsUnbegun gives refused.token (handle_unbegun handle refused.fault) asks.behind last asks.client new asks.once_begun after)
+        → Stage old.is_done asks.client.is_done before.failures asks.once_begun.failures (alone begun) → Stage old.is_done new.is_done before.failures after.failures result
+    begun_stage (Ok token) under stage = joined old.is_done asks.client.is_done new.is_done (Ok token) result result (found_joins token result) stage (under_stage result under)
+    begun_stage (Err refused) h stage =
+        subst (λ (r : Result Verdict AskFault). Stage old.is_done new.is_done before.failures after.failures r) (sym h.0)
+        (unbegun_stage gives refused.token (handle_unbegun handle refused.fault) asks.behind last asks.client new asks.once_begun after old.is_done before.failures refused.fault h.2 stage)
 
 -- ---- a conversation
 

@@ -90,7 +90,7 @@ answers_print style question (Ok reply) (Err fault) had have h = inl h.0
 answers_print style question (Err fault) result had have h = none_prints (AreAnswerLines style) fault result had have h.1 h.0
 
 -- whatever a result is, this holds
-by_result : {A : Type 0} (r : Result A AskFault) (P : A → Type 0) (Q : AskFault → Type 0) (R : Type 0) → MatchResult r P Q → ((x : A) → P x → R) → ((fault : AskFault) → Q fault → R) → R
+by_result : {A E : Type 0} (r : Result A E) (P : A → Type 0) (Q : E → Type 0) (R : Type 0) → MatchResult r P Q → ((x : A) → P x → R) → ((fault : E) → Q fault → R) → R
 by_result (Ok x) P Q R h p q = p x h
 by_result (Err fault) P Q R h p q = q fault h
 
@@ -99,7 +99,7 @@ session_prints : {M : Type 0} (gives : M → ℤ → M → Type 0) (style : Line
 session_prints gives style question policy_id handle first last old new before after had have result asks =
     by_result asks.begun _ _ (Prints (AreAnswerLines style) result had have) asks.further
     (λ token under. first_prints (AreAnswerLines style) under.printed under.ended result had have (answers_print style question under.called under.printed had have under.prints) under.result_is)
-    (λ fault h. none_prints (AreAnswerLines style) fault result had have h.0 h.4)
+    (λ refused h. none_prints (AreAnswerLines style) refused.fault result had have h.0 h.1)
 
 policy_prints : {M : Type 0} (gives : M → ℤ → M → Type 0) (port : ℕ) (policy : TokenPolicy) (style : LineStyle) (question : Question) (first last : M) (old new : Client) (before after : LineState) (had have : List ℕ) (result : Result Verdict AskFault)
     → AsksByPolicy gives port policy style question first last old new before after had have result → Prints (AreAnswerLines style) result had have

@@ -1,5 +1,5 @@
 -- What `ua read` and `ua write` ask a server in a session of its own, and what is printed of it.
-use Rattle.std.specs.Prelude.{◌≡◌, ◌⊎◌, ◌+◌, ℕ, ℤ, List, Option, Result, Ok, Err, MatchResult}
+use Rattle.std.specs.Prelude.{◌≡◌, ◌⊎◌, ◌+◌, ◌-◌, ℕ, ℤ, List, Option, Some, None, Result, Ok, Err, MatchResult}
 use Rattle.ua_builtin.specs.declared.date_time.DateTime.{DateTime}
 use Rattle.ua_builtin.specs.declared.node_id.NodeId.{NodeId}
 use Rattle.ua_client.specs.declared.client.Client.{Client}
@@ -14,7 +14,8 @@ use Rattle.ua_session.specs.Question.{PrintsAnswers, request_of}
 use Rattle.ua_session.specs.Replies.{Expects}
 use Rattle.ua_session.specs.Steps.{Asks, Begins, Calls, Runs, first_of}
 use Rattle.ua_session.specs.declared.fault.AskFault.{AskFault}
-use Rattle.ua_session.specs.declared.fault.AskFault.TheVariants.{NoMemory}
+use Rattle.ua_session.specs.declared.fault.AskFault.TheVariants.{NoMemory, Service}
+use Rattle.ua_session.specs.declared.fault.NotBegun.{NotBegun}
 use Rattle.ua_session.specs.declared.policy.TokenPolicy.{TokenPolicy}
 use Rattle.ua_session.specs.declared.policy.TokenPolicy.TheVariants.{Auto, Named}
 use Rattle.ua_session.specs.declared.question.Question.{Question}
@@ -55,6 +56,24 @@ pub record EndsSession (token : NodeId) (handle : ℕ) (moment : DateTime) (old 
   pub calls : Calls (close_session token moment handle) old new before after called
   pub expects : Expects called result
 
+-- the request id of the call behind a session that was not begun, where that of the first call in it would have been this: one less, but where a
+-- service answered that it failed
+abbrev pub handle_unbegun : ℕ → AskFault → ℕ
+handle_unbegun handle (Service code) = handle
+handle_unbegun handle other = handle - 1
+
+-- a session was not begun: one that stands at the server nevertheless is ended, whatever that comes to
+pub record ClosesUnbegun {M : Type 0} (gives : M → ℤ → M → Type 0) (token : NodeId) (handle : ℕ) (first last : M) (old new : Client) (before after : LineState) : Type 0 where
+  pub moment : DateTime
+  pub given : gives first moment.ticks last
+  pub ended : Result (Unit {0}) AskFault
+  pub ends : EndsSession token handle moment old new before after ended
+
+-- the same, where there is such a session
+abbrev pub EndsUnbegun : {M : Type 0} → (M → ℤ → M → Type 0) → Option NodeId → ℕ → M → M → Client → Client → LineState → LineState → Type 0
+EndsUnbegun gives None handle first last old new before after = (last ≡ first) × (new ≡ old) × (after ≡ before)
+EndsUnbegun gives (Some token) handle first last old new before after = ClosesUnbegun gives token handle first last old new before after
+
 -- a question was asked under the token of a session, with this RequestHandle, the reply printed, and the session ended, also behind a
 -- fault; each RequestHandle is the request id of its call
 pub record AsksUnder {M : Type 0} (gives : M → ℤ → M → Type 0) (style : LineStyle) (question : Question) (token : NodeId) (handle : ℕ) (first last : M) (old new : Client) (before after : LineState) (had have : List ℕ) (result : Result Verdict AskFault) : Type 0 where
@@ -74,18 +93,18 @@ pub record AsksUnder {M : Type 0} (gives : M → ℤ → M → Type 0) (style : 
   pub result_is : result ≡ first_of printed ended
 
 -- a session was begun by the token policy with this PolicyId, a question asked in it, and the session ended; where none was begun that is
--- told, and no line was added
+-- told, and no line was added, but one that stands at the server nevertheless was ended
 pub record AsksInSession {M : Type 0} (gives : M → ℤ → M → Type 0) (style : LineStyle) (question : Question) (policy_id : Option (List ℕ)) (handle : ℕ) (first last : M) (old new : Client) (before after : LineState) (had have : List ℕ) (result : Result Verdict AskFault) : Type 0 where
   pub begun_at : DateTime
   pub behind : M
   pub given : gives first begun_at.ticks behind
-  pub begun : Result NodeId AskFault
+  pub begun : Result NodeId NotBegun
   pub client : Client
   pub once_begun : LineState
   pub begins : Begins policy_id begun_at old client before once_begun begun
   pub further : MatchResult begun
       (λ token. AsksUnder gives style question token handle behind last client new once_begun after had have result)
-      (λ fault. (result ≡ Err fault) × (last ≡ behind) × (new ≡ client) × (after ≡ once_begun) × (have ≡ had))
+      (λ refused. (result ≡ Err refused.fault) × (have ≡ had) × EndsUnbegun gives refused.token (handle_unbegun handle refused.fault) behind last client new once_begun after)
 
 -- the PolicyId was found, and a question asked in a session that is begun by it; where none was found that is told, and no line was added
 pub record AsksByPolicy {M : Type 0} (gives : M → ℤ → M → Type 0) (port : ℕ) (policy : TokenPolicy) (style : LineStyle) (question : Question) (first last : M) (old new : Client) (before after : LineState) (had have : List ℕ) (result : Result Verdict AskFault) : Type 0 where

@@ -4,7 +4,8 @@ use Rattle.ua_builtin.specs.declared.date_time.DateTime.{DateTime}
 use Rattle.ua_builtin.specs.declared.node_id.NodeId.{NodeId}
 use Rattle.ua_client.specs.Calls.{CallsAll}
 use Rattle.ua_client.specs.Client.{Closes, IsDone, IsLeft, IsReady, OpensClient, OpensNothing, client_channel, connection_of}
-use Rattle.ua_client.specs.Session.{BeginsSessionAs}
+use Rattle.ua_client.specs.Session.{TriesSession, session_alone, session_closed}
+use Rattle.ua_client.specs.declared.fault.SessionFault.{SessionFault}
 use Rattle.ua_client.specs.declared.client.Client.{Client}
 use Rattle.ua_client.specs.declared.fault.ClientFault.{ClientFault}
 use Rattle.ua_client.specs.declared.fault.ClientFault.TheVariants.{Closed}
@@ -15,6 +16,7 @@ use Rattle.ua_services.specs.declared.request.Request.{Request}
 use Rattle.ua_session.specs.Line.{FailsBy, LineState}
 use Rattle.ua_session.specs.Told.{of_client}
 use Rattle.ua_session.specs.declared.fault.AskFault.{AskFault}
+use Rattle.ua_session.specs.declared.fault.NotBegun.{NotBegun}
 use Rattle.ua_session.specs.declared.fault.AskFault.TheVariants.{NoMemory}
 
 -- ---- what is told
@@ -57,6 +59,11 @@ pub record CallsClient {A : Type 0} (Does : Result A ClientFault → Type 0) (ol
   pub fails : FailsBy answer before after
   pub told_is : result ≡ told answer
 
+-- a session is begun, or not: as it is told, of what the client answers
+abbrev pub told_session : Result NodeId SessionFault → Result NodeId NotBegun
+told_session (Ok token) = Ok token
+told_session (Err refused) = Err (record { token = refused.token; fault = of_client refused.fault })
+
 -- a request is called
 abbrev pub Calls : Request → Client → Client → LineState → LineState → Result Reply AskFault → Type 0
 Calls request old new before after result =
@@ -66,10 +73,14 @@ Calls request old new before after result =
 abbrev pub Asks : Request → Client → Client → LineState → LineState → Result Reply AskFault → Type 0
 Asks request old new before after result = ((result ≡ Err NoMemory) × (new ≡ old) × (after ≡ before)) ⊎ Calls request old new before after result
 
--- a session is begun by the token policy with this PolicyId
-abbrev pub Begins : Option (List ℕ) → DateTime → Client → Client → LineState → LineState → Result NodeId AskFault → Type 0
-Begins policy_id moment old new before after result =
-    CallsClient (λ answer. BeginsSessionAs policy_id moment (connection_of old) (connection_of new) before.traffic after.traffic answer) old new before after result
+-- a session is begun by the token policy with this PolicyId, or not: a client that may be called does this, and may be called again but for a
+-- fault after which it is done; one that is done answers `Closed` and changes nothing
+pub record Begins (policy_id : Option (List ℕ)) (moment : DateTime) (old new : Client) (before after : LineState) (result : Result NodeId NotBegun) : Type 0 where
+  pub answer : Result NodeId SessionFault
+  pub does : IsReady old → TriesSession policy_id moment (connection_of old) (connection_of new) before.traffic after.traffic answer × IsLeft (session_alone answer) new
+  pub stays : IsDone old → (answer ≡ Err session_closed) × (new ≡ old) × (after ≡ before)
+  pub fails : FailsBy (session_alone answer) before after
+  pub told_is : result ≡ told_session answer
 
 -- ---- closing
 

@@ -3,7 +3,7 @@
 use crate::fault_name::FaultName;
 use std::alloc::AllocError;
 use thiserror::Error;
-use ua_builtin::{StatusCode, TextFault};
+use ua_builtin::{NodeId, StatusCode, TextFault};
 use ua_client::ClientFault;
 use ua_nodes::ValueFault;
 use ua_texts::AnswerFault;
@@ -64,6 +64,15 @@ impl From<AllocError> for AskFault {
     fn from(_: AllocError) -> AskFault {
         AskFault::NoMemory
     }
+}
+
+/// Why a session was not begun.
+#[derive(Drop)]
+pub struct NotBegun {
+    /// The token of a session that stands at the server nevertheless: CreateSession brought it.
+    pub token: Option<NodeId>,
+    /// What is told.
+    pub fault: AskFault,
 }
 
 /// Why words are not read.

@@ -35,7 +35,7 @@ mod verdict;
 mod words;
 
 pub use endpoints::endpoints_over;
-pub use fault::{AskFault, WordFault};
+pub use fault::{AskFault, NotBegun, WordFault};
 pub use looping::{LoopFault, Looped, parse_lines, push_end, run_lines};
 pub use policy::{TokenPolicy, chosen_id};
 pub use question::Question;

@@ -4,12 +4,12 @@ ghost use Rattle.std.specs.Prelude.{◌≡◌, ◌<◌, ◌^◌, string_bytes, O
 ghost use Rattle.ua_session.specs.Line.{LineFailed};
 ghost use Rattle.ua_session.specs.Printed.{AddsAnswers, AddsOrNone, AreAnswerLines};
 ghost use Rattle.ua_session.specs.Question.{request_of};
-ghost use Rattle.ua_session.specs.Session.{AsksByPolicy, AsksInSession, AsksUnder, EndsSession, FindsPolicy, RunsQuestion, first_call, handle_behind};
+ghost use Rattle.ua_session.specs.Session.{AsksByPolicy, AsksInSession, AsksUnder, EndsSession, EndsUnbegun, FindsPolicy, RunsQuestion, first_call, handle_behind, handle_unbegun};
 ghost use Rattle.ua_session.specs.Steps.{Asks};
 
 use crate::answer::expect_done;
 use crate::endpoints::call_endpoints;
-use crate::fault::AskFault;
+use crate::fault::{AskFault, NotBegun};
 use crate::policy::{TokenPolicy, choose_by};
 use crate::question::Question;
 use crate::step::{begin, call, close, first_of, next_moment, open};
@@ -51,6 +51,7 @@ fn find_policy<L: Line, M: Moments>(
 fn first_call(policy: &TokenPolicy) -> u32
     ensures handle { result ≡ first_call policy.now }
     ensures few { result < 2 ^ 31 }
+    ensures some { 0 < result }
 {
     match policy {
         TokenPolicy::Named(_) => 4,
@@ -129,6 +130,39 @@ fn ask_under<L: Line, M: Moments>(
     first_of(printed, ended)
 }
 
+/// The request id of the call behind a session that was not begun, where that of the first call in it
+/// would have been this: one less, but where a service answered that it failed.
+fn handle_unbegun(handle: u32, fault: AskFault) -> u32
+    requires some { 0 < handle }
+    ensures { result ≡ handle_unbegun handle fault }
+{
+    match fault {
+        AskFault::Service(_) => handle,
+        _ => handle - 1,
+    }
+}
+
+/// Ends the session that stands at the server where it was not begun, if one does. What becomes of that
+/// adds nothing.
+fn end_unbegun<L: Line, M: Moments>(
+    line: &mut L,
+    client: &mut Client,
+    refused: NotBegun,
+    handle: u32,
+    moments: &mut M,
+) -> AskFault
+    requires some { 0 < handle }
+    ensures fault { result ≡ refused.fault }
+    ensures ends { EndsUnbegun M.gives refused.token (handle_unbegun handle refused.fault) moments.old moments.new client.old client.new (record { traffic = L.traffic line.old; failures = L.failures line.old }) (record { traffic = L.traffic line.new; failures = L.failures line.new }) }
+{
+    let NotBegun { token, fault } = refused;
+    if let Some(token) = token {
+        let moment = next_moment(moments);
+        let _ = end_session(line, client, token, handle_unbegun(handle, fault), moment);
+    }
+    fault
+}
+
 /// Begins a session by the token policy with an id, asks a question in it, adds the lines of the
 /// answers, and ends the session.
 fn ask_in_session<L: Line, M: Moments>(
@@ -142,7 +176,8 @@ fn ask_in_session<L: Line, M: Moments>(
     moments: &mut M,
     out: &mut String,
 ) -> Result<Verdict, AskFault>
-    requires { handle < 2 ^ 31 }
+    requires few { handle < 2 ^ 31 }
+    requires some { 0 < handle }
     ensures { AsksInSession M.gives style question.now policy_id handle moments.old moments.new client.old client.new (record { traffic = L.traffic line.old; failures = L.failures line.old }) (record { traffic = L.traffic line.new; failures = L.failures line.new }) (string_bytes out.old) (string_bytes out.new) result }
 {
     let begun_at = next_moment(moments);
@@ -150,7 +185,7 @@ fn ask_in_session<L: Line, M: Moments>(
         Ok(token) => ask_under(
             alloc, line, client, question, style, token, handle, moments, out,
         ),
-        Err(fault) => Err(fault),
+        Err(refused) => Err(end_unbegun(line, client, refused, handle, moments)),
     }
 }
 
@@ -178,13 +213,14 @@ fn ask_by_policy<L: Line, M: Moments>(
     }
 }
 
-/// Asks the server at the other end of a line a question in a session of its own, and adds the lines
-/// of the answers in this style: as the server on a port of this machine, whose connection stands at its
+/// Asks the server at the other end of a line a question in a session of its own, and adds the lines of
+/// the answers in this style: as the server on a port of this machine, whose connection stands at its
 /// beginning. A client is opened, begins a session by this token policy, asks, ends the session and is
-/// closed, these two also behind a fault after which it may go on; the first fault is told, or that memory
-/// ran out. For [`TokenPolicy::Auto`] the client calls GetEndpoints before it begins the session; where the
-/// endpoints give no policy that is told as `NoPolicy`, and no session is begun. Each of these steps has the
-/// next moment.
+/// closed, these two also behind a fault after which it may go on; the first fault is told, or that
+/// memory ran out. A session that CreateSession made, and ActivateSession did not begin, is ended, too,
+/// and the fault told is that of ActivateSession. For [`TokenPolicy::Auto`] the client calls
+/// GetEndpoints before it begins the session; where the endpoints give no policy that is told as
+/// `NoPolicy`, and no session is begun. Each of these steps has the next moment.
 pub fn ask_over<L: Line, M: Moments>(
     alloc: Global,
     line: &mut L,

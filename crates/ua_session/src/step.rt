@@ -4,11 +4,11 @@ ghost use Rattle.std.specs.Prelude.{◌≡◌, IfOk};
 ghost use Rattle.ua_client.specs.Client.{IsReady};
 ghost use Rattle.ua_session.specs.Steps.{Begins, Calls, ClosesClient, OpensPort, first_of, told};
 
-use crate::fault::AskFault;
+use crate::fault::{AskFault, NotBegun};
 use std::alloc::Global;
 use ua_builtin::{DateTime, NodeId, UaString};
 use ua_channel::{Line, Moments};
-use ua_client::{Client, ClientFault, Reply};
+use ua_client::{Client, ClientFault, Reply, SessionFault};
 use ua_frame::Limits;
 use ua_services::Request;
 use ua_services::session_requests::local_url;
@@ -70,10 +70,16 @@ pub fn begin<L: Line>(
     client: &mut Client,
     policy_id: UaString,
     moment: DateTime,
-) -> Result<NodeId, AskFault>
+) -> Result<NodeId, NotBegun>
     ensures { Begins policy_id moment client.old client.new (record { traffic = L.traffic line.old; failures = L.failures line.old }) (record { traffic = L.traffic line.new; failures = L.failures line.new }) result }
 {
-    told(client.begin_session_as(line, policy_id, moment))
+    match client.try_begin_session(line, policy_id, moment) {
+        Ok(token) => Ok(token),
+        Err(SessionFault { token, fault }) => Err(NotBegun {
+            token,
+            fault: AskFault::from(fault),
+        }),
+    }
 }
 
 /// Calls a request.
