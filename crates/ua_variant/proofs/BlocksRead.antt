@@ -159,7 +159,7 @@ block_none k m block rest h l e =
 
 -- ---- a row in two parts
 
-before_before : (a b : List ScalarData) (r : ScalarsData) → before a (before b r) ≡ before (a ++ b) r
+pub before_before : (a b : List ScalarData) (r : ScalarsData) → before a (before b r) ≡ before (a ++ b) r
 before_before [] b r = refl
 before_before (s ∷ a) b r = ap (scalar s) (before_before a b r)
 

@@ -18,3 +18,4 @@ mod Written
 mod OntoRead
 mod PackedRows
 mod RowsSkipped
+mod NumbersRead

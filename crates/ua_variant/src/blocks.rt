@@ -13,6 +13,7 @@ ghost use Rattle.ua_variant.specs.View.{row};
 
 use crate::leaf::read_leaf_as;
 use crate::least::least_octets;
+use crate::numbers::{Group, MANY};
 use crate::packed::{Pack, Packed};
 use std::alloc::Global;
 use ua_builtin::{DateTime, DoubleBits, FloatBits, Guid, Octets, ReadFault, Source, StatusCode};
@@ -43,17 +44,17 @@ pub fn read_packed<S: Source>(
         1 => read_items::<bool, S>(alloc, src, kind, count),
         2 => read_items::<i8, S>(alloc, src, kind, count),
         3 => read_items::<u8, S>(alloc, src, kind, count),
-        4 => read_items::<i16, S>(alloc, src, kind, count),
-        5 => read_items::<u16, S>(alloc, src, kind, count),
-        6 => read_items::<i32, S>(alloc, src, kind, count),
-        7 => read_items::<u32, S>(alloc, src, kind, count),
-        8 => read_items::<i64, S>(alloc, src, kind, count),
-        9 => read_items::<u64, S>(alloc, src, kind, count),
-        10 => read_items::<FloatBits, S>(alloc, src, kind, count),
-        11 => read_items::<DoubleBits, S>(alloc, src, kind, count),
-        13 => read_items::<DateTime, S>(alloc, src, kind, count),
+        4 => read_many::<i16, S>(alloc, src, kind, count),
+        5 => read_many::<u16, S>(alloc, src, kind, count),
+        6 => read_many::<i32, S>(alloc, src, kind, count),
+        7 => read_many::<u32, S>(alloc, src, kind, count),
+        8 => read_many::<i64, S>(alloc, src, kind, count),
+        9 => read_many::<u64, S>(alloc, src, kind, count),
+        10 => read_many::<FloatBits, S>(alloc, src, kind, count),
+        11 => read_many::<DoubleBits, S>(alloc, src, kind, count),
+        13 => read_many::<DateTime, S>(alloc, src, kind, count),
         14 => read_items::<Guid, S>(alloc, src, kind, count),
-        _ => read_items::<StatusCode, S>(alloc, src, kind, count),
+        _ => read_many::<StatusCode, S>(alloc, src, kind, count),
     }
 }
 
@@ -81,6 +82,54 @@ fn read_items<T: Pack, S: Source>(
         done += n;
     }
     Ok(T::pack(items))
+}
+
+/// Reads so many numbers, whose type id is the one given, into exactly the room for them.
+fn read_many<T: Group, S: Source>(
+    alloc: Global,
+    src: &mut S,
+    kind: u8,
+    count: u32,
+) -> Result<Packed, ReadFault>
+    requires own { kind ≡ T.kind }
+    requires packed { is_packed_kind kind ≡ true }
+    ensures exact { GivesBy (λ p. row (map leaf (packed_leaves p))) (row_at count (image_read leaf (leaf_at kind))) (S.octets src.old) (S.octets src.new) result }
+    ensures behind { StaysBehind (S.octets src.old) (S.octets src.new) }
+{
+    let count = count as usize;
+    let mut block = [0; BLOCK];
+    let mut items = Vec::with_capacity(alloc, count)?;
+    let mut done = 0;
+    while done < count {
+        let n = (count - done).min(MANY);
+        let part = &mut block[..n * T::width()];
+        read_part(src, part, n, &mut items)?;
+        done += n;
+    }
+    Ok(T::pack(items))
+}
+
+/// Takes a block of octets, which are so many numbers, and puts these behind the elements that there are.
+#[inline]
+fn read_part<T: Group, S: Source>(
+    src: &mut S,
+    block: &mut [u8],
+    count: usize,
+    items: &mut Vec<T>,
+) -> Result<(), ReadFault>
+    requires packed { is_packed_kind T.kind ≡ true }
+    requires whole { length block.old ≡ count * least_of T.kind }
+    requires few { count ≤ 64 }
+    ensures exact { (more : ℕ) → GoesOn
+        (row_behind (map leaf (map T.as_leaf items.old.items)) (count + more) (image_read leaf (leaf_at T.kind)) (S.octets src.old))
+        (row_behind (map leaf (map T.as_leaf items.new.items)) more (image_read leaf (leaf_at T.kind)) (S.octets src.new)) result }
+    ensures behind { StaysBehind (S.octets src.old) (S.octets src.new) }
+{
+    if !src.take_into(block) {
+        return Err(ReadFault::NoValue);
+    }
+    T::extend(block, count, items)?;
+    Ok(())
 }
 
 /// Takes a block of octets, and reads so many elements of it behind those that there are.

@@ -31,6 +31,7 @@ mod leaf;
 mod least;
 mod masks;
 mod measure;
+mod numbers;
 mod onto;
 mod packed;
 mod read;

@@ -10,6 +10,7 @@ ghost use Rattle.ua_variant.specs.View.{row, scalar_of};
 
 use crate::leaf::HeldLeaf;
 use crate::least::least_octets;
+use crate::numbers::{MANY, Number, write_numbers};
 use crate::values::Scalar;
 use std::alloc::{AllocError, Global};
 use ua_builtin::{DateTime, DoubleBits, FloatBits, Guid, StatusCode};
@@ -186,17 +187,17 @@ impl Packed {
             Packed::Booleans(items) => append_items(items, kind, out),
             Packed::SBytes(items) => append_items(items, kind, out),
             Packed::Bytes(items) => append_items(items, kind, out),
-            Packed::Int16s(items) => append_items(items, kind, out),
-            Packed::UInt16s(items) => append_items(items, kind, out),
-            Packed::Int32s(items) => append_items(items, kind, out),
-            Packed::UInt32s(items) => append_items(items, kind, out),
-            Packed::Int64s(items) => append_items(items, kind, out),
-            Packed::UInt64s(items) => append_items(items, kind, out),
-            Packed::Floats(items) => append_items(items, kind, out),
-            Packed::Doubles(items) => append_items(items, kind, out),
-            Packed::DateTimes(items) => append_items(items, kind, out),
+            Packed::Int16s(items) => append_numbers(items, out),
+            Packed::UInt16s(items) => append_numbers(items, out),
+            Packed::Int32s(items) => append_numbers(items, out),
+            Packed::UInt32s(items) => append_numbers(items, out),
+            Packed::Int64s(items) => append_numbers(items, out),
+            Packed::UInt64s(items) => append_numbers(items, out),
+            Packed::Floats(items) => append_numbers(items, out),
+            Packed::Doubles(items) => append_numbers(items, out),
+            Packed::DateTimes(items) => append_numbers(items, out),
             Packed::Guids(items) => append_items(items, kind, out),
-            Packed::StatusCodes(items) => append_items(items, kind, out),
+            Packed::StatusCodes(items) => append_numbers(items, out),
         }
     }
 }
@@ -252,6 +253,27 @@ fn append_items<T: Pack>(items: &[T], kind: u8, out: &mut Vec<u8>) -> Result<(),
     out.reserve(items.len().saturating_mul(least_octets(kind)))?;
     for item in items {
         item.append(out)?;
+    }
+    Ok(())
+}
+
+/// The octets that are put together before they are added.
+const BLOCK: usize = 512;
+
+/// Adds the canonical encodings of numbers at the end.
+fn append_numbers<T: Number>(items: &[T], out: &mut Vec<u8>) -> Result<(), AllocError>
+    ensures ok { OnOk result (out.new.items ≡ out.old.items ++ row_canonical (row (map leaf (map T.as_leaf items.now)))) }
+    ensures err { OnErr result (Extends out.old.items out.new.items) }
+{
+    out.reserve(items.len().saturating_mul(T::width()))?;
+    let mut block = [0; BLOCK];
+    let mut done = 0;
+    while done < items.len() {
+        let n = (items.len() - done).min(MANY);
+        let part = &mut block[..n * T::width()];
+        write_numbers(&items[done..done + n], part);
+        out.extend_from_slice(part)?;
+        done += n;
     }
     Ok(())
 }
