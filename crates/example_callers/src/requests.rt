@@ -1,9 +1,9 @@
 //! Bodies of requests.
 
 ghost use Rattle.std.specs.Prelude.{◌≡◌, IfErr, IfOk, IsTrue};
-ghost use Rattle.ua_services.specs.Message.{IsBody};
+ghost use Rattle.ua_opening.specs.Message.{IsBody};
 ghost use Rattle.ua_services.specs.Request.{request};
-ghost use Rattle.ua_structures.specs.Header.{service_fault};
+ghost use Rattle.ua_opening.specs.Header.{service_fault};
 
 use std::alloc::Global;
 use ua_builtin::{DateTime, Octets, StatusCode};

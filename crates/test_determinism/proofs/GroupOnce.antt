@@ -15,7 +15,7 @@ use Rattle.ua_channel.specs.ClientTable.{client_rules}
 use Rattle.ua_channel.specs.ClientTold.{ClientTold, Why}
 use Rattle.ua_channel.specs.ClientTold.ClientTold.{Answered, GaveUp}
 use Rattle.ua_channel.specs.declared.client.channel.ClientChannel.{ClientChannel}
-use Rattle.ua_services.specs.Message.{IsBody}
+use Rattle.ua_opening.specs.Message.{IsBody}
 use Rattle.ua_services.specs.Request.{kind_of}
 use Rattle.ua_services.specs.Response.{response}
 use Rattle.ua_services.specs.declared.request.Request.{Request}

@@ -4,7 +4,7 @@ use Rattle.std.specs.declared.alloc.Global.{Global}
 use Rattle.std_alloc.specs.declared.string.String.{String}
 use Rattle.ua_builtin.specs.NodeText.{NamesNode, filled, node_text}
 use Rattle.ua_builtin.specs.declared.node_id.NodeId.{NodeId}
-use Rattle.ua_services.specs.Message.{IsBody, IsNoBody}
+use Rattle.ua_opening.specs.Message.{IsBody, IsNoBody}
 use Rattle.ua_services.specs.Response.{header_of, kind_of, response, responses}
 use Rattle.ua_services.specs.declared.response.Response.{Response}
 use Rattle.ua_services.specs.declared.response.Response.TheVariants.{CreateSession}

@@ -11,9 +11,9 @@ use Rattle.ua_frame.specs.Frames.{frame_octets}
 use Rattle.ua_frame.specs.Kinds.{kind_octets}
 use Rattle.ua_frame.specs.Messages.{hello}
 use Rattle.ua_chunk.specs.Layout.{token_header, sequence_header}
-use Rattle.ua_services.specs.Message.{message}
-use Rattle.ua_structures.specs.SecureChannel.{close_request}
-use Rattle.ua_structures.specs.Plain.{close_request_of}
+use Rattle.ua_opening.specs.Message.{message}
+use Rattle.ua_opening.specs.SecureChannel.{close_request}
+use Rattle.ua_opening.specs.Plain.{close_request_of}
 use Rattle.ua_builtin.specs.declared.date_time.DateTime.{DateTime}
 use Rattle.ua_channel.specs.ClientSends.{hello_to, hello_frame, close_frame}
 use Rattle.ua_channel.specs.inside.ClientAsking.{closing_front}

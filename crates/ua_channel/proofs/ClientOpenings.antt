@@ -5,10 +5,10 @@ use Rattle.ua_frame.specs.declared.limits.Limits.{Limits}
 use Rattle.ua_chunk.specs.declared.fault.OpenFault.{OpenFault}
 use Rattle.ua_chunk.specs.declared.fault.OpenFault.TheVariants.{Unreadable, Policy, OutOfMemory}
 use Rattle.ua_chunk.specs.Opening.{SecurityHeader, policy_of, is_none_policy, open_refusal}
-use Rattle.ua_services.specs.Open.{answer_read}
-use Rattle.ua_services.specs.declared.open.OpenAnswer.{OpenAnswer}
-use Rattle.ua_services.specs.declared.open.OpenAnswer.TheVariants.{Open, Fault}
-use Rattle.ua_structures.specs.declared.secure_channel.OpenResponse.{OpenResponse}
+use Rattle.ua_opening.specs.Open.{answer_read}
+use Rattle.ua_opening.specs.declared.open.OpenAnswer.{OpenAnswer}
+use Rattle.ua_opening.specs.declared.open.OpenAnswer.TheVariants.{Open, Fault}
+use Rattle.ua_opening.specs.declared.secure_channel.OpenResponse.{OpenResponse}
 use Rattle.ua_channel.specs.Asks.{Asking}
 use Rattle.ua_channel.specs.inside.ClientParts.{IsStopFor, Judged, JudgesAnswer, IsAnsweredBy, body_reasons, answer_reasons}
 use Rattle.ua_channel.specs.inside.StepFaults.{of_open_fault}

@@ -12,7 +12,7 @@ use Rattle.ua_channel.specs.ClientAsks.{Talks}
 use Rattle.ua_channel.specs.inside.ClientAsking.{AsBefore}
 use Rattle.ua_channel.specs.ClientTable.{client_gate, client_rules, client_gate_behind, gate_agreed, reply_gate, ack_gate}
 use Rattle.ua_channel.specs.ClientTokens.{responses, channel_in}
-use Rattle.ua_structures.specs.declared.secure_channel.OpenResponse.{OpenResponse}
+use Rattle.ua_opening.specs.declared.secure_channel.OpenResponse.{OpenResponse}
 use Rattle.ua_channel.specs.Received.{Received, received}
 use Rattle.ua_channel.specs.declared.client.channel.ClientChannel.{ClientChannel}
 use Rattle.ua_channel.specs.declared.client.phase.Phase.{Phase}

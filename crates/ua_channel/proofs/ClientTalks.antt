@@ -15,9 +15,9 @@ use Rattle.ua_chunk.specs.Gathered.{ends}
 use Rattle.ua_chunk.specs.Sequence.{may_follow}
 use Rattle.ua_chunk.specs.declared.chunk.Chunk.{Chunk}
 use Rattle.ua_chunk.specs.Assembling.{octet_limit, chunk_limit, last_number}
-use Rattle.ua_services.specs.declared.open.OpenAnswer.{OpenAnswer}
-use Rattle.ua_services.specs.declared.open.OpenAnswer.TheVariants.{Open}
-use Rattle.ua_structures.specs.declared.secure_channel.OpenResponse.{OpenResponse}
+use Rattle.ua_opening.specs.declared.open.OpenAnswer.{OpenAnswer}
+use Rattle.ua_opening.specs.declared.open.OpenAnswer.TheVariants.{Open}
+use Rattle.ua_opening.specs.declared.secure_channel.OpenResponse.{OpenResponse}
 use Rattle.ua_channel.specs.Asks.{Asking, is_in, calls, renewals, pending_calls, pending_renewals}
 use Rattle.ua_channel.specs.ClientAsks.{Talks}
 use Rattle.ua_channel.specs.inside.Parts.{MayEndIn}

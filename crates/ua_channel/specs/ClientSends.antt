@@ -8,10 +8,10 @@ use Rattle.ua_frame.specs.declared.kind.Kind.TheVariants.{Hel, Clo}
 use Rattle.ua_frame.specs.declared.limits.Limits.{Limits}
 use Rattle.ua_frame.specs.Messages.{hello}
 use Rattle.ua_chunk.specs.Layout.{token_header, sequence_header}
-use Rattle.ua_services.specs.Message.{message}
-use Rattle.ua_structures.specs.Plain.{open_request_of, close_request_of}
-use Rattle.ua_structures.specs.SecureChannel.{open_request, close_request}
-use Rattle.ua_structures.specs.declared.secure_channel.OpenRequest.{OpenRequest}
+use Rattle.ua_opening.specs.Message.{message}
+use Rattle.ua_opening.specs.Plain.{open_request_of, close_request_of}
+use Rattle.ua_opening.specs.SecureChannel.{open_request, close_request}
+use Rattle.ua_opening.specs.declared.secure_channel.OpenRequest.{OpenRequest}
 use Rattle.ua_channel.specs.ServerSends.{opening_frame}
 
 -- how long a token is asked to live, in milliseconds: an hour

@@ -1,10 +1,10 @@
 -- What the openings that a client received have brought: the channel, and its tokens.
 use Rattle.std.specs.Prelude.{ℕ, ◌==◌, ◌&&◌, not, if◌then◌else◌, List, [], ◌∷◌, Option, Some, None, map}
 use Rattle.std.specs.List.{flat_map}
-use Rattle.ua_services.specs.Open.{answer_read}
-use Rattle.ua_services.specs.declared.open.OpenAnswer.{OpenAnswer}
-use Rattle.ua_services.specs.declared.open.OpenAnswer.TheVariants.{Open, Fault}
-use Rattle.ua_structures.specs.declared.secure_channel.OpenResponse.{OpenResponse}
+use Rattle.ua_opening.specs.Open.{answer_read}
+use Rattle.ua_opening.specs.declared.open.OpenAnswer.{OpenAnswer}
+use Rattle.ua_opening.specs.declared.open.OpenAnswer.TheVariants.{Open, Fault}
+use Rattle.ua_opening.specs.declared.secure_channel.OpenResponse.{OpenResponse}
 use Rattle.ua_channel.specs.Asks.{is_in}
 use Rattle.ua_channel.specs.Content.{Opening}
 use Rattle.ua_channel.specs.Received.{Received}

@@ -5,7 +5,7 @@ use Rattle.ua_frame.specs.declared.ack.Ack.{Ack}
 use Rattle.ua_chunk.specs.Delivered.{given}
 use Rattle.ua_chunk.specs.Item.{Item}
 use Rattle.ua_chunk.specs.Item.Item.{Whole, Aborted}
-use Rattle.ua_structures.specs.declared.secure_channel.OpenResponse.{OpenResponse}
+use Rattle.ua_opening.specs.declared.secure_channel.OpenResponse.{OpenResponse}
 use Rattle.ua_channel.specs.ClientTokens.{answer_in, response_listed, responses}
 use Rattle.ua_channel.specs.Content.{Content}
 use Rattle.ua_channel.specs.Content.Content.{Acks, Opens, Sends}

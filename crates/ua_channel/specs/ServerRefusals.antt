@@ -4,7 +4,7 @@ use Rattle.std.proofs.Common.{int_eq}
 use Rattle.ua_frame.specs.declared.limits.Limits.{Limits}
 use Rattle.ua_frame.specs.Agreement.{is_url_long, is_buffer_small}
 use Rattle.ua_frame.specs.Hello.{is_so}
-use Rattle.ua_structures.specs.declared.secure_channel.OpenRequest.{OpenRequest}
+use Rattle.ua_opening.specs.declared.secure_channel.OpenRequest.{OpenRequest}
 use Rattle.ua_chunk.specs.Opening.{channel_of}
 use Rattle.ua_channel.specs.Content.{Content}
 use Rattle.ua_channel.specs.Content.Content.{Greets, Opens, Sends, Closes}

@@ -8,9 +8,9 @@ use Rattle.ua_frame.specs.declared.kind.Kind.TheVariants.{Opn}
 use Rattle.ua_frame.specs.declared.limits.Limits.{Limits}
 use Rattle.ua_frame.specs.Frames.{frame_octets}
 use Rattle.ua_frame.specs.Messages.{ack_frame}
-use Rattle.ua_services.specs.Message.{message}
-use Rattle.ua_structures.specs.Plain.{open_response_of}
-use Rattle.ua_structures.specs.SecureChannel.{open_response}
+use Rattle.ua_opening.specs.Message.{message}
+use Rattle.ua_opening.specs.Plain.{open_response_of}
+use Rattle.ua_opening.specs.SecureChannel.{open_response}
 use Rattle.ua_chunk.specs.declared.fault.CutFault.{CutFault}
 use Rattle.ua_chunk.specs.declared.lane.Lane.{Lane}
 use Rattle.ua_chunk.specs.Cutting.{abort_chunk, chunks_of, chunks_octets, cut_refusal, number_after, pieces}

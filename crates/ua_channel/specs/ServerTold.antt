@@ -1,9 +1,9 @@
 -- What a frame tells a server.
 use Rattle.std.specs.Prelude.{ℕ, ◌+◌, ◌==◌, if◌then◌else◌, length, map, List, [], ◌∷◌, Option, Some, None}
 use Rattle.ua_frame.specs.declared.limits.Limits.{Limits}
-use Rattle.ua_services.specs.Message.{message, body_of}
-use Rattle.ua_structures.specs.SecureChannel.{open_request}
-use Rattle.ua_structures.specs.declared.secure_channel.OpenRequest.{OpenRequest}
+use Rattle.ua_opening.specs.Message.{message, body_of}
+use Rattle.ua_opening.specs.SecureChannel.{open_request}
+use Rattle.ua_opening.specs.declared.secure_channel.OpenRequest.{OpenRequest}
 use Rattle.ua_chunk.specs.Delivered.{given}
 use Rattle.ua_chunk.specs.Item.{Item}
 use Rattle.ua_chunk.specs.Item.Item.{Whole, Aborted}

@@ -13,7 +13,7 @@ use std::alloc::{AllocError, Global};
 use ua_builtin::{DateTime, StatusCode, Wire};
 use ua_chunk::{CutFault, Lane, NONE_POLICY, abort_octets, cut};
 use ua_frame::{Kind, ack_octets, header_octets};
-use ua_services::{OpenResponse, write_open_response};
+use ua_opening::{OpenResponse, write_open_response};
 use ua_wire::NULL_COUNT;
 
 /// The octets of an OPN frame in front of its body: the frame's header, the channel's id, the

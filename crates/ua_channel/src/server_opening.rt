@@ -10,7 +10,7 @@ use std::alloc::Global;
 use ua_builtin::{Octets, ReadFault, StatusCode};
 use ua_chunk::read_open;
 use ua_frame::Frame;
-use ua_services::{OpenRequest, read_open_request};
+use ua_opening::{OpenRequest, read_open_request};
 
 /// To issue a token, as a RequestType (OPC 10000-4, 5.6.2).
 const ISSUE: i32 = 0;

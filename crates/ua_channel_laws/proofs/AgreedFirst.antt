@@ -15,7 +15,7 @@ use Rattle.ua_chunk.specs.Item.{Item}
 use Rattle.ua_chunk.specs.Item.Item.{Whole, Aborted}
 use Rattle.ua_chunk.specs.Layout.{chunk_in}
 use Rattle.ua_chunk.specs.declared.chunk.Chunk.{Chunk}
-use Rattle.ua_structures.specs.declared.secure_channel.OpenRequest.{OpenRequest}
+use Rattle.ua_opening.specs.declared.secure_channel.OpenRequest.{OpenRequest}
 use Rattle.ua_channel.specs.Agreement.{Agreement, agreement_of}
 use Rattle.ua_channel.specs.Content.{sends, closes, opening_of, content_by, content}
 use Rattle.ua_channel.specs.Content.Content.{Greets}

@@ -7,7 +7,7 @@ use Rattle.ua_frame.specs.declared.frame.Frame.{Frame}
 use Rattle.ua_frame.specs.declared.limits.Limits.{Limits}
 use Rattle.ua_frame.specs.After.{AllAfter, AllFrom}
 use Rattle.ua_frame.specs.Run.{Going, Run}
-use Rattle.ua_structures.specs.declared.secure_channel.OpenResponse.{OpenResponse}
+use Rattle.ua_opening.specs.declared.secure_channel.OpenResponse.{OpenResponse}
 use Rattle.ua_chunk.specs.declared.chunk.Chunk.{Chunk}
 use Rattle.ua_channel_laws.specs.AskedEarlier.{AreEarlier}
 use Rattle.ua_channel.specs.Asks.{Asking, Placed, asked_before, asked_in, call_in, calls, end_of, id_of, is_finished, is_in, next_id, pending_calls, pending_renewals, renewal_in, renewals}

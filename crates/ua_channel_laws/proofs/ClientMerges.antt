@@ -17,8 +17,8 @@ use Rattle.ua_frame.specs.Frames.{frame_octets, frame_size, frames_octets}
 use Rattle.ua_frame.specs.Run.{Fits, Going, Run, events}
 use Rattle.ua_frame.proofs.Fronts.{length-frame_octets}
 use Rattle.ua_frame.proofs.Streams.{frames_octets-push}
-use Rattle.ua_services.specs.declared.open.OpenAnswer.TheVariants.{Open}
-use Rattle.ua_structures.specs.declared.secure_channel.OpenResponse.{OpenResponse}
+use Rattle.ua_opening.specs.declared.open.OpenAnswer.TheVariants.{Open}
+use Rattle.ua_opening.specs.declared.secure_channel.OpenResponse.{OpenResponse}
 use Rattle.ua_chunk.specs.declared.chunk.Chunk.{Chunk}
 use Rattle.ua_chunk.specs.Delivered.{delivered, given}
 use Rattle.ua_chunk.specs.Gathered.{ends, is_of}

@@ -23,18 +23,18 @@ use Rattle.ua_frame.proofs.Streams.{events-push, run_nil}
 use Rattle.ua_frame.proofs.Wholes.{whole_encodes}
 use Rattle.ua_wire.specs.Number.{number_octets}
 use Rattle.ua_wire.proofs.NumbersRead.{length-number_octets}
-use Rattle.ua_services.specs.Message.{message, standard}
-use Rattle.ua_services.specs.Open.{answer_read}
-use Rattle.ua_services.specs.declared.open.OpenAnswer.TheVariants.{Open}
-use Rattle.ua_services.proofs.BodyLaws.{body_reads_back}
-use Rattle.ua_services.proofs.Lengths.{open_response_length}
-use Rattle.ua_services.proofs.MessageRead.{answer_read-is}
-use Rattle.ua_services.proofs.MessagesLawful.{lawful_message}
-use Rattle.ua_structures.specs.Plain.{open_response_of}
-use Rattle.ua_structures.specs.SecureChannel.{open_response}
-use Rattle.ua_structures.specs.declared.secure_channel.OpenResponse.{OpenResponse}
-use Rattle.ua_structures.proofs.PlainFits.{open_response_fits}
-use Rattle.ua_structures.proofs.SecureChannelLawful.{lawful_open_response}
+use Rattle.ua_opening.specs.Message.{message, standard}
+use Rattle.ua_opening.specs.Open.{answer_read}
+use Rattle.ua_opening.specs.declared.open.OpenAnswer.TheVariants.{Open}
+use Rattle.ua_opening.proofs.BodyLaws.{body_reads_back}
+use Rattle.ua_opening.proofs.Lengths.{open_response_length}
+use Rattle.ua_opening.proofs.MessageRead.{answer_read-is}
+use Rattle.ua_opening.proofs.MessagesLawful.{lawful_message}
+use Rattle.ua_opening.specs.Plain.{open_response_of}
+use Rattle.ua_opening.specs.SecureChannel.{open_response}
+use Rattle.ua_opening.specs.declared.secure_channel.OpenResponse.{OpenResponse}
+use Rattle.ua_opening.proofs.PlainFits.{open_response_fits}
+use Rattle.ua_opening.proofs.SecureChannelLawful.{lawful_open_response}
 use Rattle.ua_chunk.specs.declared.chunk.Chunk.{Chunk}
 use Rattle.ua_chunk.specs.declared.fault.CutFault.{CutFault}
 use Rattle.ua_chunk.specs.declared.fault.CutFault.TheVariants.{TooManyOctets, TooManyChunks}
@@ -81,7 +81,7 @@ use Rattle.ua_channel.proofs.OneFrameMore.{received-nil, received-push}
 use Rattle.ua_channel_laws.proofs.ReadOn.{no_events, one_octets, run_one}
 use Rattle.ua_channel_laws.proofs.ClientConversing.{response_as}
 use Rattle.ua_channel_laws.specs.ClientConversation.{IsGoodResponse}
-use Rattle.ua_services.specs.declared.open.OpenAnswer.{OpenAnswer}
+use Rattle.ua_opening.specs.declared.open.OpenAnswer.{OpenAnswer}
 use Rattle.std.specs.Prelude.{if◌then◌else◌}
 use Rattle.ua_channel_laws.proofs.CutChunks.{AreSentIn, IsSentIn, cut_alone, cut_finished, cut_goes, ends_own, frames_fit, frames_framed, frames_messages, frames_numbers, frames_openings, frames_tokens, latest_token, one_merge, sent_in, all_under}
 use Rattle.ua_channel_laws.proofs.ClientMerges.{nothing_opened, reads_merged}

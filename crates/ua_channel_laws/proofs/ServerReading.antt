@@ -20,16 +20,16 @@ use Rattle.ua_frame.specs.After.{AllFrom, each_from}
 use Rattle.ua_frame.proofs.MessagesLawful.{sound_hello}
 use Rattle.ua_frame.proofs.Streams.{events-push, run_nil}
 use Rattle.ua_frame.proofs.Wholes.{whole_encodes}
-use Rattle.ua_services.specs.Message.{body_of, message, standard}
-use Rattle.ua_services.proofs.BodyLaws.{body_reads_back}
-use Rattle.ua_services.proofs.Lengths.{open_request_length, close_request_length}
-use Rattle.ua_services.proofs.MessageRead.{body_of-found}
-use Rattle.ua_services.proofs.MessagesLawful.{lawful_message}
-use Rattle.ua_structures.specs.Plain.{close_request_of, open_request_of}
-use Rattle.ua_structures.specs.SecureChannel.{close_request, open_request}
-use Rattle.ua_structures.specs.declared.secure_channel.OpenRequest.{OpenRequest}
-use Rattle.ua_structures.proofs.PlainFits.{issue_fits, renew_fits}
-use Rattle.ua_structures.proofs.SecureChannelLawful.{lawful_open_request}
+use Rattle.ua_opening.specs.Message.{body_of, message, standard}
+use Rattle.ua_opening.proofs.BodyLaws.{body_reads_back}
+use Rattle.ua_opening.proofs.Lengths.{open_request_length, close_request_length}
+use Rattle.ua_opening.proofs.MessageRead.{body_of-found}
+use Rattle.ua_opening.proofs.MessagesLawful.{lawful_message}
+use Rattle.ua_opening.specs.Plain.{close_request_of, open_request_of}
+use Rattle.ua_opening.specs.SecureChannel.{close_request, open_request}
+use Rattle.ua_opening.specs.declared.secure_channel.OpenRequest.{OpenRequest}
+use Rattle.ua_opening.proofs.PlainFits.{issue_fits, renew_fits}
+use Rattle.ua_opening.proofs.SecureChannelLawful.{lawful_open_request}
 use Rattle.ua_chunk.specs.declared.chunk.Chunk.{Chunk}
 use Rattle.ua_chunk.specs.declared.flag.Flag.TheVariants.{F}
 use Rattle.ua_chunk.specs.declared.lane.Lane.{Lane}

@@ -9,8 +9,8 @@ use Rattle.ua_frame.specs.declared.kind.Kind.{Kind}
 use Rattle.ua_frame.specs.declared.kind.Kind.TheVariants.{Msg, Opn}
 use Rattle.ua_frame.specs.declared.kind.Kind.TheVariants as kind
 use Rattle.ua_frame.specs.declared.limits.Limits.{Limits}
-use Rattle.ua_services.specs.declared.open.OpenAnswer.TheVariants.{Open}
-use Rattle.ua_structures.specs.declared.secure_channel.OpenResponse.{OpenResponse}
+use Rattle.ua_opening.specs.declared.open.OpenAnswer.TheVariants.{Open}
+use Rattle.ua_opening.specs.declared.secure_channel.OpenResponse.{OpenResponse}
 use Rattle.ua_chunk.specs.Opening.{SecurityHeader, is_none_policy, policy_of}
 use Rattle.ua_chunk.specs.declared.chunk.Chunk.{Chunk}
 use Rattle.ua_channel.specs.Asks.{Asking, Placed, asked_before, end_of, is_in, pending_calls}

@@ -9,7 +9,7 @@ use Rattle.ua_frame.specs.Kinds.{has_flag, least_size}
 use Rattle.ua_frame.specs.declared.frame.Frame.{Frame}
 use Rattle.ua_frame.specs.declared.hello.Hello.{Hello}
 use Rattle.ua_frame.specs.declared.limits.Limits.{Limits}
-use Rattle.ua_structures.specs.declared.secure_channel.OpenRequest.{OpenRequest}
+use Rattle.ua_opening.specs.declared.secure_channel.OpenRequest.{OpenRequest}
 use Rattle.ua_chunk.specs.Abort.{is_readable_abort}
 use Rattle.ua_chunk.specs.Flag.{is_abort_flag}
 use Rattle.ua_chunk.specs.Gathered.{gathered, joined}

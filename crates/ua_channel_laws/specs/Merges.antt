@@ -16,7 +16,7 @@ use Rattle.ua_chunk.specs.Refusal.{FewOpen}
 use Rattle.ua_chunk.specs.Sequence.{may_follow}
 use Rattle.ua_chunk.specs.declared.chunk.Chunk.{Chunk}
 use Rattle.ua_chunk.specs.declared.flag.Flag.TheVariants.{F}
-use Rattle.ua_structures.specs.declared.secure_channel.OpenResponse.{OpenResponse}
+use Rattle.ua_opening.specs.declared.secure_channel.OpenResponse.{OpenResponse}
 use Rattle.ua_channel.specs.Asks.{Asking, Placed, asked_before, asked_in, calls, end_of, id_of, is_finished, is_in, next_id, renewals}
 use Rattle.ua_channel_laws.specs.ClientConversation.{IsGoodReply, IsGoodResponse}
 use Rattle.ua_channel_laws.specs.ClientReads.{AtClient}

@@ -14,9 +14,9 @@ use Rattle.ua_frame.specs.declared.kind.Kind.{Kind}
 use Rattle.ua_frame.specs.declared.kind.Kind.TheVariants.{Hel, Msg, Opn, Clo}
 use Rattle.ua_frame.specs.declared.kind.Kind.TheVariants as kind
 use Rattle.ua_frame.specs.declared.limits.Limits.{Limits}
-use Rattle.ua_services.specs.declared.open.OpenAnswer.{OpenAnswer}
-use Rattle.ua_services.specs.declared.open.OpenAnswer.TheVariants.{Open, Fault}
-use Rattle.ua_structures.specs.declared.secure_channel.OpenResponse.{OpenResponse}
+use Rattle.ua_opening.specs.declared.open.OpenAnswer.{OpenAnswer}
+use Rattle.ua_opening.specs.declared.open.OpenAnswer.TheVariants.{Open, Fault}
+use Rattle.ua_opening.specs.declared.secure_channel.OpenResponse.{OpenResponse}
 use Rattle.ua_channel.specs.Asks.{Asking, Placed, asked_before, end_of}
 use Rattle.ua_channel.specs.ClientTable.{ack_gate, answer_gate, client_gate, client_reasons, client_rules, is_bad}
 use Rattle.ua_channel.specs.ClientTokens.{answer_in, response_listed, responses}

@@ -14,7 +14,7 @@ use Rattle.ua_services.specs.declared.request.RequestKind.TheVariants as request
 use Rattle.ua_services.specs.declared.response.Response.{Response}
 use Rattle.ua_services.specs.declared.response.Response.TheVariants as response
 use Rattle.ua_services.specs.declared.response.ResponseKind.{ResponseKind}
-use Rattle.ua_structures.specs.declared.header.ServiceFault.{ServiceFault}
+use Rattle.ua_opening.specs.declared.header.ServiceFault.{ServiceFault}
 use Rattle.ua_structures.specs.declared.session.CreateSessionResponse.{CreateSessionResponse}
 use Rattle.ua_frame.specs.declared.ack.Ack.{Ack}
 use Rattle.ua_channel.specs.Client.{SameClient, url_of}

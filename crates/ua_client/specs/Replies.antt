@@ -3,7 +3,7 @@ use Rattle.std.specs.Prelude.{◌≡◌, ◌+◌, ◌<◌, ◌⊎◌, ◌++◌, 
 use Rattle.std.specs.List.{list_any}
 use Rattle.ua_channel.specs.ClientTold.{ClientTold}
 use Rattle.ua_channel.specs.ClientTold.ClientTold.{Answered, GaveUp}
-use Rattle.ua_services.specs.Message.{IsBody}
+use Rattle.ua_opening.specs.Message.{IsBody}
 use Rattle.ua_services.specs.Request.{kind_of}
 use Rattle.ua_services.specs.Response.{response, Answers, kind_of as kind_of_response}
 use Rattle.ua_services.specs.declared.request.Request.{Request}

@@ -11,10 +11,10 @@ use Rattle.ua_frame.specs.Run.{Going, Run, events}
 use Rattle.ua_frame.specs.declared.frame.Frame.{Frame}
 use Rattle.ua_frame.specs.declared.limits.Limits.{Limits}
 use Rattle.ua_chunk.specs.Sequence.{next_number}
-use Rattle.ua_services.specs.Message.{message}
-use Rattle.ua_services.proofs.Lengths.{open_response_length}
-use Rattle.ua_structures.specs.Plain.{open_response_of}
-use Rattle.ua_structures.specs.SecureChannel.{open_response}
+use Rattle.ua_opening.specs.Message.{message}
+use Rattle.ua_opening.proofs.Lengths.{open_response_length}
+use Rattle.ua_opening.specs.Plain.{open_response_of}
+use Rattle.ua_opening.specs.SecureChannel.{open_response}
 use Rattle.ua_frame.proofs.Afters.{AllAfter-nil}
 use Rattle.ua_channel.specs.Asks.{Placed, asked_in, next_id}
 use Rattle.ua_channel.specs.Client.{client_limits, client_rules_of, url_of}

@@ -14,7 +14,7 @@ use Rattle.ua_chunk.specs.declared.lane.Lane.{Lane}
 use Rattle.ua_channel_laws.specs.ClientReads.{told_reply}
 use Rattle.ua_channel.specs.ClientTold.{ClientTold as Heard, ClientTold as heard}
 use Rattle.ua_channel.specs.ServerTold.{Told, Agreed, Opened, Asked, GaveUp, Closed}
-use Rattle.ua_services.proofs.BodyLaws.{body_reads_back}
+use Rattle.ua_opening.proofs.BodyLaws.{body_reads_back}
 use Rattle.ua_services.proofs.RequestLawful.{lawful_request}
 use Rattle.ua_services.proofs.RequestRead.{request_read-found}
 use Rattle.ua_services.proofs.ResponseRead.{response_read-found}

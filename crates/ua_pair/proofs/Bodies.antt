@@ -1,11 +1,11 @@
 -- What the lines of a body are.
 use Rattle.std.specs.Prelude.{◌≡◌, ℕ, Bool, List, Option, Some, None, ◌↔◌}
 use Rattle.std.proofs.Common.{refl, ap}
-use Rattle.ua_structures.specs.SecureChannel.{open_request, close_request}
-use Rattle.ua_structures.proofs.SecureChannelLawful.{lawful_open_request, lawful_close_request}
-use Rattle.ua_services.specs.Message.{message}
-use Rattle.ua_services.proofs.MessageRead.{body_of-found, answer_read-is}
-use Rattle.ua_services.proofs.MessagesLawful.{lawful_message}
+use Rattle.ua_opening.specs.SecureChannel.{open_request, close_request}
+use Rattle.ua_opening.proofs.SecureChannelLawful.{lawful_open_request, lawful_close_request}
+use Rattle.ua_opening.specs.Message.{message}
+use Rattle.ua_opening.proofs.MessageRead.{body_of-found, answer_read-is}
+use Rattle.ua_opening.proofs.MessagesLawful.{lawful_message}
 use Rattle.ua_services.proofs.RequestLawful.{lawful_request}
 use Rattle.ua_services.proofs.ResponseLawful.{lawful_response}
 use Rattle.ua_services.specs.Request.{request}

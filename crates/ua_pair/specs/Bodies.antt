@@ -1,8 +1,8 @@
 -- The fields of a body: those of the message that it is.
 use Rattle.std.specs.Prelude.{◌≡◌, ℕ, Bool, List, [], Option, Some, None}
-use Rattle.ua_structures.specs.SecureChannel.{open_request, close_request}
-use Rattle.ua_services.specs.Message.{IsBody, message, body_of}
-use Rattle.ua_services.specs.Open.{IsAnswer, answer_read}
+use Rattle.ua_opening.specs.SecureChannel.{open_request, close_request}
+use Rattle.ua_opening.specs.Message.{IsBody, message, body_of}
+use Rattle.ua_opening.specs.Open.{IsAnswer, answer_read}
 use Rattle.ua_services.specs.Request.{request}
 use Rattle.ua_services.specs.Response.{response}
 use Rattle.ua_pair.specs.Messages.{request_fields, response_fields, open_request_fields, open_answer_fields, close_request_fields}

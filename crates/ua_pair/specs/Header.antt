@@ -1,8 +1,8 @@
 -- The fields of the headers, and of the fault.
 use Rattle.std.specs.Prelude.{[], ◌∷◌, codes}
-use Rattle.ua_structures.specs.declared.header.RequestHeader.{RequestHeader}
-use Rattle.ua_structures.specs.declared.header.ResponseHeader.{ResponseHeader}
-use Rattle.ua_structures.specs.declared.header.ServiceFault.{ServiceFault}
+use Rattle.ua_opening.specs.declared.header.RequestHeader.{RequestHeader}
+use Rattle.ua_opening.specs.declared.header.ResponseHeader.{ResponseHeader}
+use Rattle.ua_opening.specs.declared.header.ServiceFault.{ServiceFault}
 use Rattle.ua_pair.specs.Tree.{Fields, structure, named, array_of}
 use Rattle.ua_pair.specs.Leaves.{number, string, date_time, status_code, node_id, extension_object, diagnostic_info}
 

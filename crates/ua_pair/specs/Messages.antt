@@ -1,14 +1,14 @@
 -- The fields of messages: of each kind of request and response, and of the messages of the secure channel.
 use Rattle.std.specs.Prelude.{ℕ, Bool, List, [], codes}
-use Rattle.ua_services.specs.declared.open.OpenAnswer.{OpenAnswer}
-use Rattle.ua_services.specs.declared.open.OpenAnswer.TheVariants.{Open, Fault}
+use Rattle.ua_opening.specs.declared.open.OpenAnswer.{OpenAnswer}
+use Rattle.ua_opening.specs.declared.open.OpenAnswer.TheVariants.{Open, Fault}
 use Rattle.ua_services.specs.declared.request.Request.{Request}
 use Rattle.ua_services.specs.declared.request.Request.TheVariants.{GetEndpoints, CreateSession, ActivateSession, CloseSession, Read, Write}
 use Rattle.ua_services.specs.declared.response.Response.{Response}
 use Rattle.ua_services.specs.declared.response.Response.TheVariants.{GetEndpoints as GetEndpointsAnswer, CreateSession as CreateSessionAnswer, ActivateSession as ActivateSessionAnswer, CloseSession as CloseSessionAnswer, Read as ReadAnswer, Write as WriteAnswer, ServiceFault}
-use Rattle.ua_structures.specs.declared.secure_channel.CloseRequest.{CloseRequest}
-use Rattle.ua_structures.specs.declared.secure_channel.OpenRequest.{OpenRequest}
-use Rattle.ua_structures.specs.declared.secure_channel.OpenResponse.{OpenResponse}
+use Rattle.ua_opening.specs.declared.secure_channel.CloseRequest.{CloseRequest}
+use Rattle.ua_opening.specs.declared.secure_channel.OpenRequest.{OpenRequest}
+use Rattle.ua_opening.specs.declared.secure_channel.OpenResponse.{OpenResponse}
 use Rattle.ua_pair.specs.Tree.{Tree, structure, lines}
 use Rattle.ua_pair.specs.Header.{service_fault_entries}
 use Rattle.ua_pair.specs.Attribute.{read_request_entries, read_response_entries, write_request_entries, write_response_entries}

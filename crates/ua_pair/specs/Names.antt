@@ -1,13 +1,13 @@
 -- The names of messages, by the side that sent them: a client sends requests, a server responses.
 use Rattle.std.specs.Prelude.{ℕ, List, [], Option, Some, None, Result, Ok, Err, codes}
-use Rattle.ua_structures.specs.SecureChannel.{open_request}
-use Rattle.ua_structures.specs.declared.secure_channel.OpenRequest.{OpenRequest}
-use Rattle.ua_services.specs.Message.{message, body_of}
-use Rattle.ua_services.specs.Open.{answer_read}
+use Rattle.ua_opening.specs.SecureChannel.{open_request}
+use Rattle.ua_opening.specs.declared.secure_channel.OpenRequest.{OpenRequest}
+use Rattle.ua_opening.specs.Message.{message, body_of}
+use Rattle.ua_opening.specs.Open.{answer_read}
 use Rattle.ua_services.specs.Request.{request_kind_name, request_read, kind_alone}
 use Rattle.ua_services.specs.Response.{response_kind_name, response_read, kind_of as response_kind_of}
-use Rattle.ua_services.specs.declared.open.OpenAnswer.{OpenAnswer}
-use Rattle.ua_services.specs.declared.open.OpenAnswer.TheVariants.{Open, Fault}
+use Rattle.ua_opening.specs.declared.open.OpenAnswer.{OpenAnswer}
+use Rattle.ua_opening.specs.declared.open.OpenAnswer.TheVariants.{Open, Fault}
 use Rattle.ua_services.specs.declared.request.RequestKind.{RequestKind}
 use Rattle.ua_services.specs.declared.response.Response.{Response}
 use Rattle.ua_services.specs.declared.fault.RequestFault.{RequestFault}

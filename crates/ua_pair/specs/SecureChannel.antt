@@ -1,8 +1,8 @@
 -- The fields of the services of secure channels.
 use Rattle.std.specs.Prelude.{[], ◌∷◌, codes}
-use Rattle.ua_structures.specs.declared.secure_channel.CloseRequest.{CloseRequest}
-use Rattle.ua_structures.specs.declared.secure_channel.OpenRequest.{OpenRequest}
-use Rattle.ua_structures.specs.declared.secure_channel.OpenResponse.{OpenResponse}
+use Rattle.ua_opening.specs.declared.secure_channel.CloseRequest.{CloseRequest}
+use Rattle.ua_opening.specs.declared.secure_channel.OpenRequest.{OpenRequest}
+use Rattle.ua_opening.specs.declared.secure_channel.OpenResponse.{OpenResponse}
 use Rattle.ua_pair.specs.declared.fields.secure_channel.SecurityToken.{SecurityToken}
 use Rattle.ua_pair.specs.Tree.{Fields, structure, named}
 use Rattle.ua_pair.specs.Leaves.{number, signed, byte_string, date_time}

@@ -13,21 +13,21 @@ use Rattle.ua_wire.specs.declared.double_bits.DoubleBits.{DoubleBits}
 use Rattle.ua_services.proofs.ByKind.{response-encodable}
 use Rattle.ua_services.specs.Response.{response}
 use Rattle.ua_builtin.specs.declared.date_time.DateTime.{DateTime}
-use Rattle.ua_structures.specs.declared.header.RequestHeader.{RequestHeader}
+use Rattle.ua_opening.specs.declared.header.RequestHeader.{RequestHeader}
 use Rattle.ua_services.specs.declared.response.Response.{Response}
 use Rattle.ua_services.specs.declared.response.Response.TheVariants.{GetEndpoints as GetEndpointsMessage, CreateSession as CreateSessionMessage, ActivateSession as ActivateSessionMessage, Read as ReadMessage, Write as WriteMessage, ServiceFault as ServiceFaultMessage}
 use Rattle.ua_services.specs.declared.response.ResponseKind.TheVariants.{GetEndpoints, CreateSession, ActivateSession, Read, Write, ServiceFault as Fault}
-use Rattle.ua_structures.specs.Array.{array}
+use Rattle.ua_opening.specs.Array.{array}
 use Rattle.ua_structures.specs.Attribute.{read_response, write_response}
 use Rattle.ua_structures.specs.Discovery.{endpoint_description, get_endpoints_response}
-use Rattle.ua_structures.specs.Field.{byte_string, string}
-use Rattle.ua_structures.specs.Header.{response_header, service_fault}
+use Rattle.ua_opening.specs.Field.{byte_string, string}
+use Rattle.ua_opening.specs.Header.{response_header, service_fault}
 use Rattle.ua_structures.specs.Plain.{null_signature, session_of, activated_of}
 use Rattle.ua_structures.specs.Session.{create_session_response, activate_session_response, signature_data, signed_software_certificate}
 use Rattle.ua_structures.specs.declared.attribute.ReadResponse.{ReadResponse}
 use Rattle.ua_structures.specs.declared.attribute.WriteResponse.{WriteResponse}
-use Rattle.ua_structures.specs.declared.header.ResponseHeader.{ResponseHeader}
-use Rattle.ua_structures.specs.declared.header.ServiceFault.{ServiceFault}
+use Rattle.ua_opening.specs.declared.header.ResponseHeader.{ResponseHeader}
+use Rattle.ua_opening.specs.declared.header.ServiceFault.{ServiceFault}
 use Rattle.ua_variant.specs.Data.{VariantData, DataValueData}
 use Rattle.ua_variant.specs.View.{data_value_of, data_fields_of, value_within}
 use Rattle.ua_variant.specs.declared.values.DataValue.{DataValue}

@@ -10,9 +10,9 @@ use Rattle.ua_builtin.specs.Format.{Format}
 use Rattle.ua_builtin.specs.LocalizedText.{localized_text}
 use Rattle.ua_nodes.proofs.Fits.{both_are}
 use Rattle.ua_wire.proofs.Readers.{both_true}
-use Rattle.ua_structures.specs.Array.{array}
+use Rattle.ua_opening.specs.Array.{array}
 use Rattle.ua_structures.specs.Discovery.{application_description, user_token_policy, endpoint_description}
-use Rattle.ua_structures.specs.Field.{byte_string, int32, string}
+use Rattle.ua_opening.specs.Field.{byte_string, int32, string}
 use Rattle.ua_server.specs.Endpoint.{none_policy, transport_profile, anonymous, description_of, Fits}
 use Rattle.ua_server.specs.declared.endpoint.Endpoint.{Endpoint}
 

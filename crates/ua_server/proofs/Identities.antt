@@ -14,8 +14,8 @@ use Rattle.ua_structures.specs.Session.{anonymous_identity_token}
 use Rattle.ua_structures.specs.declared.session.AnonymousIdentityToken.{AnonymousIdentityToken}
 use Rattle.ua_structures.proofs.SessionSound.{lawful_anonymous_identity_token}
 use Rattle.ua_services.specs.Identity.{Carries, CarriesNone}
-use Rattle.ua_services.specs.Message.{IsBody, body_of, standard, standard_number}
-use Rattle.ua_services.proofs.BodyRead.{body_found, body_is}
+use Rattle.ua_opening.specs.Message.{IsBody, body_of, standard, standard_number}
+use Rattle.ua_opening.proofs.BodyRead.{body_found, body_is}
 use Rattle.ua_server.specs.Sessions.{is_token, is_anonymous_by, is_anonymous}
 
 token_found : (token : AnonymousIdentityToken) (octets : List ℕ) → IsBody anonymous_identity_token token octets → is_token (Some octets) ≡ true

@@ -11,16 +11,16 @@ use Rattle.ua_nodes.specs.Table.{Nodes, node_at}
 use Rattle.ua_nodes.specs.Within.{IsWithin}
 use Rattle.ua_nodes.specs.declared.stamps.Stamps.{Stamps}
 use Rattle.ua_services.proofs.ByKind.{response-canonical}
-use Rattle.ua_services.specs.Message.{standard}
+use Rattle.ua_opening.specs.Message.{standard}
 use Rattle.ua_services.specs.Response.{response}
 use Rattle.ua_services.specs.declared.response.Response.TheVariants.{Read as ReadMessage}
 use Rattle.ua_services.specs.declared.response.ResponseKind.TheVariants.{Read}
-use Rattle.ua_structures.specs.Array.{array}
+use Rattle.ua_opening.specs.Array.{array}
 use Rattle.ua_structures.specs.Attribute.{read_response}
-use Rattle.ua_structures.specs.Header.{response_header}
+use Rattle.ua_opening.specs.Header.{response_header}
 use Rattle.ua_structures.specs.Plain.{values_of}
 use Rattle.ua_structures.specs.declared.attribute.ReadValueId.{ReadValueId}
-use Rattle.ua_structures.specs.declared.header.ResponseHeader.{ResponseHeader}
+use Rattle.ua_opening.specs.declared.header.ResponseHeader.{ResponseHeader}
 use Rattle.ua_variant.specs.Canonical.{data_value_canonical}
 use Rattle.ua_variant.specs.Data.{DataValueData, bare, valued}
 use Rattle.ua_variant.specs.Formats.{data_value_format}

@@ -19,7 +19,7 @@ use Rattle.ua_structures.specs.Plain.{statuses_of}
 use Rattle.ua_structures.specs.Thin.{thinned, thinned_request}
 use Rattle.ua_structures.specs.declared.attribute.WriteRequest.{WriteRequest}
 use Rattle.ua_structures.specs.declared.attribute.WriteValue.{WriteValue}
-use Rattle.ua_structures.specs.declared.header.RequestHeader.{RequestHeader}
+use Rattle.ua_opening.specs.declared.header.RequestHeader.{RequestHeader}
 use Rattle.ua_structures.specs.declared.thin.ValueType.{ValueType}
 use Rattle.ua_server.specs.Answer.{answer, unless, write_items}
 use Rattle.ua_server.specs.Attributes.{count_reasons, items_of, takes_now}

@@ -11,7 +11,7 @@ use Rattle.ua_services.specs.declared.fault.RequestFault.{RequestFault}
 use Rattle.ua_services.specs.declared.request.Request.{Request}
 use Rattle.ua_services.specs.declared.request.Request.TheVariants.{GetEndpoints, CreateSession, ActivateSession, CloseSession, Read, Write}
 use Rattle.ua_services.specs.declared.response.Response.{Response}
-use Rattle.ua_structures.specs.declared.header.RequestHeader.{RequestHeader}
+use Rattle.ua_opening.specs.declared.header.RequestHeader.{RequestHeader}
 use Rattle.ua_server.specs.Answer.{answer, fault_of, session_header, unless}
 use Rattle.ua_server.specs.Attributes.{read_reasons, values_given, write_reasons, with_written, statuses_given}
 use Rattle.ua_server.specs.Reply.{answered, answered_by}

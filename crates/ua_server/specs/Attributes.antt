@@ -13,7 +13,7 @@ use Rattle.ua_structures.specs.Plain.{values_of, statuses_of}
 use Rattle.ua_structures.specs.declared.attribute.ReadRequest.{ReadRequest}
 use Rattle.ua_structures.specs.declared.attribute.ReadValueId.{ReadValueId}
 use Rattle.ua_structures.specs.declared.attribute.WriteRequest.{WriteRequest}
-use Rattle.ua_structures.specs.declared.header.RequestHeader.{RequestHeader}
+use Rattle.ua_opening.specs.declared.header.RequestHeader.{RequestHeader}
 use Rattle.ua_structures.specs.declared.thin.ValueType.{ValueType}
 use Rattle.ua_variant.specs.Data.{DataFields, DataValueData, VariantData, bare, valued}
 use Rattle.ua_variant.specs.declared.values.DataValue.{DataValue}

@@ -5,15 +5,16 @@ use Rattle.ua_builtin.specs.declared.date_time.DateTime.{DateTime}
 use Rattle.ua_builtin.specs.declared.extension_object.ExtensionBody.{ExtensionBody}
 use Rattle.ua_builtin.specs.declared.extension_object.ExtensionBody.TheVariants.{Absent, ByteString, Xml}
 use Rattle.ua_builtin.specs.declared.extension_object.ExtensionObject.{ExtensionObject}
-use Rattle.ua_services.specs.Message.{body_of, standard_number}
+use Rattle.ua_opening.specs.Message.{body_of, standard_number}
 use Rattle.ua_services.specs.declared.response.Response.{Response}
 use Rattle.ua_services.specs.declared.response.Response.TheVariants.{GetEndpoints, CreateSession, ActivateSession, CloseSession}
-use Rattle.ua_structures.specs.Plain.{response_header_of, session_of, activated_of}
+use Rattle.ua_opening.specs.Plain.{response_header_of}
+use Rattle.ua_structures.specs.Plain.{session_of, activated_of}
 use Rattle.ua_structures.specs.Session.{anonymous_identity_token}
 use Rattle.ua_structures.specs.declared.discovery.EndpointDescription.{EndpointDescription}
 use Rattle.ua_structures.specs.declared.discovery.GetEndpointsRequest.{GetEndpointsRequest}
-use Rattle.ua_structures.specs.declared.header.RequestHeader.{RequestHeader}
-use Rattle.ua_structures.specs.declared.header.ResponseHeader.{ResponseHeader}
+use Rattle.ua_opening.specs.declared.header.RequestHeader.{RequestHeader}
+use Rattle.ua_opening.specs.declared.header.ResponseHeader.{ResponseHeader}
 use Rattle.ua_structures.specs.declared.session.ActivateSessionRequest.{ActivateSessionRequest}
 use Rattle.ua_structures.specs.declared.session.CloseSessionRequest.{CloseSessionRequest}
 use Rattle.ua_structures.specs.declared.session.CreateSessionRequest.{CreateSessionRequest}

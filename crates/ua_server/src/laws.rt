@@ -15,7 +15,7 @@ ghost use Rattle.ua_server.specs.declared.step.StepFault.{StepFault};
 ghost use Rattle.ua_server.specs.Said.{Course, start, with_more, said_of, left_by, last_words, said, left, used_in};
 ghost use Rattle.ua_server.specs.Sharing.{SharedEvent, SharedState, Changed, StandsAmong, at_moment, course_at, opened, seen_by, sent_to, shared_over, told_by};
 ghost use Rattle.ua_services.specs.declared.request.Request.{Request};
-ghost use Rattle.ua_structures.specs.declared.header.RequestHeader.{RequestHeader};
+ghost use Rattle.ua_opening.specs.declared.header.RequestHeader.{RequestHeader};
 ghost use Rattle.ua_services.specs.Request.{request_read};
 ghost use Rattle.ua_services.specs.declared.request.Request.TheVariants as kinds;
 ghost use Rattle.ua_structures.specs.declared.attribute.ReadRequest.{ReadRequest};

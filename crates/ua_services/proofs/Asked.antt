@@ -15,14 +15,15 @@ use Rattle.ua_services.proofs.ByKind.{request-encodable}
 use Rattle.ua_services.specs.Request.{request}
 use Rattle.ua_services.specs.declared.request.Request.TheVariants.{GetEndpoints as GetEndpointsMessage, CreateSession as CreateSessionMessage, ActivateSession as ActivateSessionMessage, CloseSession as CloseSessionMessage, Read as ReadMessage, Write as WriteMessage}
 use Rattle.ua_services.specs.declared.request.RequestKind.TheVariants.{GetEndpoints, CreateSession, ActivateSession, CloseSession, Read, Write}
-use Rattle.ua_structures.specs.Array.{array}
+use Rattle.ua_opening.specs.Array.{array}
 use Rattle.ua_structures.specs.Attribute.{read_request, read_value_id, write_request}
 use Rattle.ua_structures.specs.Discovery.{get_endpoints_request}
-use Rattle.ua_structures.specs.Field.{string, uint32}
-use Rattle.ua_structures.specs.Header.{request_header}
-use Rattle.ua_structures.specs.Plain.{activate_session_of, null_signature, request_header_of}
+use Rattle.ua_opening.specs.Field.{string, uint32}
+use Rattle.ua_opening.specs.Header.{request_header}
+use Rattle.ua_opening.specs.Plain.{request_header_of}
+use Rattle.ua_structures.specs.Plain.{activate_session_of, null_signature}
 use Rattle.ua_structures.specs.Session.{create_session_request, activate_session_request, close_session_request, signature_data, signed_software_certificate}
-use Rattle.ua_structures.specs.declared.header.RequestHeader.{RequestHeader}
+use Rattle.ua_opening.specs.declared.header.RequestHeader.{RequestHeader}
 use Rattle.ua_structures.specs.declared.attribute.ReadRequest.{ReadRequest}
 use Rattle.ua_structures.specs.declared.attribute.WriteRequest.{WriteRequest}
 use Rattle.ua_structures.specs.declared.discovery.GetEndpointsRequest.{GetEndpointsRequest}

@@ -2,8 +2,8 @@
 use Rattle.std.specs.Prelude.{◌≡◌, ◌++◌}
 use Rattle.std.proofs.Common.{refl}
 use Rattle.ua_builtin.specs.NodeId.{node_id}
-use Rattle.ua_services.specs.Message.{standard}
-use Rattle.ua_services.proofs.MessagesLawful.{canonical-made}
+use Rattle.ua_opening.specs.Message.{standard}
+use Rattle.ua_opening.proofs.MessagesLawful.{canonical-made}
 use Rattle.ua_services.proofs.RequestLawful.{are_requests}
 use Rattle.ua_services.proofs.ResponseLawful.{are_responses}
 use Rattle.ua_services.specs.Request.{request, requests, Structure}

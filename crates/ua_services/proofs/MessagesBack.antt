@@ -6,7 +6,7 @@ use Rattle.ua_structures.proofs.AttributeSound.{where_write_request, where_read_
 use Rattle.ua_structures.specs.WrittenBack.{write_unreserved, results_unreserved}
 use Rattle.ua_structures.specs.declared.attribute.ReadResponse.{ReadResponse}
 use Rattle.ua_structures.specs.declared.attribute.WriteRequest.{WriteRequest}
-use Rattle.ua_services.specs.Message.{Kinds, announced, OfKind, message_depth, message_of, IsBody}
+use Rattle.ua_opening.specs.Message.{Kinds, announced, OfKind, message_depth, message_of, IsBody}
 use Rattle.ua_services.specs.Request.{request, requests, request_parts, request_read, kind_of}
 use Rattle.ua_services.specs.Response.{response, responses, response_parts, response_read, kind_of as kind_of_response}
 use Rattle.ua_services.specs.declared.request.Request.{Request}
@@ -16,7 +16,7 @@ use Rattle.ua_services.specs.declared.response.Response.{Response}
 use Rattle.ua_services.specs.declared.response.Response.TheVariants.{Read as ReadMessage}
 use Rattle.ua_services.specs.declared.response.ResponseKind.TheVariants.{Read as WasRead}
 use Rattle.ua_services.proofs.ByKind.{request-encodable, response-encodable}
-use Rattle.ua_services.proofs.MessagesLawful.{AreKinds}
+use Rattle.ua_opening.proofs.MessagesLawful.{AreKinds}
 use Rattle.ua_services.proofs.RequestLawful.{are_requests, request_written}
 use Rattle.ua_services.proofs.RequestRead.{request_read-found}
 use Rattle.ua_services.proofs.ResponseLawful.{are_responses, response_written}

@@ -11,7 +11,7 @@ use Rattle.ua_services.specs.declared.request.Request.TheVariants.{Read as ReadM
 use Rattle.ua_services.specs.declared.request.RequestKind.{RequestKind}
 use Rattle.ua_services.specs.declared.request.RequestKind.TheVariants as kind
 use Rattle.ua_services.specs.declared.request.RequestKind.TheVariants.{Read, Write}
-use Rattle.ua_services.proofs.MessagesLawful.{Written, sound_but, IsKind, AreKinds, lawful_message_of}
+use Rattle.ua_opening.proofs.MessagesLawful.{Written, sound_but, IsKind, AreKinds, lawful_message_of}
 
 request_back : (v : Request) → v ≡ requests.make (request_parts v).0 (request_parts v).1
 request_back (ReadMessage m) = refl

@@ -8,14 +8,14 @@ use Rattle.ua_builtin.specs.NodeId.{node_id}
 use Rattle.ua_builtin.specs.declared.node_id.NodeId.{NodeId}
 use Rattle.ua_wire.specs.declared.fault.ReadFault.{ReadFault}
 use Rattle.ua_wire.specs.declared.fault.ReadFault.TheVariants.{NoValue, OutOfMemory as NoMemory}
-use Rattle.ua_services.specs.Message.{IsBody, IsNoBody, kind_at, if_last, body_of, found_or, id_handle, handle_of, handle_behind, id_of}
+use Rattle.ua_opening.specs.Message.{IsBody, IsNoBody, kind_at, if_last, body_of, found_or, id_handle, handle_of, handle_behind, id_of}
 use Rattle.ua_services.specs.Request.{request, requests, request_kind, kind_read, request_read, unread_with, misread_id, misread_kind, AnnouncesNone, Misread}
 use Rattle.ua_services.specs.declared.request.Request.{Request}
 use Rattle.ua_services.specs.declared.request.RequestKind.{RequestKind}
 use Rattle.ua_services.specs.declared.fault.RequestFault.{RequestFault}
 use Rattle.ua_services.specs.declared.fault.RequestFault.TheVariants.{Unsupported, Unreadable, OutOfMemory}
 use Rattle.ua_services.proofs.RequestLawful.{lawful_request}
-use Rattle.ua_services.proofs.BodyRead.{body_is, body_found, no_body, nothing_left, some_left, found_ok, found_err, err_is}
+use Rattle.ua_opening.proofs.BodyRead.{body_is, body_found, no_body, nothing_left, some_left, found_ok, found_err, err_is}
 
 -- a reader answers this, or that memory was refused
 abbrev pub Reads : Result Request RequestFault → Result Request RequestFault → Type 0

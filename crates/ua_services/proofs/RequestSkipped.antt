@@ -6,7 +6,7 @@ use Rattle.ua_builtin.specs.Format.{Gives, most_levels}
 use Rattle.ua_wire.specs.declared.fault.ReadFault.{ReadFault}
 use Rattle.ua_wire.specs.declared.fault.ReadFault.TheVariants.{NoValue, OutOfMemory as NoMemory}
 use Rattle.ua_wire.proofs.Readers.{some_is}
-use Rattle.ua_services.specs.Message.{kind_at}
+use Rattle.ua_opening.specs.Message.{kind_at}
 use Rattle.ua_services.specs.Request.{requests, kind_of, kind_read, kind_alone, Structure}
 use Rattle.ua_services.specs.declared.request.Request.{Request}
 use Rattle.ua_services.specs.declared.request.RequestKind.{RequestKind}

@@ -10,7 +10,7 @@ use Rattle.ua_structures.specs.Attribute.{write_request}
 use Rattle.ua_structures.specs.Thin.{thinned_request}
 use Rattle.ua_structures.specs.declared.attribute.WriteRequest.{WriteRequest}
 use Rattle.ua_structures.specs.declared.thin.ValueType.{ValueType}
-use Rattle.ua_services.specs.Message.{found_or, handle_behind, if_last}
+use Rattle.ua_opening.specs.Message.{found_or, handle_behind, if_last}
 use Rattle.ua_services.specs.Request.{kind_read, request_read, requests, thin_read, thin_request}
 use Rattle.ua_services.specs.declared.fault.RequestFault.{RequestFault}
 use Rattle.ua_services.specs.declared.fault.RequestFault.TheVariants.{Unreadable}
@@ -18,7 +18,7 @@ use Rattle.ua_services.specs.declared.request.Request.{Request}
 use Rattle.ua_services.specs.declared.request.Request.TheVariants.{Write as WriteMessage}
 use Rattle.ua_services.specs.declared.request.RequestKind.{RequestKind}
 use Rattle.ua_services.specs.declared.request.RequestKind.TheVariants.{Write}
-use Rattle.ua_services.proofs.BodyRead.{image_fails, image_found}
+use Rattle.ua_opening.proofs.BodyRead.{image_fails, image_found}
 use Rattle.ua_services.proofs.RequestRead.{IsUnread, Reads, read_behind, kind_fails, kind_left, kind_whole}
 use Rattle.ua_services.proofs.RequestSkipped.{image_err, made_of}
 

@@ -4,7 +4,7 @@ use Rattle.std.proofs.Common.{refl}
 use Rattle.ua_builtin.specs.Format.{IsLawful}
 use Rattle.ua_structures.proofs.AttributeSound.{lawful_read_response, sound_write_response}
 use Rattle.ua_structures.proofs.DiscoverySound.{sound_get_endpoints_response}
-use Rattle.ua_structures.proofs.HeaderSound.{sound_service_fault}
+use Rattle.ua_opening.proofs.HeaderSound.{sound_service_fault}
 use Rattle.ua_structures.proofs.SessionSound.{sound_create_session_response, sound_activate_session_response, sound_close_session_response}
 use Rattle.ua_services.specs.Response.{response, responses, response_parts, Structure}
 use Rattle.ua_services.specs.declared.response.Response.{Response}
@@ -12,7 +12,7 @@ use Rattle.ua_services.specs.declared.response.Response.TheVariants.{Read as Rea
 use Rattle.ua_services.specs.declared.response.ResponseKind.{ResponseKind}
 use Rattle.ua_services.specs.declared.response.ResponseKind.TheVariants as kind
 use Rattle.ua_services.specs.declared.response.ResponseKind.TheVariants.{Read}
-use Rattle.ua_services.proofs.MessagesLawful.{Written, sound_but, IsKind, AreKinds, lawful_message_of}
+use Rattle.ua_opening.proofs.MessagesLawful.{Written, sound_but, IsKind, AreKinds, lawful_message_of}
 
 response_back : (v : Response) → v ≡ responses.make (response_parts v).0 (response_parts v).1
 response_back (ReadMessage m) = refl

@@ -8,14 +8,14 @@ use Rattle.ua_builtin.specs.NodeId.{node_id}
 use Rattle.ua_builtin.specs.declared.node_id.NodeId.{NodeId}
 use Rattle.ua_wire.specs.declared.fault.ReadFault.{ReadFault}
 use Rattle.ua_wire.specs.declared.fault.ReadFault.TheVariants.{NoValue, OutOfMemory as NoMemory}
-use Rattle.ua_services.specs.Message.{IsBody, IsNoBody, kind_at, if_last, body_of, found_or, id_of}
+use Rattle.ua_opening.specs.Message.{IsBody, IsNoBody, kind_at, if_last, body_of, found_or, id_of}
 use Rattle.ua_services.specs.Response.{response, responses, response_kind, response_read, kind_read, unread_by, misread_id, misread_kind, AnnouncesNone, Misread}
 use Rattle.ua_services.specs.declared.response.Response.{Response}
 use Rattle.ua_services.specs.declared.response.ResponseKind.{ResponseKind}
 use Rattle.ua_services.specs.declared.fault.ResponseFault.{ResponseFault}
 use Rattle.ua_services.specs.declared.fault.ResponseFault.TheVariants.{Unknown, Unreadable, OutOfMemory}
 use Rattle.ua_services.proofs.ResponseLawful.{lawful_response}
-use Rattle.ua_services.proofs.BodyRead.{body_is, body_found, no_body, nothing_left, some_left, found_ok, found_err, err_is}
+use Rattle.ua_opening.proofs.BodyRead.{body_is, body_found, no_body, nothing_left, some_left, found_ok, found_err, err_is}
 
 -- a reader answers this, or that memory was refused
 abbrev pub Reads : Result Response ResponseFault → Result Response ResponseFault → Type 0

@@ -2,7 +2,7 @@
 use Rattle.std.specs.Prelude.{◌≡◌, ℕ, ◌+◌, ◌≤◌, Bool, true, false, cond, map, List, [], ◌∷◌, length, Option, Some, None, option_map, Result, Ok, Err, IfOk}
 use Rattle.std.proofs.Common.{refl, sym, ap, arith, inl, inr}
 use Rattle.ua_builtin.specs.declared.node_id.NodeId.{NodeId}
-use Rattle.ua_structures.specs.Array.{array, array_count, items_count}
+use Rattle.ua_opening.specs.Array.{array, array_count, items_count}
 use Rattle.ua_structures.specs.Attribute.{write_value, write_request}
 use Rattle.ua_structures.specs.Thin.{is_kept, kept_with, null_value, thinned, thinned_request, type_of}
 use Rattle.ua_structures.specs.declared.attribute.WriteRequest.{WriteRequest}

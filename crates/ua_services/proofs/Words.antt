@@ -16,8 +16,8 @@ use Rattle.ua_wire.proofs.Readers.{both_true}
 use Rattle.ua_wire.specs.declared.fault.WriteFault.{WriteFault}
 use Rattle.ua_wire.specs.declared.fault.WriteFault.TheVariants.{NotWritable, OutOfMemory}
 use Rattle.ua_services.specs.Identity.{identity_object}
-use Rattle.ua_services.specs.Message.{standard}
-use Rattle.ua_structures.specs.Field.{string}
+use Rattle.ua_opening.specs.Message.{standard}
+use Rattle.ua_opening.specs.Field.{string}
 use Rattle.ua_structures.specs.Session.{anonymous_identity_token}
 use Rattle.ua_structures.specs.declared.session.AnonymousIdentityToken.{AnonymousIdentityToken}
 use Rattle.ua_services.specs.SessionRequests.{anonymous_id, anonymous_identity, local_url}

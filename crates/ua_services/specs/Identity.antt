@@ -4,7 +4,7 @@ use Rattle.ua_builtin.specs.declared.extension_object.ExtensionObject.{Extension
 use Rattle.ua_builtin.specs.declared.extension_object.ExtensionBody.TheVariants.{ByteString}
 use Rattle.ua_structures.specs.Session.{anonymous_identity_token}
 use Rattle.ua_structures.specs.declared.session.AnonymousIdentityToken.{AnonymousIdentityToken}
-use Rattle.ua_services.specs.Message.{IsBody, standard}
+use Rattle.ua_opening.specs.Message.{IsBody, standard}
 
 -- the object of an AnonymousIdentityToken: the type i=321, and these octets as its body (OPC 10000-6, A.3)
 abbrev pub identity_object : List ℕ → ExtensionObject

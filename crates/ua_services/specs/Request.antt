@@ -13,11 +13,11 @@ use Rattle.ua_structures.specs.declared.session.ActivateSessionRequest.{Activate
 use Rattle.ua_structures.specs.declared.session.CloseSessionRequest.{CloseSessionRequest}
 use Rattle.ua_structures.specs.declared.attribute.ReadRequest.{ReadRequest}
 use Rattle.ua_structures.specs.declared.attribute.WriteRequest.{WriteRequest}
-use Rattle.ua_structures.specs.declared.header.RequestHeader.{RequestHeader}
+use Rattle.ua_opening.specs.declared.header.RequestHeader.{RequestHeader}
 use Rattle.ua_structures.specs.declared.thin.ValueType.{ValueType}
 use Rattle.ua_wire.specs.declared.fault.ReadFault.{ReadFault}
 use Rattle.ua_wire.specs.declared.fault.ReadFault.TheVariants.{NoValue}
-use Rattle.ua_services.specs.Message.{Kind, Kinds, announced, kind_at, message_of, with_number, IsNoBody, body_of, if_last, id_of, handle_of, handle_behind, found_or}
+use Rattle.ua_opening.specs.Message.{Kind, Kinds, announced, kind_at, message_of, with_number, IsNoBody, body_of, if_last, id_of, handle_of, handle_behind, found_or}
 use Rattle.ua_services.specs.declared.request.Request.{Request}
 use Rattle.ua_services.specs.declared.request.Request.TheVariants as message
 use Rattle.ua_services.specs.declared.request.RequestKind.{RequestKind}

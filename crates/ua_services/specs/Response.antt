@@ -5,7 +5,7 @@ use Rattle.ua_builtin.specs.Format.{Format, most_levels}
 use Rattle.ua_builtin.specs.declared.node_id.NodeId.{NodeId}
 use Rattle.ua_structures.specs.Attribute.{read_response, write_response}
 use Rattle.ua_structures.specs.Discovery.{get_endpoints_response}
-use Rattle.ua_structures.specs.Header.{service_fault}
+use Rattle.ua_opening.specs.Header.{service_fault}
 use Rattle.ua_structures.specs.Session.{create_session_response, activate_session_response, close_session_response}
 use Rattle.ua_structures.specs.declared.discovery.GetEndpointsResponse.{GetEndpointsResponse}
 use Rattle.ua_structures.specs.declared.session.CreateSessionResponse.{CreateSessionResponse}
@@ -13,11 +13,11 @@ use Rattle.ua_structures.specs.declared.session.ActivateSessionResponse.{Activat
 use Rattle.ua_structures.specs.declared.session.CloseSessionResponse.{CloseSessionResponse}
 use Rattle.ua_structures.specs.declared.attribute.ReadResponse.{ReadResponse}
 use Rattle.ua_structures.specs.declared.attribute.WriteResponse.{WriteResponse}
-use Rattle.ua_structures.specs.declared.header.ResponseHeader.{ResponseHeader}
-use Rattle.ua_structures.specs.declared.header.ServiceFault.{ServiceFault}
+use Rattle.ua_opening.specs.declared.header.ResponseHeader.{ResponseHeader}
+use Rattle.ua_opening.specs.declared.header.ServiceFault.{ServiceFault}
 use Rattle.ua_wire.specs.declared.fault.ReadFault.{ReadFault}
 use Rattle.ua_wire.specs.declared.fault.ReadFault.TheVariants.{NoValue}
-use Rattle.ua_services.specs.Message.{Kind, Kinds, announced, message_of, with_number, IsNoBody, body_of, id_of, found_or, kind_at, if_last}
+use Rattle.ua_opening.specs.Message.{Kind, Kinds, announced, message_of, with_number, IsNoBody, body_of, id_of, found_or, kind_at, if_last}
 use Rattle.ua_services.specs.declared.request.RequestKind.{RequestKind}
 use Rattle.ua_services.specs.declared.response.Response.{Response}
 use Rattle.ua_services.specs.declared.response.Response.TheVariants as message

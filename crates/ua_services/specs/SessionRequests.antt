@@ -9,7 +9,8 @@ use Rattle.ua_wire.specs.declared.double_bits.DoubleBits.{DoubleBits}
 use Rattle.ua_services.specs.Identity.{identity_object}
 use Rattle.ua_services.specs.declared.request.Request.{Request}
 use Rattle.ua_services.specs.declared.request.Request.TheVariants.{GetEndpoints, CreateSession, ActivateSession, CloseSession, Read, Write}
-use Rattle.ua_structures.specs.Plain.{request_header_of, application_of, endpoints_of, create_session_of, activate_session_of, read_of, write_of, value_of_node}
+use Rattle.ua_opening.specs.Plain.{request_header_of}
+use Rattle.ua_structures.specs.Plain.{application_of, endpoints_of, create_session_of, activate_session_of, read_of, write_of, value_of_node}
 use Rattle.ua_structures.specs.Session.{anonymous_identity_token}
 use Rattle.ua_structures.specs.declared.attribute.ReadValueId.{ReadValueId}
 use Rattle.ua_structures.specs.declared.attribute.WriteValue.{WriteValue}

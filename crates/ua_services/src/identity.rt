@@ -6,12 +6,12 @@ ghost use Rattle.ua_wire.specs.declared.fault.WriteFault.TheVariants.{NotWritabl
 ghost use Rattle.ua_structures.specs.Session.{anonymous_identity_token};
 ghost use Rattle.ua_services.specs.Identity.{Carries, CarriesNone, identity_object};
 
-use crate::message::{read_whole, standard_number};
 use std::alloc::Global;
 use ua_builtin::{
     ExtensionBody, ExtensionObject, Identifier, NodeId, Octets, ReadFault, UaBytes, Wire,
     WriteFault,
 };
+use ua_opening::{read_whole, standard_number};
 use ua_structures::AnonymousIdentityToken;
 
 /// The number of the encoding of an AnonymousIdentityToken (OPC 10000-6, A.3).

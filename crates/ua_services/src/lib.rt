@@ -19,30 +19,27 @@
 
 mod fault;
 mod identity;
+mod kinds;
 pub mod laws;
-mod message;
-mod open;
 mod request;
 mod response;
 pub mod session_requests;
 
 pub use fault::{RequestFault, ResponseFault};
 pub use identity::{read_identity, write_identity};
-pub use message::empty_body;
-pub use open::{
-    OpenAnswer, read_open_request, read_open_response, write_close_request, write_open_request,
-    write_open_response,
-};
 pub use request::{
     Request, RequestKind, read_request, read_request_for, request_body, skip_request, write_request,
 };
 pub use response::{Response, ResponseKind, read_response, response_body, write_response};
+pub use ua_opening::{
+    CloseRequest, OpenAnswer, OpenRequest, OpenResponse, RequestHeader, ResponseHeader,
+    ServiceFault, UaArray, empty_body, read_array, read_open_request, read_open_response,
+    write_close_request, write_open_request, write_open_response,
+};
 pub use ua_structures::{
     ActivateSessionRequest, ActivateSessionResponse, AnonymousIdentityToken,
-    ApplicationDescription, CloseRequest, CloseSessionRequest, CloseSessionResponse,
-    CreateSessionRequest, CreateSessionResponse, EndpointDescription, GetEndpointsRequest,
-    GetEndpointsResponse, OpenRequest, OpenResponse, ReadRequest, ReadResponse, ReadValueId,
-    RequestHeader, ResponseHeader, ServiceFault, SignatureData, SignedSoftwareCertificate,
-    TakesTypes, UaArray, UserTokenPolicy, ValueType, WriteRequest, WriteResponse, WriteValue,
-    read_array,
+    ApplicationDescription, CloseSessionRequest, CloseSessionResponse, CreateSessionRequest,
+    CreateSessionResponse, EndpointDescription, GetEndpointsRequest, GetEndpointsResponse,
+    ReadRequest, ReadResponse, ReadValueId, SignatureData, SignedSoftwareCertificate, TakesTypes,
+    UserTokenPolicy, ValueType, WriteRequest, WriteResponse, WriteValue,
 };

@@ -4,19 +4,18 @@ ghost use Rattle.std.specs.Prelude.{◌≡◌, ◌≤◌, ◌++◌, ◌⊎◌, �
 ghost use Rattle.ua_builtin.specs.Exact.{image_read, skipped};
 ghost use Rattle.ua_builtin.specs.Format.{most_levels, Gives, StaysBehind};
 ghost use Rattle.ua_wire.specs.declared.fault.WriteFault.TheVariants.{NotWritable};
-ghost use Rattle.ua_services.specs.Message.{IsBody, handle_behind, kind_at};
+ghost use Rattle.ua_opening.specs.Message.{IsBody, handle_behind, kind_at};
 ghost use Rattle.ua_services.specs.Request.{request, requests, request_kind, request_of_kind, unread_with, kind_read, kind_alone, request_read, thin_read, Misread};
 
 use crate::fault::RequestFault;
-use crate::message::{
-    append_message, empty_body, kind_of, message_of_kind, name_of, numbered, standard_number,
-};
+use crate::kinds::{kind_of, message_of_kind, name_of, numbered};
 use crate::{by_kind, requests};
 use std::alloc::{AllocError, Global};
 use ua_builtin::{MOST_LEVELS, NodeId, ReadFault, Skip, Source, Wire, WriteFault};
+use ua_opening::{RequestHeader, append_message, empty_body, standard_number};
 use ua_structures::{
     ActivateSessionRequest, CloseSessionRequest, CreateSessionRequest, GetEndpointsRequest,
-    ReadRequest, RequestHeader, TakesTypes, WriteRequest,
+    ReadRequest, TakesTypes, WriteRequest,
 };
 
 /// The kinds of request, each with the structure that it holds and the number of its encoding

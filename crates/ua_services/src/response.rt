@@ -4,20 +4,19 @@ ghost use Rattle.std.specs.Prelude.{◌≡◌, ◌≤◌, ◌++◌, ◌⊎◌, �
 ghost use Rattle.ua_builtin.specs.Exact.{image_read};
 ghost use Rattle.ua_builtin.specs.Format.{most_levels, Gives, StaysBehind};
 ghost use Rattle.ua_wire.specs.declared.fault.WriteFault.TheVariants.{NotWritable};
-ghost use Rattle.ua_services.specs.Message.{IsBody};
+ghost use Rattle.ua_opening.specs.Message.{IsBody};
 ghost use Rattle.ua_services.specs.Response.{response, responses, response_kind, response_of_kind, unread_by, kind_read, own_answer, response_read, Misread};
 
 use crate::fault::ResponseFault;
-use crate::message::{
-    append_message, empty_body, kind_of, message_of_kind, name_of, numbered, standard_number,
-};
+use crate::kinds::{kind_of, message_of_kind, name_of, numbered};
 use crate::request::RequestKind;
 use crate::{by_kind, requests, responses};
 use std::alloc::{AllocError, Global};
 use ua_builtin::{MOST_LEVELS, NodeId, ReadFault, Source, Wire, WriteFault};
+use ua_opening::{ResponseHeader, ServiceFault, append_message, empty_body, standard_number};
 use ua_structures::{
     ActivateSessionResponse, CloseSessionResponse, CreateSessionResponse, GetEndpointsResponse,
-    ReadResponse, ResponseHeader, ServiceFault, WriteResponse,
+    ReadResponse, WriteResponse,
 };
 
 /// The kinds of response, as [`requests`](crate::requests) has those of request.

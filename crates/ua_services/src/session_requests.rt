@@ -13,8 +13,9 @@ ghost use Rattle.ua_builtin.specs.NodeId.{node_id};
 ghost use Rattle.ua_wire.specs.declared.fault.WriteFault.TheVariants.{NotWritable};
 ghost use Rattle.ua_services.specs.Request.{request};
 ghost use Rattle.ua_structures.specs.Attribute.{read_value_id, write_value};
-ghost use Rattle.ua_structures.specs.Field.{string};
-ghost use Rattle.ua_structures.specs.Plain.{request_header_of, value_for_node};
+ghost use Rattle.ua_opening.specs.Field.{string};
+ghost use Rattle.ua_opening.specs.Plain.{request_header_of};
+ghost use Rattle.ua_structures.specs.Plain.{value_for_node};
 ghost use Rattle.ua_variant.specs.Formats.{data_value_format};
 ghost use Rattle.ua_variant.specs.View.{variant_of};
 ghost use Rattle.ua_services.specs.SessionRequests.{activate_session, activate_session_as, anonymous_identity, attribute_of_node, close_session, create_session, get_endpoints, local_url as url_of, part_of_node, read, value_alone, write};
@@ -23,10 +24,10 @@ use crate::identity::write_identity;
 use crate::request::Request;
 use std::alloc::{AllocError, Global};
 use ua_builtin::{DateTime, DoubleBits, NodeId, UaString, WriteFault};
+use ua_opening::RequestHeader;
 use ua_structures::{
     ActivateSessionRequest, AnonymousIdentityToken, ApplicationDescription, CloseSessionRequest,
-    CreateSessionRequest, GetEndpointsRequest, ReadRequest, ReadValueId, RequestHeader,
-    WriteRequest, WriteValue,
+    CreateSessionRequest, GetEndpointsRequest, ReadRequest, ReadValueId, WriteRequest, WriteValue,
 };
 use ua_variant::{DataValue, HeldVariant, Variant};
 

@@ -14,9 +14,9 @@ use Rattle.ua_wire.specs.DoubleBits.{double_bits}
 use Rattle.ua_wire.specs.Number.{number_octets}
 use Rattle.ua_services.specs.SessionRequests.{activate_session, local_url}
 use Rattle.ua_services.specs.Request.{request}
-use Rattle.ua_structures.specs.Array.{array}
+use Rattle.ua_opening.specs.Array.{array}
 use Rattle.ua_structures.specs.Discovery.{application_description}
-use Rattle.ua_structures.specs.Header.{request_header}
+use Rattle.ua_opening.specs.Header.{request_header}
 use Rattle.ua_structures.specs.Session.{activate_session_request, anonymous_identity_token, create_session_request, signature_data, signed_software_certificate}
 use Rattle.ua_exchange.specs.Accepted.{IsAccepted}
 use Rattle.ua_exchange.specs.declared.turn.Turn.TheVariants.{Ask}

@@ -9,11 +9,12 @@ use Rattle.ua_wire.proofs.CountedLawful.{lawful_text}
 use Rattle.ua_wire.proofs.Lawfulness.{lawful_32, lawful_pair, lawful_struct}
 use Rattle.ua_diagnostic.proofs.DiagnosticsLawful.{lawful_diagnostic}
 use Rattle.ua_variant.proofs.VariantsLawful.{lawful_data_value}
-use Rattle.ua_structures.proofs.ArrayLawful.{lawful_array}
-use Rattle.ua_structures.proofs.FlatsBack.{back_node_id}
-use Rattle.ua_structures.proofs.FormatsBack.{WritesBackWhere, back_array, back_diagnostic, back_flat, back_string, back_uint32, where_array, where_as, where_data_value, where_pair, where_struct}
-use Rattle.ua_structures.proofs.Sound.{Sound, sound_array, sound_diagnostic, sound_double_bits, sound_int32, sound_node_id, sound_pair, sound_qualified_name, sound_status_code, sound_string, sound_struct, sound_uint32}
-use Rattle.ua_structures.proofs.HeaderSound.{sound_request_header, sound_response_header}
+use Rattle.ua_opening.proofs.ArrayLawful.{lawful_array}
+use Rattle.ua_opening.proofs.FlatsBack.{back_node_id}
+use Rattle.ua_opening.proofs.FormatsBack.{WritesBackWhere, back_array, back_diagnostic, back_flat, back_string, back_uint32, where_array, where_as, where_pair, where_struct}
+use Rattle.ua_structures.proofs.VariantsBack.{where_data_value}
+use Rattle.ua_opening.proofs.Sound.{Sound, sound_array, sound_diagnostic, sound_double_bits, sound_int32, sound_node_id, sound_pair, sound_qualified_name, sound_status_code, sound_string, sound_struct, sound_uint32}
+use Rattle.ua_opening.proofs.HeaderSound.{sound_request_header, sound_response_header}
 
 pub sound_read_value_id : Sound read_value_id
 unfolding read_value_id

@@ -1,8 +1,8 @@
 -- The structures of Discovery are sound.
 use Rattle.std.proofs.Common.{refl}
 use Rattle.ua_structures.specs.Discovery.{application_description, user_token_policy, endpoint_description, get_endpoints_request, get_endpoints_response}
-use Rattle.ua_structures.proofs.Sound.{Sound, sound_array, sound_byte, sound_byte_string, sound_int32, sound_localized_text, sound_pair, sound_string, sound_struct}
-use Rattle.ua_structures.proofs.HeaderSound.{sound_request_header, sound_response_header}
+use Rattle.ua_opening.proofs.Sound.{Sound, sound_array, sound_byte, sound_byte_string, sound_int32, sound_localized_text, sound_pair, sound_string, sound_struct}
+use Rattle.ua_opening.proofs.HeaderSound.{sound_request_header, sound_response_header}
 
 pub sound_application_description : Sound application_description
 unfolding application_description

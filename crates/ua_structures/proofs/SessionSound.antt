@@ -4,9 +4,9 @@ use Rattle.ua_builtin.specs.Format.{IsLawful}
 use Rattle.ua_structures.specs.Session.{signed_software_certificate, signature_data, anonymous_identity_token, create_session_request, create_session_response, activate_session_request, activate_session_response, close_session_request, close_session_response}
 use Rattle.ua_wire.proofs.CountedLawful.{lawful_text}
 use Rattle.ua_wire.proofs.Lawfulness.{lawful_struct}
-use Rattle.ua_structures.proofs.Sound.{Sound, sound_array, sound_boolean, sound_byte_string, sound_diagnostic, sound_double_bits, sound_extension_object, sound_node_id, sound_pair, sound_status_code, sound_string, sound_struct, sound_uint32}
+use Rattle.ua_opening.proofs.Sound.{Sound, sound_array, sound_boolean, sound_byte_string, sound_diagnostic, sound_double_bits, sound_extension_object, sound_node_id, sound_pair, sound_status_code, sound_string, sound_struct, sound_uint32}
 use Rattle.ua_structures.proofs.DiscoverySound.{sound_application_description, sound_endpoint_description}
-use Rattle.ua_structures.proofs.HeaderSound.{sound_request_header, sound_response_header}
+use Rattle.ua_opening.proofs.HeaderSound.{sound_request_header, sound_response_header}
 
 pub sound_signed_software_certificate : Sound signed_software_certificate
 unfolding signed_software_certificate

@@ -11,18 +11,18 @@ use Rattle.ua_builtin.specs.Number.{number_at}
 use Rattle.ua_builtin.specs.declared.node_id.NodeId.{NodeId}
 use Rattle.ua_variant.specs.Formats.{data_value_format}
 use Rattle.ua_variant.specs.declared.values.DataValue.{DataValue}
-use Rattle.ua_structures.specs.Array.{array, array_at, behind_count, items_at}
+use Rattle.ua_opening.specs.Array.{array, array_at, behind_count, items_at}
 use Rattle.ua_structures.specs.Attribute.{write_request, write_value}
-use Rattle.ua_structures.specs.Header.{request_header}
+use Rattle.ua_opening.specs.Header.{request_header}
 use Rattle.ua_structures.specs.Thin.{kept_value, null_value, thinned, thinned_request}
 use Rattle.ua_structures.specs.declared.attribute.WriteRequest.{WriteRequest}
 use Rattle.ua_structures.specs.declared.attribute.WriteValue.{WriteValue}
-use Rattle.ua_structures.specs.declared.header.RequestHeader.{RequestHeader}
+use Rattle.ua_opening.specs.declared.header.RequestHeader.{RequestHeader}
 use Rattle.ua_structures.specs.declared.thin.ValueType.{ValueType}
 use Rattle.ua_structures.specs.inside.Ahead.{is_kept_at}
 use Rattle.ua_structures.proofs.Ahead.{kept_is}
 use Rattle.ua_structures.proofs.AttributeSound.{lawful_write_value}
-use Rattle.ua_structures.proofs.ItemsRead.{claims_more}
+use Rattle.ua_opening.proofs.ItemsRead.{claims_more}
 
 -- a reader of lists
 abbrev Read : Type 0 → Type 0

@@ -13,9 +13,14 @@ use Rattle.ua_variant.specs.Leaf.{leaf_kind, is_reserved, EncodesLeaf, leaf_enco
 use Rattle.ua_variant.specs.Fields.{data_fields}
 use Rattle.ua_variant.specs.Encodable.{data_fields_encodable, kind_of, is_kind, is_read_kind, is_variant, row_length, variant_fits, scalar_fits, scalars_fit, data_value_fits}
 use Rattle.ua_variant.specs.Encoding.{EncodesVariant, EncodesScalar, EncodesRow, EncodesDataValue}
-use Rattle.ua_structures.specs.WrittenBack.{variant_ids, scalar_ids, scalars_ids, data_value_ids, none_reserved}
-use Rattle.ua_structures.proofs.FlatsBack.{and_true, back_number, back_boolean, back_signed_8, back_signed_16, back_signed_32, back_signed_64, back_float_bits, back_double_bits, back_text, back_counted, back_date_time, back_guid, back_xml_element, back_node_id, back_expanded_node_id, back_status_code, back_qualified_name, back_localized_text, back_extension_object}
-use Rattle.ua_structures.proofs.DiagnosticsBack.{optional_back, diagnostic_back}
+use Rattle.ua_structures.specs.WrittenBack.{variant_ids, scalar_ids, scalars_ids, data_value_ids, none_reserved, variant_unreserved, data_value_unreserved}
+use Rattle.ua_opening.proofs.FlatsBack.{and_true, back_number, back_boolean, back_signed_8, back_signed_16, back_signed_32, back_signed_64, back_float_bits, back_double_bits, back_text, back_counted, back_date_time, back_guid, back_xml_element, back_node_id, back_expanded_node_id, back_status_code, back_qualified_name, back_localized_text, back_extension_object}
+use Rattle.ua_opening.proofs.DiagnosticsBack.{optional_back, diagnostic_back}
+use Rattle.ua_opening.proofs.FormatsBack.{WritesBackWhere}
+use Rattle.ua_builtin.specs.Format.{most_levels}
+use Rattle.ua_variant.specs.Formats.{variant_format, data_value_format}
+use Rattle.ua_variant.specs.Measure.{variant_depth, data_value_depth}
+use Rattle.ua_variant.specs.View.{variant_of, data_value_of}
 
 -- ---- scalars that hold no further value
 
@@ -134,3 +139,17 @@ mutual
   data_value_back (valued v f) b h =
       let k = h.1.4.1.1 in
       ap₂ (λ (x y : Bool). x && y) (data_fields_back h.0 f k.1 k.4) (variant_back v k.0 k.3)
+
+-- ---- the values of the code
+
+pub where_variant : WritesBackWhere variant_unreserved variant_format
+unfolding variant_format
+where_variant = record {
+  agrees = λ v b h. ap₂ (λ (x y : Bool). x && y) (le-leb (variant_depth (variant_of v)) most_levels h.1) (variant_back (variant_of v) b h.0);
+}
+
+pub where_data_value : WritesBackWhere data_value_unreserved data_value_format
+unfolding data_value_format
+where_data_value = record {
+  agrees = λ v b h. ap₂ (λ (x y : Bool). x && y) (le-leb (data_value_depth (data_value_of v)) most_levels h.1) (data_value_back (data_value_of v) b h.0);
+}

@@ -6,9 +6,9 @@ use Rattle.ua_builtin.specs.NodeId.{node_id}
 use Rattle.ua_builtin.specs.QualifiedName.{qualified_name}
 use Rattle.ua_builtin.specs.Status.{status_code}
 use Rattle.ua_variant.specs.Formats.{data_value_format, diagnostic_format}
-use Rattle.ua_structures.specs.Array.{array}
-use Rattle.ua_structures.specs.Field.{int32, string, uint32}
-use Rattle.ua_structures.specs.Header.{request_header, response_header}
+use Rattle.ua_opening.specs.Array.{array}
+use Rattle.ua_opening.specs.Field.{int32, string, uint32}
+use Rattle.ua_opening.specs.Header.{request_header, response_header}
 use Rattle.ua_structures.specs.declared.attribute.ReadRequest.{ReadRequest}
 use Rattle.ua_structures.specs.declared.attribute.ReadResponse.{ReadResponse}
 use Rattle.ua_structures.specs.declared.attribute.ReadValueId.{ReadValueId}

@@ -2,9 +2,9 @@
 use Rattle.ua_builtin.specs.Format.{Format, flat}
 use Rattle.ua_builtin.specs.Join.{pair, struct}
 use Rattle.ua_builtin.specs.LocalizedText.{localized_text}
-use Rattle.ua_structures.specs.Array.{array}
-use Rattle.ua_structures.specs.Field.{byte, byte_string, int32, string}
-use Rattle.ua_structures.specs.Header.{request_header, response_header}
+use Rattle.ua_opening.specs.Array.{array}
+use Rattle.ua_opening.specs.Field.{byte, byte_string, int32, string}
+use Rattle.ua_opening.specs.Header.{request_header, response_header}
 use Rattle.ua_structures.specs.declared.discovery.ApplicationDescription.{ApplicationDescription}
 use Rattle.ua_structures.specs.declared.discovery.EndpointDescription.{EndpointDescription}
 use Rattle.ua_structures.specs.declared.discovery.GetEndpointsRequest.{GetEndpointsRequest}

@@ -7,10 +7,10 @@ use Rattle.ua_builtin.specs.Join.{pair, struct}
 use Rattle.ua_builtin.specs.NodeId.{node_id}
 use Rattle.ua_builtin.specs.Status.{status_code}
 use Rattle.ua_variant.specs.Formats.{diagnostic_format}
-use Rattle.ua_structures.specs.Array.{array}
+use Rattle.ua_opening.specs.Array.{array}
 use Rattle.ua_structures.specs.Discovery.{application_description, endpoint_description}
-use Rattle.ua_structures.specs.Field.{byte_string, string, uint32}
-use Rattle.ua_structures.specs.Header.{request_header, response_header}
+use Rattle.ua_opening.specs.Field.{byte_string, string, uint32}
+use Rattle.ua_opening.specs.Header.{request_header, response_header}
 use Rattle.ua_structures.specs.declared.session.ActivateSessionRequest.{ActivateSessionRequest}
 use Rattle.ua_structures.specs.declared.session.ActivateSessionResponse.{ActivateSessionResponse}
 use Rattle.ua_structures.specs.declared.session.AnonymousIdentityToken.{AnonymousIdentityToken}

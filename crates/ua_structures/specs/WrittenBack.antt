@@ -1,9 +1,8 @@
 -- What was read can be written back. That is a law of Strings, ByteStrings, NodeIds, QualifiedNames, LocalizedTexts, ExtensionObjects and
 -- DiagnosticInfos, of headers and of the items of a Read; of Variants, DataValues and the items of a Write just where no reserved type id is
 -- named.
-use Rattle.std.specs.Prelude.{◌≡◌, ℕ, ◌≤◌, List, [], ◌∷◌, ◌++◌, Bool, true, not, Option, Some, None}
+use Rattle.std.specs.Prelude.{ℕ, List, [], ◌∷◌, ◌++◌, Bool, not}
 use Rattle.std.specs.List.{list_all}
-use Rattle.ua_builtin.specs.Format.{Format, most_levels}
 use Rattle.ua_variant.specs.Data.{VariantData, null, one, absent, many, ScalarData, leaf, data_value, variant, diagnostic, ScalarsData, no_scalars, scalar, DataValueData, bare, valued}
 use Rattle.ua_variant.specs.Leaf.{leaf_kind, is_reserved}
 use Rattle.ua_variant.specs.View.{variant_of, data_value_of}
@@ -11,6 +10,7 @@ use Rattle.ua_variant.specs.declared.values.Variant.{Variant}
 use Rattle.ua_variant.specs.declared.values.DataValue.{DataValue}
 use Rattle.ua_structures.specs.declared.attribute.ReadResponse.{ReadResponse}
 use Rattle.ua_structures.specs.declared.attribute.WriteRequest.{WriteRequest}
+use Rattle.ua_opening.specs.WrittenBack.{array_all}
 
 -- ---- type ids
 
@@ -49,12 +49,7 @@ variant_unreserved v = none_reserved (variant_ids (variant_of v))
 abbrev pub data_value_unreserved : DataValue → Bool
 data_value_unreserved v = none_reserved (data_value_ids (data_value_of v))
 
--- ---- arrays, and the two structures that hold values
-
--- each item passes the test; a null array has none
-abbrev pub array_all : {A : Type 0} → (A → Bool) → Option (List A) → Bool
-array_all test None = true
-array_all test (Some v) = list_all test v
+-- ---- the two structures that hold values
 
 -- no value that is to be written names a reserved type id
 abbrev pub write_unreserved : WriteRequest → Bool
@@ -63,14 +58,3 @@ write_unreserved m = array_all (λ item. data_value_unreserved item.value) m.nod
 -- no value that was read names a reserved type id
 abbrev pub results_unreserved : ReadResponse → Bool
 results_unreserved m = array_all data_value_unreserved m.results
-
--- ---- reading, and then writing
-
--- of the values that octets are read as, with at most 100 levels, just those that pass the test can be written
-abbrev pub ReadIsWritableWhere : {A : Type 0} → (A → Bool) → Format A → Type 0
-ReadIsWritableWhere {A = A} test f =
-    (levels : ℕ) (octets rest : List ℕ) (v : A) → levels ≤ most_levels → f.decode levels octets ≡ Some (v, rest) → f.encodable v ≡ test v
-
--- each value that octets are read as, with at most 100 levels, can be written
-abbrev pub ReadIsWritable : {A : Type 0} → Format A → Type 0
-ReadIsWritable f = ReadIsWritableWhere (λ v. true) f

@@ -7,16 +7,16 @@ ghost use Rattle.ua_builtin.specs.NodeId.{node_id as node_format};
 ghost use Rattle.ua_builtin.specs.Status.{status_code};
 ghost use Rattle.ua_variant.specs.Formats.{data_value_format};
 ghost use Rattle.ua_structures.specs.Attribute.{read_value_id, read_request, read_response, write_value, write_request, write_response};
-ghost use Rattle.ua_structures.specs.Header.{request_header as header_format, response_header as answer_format};
+ghost use Rattle.ua_opening.specs.Header.{request_header as header_format, response_header as answer_format};
 ghost use Rattle.ua_structures.specs.Plain.{empty_read, empty_read_response, value_of_node, value_for_node, read_of, write_of, values_of, statuses_of};
 
-use crate::array::UaArray;
 use crate::data_values::read_data_values;
-use crate::fields::{append_fields, are_encodable, read_fields};
-use crate::header::{RequestHeader, ResponseHeader};
 use std::alloc::{AllocError, Global};
 use ua_builtin::{
     DoubleBits, NodeId, QualifiedName, ReadFault, Skip, Source, StatusCode, UaString, Wire,
+};
+use ua_opening::{
+    RequestHeader, ResponseHeader, UaArray, append_fields, are_encodable, read_fields,
 };
 use ua_variant::{DataValue, DiagnosticInfo};
 use ua_wire::{append_three, append_two};

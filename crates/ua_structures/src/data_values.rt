@@ -4,12 +4,12 @@ ghost use Rattle.std.specs.Prelude.{◌≡◌, ◌≤◌, IsErrOf};
 ghost use Rattle.ua_builtin.specs.Counted.{IsOverlong};
 ghost use Rattle.ua_builtin.specs.Format.{most_levels, Gives, GivesBy, StaysBehind};
 ghost use Rattle.ua_wire.specs.declared.fault.ReadFault.TheVariants.{NoValue};
-ghost use Rattle.ua_structures.specs.Array.{array, items_at};
+ghost use Rattle.ua_opening.specs.Array.{array, items_at};
 ghost use Rattle.ua_variant.specs.Formats.{data_value_format};
 
-use crate::array::UaArray;
 use std::alloc::Global;
 use ua_builtin::{FIRST_NEGATIVE, ReadFault, Source, Wire};
+use ua_opening::UaArray;
 use ua_variant::DataValue;
 
 /// Reads that many DataValues. Memory grows by what was read, never by what a count claims.
@@ -36,7 +36,7 @@ fn read_each<S: Source>(
 ///
 /// `NoValue` where the source begins with no such array, also where its count is above the octets
 /// behind it; `OutOfMemory` where memory is refused. After a fault the source is to be given up.
-#[tactic(auto, unfolding(crate::specs::Array::array))]
+#[tactic(auto, unfolding(ua_opening::specs::Array::array))]
 pub fn read_data_values<S: Source>(
     alloc: Global,
     src: &mut S,

@@ -1,17 +1,17 @@
 //! Discovery: endpoints, and who serves them.
 
 ghost use Rattle.std.specs.Prelude.{◌≡◌, ◌≤◌, None, pos, IsTrue};
-ghost use Rattle.ua_structures.specs.Array.{array};
+ghost use Rattle.ua_opening.specs.Array.{array};
 ghost use Rattle.ua_structures.specs.Discovery.{application_description, get_endpoints_request};
-ghost use Rattle.ua_structures.specs.Field.{string};
-ghost use Rattle.ua_structures.specs.Header.{request_header as header_format};
+ghost use Rattle.ua_opening.specs.Field.{string};
+ghost use Rattle.ua_opening.specs.Header.{request_header as header_format};
 ghost use Rattle.ua_structures.specs.Plain.{application_of, endpoints_of};
 
-use crate::array::UaArray;
-use crate::fields::{append_fields, are_encodable, read_fields};
-use crate::header::{RequestHeader, ResponseHeader};
 use std::alloc::{AllocError, Global};
 use ua_builtin::{LocalizedText, ReadFault, Source, UaBytes, UaString, Wire};
+use ua_opening::{
+    RequestHeader, ResponseHeader, UaArray, append_fields, are_encodable, read_fields,
+};
 use ua_wire::{append_three, append_two};
 
 /// A server or a client (OPC 10000-4, 7.2).

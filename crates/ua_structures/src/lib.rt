@@ -16,19 +16,14 @@
 //! ```
 #![tactic(auto)]
 
-mod array;
 mod attribute;
 mod data_values;
 mod discovery;
-mod fields;
-mod header;
 pub mod laws;
-mod secure_channel;
 mod session;
 mod signature;
 mod thin;
 
-pub use array::{UaArray, read_array};
 pub use attribute::{
     ReadRequest, ReadResponse, ReadValueId, WriteRequest, WriteResponse, WriteValue,
 };
@@ -36,11 +31,13 @@ pub use discovery::{
     ApplicationDescription, EndpointDescription, GetEndpointsRequest, GetEndpointsResponse,
     UserTokenPolicy,
 };
-pub use header::{RequestHeader, ResponseHeader, ServiceFault};
-pub use secure_channel::{CloseRequest, OpenRequest, OpenResponse};
 pub use session::{
     ActivateSessionRequest, ActivateSessionResponse, AnonymousIdentityToken, CloseSessionRequest,
     CloseSessionResponse, CreateSessionRequest, CreateSessionResponse,
 };
 pub use signature::{SignatureData, SignedSoftwareCertificate};
 pub use thin::{TakesTypes, ValueType};
+pub use ua_opening::{
+    CloseRequest, OpenRequest, OpenResponse, RequestHeader, ResponseHeader, ServiceFault, UaArray,
+    read_array,
+};

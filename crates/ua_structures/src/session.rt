@@ -4,21 +4,21 @@ ghost use Rattle.std.specs.Prelude.{◌≡◌, ◌≤◌, IsTrue};
 ghost use Rattle.ua_builtin.specs.DoubleBits.{double_bits};
 ghost use Rattle.ua_builtin.specs.ExtensionObject.{extension_object};
 ghost use Rattle.ua_builtin.specs.NodeId.{node_id};
-ghost use Rattle.ua_structures.specs.Array.{array};
+ghost use Rattle.ua_opening.specs.Array.{array};
 ghost use Rattle.ua_structures.specs.Discovery.{application_description, endpoint_description};
-ghost use Rattle.ua_structures.specs.Field.{string};
-ghost use Rattle.ua_structures.specs.Header.{request_header as header_format, response_header as answer_format};
+ghost use Rattle.ua_opening.specs.Field.{string};
+ghost use Rattle.ua_opening.specs.Header.{request_header as header_format, response_header as answer_format};
 ghost use Rattle.ua_structures.specs.Plain.{create_session_of, session_of, activate_session_of, activated_of};
 ghost use Rattle.ua_structures.specs.Session.{create_session_request, create_session_response, activate_session_request, activate_session_response};
 
-use crate::array::UaArray;
 use crate::discovery::{ApplicationDescription, EndpointDescription};
-use crate::fields::{append_fields, are_encodable, read_fields};
-use crate::header::{RequestHeader, ResponseHeader};
 use crate::signature::{SignatureData, SignedSoftwareCertificate};
 use std::alloc::{AllocError, Global};
 use ua_builtin::{
     DoubleBits, ExtensionObject, NodeId, ReadFault, Source, StatusCode, UaBytes, UaString, Wire,
+};
+use ua_opening::{
+    RequestHeader, ResponseHeader, UaArray, append_fields, are_encodable, read_fields,
 };
 use ua_variant::DiagnosticInfo;
 use ua_wire::{append_three, append_two};

@@ -3,9 +3,9 @@
 ghost use Rattle.std.specs.Prelude.{◌≡◌};
 ghost use Rattle.ua_structures.specs.Plain.{null_signature};
 
-use crate::fields::{append_fields, are_encodable, read_fields};
 use std::alloc::{AllocError, Global};
 use ua_builtin::{ReadFault, Source, UaBytes, UaString, Wire};
+use ua_opening::{append_fields, are_encodable, read_fields};
 use ua_wire::append_two;
 
 /// A certificate of software, and its signature (OPC 10000-4, 7.38).

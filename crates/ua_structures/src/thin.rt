@@ -4,16 +4,15 @@ ghost use Rattle.std.specs.Prelude.{◌≡◌, ◌≤◌, Bool};
 ghost use Rattle.ua_builtin.specs.Exact.{image_read};
 ghost use Rattle.ua_builtin.specs.Format.{most_levels, Gives, GivesBy, StaysBehind};
 ghost use Rattle.ua_variant.specs.Formats.{data_value_format};
-ghost use Rattle.ua_structures.specs.Array.{array_at, items_at};
+ghost use Rattle.ua_opening.specs.Array.{array_at, items_at};
 ghost use Rattle.ua_structures.specs.Attribute.{write_value, write_request};
 ghost use Rattle.ua_structures.specs.Thin.{kept_value, null_value as null_value_is, thinned, thinned_request};
 ghost use Rattle.ua_structures.specs.inside.Ahead.{is_kept_at, type_at};
 
-use crate::array::UaArray;
 use crate::attribute::{WriteRequest, WriteValue};
-use crate::header::RequestHeader;
 use std::alloc::Global;
 use ua_builtin::{FIRST_NEGATIVE, NodeId, ReadFault, Skip, Source, UaString, Wire};
+use ua_opening::{RequestHeader, UaArray};
 use ua_variant::{DataValue, HeldVariant, Variant};
 
 /// The flag of a value in the mask of a DataValue (OPC 10000-6, 5.2.2.17).

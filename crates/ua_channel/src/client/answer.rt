@@ -1,5 +1,5 @@
 //! The answers to OPNs.
-ghost use Rattle.ua_services.specs.Open.{answer_read};
+ghost use Rattle.ua_opening.specs.Open.{answer_read};
 ghost use Rattle.ua_channel.specs.inside.ClientParts.{Judged, JudgesAnswer, body_reasons, response_reasons, IsResponse, IsAnsweredBy};
 ghost use Rattle.ua_channel.specs.Content.{opening_of};
 
@@ -8,7 +8,7 @@ use std::alloc::Global;
 use ua_builtin::{Octets, ReadFault, StatusCode};
 use ua_chunk::read_open;
 use ua_frame::Frame;
-use ua_services::{OpenAnswer, OpenResponse, read_open_response};
+use ua_opening::{OpenAnswer, OpenResponse, read_open_response};
 
 /// A good response to an OPN: its numbers, and the channel and the token that it brings.
 #[derive(Clone, Copy, Debug)]

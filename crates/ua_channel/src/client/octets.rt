@@ -5,8 +5,8 @@ ghost use Rattle.ua_wire.specs.Counted.{text};
 ghost use Rattle.ua_frame.specs.Agreement.{url_length};
 ghost use Rattle.ua_frame.specs.Frames.{frame_octets};
 ghost use Rattle.ua_frame.specs.Messages.{hello};
-ghost use Rattle.ua_services.specs.Message.{message};
-ghost use Rattle.ua_structures.specs.SecureChannel.{open_request};
+ghost use Rattle.ua_opening.specs.Message.{message};
+ghost use Rattle.ua_opening.specs.SecureChannel.{open_request};
 ghost use Rattle.ua_channel.specs.ClientSends.{hello_to, hello_frame, open_frame, close_frame, first_open, renewal_frame};
 ghost use Rattle.ua_channel.specs.inside.ClientAsking.{closing_front};
 
@@ -14,8 +14,8 @@ use crate::sending::append_opening;
 use std::alloc::{AllocError, Global};
 use ua_builtin::{DateTime, UaString, Wire};
 use ua_frame::{Hello, Kind, Limits, header_octets};
-use ua_services::laws::bodies_of_the_channel_have_lengths;
-use ua_services::{CloseRequest, OpenRequest, write_close_request, write_open_request};
+use ua_opening::laws::bodies_of_the_channel_have_lengths;
+use ua_opening::{CloseRequest, OpenRequest, write_close_request, write_open_request};
 
 /// The octets of a Hello whose URL is null.
 const SHORT_HELLO: usize = 32;

@@ -1,9 +1,9 @@
 //! Bodies of messages as lines.
 
 ghost use Rattle.std.specs.Prelude.{◌≡◌, ◌++◌, string_bytes, IfOk, OnOk};
-ghost use Rattle.ua_structures.specs.SecureChannel.{close_request, open_request};
-ghost use Rattle.ua_services.specs.Message.{body_of, message, standard_number as number_of_id};
-ghost use Rattle.ua_services.specs.Open.{answer_read};
+ghost use Rattle.ua_opening.specs.SecureChannel.{close_request, open_request};
+ghost use Rattle.ua_opening.specs.Message.{body_of, message, standard_number as number_of_id};
+ghost use Rattle.ua_opening.specs.Open.{answer_read};
 ghost use Rattle.ua_services.specs.Request.{request};
 ghost use Rattle.ua_services.specs.Response.{response};
 ghost use Rattle.ua_pair.specs.Bodies.{AreBodyFields, body_fields, fields_found};
@@ -37,7 +37,7 @@ pub enum BodyKind {
 const CLOSE_REQUEST: u32 = 452;
 
 /// The request that a body is, if it is one.
-#[tactic(auto, unfolding(ua_services::specs::Request::request_read), using(ua_services::proofs::BodyRead::found_ok, ua_services::proofs::BodyRead::found_err))]
+#[tactic(auto, unfolding(ua_services::specs::Request::request_read), using(ua_opening::proofs::BodyRead::found_ok, ua_opening::proofs::BodyRead::found_err))]
 fn found_request<S: Source>(alloc: Global, src: &mut S) -> Result<Option<Request>, AllocError>
     ensures { IfOk result (λ found. found ≡ body_of request (S.octets src.old)) }
 {
@@ -49,7 +49,7 @@ fn found_request<S: Source>(alloc: Global, src: &mut S) -> Result<Option<Request
 }
 
 /// The response that a body is, if it is one.
-#[tactic(auto, unfolding(ua_services::specs::Response::response_read), using(ua_services::proofs::BodyRead::found_ok, ua_services::proofs::BodyRead::found_err))]
+#[tactic(auto, unfolding(ua_services::specs::Response::response_read), using(ua_opening::proofs::BodyRead::found_ok, ua_opening::proofs::BodyRead::found_err))]
 fn found_response<S: Source>(alloc: Global, src: &mut S) -> Result<Option<Response>, AllocError>
     ensures { IfOk result (λ found. found ≡ body_of response (S.octets src.old)) }
 {
@@ -61,7 +61,7 @@ fn found_response<S: Source>(alloc: Global, src: &mut S) -> Result<Option<Respon
 }
 
 /// The request of OpenSecureChannel that a body is, if it is one.
-#[tactic(auto, using(ua_services::proofs::BodyRead::found_ok, ua_services::proofs::BodyRead::found_err))]
+#[tactic(auto, using(ua_opening::proofs::BodyRead::found_ok, ua_opening::proofs::BodyRead::found_err))]
 fn found_open_request<S: Source>(
     alloc: Global,
     src: &mut S,
@@ -76,7 +76,7 @@ fn found_open_request<S: Source>(
 }
 
 /// The answer to a request of OpenSecureChannel that a body is, if it is one.
-#[tactic(auto, using(ua_services::proofs::BodyRead::found_ok, ua_services::proofs::BodyRead::found_err))]
+#[tactic(auto, using(ua_opening::proofs::BodyRead::found_ok, ua_opening::proofs::BodyRead::found_err))]
 fn found_open_answer<S: Source>(
     alloc: Global,
     src: &mut S,

@@ -1,5 +1,5 @@
 use Rattle.std.specs.Prelude.{option_map}
-use Rattle.ua_structures.specs.Array.{array}
+use Rattle.ua_opening.specs.Array.{array}
 use Rattle.test_determinism.proofs.ValuesAlike.{left_alike_by}
 use Rattle.test_determinism.proofs.arrays.read_array_twice.Goals as goal
 

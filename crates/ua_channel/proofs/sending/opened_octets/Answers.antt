@@ -1,10 +1,10 @@
 use Rattle.std.proofs.Common.{List, ℕ, ◌++◌, ◌∙◌, ap}
 use Rattle.ua_frame.specs.Frames.{frame_octets}
-use Rattle.ua_services.specs.Message.{message}
-use Rattle.ua_services.proofs.Lengths.{open_response_length}
-use Rattle.ua_structures.specs.Plain.{open_response_of}
-use Rattle.ua_structures.specs.SecureChannel.{open_response}
-use Rattle.ua_structures.specs.declared.secure_channel.OpenResponse.{OpenResponse}
+use Rattle.ua_opening.specs.Message.{message}
+use Rattle.ua_opening.proofs.Lengths.{open_response_length}
+use Rattle.ua_opening.specs.Plain.{open_response_of}
+use Rattle.ua_opening.specs.SecureChannel.{open_response}
+use Rattle.ua_opening.specs.declared.secure_channel.OpenResponse.{OpenResponse}
 use Rattle.ua_channel.specs.ServerSends.{opened_frame}
 use Rattle.ua_channel.proofs.sending.opened_octets.Goals as goal
 

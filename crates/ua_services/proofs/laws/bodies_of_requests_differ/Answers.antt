@@ -1,6 +1,6 @@
 use Rattle.ua_services.specs.Request.{request}
 use Rattle.ua_services.proofs.RequestLawful.{lawful_request}
-use Rattle.ua_services.proofs.BodyLaws.{one_message}
+use Rattle.ua_opening.proofs.BodyLaws.{one_message}
 use Rattle.ua_services.proofs.laws.bodies_of_requests_differ.Goals as goal
 
 pub returns : goal.returns

@@ -1,6 +1,6 @@
 use Rattle.ua_services.specs.Response.{response}
 use Rattle.ua_services.proofs.ResponseLawful.{lawful_response}
-use Rattle.ua_services.proofs.BodyLaws.{one_message}
+use Rattle.ua_opening.proofs.BodyLaws.{one_message}
 use Rattle.ua_services.proofs.laws.bodies_of_responses_differ.Goals as goal
 
 pub returns : goal.returns

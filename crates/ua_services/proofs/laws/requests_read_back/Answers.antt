@@ -1,6 +1,6 @@
 use Rattle.ua_services.specs.Request.{request}
 use Rattle.ua_services.proofs.RequestLawful.{lawful_request}
-use Rattle.ua_services.proofs.BodyLaws.{body_reads_back}
+use Rattle.ua_opening.proofs.BodyLaws.{body_reads_back}
 use Rattle.ua_services.proofs.laws.requests_read_back.Goals as goal
 
 pub returns : goal.returns

@@ -3,7 +3,7 @@ use Rattle.ua_builtin.specs.Format.{most_levels}
 use Rattle.ua_structures.specs.Attribute.{read_request}
 use Rattle.ua_services.specs.declared.request.Request.TheVariants.{Read as ReadMessage}
 use Rattle.ua_services.specs.declared.request.RequestKind.TheVariants.{Read}
-use Rattle.ua_services.proofs.BodyRead.{image_found, image_fails, placed_fails}
+use Rattle.ua_opening.proofs.BodyRead.{image_found, image_fails, placed_fails}
 use Rattle.ua_services.proofs.RequestRead.{kind_fails, kind_left, kind_whole}
 use Rattle.ua_services.proofs.request.read_last.Goals as goal
 

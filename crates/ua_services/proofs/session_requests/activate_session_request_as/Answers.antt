@@ -1,7 +1,8 @@
 use Rattle.std.proofs.Common.{◌∙◌, ap}
 use Rattle.ua_builtin.specs.ExtensionObject.{extension_object}
 use Rattle.ua_services.specs.declared.request.Request.TheVariants.{ActivateSession}
-use Rattle.ua_structures.specs.Plain.{activate_session_of, request_header_of}
+use Rattle.ua_opening.specs.Plain.{request_header_of}
+use Rattle.ua_structures.specs.Plain.{activate_session_of}
 use Rattle.ua_services.proofs.Asked.{activate_session_fits, unnamed}
 use Rattle.ua_services.proofs.Words.{identity_named, not_refused_by, refused_by}
 use Rattle.ua_services.proofs.session_requests.activate_session_request_as.Goals as goal

@@ -1,7 +1,7 @@
 use Rattle.std.proofs.Common.{rules}
 use Rattle.std.specs.Prelude.{IsTrue}
-use Rattle.ua_structures.specs.Field.{string}
-use Rattle.ua_structures.specs.Header.{request_header}
+use Rattle.ua_opening.specs.Field.{string}
+use Rattle.ua_opening.specs.Header.{request_header}
 use Rattle.ua_services.proofs.Asked.{create_session_fits}
 use Rattle.ua_services.proofs.Words.{client_uri_fits, name_fits, null_id_fits}
 use Rattle.ua_services.proofs.session_requests.create_session_request.Goals as goal

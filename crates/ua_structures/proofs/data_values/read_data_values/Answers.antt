@@ -1,7 +1,7 @@
 use Rattle.std.proofs.Common.{arith}
 use Rattle.ua_variant.specs.Formats.{data_value_format}
 use Rattle.ua_variant.proofs.VariantsLawful.{lawful_data_value}
-use Rattle.ua_structures.proofs.ItemsRead.{claims_more}
+use Rattle.ua_opening.proofs.ItemsRead.{claims_more}
 use Rattle.ua_structures.proofs.data_values.read_data_values.Goals as goal
 
 pub returns-then-left-count-clause-exact : goal.returns-then-left-count-clause-exact

@@ -2,7 +2,7 @@ use Rattle.std.proofs.Common.{Vec, Global}
 use Rattle.std.proofs.lemmas.Result.{err_from_is_err_and}
 use Rattle.ua_variant.specs.Formats.{data_value_format}
 use Rattle.ua_variant.specs.declared.values.DataValue.{DataValue}
-use Rattle.ua_structures.proofs.ItemsRead.{goes_on_behind, is_done, fault_ends, fault_behind}
+use Rattle.ua_opening.proofs.ItemsRead.{goes_on_behind, is_done, fault_ends, fault_behind}
 use Rattle.ua_structures.proofs.data_values.read_each.Goals as goal
 
 pub returns-in_err-read_onto-clause-exact : goal.returns-in_err-read_onto-clause-exact

@@ -1,7 +1,7 @@
 use Rattle.std.proofs.Common.{◌≡◌, ◌-◌}
 use Rattle.ua_builtin.specs.Format.{StaysBehind}
-use Rattle.ua_structures.specs.Array.{items_at}
-use Rattle.ua_structures.proofs.ItemsRead.{with_front}
+use Rattle.ua_opening.specs.Array.{items_at}
+use Rattle.ua_opening.proofs.ItemsRead.{with_front}
 use Rattle.ua_variant.specs.Formats.{data_value_format}
 use Rattle.ua_structures.proofs.data_values.read_each.Given as goal
 

@@ -1,4 +1,5 @@
-use Rattle.ua_structures.proofs.FormatsBack.{read_writable, where_data_value, where_variant}
+use Rattle.ua_opening.proofs.FormatsBack.{read_writable}
+use Rattle.ua_structures.proofs.VariantsBack.{where_data_value, where_variant}
 use Rattle.ua_structures.proofs.laws.read_variants_are_writable.Goals as goal
 use Rattle.ua_variant.proofs.VariantsLawful.{lawful_data_value, lawful_variant}
 

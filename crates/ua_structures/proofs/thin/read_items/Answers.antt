@@ -1,11 +1,11 @@
 use Rattle.std.proofs.Common.{Vec, Global}
 use Rattle.std.proofs.lemmas.Result.{err_from_is_err_and}
 use Rattle.ua_builtin.specs.Exact.{image_read}
-use Rattle.ua_structures.specs.Array.{items_at}
+use Rattle.ua_opening.specs.Array.{items_at}
 use Rattle.ua_structures.specs.Attribute.{write_value}
 use Rattle.ua_structures.specs.Thin.{thinned}
 use Rattle.ua_structures.specs.declared.attribute.WriteValue.{WriteValue}
-use Rattle.ua_structures.proofs.ItemsRead.{goes_on, is_done, fault_ends}
+use Rattle.ua_opening.proofs.ItemsRead.{goes_on, is_done, fault_ends}
 use Rattle.ua_structures.proofs.thin.read_items.Goals as goal
 
 pub returns-in_err-item-clause-exact : goal.returns-in_err-item-clause-exact

@@ -1,10 +1,10 @@
 use Rattle.std.proofs.Common.{◌≡◌, ◌-◌}
 use Rattle.ua_builtin.specs.Exact.{image_read}
 use Rattle.ua_builtin.specs.Format.{StaysBehind}
-use Rattle.ua_structures.specs.Array.{items_at}
+use Rattle.ua_opening.specs.Array.{items_at}
 use Rattle.ua_structures.specs.Attribute.{write_value}
 use Rattle.ua_structures.specs.Thin.{thinned}
-use Rattle.ua_structures.proofs.ItemsRead.{with_front}
+use Rattle.ua_opening.proofs.ItemsRead.{with_front}
 use Rattle.ua_structures.proofs.thin.read_items.Given as goal
 
 abbrev pub invariant-loop : goal.invariant-loop

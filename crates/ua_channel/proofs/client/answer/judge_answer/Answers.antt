@@ -1,5 +1,5 @@
 use Rattle.std.proofs.Common.{List, ℕ, Ok, refl, subst}
-use Rattle.ua_services.specs.Open.{answer_read}
+use Rattle.ua_opening.specs.Open.{answer_read}
 use Rattle.ua_channel.specs.inside.ClientParts.{IsStopFor, Judged, IsAnsweredBy, body_reasons}
 use Rattle.ua_channel.proofs.ClientOpenings.{judges_headers, judges_body, judges_good}
 use Rattle.ua_channel.proofs.Openings.{has_headers}

@@ -1,0 +1,11 @@
+pub mod Array
+pub mod Field
+pub mod Header
+pub mod Laws
+pub mod Message
+pub mod Open
+pub mod Plain
+pub mod SecureChannel
+pub mod WrittenBack
+-- Words that only contracts within this crate cite.
+pub mod inside

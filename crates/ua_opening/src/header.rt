@@ -1,0 +1,418 @@
+//! Headers of requests and responses, and the fault.
+
+ghost use Rattle.std.specs.Prelude.{◌≡◌, Some, None, IsTrue, MatchOption};
+ghost use Rattle.ua_builtin.specs.ExtensionObject.{null_object};
+ghost use Rattle.ua_builtin.specs.Format.{StaysBehind};
+ghost use Rattle.ua_builtin.specs.NodeId.{node_id};
+ghost use Rattle.ua_diagnostic.specs.View.{no_diagnostics};
+ghost use Rattle.ua_opening.specs.Header.{request_header, response_header, service_fault};
+ghost use Rattle.ua_opening.specs.Plain.{empty_request_header, empty_response_header, request_header_of, response_header_of, service_fault_of};
+ghost use Rattle.ua_opening.specs.inside.HeaderEnds.{behind_diagnostics, behind_result};
+
+use crate::array::UaArray;
+use crate::{append_fields, are_encodable, read_fields};
+use std::alloc::{AllocError, Global};
+use ua_builtin::laws::{moment_is_encodable, status_is_encodable};
+use ua_builtin::{
+    DateTime, ExtensionObject, NULL_COUNT, NodeId, ReadFault, Skip, Source, StatusCode, UaString,
+    Wire,
+};
+use ua_diagnostic::DiagnosticInfo;
+use ua_wire::{append_three, append_two};
+
+/// What stands behind the ServiceResult of nearly each response, as a number, the least octet first: 00 of
+/// a DiagnosticInfo without fields (OPC 10000-6, 5.2.2.12), FF FF FF FF of a null array of texts (5.2.5),
+/// and 00 00 00 of the object that holds nothing (5.2.2.15).
+const NOTHING_MORE: u64 = 0x0000_00FF_FFFF_FF00;
+
+/// The same with an array of no texts, whose count is 00 00 00 00.
+const NO_TEXTS: u64 = 0;
+
+/// What stands at the head of each request (OPC 10000-4, 7.33).
+#[derive(Drop)]
+pub struct RequestHeader {
+    /// The token that CreateSession gave; null where there is no session.
+    pub authentication_token: NodeId,
+    /// When the client sent the request.
+    pub timestamp: DateTime,
+    /// A number of the client's own, which comes back in the response.
+    pub request_handle: u32,
+    /// Which diagnostics the client asks for, as bits.
+    pub return_diagnostics: u32,
+    pub audit_entry_id: UaString,
+    /// How long the client waits, in milliseconds; 0 is no limit.
+    pub timeout_hint: u32,
+    pub additional_header: ExtensionObject,
+}
+
+impl RequestHeader {
+    /// The header of a request under this token (that of CreateSession, null without a session),
+    /// sent at this moment, with this handle: it asks for no diagnostics, names no audit entry and
+    /// no timeout, and adds nothing.
+    #[tactic(auto, using(crate::proofs::PlainFits::request_header_fits))]
+    pub fn new(
+        authentication_token: NodeId,
+        timestamp: DateTime,
+        request_handle: u32,
+    ) -> RequestHeader
+        ensures value { result ≡ request_header_of authentication_token timestamp request_handle }
+        ensures encodable { IsTrue (node_id.encodable authentication_token) → IsTrue (request_header.encodable result) }
+    {
+        moment_is_encodable(&timestamp);
+        RequestHeader {
+            authentication_token,
+            timestamp,
+            request_handle,
+            return_diagnostics: 0,
+            audit_entry_id: UaString::null(),
+            timeout_hint: 0,
+            additional_header: ExtensionObject::null(),
+        }
+    }
+}
+
+impl RequestHeader {
+    ghost use Rattle.std.specs.Prelude.{◌≤◌};
+    ghost use Rattle.ua_builtin.specs.Exact.{image_read};
+    ghost use Rattle.ua_builtin.specs.Format.{most_levels, Gives, GivesBy};
+
+    /// A header whose fields are null or 0, to read one into. Takes no memory.
+    pub fn empty() -> RequestHeader
+        ensures { result ≡ empty_request_header }
+    {
+        RequestHeader::new(NodeId::null(), DateTime { ticks: 0 }, 0)
+    }
+
+    /// Reads the header that the source begins with in the place of this one, as reading a value does.
+    /// Where a header is handed over by value it is moved at each step. After a fault the source is to
+    /// be given up.
+    #[inline(never)]
+    #[tactic(auto, unfolding(crate::specs::Header::request_header))]
+    pub fn read_into<S: Source>(
+        &mut self,
+        alloc: Global,
+        src: &mut S,
+        depth: u32,
+    ) -> Result<(), ReadFault>
+        requires levels { depth ≤ most_levels }
+        ensures exact { GivesBy (λ _. self.new) (request_header.decode depth) (S.octets src.old) (S.octets src.new) result }
+        ensures behind { StaysBehind (S.octets src.old) (S.octets src.new) }
+    {
+        self.authentication_token = NodeId::read_value(alloc, src, depth)?;
+        self.timestamp = DateTime::read_value(alloc, src, depth)?;
+        self.request_handle = u32::read_value(alloc, src, depth)?;
+        self.return_diagnostics = u32::read_value(alloc, src, depth)?;
+        if let Some(timeout_hint) = take_timeout_alone(alloc, src) {
+            self.audit_entry_id = UaString::null();
+            self.timeout_hint = timeout_hint;
+            self.additional_header = ExtensionObject::null();
+            return Ok(());
+        }
+        self.read_behind_diagnostics(alloc, src, depth)
+    }
+
+    /// Reads what stands behind the ReturnDiagnostics in the place of what this header has of it.
+    #[inline(never)]
+    fn read_behind_diagnostics<S: Source>(
+        &mut self,
+        alloc: Global,
+        src: &mut S,
+        depth: u32,
+    ) -> Result<(), ReadFault>
+        requires levels { depth ≤ most_levels }
+        ensures exact { GivesBy (λ _. (self.new.audit_entry_id, (self.new.timeout_hint, self.new.additional_header)))
+            behind_diagnostics (S.octets src.old) (S.octets src.new) result }
+        ensures kept { (self.new.authentication_token ≡ self.old.authentication_token) × (self.new.timestamp ≡ self.old.timestamp)
+            × (self.new.request_handle ≡ self.old.request_handle) × (self.new.return_diagnostics ≡ self.old.return_diagnostics) }
+        ensures behind { StaysBehind (S.octets src.old) (S.octets src.new) }
+    {
+        self.audit_entry_id = UaString::read_value(alloc, src, depth)?;
+        self.timeout_hint = u32::read_value(alloc, src, depth)?;
+        self.additional_header = ExtensionObject::read_value(alloc, src, depth)?;
+        Ok(())
+    }
+
+    /// Passes over the header that the source begins with, and answers its RequestHandle. After a fault
+    /// the source is to be given up.
+    #[tactic(auto, unfolding(crate::specs::Header::request_header))]
+    pub fn skip_for_handle<S: Source>(
+        alloc: Global,
+        src: &mut S,
+        depth: u32,
+    ) -> Result<u32, ReadFault>
+        requires levels { depth ≤ most_levels }
+        ensures exact { Gives (image_read (λ header. header.request_handle) (request_header.decode depth)) (S.octets src.old) (S.octets src.new) result }
+        ensures behind { StaysBehind (S.octets src.old) (S.octets src.new) }
+    {
+        NodeId::skip_value(alloc, src, depth)?;
+        DateTime::skip_value(alloc, src, depth)?;
+        let request_handle = u32::read_value(alloc, src, depth)?;
+        u32::skip_value(alloc, src, depth)?;
+        if take_timeout_alone(alloc, src).is_some() {
+            return Ok(request_handle);
+        }
+        UaString::skip_value(alloc, src, depth)?;
+        u32::skip_value(alloc, src, depth)?;
+        ExtensionObject::skip_value(alloc, src, depth)?;
+        Ok(request_handle)
+    }
+}
+
+/// Takes what stands behind the ReturnDiagnostics of a request that names no audit entry and adds nothing,
+/// as nearly each one, and answers its TimeoutHint. With `None` nothing is taken.
+#[inline(always)]
+fn take_timeout_alone<S: Source>(alloc: Global, src: &mut S) -> Option<u32>
+    ensures exact { MatchOption result (S.octets src.new ≡ S.octets src.old)
+        (λ timeout. behind_diagnostics (S.octets src.old) ≡ Some ((None, (timeout, null_object)), S.octets src.new)) }
+    ensures behind { StaysBehind (S.octets src.old) (S.octets src.new) }
+{
+    let mut ahead = src.fork();
+    let Ok(NULL_COUNT) = u32::read_value(alloc, &mut ahead, 0) else {
+        return None;
+    };
+    let Ok(timeout_hint) = u32::read_value(alloc, &mut ahead, 0) else {
+        return None;
+    };
+    // The object that holds nothing: the NodeId 00 00, and 00 of no body (OPC 10000-6, 5.2.2.15).
+    let Ok(0) = u16::read_value(alloc, &mut ahead, 0) else {
+        return None;
+    };
+    let Ok(0) = u8::read_value(alloc, &mut ahead, 0) else {
+        return None;
+    };
+    *src = ahead;
+    Some(timeout_hint)
+}
+
+#[tactic(auto, unfolding(crate::specs::Header::request_header), using(crate::proofs::HeaderSound::sound_request_header))]
+impl Wire for RequestHeader {
+    ghost use Rattle.ua_opening.specs.Header.{request_header};
+
+    ghost format = { request_header };
+
+    #[inline]
+    fn lawful() {}
+
+    fn read_value<S: Source>(alloc: Global, src: &mut S, depth: u32) -> Result<Self, ReadFault> {
+        let mut header = RequestHeader::empty();
+        match header.read_into(alloc, src, depth) {
+            Ok(()) => Ok(header),
+            Err(fault) => {
+                drop(header);
+                Err(fault)
+            }
+        }
+    }
+
+    fn is_encodable(&self) -> bool {
+        are_encodable!(self =>
+            authentication_token, timestamp, request_handle, return_diagnostics, audit_entry_id,
+            timeout_hint, additional_header
+        )
+    }
+
+    fn append(&self, out: &mut Vec<u8>) -> Result<(), AllocError> {
+        append_fields!(self, out =>
+            authentication_token, timestamp, request_handle, return_diagnostics, audit_entry_id,
+            timeout_hint, additional_header
+        )
+    }
+}
+
+/// What stands at the head of each response (OPC 10000-4, 7.34).
+#[derive(Drop)]
+pub struct ResponseHeader {
+    /// When the server sent the response.
+    pub timestamp: DateTime,
+    /// The handle of the request.
+    pub request_handle: u32,
+    /// The result of the whole service.
+    pub service_result: StatusCode,
+    pub service_diagnostics: DiagnosticInfo,
+    /// The texts that diagnostics name by their index.
+    pub string_table: UaArray<UaString>,
+    pub additional_header: ExtensionObject,
+}
+
+impl ResponseHeader {
+    /// The header of a response sent at this moment to the request with this handle, with this
+    /// result: without diagnostics and texts, it adds nothing.
+    #[tactic(auto, using(crate::proofs::PlainFits::response_header_fits))]
+    pub fn new(
+        timestamp: DateTime,
+        request_handle: u32,
+        service_result: StatusCode,
+    ) -> ResponseHeader
+        ensures value { result ≡ response_header_of timestamp request_handle service_result }
+        ensures encodable { IsTrue (response_header.encodable result) }
+    {
+        moment_is_encodable(&timestamp);
+        status_is_encodable(&service_result);
+        ResponseHeader {
+            timestamp,
+            request_handle,
+            service_result,
+            service_diagnostics: DiagnosticInfo::empty(),
+            string_table: UaArray::null(),
+            additional_header: ExtensionObject::null(),
+        }
+    }
+}
+
+impl ResponseHeader {
+    ghost use Rattle.std.specs.Prelude.{◌≤◌};
+    ghost use Rattle.ua_builtin.specs.Format.{most_levels, GivesBy};
+
+    /// A header whose fields are null or 0, to read one into. Takes no memory.
+    pub fn empty() -> ResponseHeader
+        ensures { result ≡ empty_response_header }
+    {
+        ResponseHeader::new(DateTime { ticks: 0 }, 0, StatusCode::GOOD)
+    }
+
+    /// Reads the header that the source begins with in the place of this one, as reading a value does.
+    /// Where a header is handed over by value it is moved at each step. After a fault the source is to
+    /// be given up.
+    #[inline(never)]
+    #[tactic(auto, unfolding(crate::specs::Header::response_header))]
+    pub fn read_into<S: Source>(
+        &mut self,
+        alloc: Global,
+        src: &mut S,
+        depth: u32,
+    ) -> Result<(), ReadFault>
+        requires levels { depth ≤ most_levels }
+        ensures exact { GivesBy (λ _. self.new) (response_header.decode depth) (S.octets src.old) (S.octets src.new) result }
+        ensures behind { StaysBehind (S.octets src.old) (S.octets src.new) }
+    {
+        self.timestamp = DateTime::read_value(alloc, src, depth)?;
+        self.request_handle = u32::read_value(alloc, src, depth)?;
+        self.service_result = StatusCode::read_value(alloc, src, depth)?;
+        if let Some(texts) = take_nothing_more(alloc, src, depth) {
+            self.service_diagnostics = DiagnosticInfo::empty();
+            self.string_table = texts;
+            self.additional_header = ExtensionObject::null();
+            return Ok(());
+        }
+        self.read_behind_result(alloc, src, depth)
+    }
+
+    /// Reads what stands behind the ServiceResult in the place of what this header has of it.
+    #[inline(never)]
+    fn read_behind_result<S: Source>(
+        &mut self,
+        alloc: Global,
+        src: &mut S,
+        depth: u32,
+    ) -> Result<(), ReadFault>
+        requires levels { depth ≤ most_levels }
+        ensures exact { GivesBy (λ _. (self.new.service_diagnostics, (self.new.string_table, self.new.additional_header)))
+            (behind_result depth) (S.octets src.old) (S.octets src.new) result }
+        ensures kept { (self.new.timestamp ≡ self.old.timestamp) × (self.new.request_handle ≡ self.old.request_handle)
+            × (self.new.service_result ≡ self.old.service_result) }
+        ensures behind { StaysBehind (S.octets src.old) (S.octets src.new) }
+    {
+        self.service_diagnostics = DiagnosticInfo::read_value(alloc, src, depth)?;
+        self.string_table = UaArray::read_value(alloc, src, depth)?;
+        self.additional_header = ExtensionObject::read_value(alloc, src, depth)?;
+        Ok(())
+    }
+}
+
+/// Takes what stands behind the ServiceResult of a response without diagnostics and texts that adds nothing,
+/// as nearly each one, and answers its table of texts, null or empty. With `None` nothing is taken.
+#[inline(always)]
+#[tactic(auto, using(crate::proofs::HeaderRead::nothing_more, crate::proofs::HeaderRead::no_texts))]
+fn take_nothing_more<S: Source>(alloc: Global, src: &mut S, depth: u32) -> Option<UaArray<UaString>>
+    ensures exact { MatchOption result (S.octets src.new ≡ S.octets src.old)
+        (λ texts. behind_result depth (S.octets src.old) ≡ Some ((no_diagnostics, (texts, null_object)), S.octets src.new)) }
+    ensures behind { StaysBehind (S.octets src.old) (S.octets src.new) }
+{
+    if depth == 0 {
+        return None;
+    }
+    let mut ahead = src.fork();
+    let texts = match u64::read_value(alloc, &mut ahead, 0) {
+        Ok(NOTHING_MORE) => UaArray::null(),
+        Ok(NO_TEXTS) => UaArray::new(Some(Vec::new(alloc))),
+        _ => return None,
+    };
+    *src = ahead;
+    Some(texts)
+}
+
+#[tactic(auto, unfolding(crate::specs::Header::response_header), using(crate::proofs::HeaderSound::sound_response_header))]
+impl Wire for ResponseHeader {
+    ghost use Rattle.ua_opening.specs.Header.{response_header};
+
+    ghost format = { response_header };
+
+    #[inline]
+    fn lawful() {}
+
+    fn read_value<S: Source>(alloc: Global, src: &mut S, depth: u32) -> Result<Self, ReadFault> {
+        let mut header = ResponseHeader::empty();
+        match header.read_into(alloc, src, depth) {
+            Ok(()) => Ok(header),
+            Err(fault) => {
+                drop(header);
+                Err(fault)
+            }
+        }
+    }
+
+    fn is_encodable(&self) -> bool {
+        are_encodable!(self =>
+            timestamp, request_handle, service_result, service_diagnostics, string_table,
+            additional_header
+        )
+    }
+
+    fn append(&self, out: &mut Vec<u8>) -> Result<(), AllocError> {
+        append_fields!(self, out =>
+            timestamp, request_handle, service_result, service_diagnostics, string_table,
+            additional_header
+        )
+    }
+}
+
+/// The answer to a request whose service failed (OPC 10000-4, 7.35).
+#[derive(Drop)]
+pub struct ServiceFault {
+    pub response_header: ResponseHeader,
+}
+
+impl ServiceFault {
+    /// The fault with this code, sent at this moment to the request with this handle.
+    #[tactic(auto, unfolding(crate::specs::Header::service_fault))]
+    pub fn new(timestamp: DateTime, request_handle: u32, code: StatusCode) -> ServiceFault
+        ensures value { result ≡ service_fault_of timestamp request_handle code }
+        ensures encodable { IsTrue (service_fault.encodable result) }
+    {
+        ServiceFault {
+            response_header: ResponseHeader::new(timestamp, request_handle, code),
+        }
+    }
+}
+
+#[tactic(auto, unfolding(crate::specs::Header::service_fault), using(crate::proofs::HeaderSound::sound_service_fault))]
+impl Wire for ServiceFault {
+    ghost use Rattle.ua_opening.specs.Header.{service_fault};
+
+    ghost format = { service_fault };
+
+    #[inline]
+    fn lawful() {}
+
+    fn read_value<S: Source>(alloc: Global, src: &mut S, depth: u32) -> Result<Self, ReadFault> {
+        read_fields!(alloc, src, depth => ServiceFault { response_header })
+    }
+
+    fn is_encodable(&self) -> bool {
+        are_encodable!(self => response_header)
+    }
+
+    fn append(&self, out: &mut Vec<u8>) -> Result<(), AllocError> {
+        append_fields!(self, out => response_header)
+    }
+}

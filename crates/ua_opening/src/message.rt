@@ -1,0 +1,123 @@
+//! Messages: a structure behind the NodeId of its encoding.
+
+ghost use Rattle.std.specs.Prelude.{◌≡◌, ◌≤◌, ◌++◌, ◌<◌, ◌^◌, ◌↔◌, [], List, ℕ, IsTrue, IsFalse, IfOk, OnOk, OnErr, IsErrOf};
+ghost use Rattle.ua_builtin.specs.Exact.{image_read};
+ghost use Rattle.ua_builtin.specs.Format.{most_levels, Extends, Gives, StaysBehind};
+ghost use Rattle.ua_builtin.specs.NodeId.{node_id};
+ghost use Rattle.ua_wire.specs.declared.fault.ReadFault.TheVariants.{NoValue};
+ghost use Rattle.ua_wire.specs.declared.fault.WriteFault.TheVariants.{NotWritable};
+ghost use Rattle.ua_opening.specs.Message.{IsBody, IsNoBody, message, standard, standard_number as number_of_id};
+
+use std::alloc::{AllocError, Global};
+use ua_builtin::{Identifier, MOST_LEVELS, NodeId, ReadFault, Source, Wire, WriteFault};
+
+/// The number of a NodeId of the standard's namespace.
+pub fn standard_number(id: &NodeId) -> Option<u32>
+    ensures { result ≡ number_of_id id.now }
+{
+    match &id.identifier {
+        Identifier::Numeric(number) if id.namespace == 0 => Some(*number),
+        _ => None,
+    }
+}
+
+/// The NodeId of the standard's namespace with this number.
+fn standard_id(number: u32) -> NodeId
+    ensures { result ≡ standard number }
+{
+    NodeId::new(0, Identifier::Numeric(number))
+}
+
+/// The octets that a body is given room for before it is written: most requests and responses of a
+/// few nodes take fewer, and are then written without being moved.
+const BODY_ROOM: usize = 256;
+
+/// A body without octets. It has room for a small message where there is memory for that; where there
+/// is none, the writer asks for what it needs.
+pub fn empty_body(alloc: Global) -> Vec<u8>
+    ensures { result.items ≡ [] }
+{
+    let mut body = Vec::new(alloc);
+    let _has_room = body.reserve(BODY_ROOM).is_ok();
+    body
+}
+
+/// Adds the canonical encoding of the NodeId of the standard's namespace with this number.
+#[inline]
+fn append_number(number: u32, out: &mut Vec<u8>) -> Result<(), AllocError>
+    requires { IsTrue (node_id.encodable (standard number)) }
+    ensures ok { OnOk result (out.new.items ≡ out.old.items ++ node_id.canonical (standard number)) }
+    ensures err { OnErr result (Extends out.old.items out.new.items) }
+{
+    if number < 256 || number >= 65536 {
+        return standard_id(number).append(out);
+    }
+    // nearly always: the form of four octets, which names the namespace 0
+    let octets = [0x01, 0x00, (number % 256) as u8, (number / 256) as u8];
+    out.extend_from_slice(&octets)?;
+    Ok(())
+}
+
+/// Adds the canonical encoding of a structure behind the NodeId with this number.
+pub fn append_message<T: Wire>(number: u32, value: &T, out: &mut Vec<u8>) -> Result<(), AllocError>
+    requires known { IsTrue (node_id.encodable (standard number)) }
+    requires value { IsTrue (T.format.encodable value.now) }
+    ensures ok { OnOk result (out.new.items ≡ out.old.items ++ (node_id.canonical (standard number) ++ T.format.canonical value.now)) }
+    ensures err { OnErr result (Extends out.old.items out.new.items) }
+{
+    append_number(number, out)?;
+    value.append(out)?;
+    Ok(())
+}
+
+/// Reads the value that is the whole source, with nothing behind it.
+pub fn read_whole<T: Wire + Drop, S: Source>(alloc: Global, src: &mut S) -> Result<T, ReadFault>
+    ensures found { IfOk result (λ m. IsBody T.format m (S.octets src.old)) }
+    ensures none { IsErrOf result NoValue → IsNoBody T.format (S.octets src.old) }
+{
+    T::lawful();
+    let value = T::read_value(alloc, src, MOST_LEVELS)?;
+    if src.left() > 0 {
+        return Err(ReadFault::NoValue);
+    }
+    Ok(value)
+}
+
+/// Reads the message with this number that is the whole source, with nothing behind it.
+pub fn read_message<T: Wire + Drop, S: Source>(
+    alloc: Global,
+    src: &mut S,
+    number: u32,
+) -> Result<T, ReadFault>
+    ensures found { IfOk result (λ m. IsBody (message number T.format) m (S.octets src.old)) }
+    ensures none { IsErrOf result NoValue → IsNoBody (message number T.format) (S.octets src.old) }
+{
+    T::lawful();
+    let id = NodeId::read_value(alloc, src, MOST_LEVELS)?;
+    let Some(found) = standard_number(&id) else {
+        return Err(ReadFault::NoValue);
+    };
+    if found != number {
+        return Err(ReadFault::NoValue);
+    }
+    read_whole(alloc, src)
+}
+
+/// Adds the canonical encoding of a structure behind the NodeId with this number. An error leaves
+/// what was there.
+pub fn write_message<T: Wire>(number: u32, value: &T, out: &mut Vec<u8>) -> Result<(), WriteFault>
+    requires known { IsTrue (node_id.encodable (standard number)) }
+    ensures ok { OnOk result (out.new.items ≡ out.old.items ++ (node_id.canonical (standard number) ++ T.format.canonical value.now)) }
+    ensures err { OnErr result (out.new.items ≡ out.old.items) }
+    ensures refused { IsErrOf result NotWritable ↔ IsFalse (T.format.encodable value.now) }
+{
+    if !value.is_encodable() {
+        return Err(WriteFault::NotWritable);
+    }
+    let len = out.len();
+    if append_message(number, value, out).is_err() {
+        out.truncate(len);
+        return Err(WriteFault::OutOfMemory);
+    }
+    Ok(())
+}

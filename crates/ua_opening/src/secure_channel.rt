@@ -1,0 +1,223 @@
+//! The services of secure channels.
+
+ghost use Rattle.std.specs.Prelude.{◌≡◌, pos, IsTrue};
+ghost use Rattle.ua_opening.specs.Plain.{open_request_of, open_response_of, close_request_of};
+ghost use Rattle.ua_opening.specs.SecureChannel.{open_request, open_response, close_request};
+
+use crate::header::{RequestHeader, ResponseHeader};
+use crate::{append_fields, are_encodable, read_fields};
+use std::alloc::{AllocError, Global};
+use ua_builtin::laws::moment_is_encodable;
+use ua_builtin::{DateTime, NodeId, ReadFault, Source, StatusCode, UaBytes, Wire};
+use ua_wire::{append_three, append_two};
+
+/// OpenSecureChannel: asks for a secure channel, or for a new token of one (OPC 10000-4, 5.6.2).
+#[derive(Drop)]
+pub struct OpenRequest {
+    pub request_header: RequestHeader,
+    pub client_protocol_version: u32,
+    /// 0 to issue a token, 1 to renew it; every number is kept.
+    pub request_type: i32,
+    /// 1 for None, 2 for Sign, 3 for SignAndEncrypt; every number is kept.
+    pub security_mode: i32,
+    pub client_nonce: UaBytes,
+    /// How long the token is to live, in milliseconds.
+    pub requested_lifetime: u32,
+}
+
+/// To issue a token, as a RequestType (OPC 10000-4, 5.6.2).
+const ISSUE: i32 = 0;
+
+/// To renew a token, as a RequestType (OPC 10000-4, 5.6.2).
+const RENEW: i32 = 1;
+
+/// No security, as a MessageSecurityMode (OPC 10000-4, 7.20).
+const NO_SECURITY: i32 = 1;
+
+impl OpenRequest {
+    /// Asks for a channel and its first token, which is to live so many milliseconds: under no
+    /// token of a session, without security and without a nonce.
+    #[tactic(auto, using(crate::proofs::PlainFits::issue_fits))]
+    pub fn issue(timestamp: DateTime, request_handle: u32, requested_lifetime: u32) -> OpenRequest
+        ensures value { result ≡ open_request_of (pos 0) timestamp request_handle requested_lifetime }
+        ensures encodable { IsTrue (open_request.encodable result) }
+    {
+        moment_is_encodable(&timestamp);
+        OpenRequest::of_type(ISSUE, timestamp, request_handle, requested_lifetime)
+    }
+
+    /// Asks for a new token of a channel, else as [`issue`](OpenRequest::issue) does.
+    #[tactic(auto, using(crate::proofs::PlainFits::renew_fits))]
+    pub fn renew(timestamp: DateTime, request_handle: u32, requested_lifetime: u32) -> OpenRequest
+        ensures value { result ≡ open_request_of (pos 1) timestamp request_handle requested_lifetime }
+        ensures encodable { IsTrue (open_request.encodable result) }
+    {
+        moment_is_encodable(&timestamp);
+        OpenRequest::of_type(RENEW, timestamp, request_handle, requested_lifetime)
+    }
+
+    fn of_type(
+        request_type: i32,
+        timestamp: DateTime,
+        request_handle: u32,
+        requested_lifetime: u32,
+    ) -> OpenRequest
+        ensures { result ≡ open_request_of request_type timestamp request_handle requested_lifetime }
+    {
+        OpenRequest {
+            request_header: RequestHeader::new(NodeId::null(), timestamp, request_handle),
+            client_protocol_version: 0,
+            request_type,
+            security_mode: NO_SECURITY,
+            client_nonce: UaBytes::null(),
+            requested_lifetime,
+        }
+    }
+}
+
+#[tactic(auto, unfolding(crate::specs::SecureChannel::open_request), using(crate::proofs::SecureChannelLawful::lawful_open_request))]
+impl Wire for OpenRequest {
+    ghost use Rattle.ua_opening.specs.SecureChannel.{open_request};
+
+    ghost format = { open_request };
+
+    #[inline]
+    fn lawful() {}
+
+    fn read_value<S: Source>(alloc: Global, src: &mut S, depth: u32) -> Result<Self, ReadFault> {
+        read_fields!(alloc, src, depth => OpenRequest {
+            request_header, client_protocol_version, request_type, security_mode, client_nonce,
+            requested_lifetime
+        })
+    }
+
+    fn is_encodable(&self) -> bool {
+        are_encodable!(self =>
+            request_header, client_protocol_version, request_type, security_mode, client_nonce,
+            requested_lifetime
+        )
+    }
+
+    fn append(&self, out: &mut Vec<u8>) -> Result<(), AllocError> {
+        append_fields!(self, out =>
+            request_header, client_protocol_version, request_type, security_mode, client_nonce,
+            requested_lifetime
+        )
+    }
+}
+
+/// The answer to an [`OpenRequest`] (OPC 10000-4, 5.6.2).
+#[derive(Drop)]
+pub struct OpenResponse {
+    pub response_header: ResponseHeader,
+    pub server_protocol_version: u32,
+    /// The secure channel.
+    pub channel_id: u32,
+    /// The token that chunks are sent under.
+    pub token_id: u32,
+    /// When the token was made.
+    pub created_at: DateTime,
+    /// How long the token lives, in milliseconds.
+    pub revised_lifetime: u32,
+    pub server_nonce: UaBytes,
+}
+
+impl OpenResponse {
+    /// The good answer to the request with this handle: the channel, its token, made at this moment,
+    /// and how many milliseconds the token lives; without a nonce.
+    #[tactic(auto, using(crate::proofs::PlainFits::open_response_fits))]
+    pub fn new(
+        created_at: DateTime,
+        request_handle: u32,
+        channel_id: u32,
+        token_id: u32,
+        revised_lifetime: u32,
+    ) -> OpenResponse
+        ensures value { result ≡ open_response_of created_at request_handle channel_id token_id revised_lifetime }
+        ensures encodable { IsTrue (open_response.encodable result) }
+    {
+        moment_is_encodable(&created_at);
+        OpenResponse {
+            response_header: ResponseHeader::new(created_at, request_handle, StatusCode::GOOD),
+            server_protocol_version: 0,
+            channel_id,
+            token_id,
+            created_at,
+            revised_lifetime,
+            server_nonce: UaBytes::null(),
+        }
+    }
+}
+
+#[tactic(auto, unfolding(crate::specs::SecureChannel::open_response), using(crate::proofs::SecureChannelLawful::lawful_open_response))]
+impl Wire for OpenResponse {
+    ghost use Rattle.ua_opening.specs.SecureChannel.{open_response};
+
+    ghost format = { open_response };
+
+    #[inline]
+    fn lawful() {}
+
+    fn read_value<S: Source>(alloc: Global, src: &mut S, depth: u32) -> Result<Self, ReadFault> {
+        read_fields!(alloc, src, depth => OpenResponse {
+            response_header, server_protocol_version, channel_id, token_id, created_at,
+            revised_lifetime, server_nonce
+        })
+    }
+
+    fn is_encodable(&self) -> bool {
+        are_encodable!(self =>
+            response_header, server_protocol_version, channel_id, token_id, created_at,
+            revised_lifetime, server_nonce
+        )
+    }
+
+    fn append(&self, out: &mut Vec<u8>) -> Result<(), AllocError> {
+        append_fields!(self, out =>
+            response_header, server_protocol_version, channel_id, token_id, created_at,
+            revised_lifetime, server_nonce
+        )
+    }
+}
+
+/// CloseSecureChannel: ends the secure channel. No answer is sent. (OPC 10000-4, 5.6.3).
+#[derive(Drop)]
+pub struct CloseRequest {
+    pub request_header: RequestHeader,
+}
+
+impl CloseRequest {
+    /// Ends the channel, under no token of a session.
+    #[tactic(auto, using(crate::proofs::PlainFits::close_request_fits))]
+    pub fn new(timestamp: DateTime, request_handle: u32) -> CloseRequest
+        ensures value { result ≡ close_request_of timestamp request_handle }
+        ensures encodable { IsTrue (close_request.encodable result) }
+    {
+        moment_is_encodable(&timestamp);
+        CloseRequest {
+            request_header: RequestHeader::new(NodeId::null(), timestamp, request_handle),
+        }
+    }
+}
+
+#[tactic(auto, unfolding(crate::specs::SecureChannel::close_request), using(crate::proofs::SecureChannelLawful::lawful_close_request))]
+impl Wire for CloseRequest {
+    ghost use Rattle.ua_opening.specs.SecureChannel.{close_request};
+
+    ghost format = { close_request };
+
+    #[inline]
+    fn lawful() {}
+
+    fn read_value<S: Source>(alloc: Global, src: &mut S, depth: u32) -> Result<Self, ReadFault> {
+        read_fields!(alloc, src, depth => CloseRequest { request_header })
+    }
+
+    fn is_encodable(&self) -> bool {
+        are_encodable!(self => request_header)
+    }
+
+    fn append(&self, out: &mut Vec<u8>) -> Result<(), AllocError> {
+        append_fields!(self, out => request_header)
+    }
+}

@@ -1,0 +1,62 @@
+//! What is the same for each kind of message.
+
+/// A match of a message, the same for each kind: what it holds and the number of its encoding have the
+/// names that are given. As the macros below, it takes the kinds from a macro that has them, as
+/// [`requests`](crate::requests) and [`responses`](crate::responses).
+#[macro_export]
+macro_rules! by_kind {
+    ($all:ident $kinds:ident [$($kind:ident($held:ident) = $of:literal,)+] $message:expr, $structure:ident, $number:ident => $answer:expr) => {
+        match $message {
+            $($all::$kind($structure) => {
+                let $number = $of;
+                $answer
+            })+
+        }
+    };
+}
+
+/// The name of the structure that messages of a kind hold.
+macro_rules! name_of {
+    ($all:ident $kinds:ident [$($kind:ident($held:ident) = $of:literal,)+] $of_kind:expr) => {
+        match $of_kind {
+            $($kinds::$kind => stringify!($held),)+
+        }
+    };
+}
+
+/// The kind of a message.
+macro_rules! kind_of {
+    ($all:ident $kinds:ident [$($kind:ident($held:ident) = $of:literal,)+] $message:expr) => {
+        match $message {
+            $($all::$kind(_) => $kinds::$kind,)+
+        }
+    };
+}
+
+/// The kind whose encoding has a number, if there is one.
+macro_rules! numbered {
+    ($all:ident $kinds:ident [$($kind:ident($held:ident) = $of:literal,)+] $number:expr) => {
+        match $number {
+            $($of => Some($kinds::$kind),)+
+            _ => None,
+        }
+    };
+}
+
+/// The message of a kind, of the structure that is read, behind what is known of that kind.
+macro_rules! message_of_kind {
+    ($all:ident $kinds:ident [$($kind:ident($held:ident) = $of:literal,)+] $of_kind:expr, $known:ident, $read:expr) => {
+        match $of_kind {
+            $($kinds::$kind => {
+                $known($kinds::$kind);
+                let structure = $read?;
+                Ok($all::$kind(structure))
+            })+
+        }
+    };
+}
+
+pub(crate) use kind_of;
+pub(crate) use message_of_kind;
+pub(crate) use name_of;
+pub(crate) use numbered;

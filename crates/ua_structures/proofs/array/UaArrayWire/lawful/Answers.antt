@@ -1,5 +1,0 @@
-use Rattle.ua_structures.proofs.ArrayLawful.{lawful_array}
-use Rattle.ua_structures.proofs.array.UaArrayWire.lawful.Goals as goal
-
-pub returns : goal.returns
-returns g c = lawful_array c.lawful.ensures
