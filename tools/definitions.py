@@ -19,14 +19,14 @@ import re
 import sys
 from dataclasses import dataclass, field
 from functools import lru_cache
-from importlib.machinery import SourceFileLoader
 from shutil import which
 from typing import Iterator
 
 sys.dont_write_bytecode = True
-HERE = os.path.dirname(os.path.abspath(__file__))
-docs = SourceFileLoader("check_docs", os.path.join(HERE, "check_docs")).load_module()
-TOP = docs.TOP
+sys.path.insert(0, os.path.dirname(os.path.abspath(__file__)))
+import sources as docs
+from sources import TOP
+
 USE = re.compile(r"^[ \t]*(?P<pub>pub )?(?:ghost )?use (?P<path>[\w.«»]+?)(?:\.\{(?P<words>[^}]*)\})?(?: as (?P<alias>\w+))?[ \t]*;?[ \t]*$", re.M)
 HEAD = re.compile(r"^[ \t]*(?:pub )?(?P<kind>abbrev|unfoldable|data|record)[ \t]+(?:pub[ \t]+)?(?P<name>(?!mutual\b)[^\s:({]+)", re.M)
 BLOCK = re.compile(r"^(?P<head>(?:abbrev |unfoldable )?mutual|module _ [^\n]*)$(?P<body>(?:\n(?:[ \t][^\n]*)?)*)", re.M)
@@ -254,10 +254,9 @@ class Scope:
 
     def __init__(self, crate: str, path: str, at: int) -> None:
         self.crate, self.path = crate, path
-        text = code_of(path)
         self.names: dict[str, list[tuple[str, str]]] = {}
-        for start, here, module, origin in imports_in(text):
-            if path.endswith(".antt") or reaches(text, start, at):
+        for (begin, end), here, module, origin in imports_of(path):
+            if begin <= at < end:
                 for part in parts_of(here):
                     self.names.setdefault(part, []).append((module, origin))
 
@@ -279,15 +278,23 @@ class Scope:
         return [unit(self.crate, head, self.path, at) for head, at in given]
 
 
-def reaches(text: str, start: int, at: int) -> bool:
-    """Whether the block in which a `use` stands holds a place.
-    >>> reaches("a { use } b", 4, 10), reaches("a { use b }", 4, 8), reaches("use { b }", 0, 6)
-    (False, True, True)
+@lru_cache(None)
+def imports_of(path: str) -> list[tuple[tuple[int, int], str, str, str]]:
+    """What the `use` lines of a file bring, each with the block of the file in which it holds."""
+    text = code_of(path)
+    whole = (0, len(text) + 1)
+    return [(whole if path.endswith(".antt") else block_around(text, start), *rest) for start, *rest in imports_in(text)]
+
+
+def block_around(text: str, at: int) -> tuple[int, int]:
+    """The block in which a place stands.
+    >>> block_around("a { use } b", 4), block_around("use { b }", 0)
+    ((2, 9), (0, 10))
     """
-    for i in range(start, -1, -1):
-        if text[i] == "{" and docs.close(text, i) > start:
-            return i <= at < docs.close(text, i)
-    return True
+    for i in range(at, -1, -1):
+        if text[i] == "{" and docs.close(text, i) > at:
+            return i, docs.close(text, i)
+    return 0, len(text) + 1
 
 
 def modules_of(path: str) -> tuple[str, ...]:
