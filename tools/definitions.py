@@ -283,18 +283,7 @@ def imports_of(path: str) -> list[tuple[tuple[int, int], str, str, str]]:
     """What the `use` lines of a file bring, each with the block of the file in which it holds."""
     text = code_of(path)
     whole = (0, len(text) + 1)
-    return [(whole if path.endswith(".antt") else block_around(text, start), *rest) for start, *rest in imports_in(text)]
-
-
-def block_around(text: str, at: int) -> tuple[int, int]:
-    """The block in which a place stands.
-    >>> block_around("a { use } b", 4), block_around("use { b }", 0)
-    ((2, 9), (0, 10))
-    """
-    for i in range(at, -1, -1):
-        if text[i] == "{" and docs.close(text, i) > at:
-            return i, docs.close(text, i)
-    return 0, len(text) + 1
+    return [(whole if path.endswith(".antt") else docs.block_around(text, start), *rest) for start, *rest in imports_in(text)]
 
 
 def modules_of(path: str) -> tuple[str, ...]:

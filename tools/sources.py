@@ -52,6 +52,18 @@ def close(text: str, at: int) -> int:
     return len(text)
 
 
+def block_around(text: str, at: int) -> tuple[int, int]:
+    """The block in which a place stands.
+
+    >>> block_around("a { use } b", 4), block_around("use { b }", 0)
+    ((2, 9), (0, 10))
+    """
+    for i in range(at, -1, -1):
+        if text[i] == "{" and close(text, i) > at:
+            return i, close(text, i)
+    return 0, len(text) + 1
+
+
 def bare(text: str) -> str:
     """The text without comments and the contents of string literals, each character in its place."""
     text = re.sub(r"//[^\n]*", lambda m: " " * len(m.group()), text)
