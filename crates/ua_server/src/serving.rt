@@ -48,8 +48,8 @@ pub fn serve<L: Line, M: Moments>(
     )
 }
 
-/// Does what [`serve`] does, and tells of each request that is answered, in order, as its answer is
-/// made: right before the answer is written. A message that is given up is not answered.
+/// Does what [`serve`] does, and tells of each request that is answered, in order. When it is told beside
+/// the octets that are written no clause says. A message that is given up is not answered.
 pub fn serve_watched<L: Line, M: Moments, W: Watch>(
     alloc: Global,
     line: &mut L,

@@ -14,8 +14,12 @@ pub struct Session {
 }
 
 /// What a connection has of the state of a server, beside its channel: its session, if there is one.
-/// It is made empty, and filled by [`Services::swap_session`](crate::Services::swap_session) alone;
-/// from then on it belongs to the services that filled it.
+/// It is made empty, and filled by [`Services::swap_session`](crate::Services::swap_session) alone.
+///
+/// A slot belongs to one [`Services`]: sessions are numbered by the services that made them, so one that
+/// is filled from some services and emptied into others names there a session of somebody else. Nothing
+/// hinders a program from that; a [`Connection`](crate::Connection) that takes steps over one `Services`
+/// never does it.
 #[derive(Drop)]
 pub struct SessionSlot {
     pub(crate) session: Option<Session>,

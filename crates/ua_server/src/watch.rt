@@ -27,7 +27,7 @@ pub trait Watch {
     /// A request leads from what was told before to what is told after.
     ghost notes: { Self → AnsweredRequest → Self → Type 0 };
 
-    /// A request was answered. Its answer is written next.
+    /// A request was answered. Whether its answer is written by then no clause says.
     fn note(&mut self, request: AnsweredRequest)
         ensures { notes self.old request self.new };
 }
