@@ -77,7 +77,7 @@ impl Rows {
                 ends::answer(&self.given, nodes, turns, words, told);
             }
             "share" => self.sharing.begin(self.serving.nodes.as_str(), told),
-            "connection" | "at" | "set" | "holds" => self
+            "connection" | "at" | "set" | "holds" | "stored" => self
                 .sharing
                 .answer(&self.given, kind, words, told),
             "converse" => served::answer(&self.given, &self.serving, words, told),

@@ -8,7 +8,8 @@ use crate::words::{first_number, front, limits_of, moment_of, number_of, text_of
 use std::alloc::Global;
 use ua_builtin::{DateTime, Identifier, NodeId};
 use ua_nodes::Reading;
-use ua_server::{Connection, Services, StepFault};
+use ua_server::{Connection, Services, Step, StepFault, Written};
+use ua_services::WriteValue;
 use ua_variant::{Scalar, Variant};
 
 /// The namespace of the nodes that rows name.
@@ -21,6 +22,8 @@ pub struct Sharing {
     connections: Vec<Connection>,
     /// The place of the one that takes octets.
     current: usize,
+    /// What the step that answered last stored.
+    written: Option<Written>,
 }
 
 impl Sharing {
@@ -29,6 +32,7 @@ impl Sharing {
             services: None,
             connections: Vec::new(alloc),
             current: 0,
+            written: None,
         }
     }
 
@@ -52,6 +56,7 @@ impl Sharing {
             }
             "set" => self.set(words, told),
             "holds" => self.tell_value(words, told),
+            "stored" => self.tell_stored(told),
             _ => told.fail("no row"),
         }
     }
@@ -108,6 +113,52 @@ impl Sharing {
             None => told.word("no node"),
         }
     }
+
+    /// The items that the step that answered last stored.
+    fn tell_stored(&self, told: &mut Told) {
+        let Some(written) = &self.written else {
+            told.word("nothing");
+            return;
+        };
+        match written.values(told.alloc()) {
+            Ok(items) if items.is_empty() => told.word("nothing"),
+            Ok(items) => {
+                for item in &items {
+                    tell_item(item, told);
+                }
+            }
+            Err(_) => told.refused(),
+        }
+    }
+
+    /// Keeps what a step that answered something stored. Says how many octets it took.
+    fn keep_written(&mut self, step: Step) -> usize {
+        let Step {
+            taken,
+            out,
+            end: _,
+            written,
+        } = step;
+        if !out.is_empty() {
+            self.written = Some(written);
+        }
+        taken
+    }
+}
+
+/// Tells the Int32 that an item stored, and in which node.
+fn tell_item(item: &WriteValue, told: &mut Told) {
+    match &item.node_id.identifier {
+        Identifier::Text(name) => told.event(name.as_str().unwrap_or("null")),
+        _ => told.event("another node"),
+    }
+    match &item.value.value {
+        Some(value) => match value.get() {
+            Variant::One(Scalar::Int32(value)) => told.shown(value),
+            _ => told.word("another type"),
+        },
+        None => told.word("no value"),
+    }
 }
 
 /// The NodeId of a text.
@@ -126,7 +177,10 @@ impl Takes for Sharing {
             return (piece.len(), Goes::Out);
         };
         match connection.step(services, piece, given.moment) {
-            Ok(step) => (step.taken, tell_step(given, &step, told)),
+            Ok(step) => {
+                let goes = tell_step(given, &step, told);
+                (self.keep_written(step), goes)
+            }
             Err(StepFault::Closed) => {
                 told.event("is closed");
                 (piece.len(), Goes::Out)

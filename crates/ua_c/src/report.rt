@@ -48,7 +48,15 @@ impl Report {
         ensures { Shows answer result waiting.old waiting.new }
     {
         match answer {
-            Ok(Step { taken, out, end }) => {
+            Ok(
+                Step {
+                    taken,
+                    out,
+                    end,
+                    written,
+                },
+            ) => {
+                drop(written);
                 *waiting = Waiting::of(out);
                 Report::of_end(taken, end)
             }

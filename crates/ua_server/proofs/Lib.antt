@@ -10,6 +10,8 @@ mod Passing
 mod Bounds
 mod Events
 mod Standing
+mod Stores
+mod StoredChange
 mod Exchanges
 pub mod LeftOver
 mod Pendings

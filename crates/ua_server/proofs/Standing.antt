@@ -21,7 +21,7 @@ use Rattle.ua_server.specs.declared.step.Step.{Step}
 use Rattle.ua_server.specs.declared.step.StepFault.{StepFault}
 use Rattle.ua_server.specs.declared.step.StepFault.TheVariants as step_fault
 
-sent-answered : (channel number : ℕ) (moment : DateTime) (t : Told) (octets : List ℕ) → AreSent channel number moment t octets → IsTrue (is_answered t)
+pub sent-answered : (channel number : ℕ) (moment : DateTime) (t : Told) (octets : List ℕ) → AreSent channel number moment t octets → IsTrue (is_answered t)
 sent-answered channel number moment (Agreed a) octets s = refl
 sent-answered channel number moment (Opened id handle token lifetime) octets s = refl
 sent-answered channel number moment (Asked id token message) octets s = absurd s
@@ -50,7 +50,7 @@ module _ (channel number : ℕ) (moment : DateTime) (piece : List ℕ) (n : ℕ)
   saying-stands s t new is a = subst (λ (x : Step). StandsBy piece x.end x.taken x.out.items new octets told) (sym is) a
 
   -- nothing came
-  pub stands-quiet : AnswersBehind channel number moment piece n (Ok event.NeedMore) mid octets told → (out : List ℕ) → out ≡ [] → StandsBy piece None n out mid octets told
+  abbrev pub stands-quiet : AnswersBehind channel number moment piece n (Ok event.NeedMore) mid octets told → (out : List ℕ) → out ≡ [] → StandsBy piece None n out mid octets told
   stands-quiet b out none = record {
     quiet = b.quiet;
     more = [];
@@ -59,7 +59,7 @@ module _ (channel number : ℕ) (moment : DateTime) (piece : List ℕ) (n : ℕ)
   }
 
   -- an ACK or an OPN response
-  pub stands-sent : (sent : Vec ℕ Global) → AnswersBehind channel number moment piece n (Ok (event.Send sent)) mid octets told → StandsBy piece None n sent.items mid octets told
+  abbrev pub stands-sent : (sent : Vec ℕ Global) → AnswersBehind channel number moment piece n (Ok (event.Send sent)) mid octets told → StandsBy piece None n sent.items mid octets told
   stands-sent sent b =
       let s = b.answers.1 in
       record {
@@ -70,7 +70,7 @@ module _ (channel number : ℕ) (moment : DateTime) (piece : List ℕ) (n : ℕ)
       }
 
   -- a message, and its reply
-  pub stands-replied : (id : ℕ) (message : List (List ℕ)) (new : ServerChannel) (out : List ℕ) (b : AnswersBehind channel number moment piece n (Ok (event.Asked id message)) mid octets told)
+  abbrev pub stands-replied : (id : ℕ) (message : List (List ℕ)) (new : ServerChannel) (out : List ℕ) (b : AnswersBehind channel number moment piece n (Ok (event.Asked id message)) mid octets told)
       → GoesTelling new (octets ++ take n piece) (told ++ given_up b.quiet) (Asked id b.answers.1.0.token (concat message)) → StandsBy piece None n out new octets told
   stands-replied id message new out b goes = record {
     quiet = b.quiet;

@@ -5,10 +5,12 @@ pub mod Sessions
 pub mod Attributes
 pub mod Answer
 pub mod Reply
+pub mod Stored
 pub mod Said
 pub mod Requests
 pub mod Happening
 pub mod Stepping
+pub mod Storing
 pub mod Now
 pub mod History
 pub mod Sharing

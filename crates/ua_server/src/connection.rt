@@ -11,6 +11,7 @@ ghost use Rattle.ua_server.specs.Served.{channel_at, session_at, with_own_sessio
 ghost use Rattle.ua_server.specs.Sharing.{SharedEvent, StandsAmong, StepAmong, opened, shared_over, told_by};
 ghost use Rattle.ua_server.specs.State.{State};
 ghost use Rattle.ua_server.specs.Stepping.{StepStands, Takes};
+ghost use Rattle.ua_server.specs.Storing.{StepStores};
 ghost use Rattle.ua_server.specs.declared.step.StepFault.TheVariants as step_fault;
 
 use crate::server::Server;
@@ -89,6 +90,9 @@ impl Connection {
             → StepOver (limits_of (channel_at self.old)) (channel_of (channel_at self.old)) moment piece.now result (channel_at self.new) octets hs first (with_own_session self.old services.old) (with_own_session self.new services.new) }
         // Where it then stands is the same whatever the services are.
         ensures stands { (octets : List ℕ) (told : List Told) → Goes (channel_at self.old) octets told → StepStands piece.now result (channel_at self.new) octets told }
+        // Just the items that the Write that it answered stored are told, in order.
+        ensures stores { (octets : List ℕ) (told : List Told) → Goes (channel_at self.old) octets told
+            → StepStores piece.now result (channel_at self.new) octets told (with_own_session self.old services.old) }
         ensures apart { services.new.session ≡ services.old.session }
         ensures endpoint { services.new.endpoint ≡ services.old.endpoint }
         ensures progress { IfOk result (λ step. Takes piece.now step) }

@@ -2,18 +2,24 @@
 
 ghost use Rattle.std.specs.Prelude.{◌≡◌, ◌≤◌, ◌++◌, ◌∷◌, [], ℕ, List, length, Option, Some, Result, Ok};
 ghost use Rattle.ua_builtin.specs.declared.date_time.DateTime.{DateTime};
-ghost use Rattle.ua_channel.specs.ServerStands.{limits_of, channel_of, next_of};
+ghost use Rattle.ua_channel.specs.ServerStands.{limits_of, channel_of, next_of, ClosedAt, RefusedAt, Stands as Holds};
+ghost use Rattle.ua_channel_laws.specs.ServerReads.{AtServer, ServerCloses, ServerReads};
+ghost use Rattle.ua_channel.specs.Stops.{StopsAt};
 ghost use Rattle.ua_channel.specs.declared.server.ServerChannel.{ServerChannel};
-ghost use Rattle.ua_frame.specs.Run.{End, Going};
+ghost use Rattle.ua_frame.specs.Run.{End, Going, Over, Run, Stopped, events};
+ghost use Rattle.ua_frame.specs.declared.frame.Frame.{Frame};
+ghost use Rattle.ua_channel.specs.ServerRules.{server_rules};
 ghost use Rattle.ua_channel.specs.ServerTold.{Told};
-ghost use Rattle.ua_nodes.specs.Table.{Nodes};
+ghost use Rattle.ua_builtin.specs.declared.node_id.NodeId.{NodeId};
+ghost use Rattle.ua_nodes.specs.Table.{Nodes, node_at};
+ghost use Rattle.ua_nodes.specs.Write.{after_write};
 ghost use Rattle.ua_server.specs.History.{ConnectionEvent, Became, IsUndisturbed, StandsOver, StepOver, course_over, with_changes, moments_of, output_over, told_in};
 ghost use Rattle.ua_server.specs.Now.{StepNow};
 ghost use Rattle.ua_server.specs.Stepping.{Stands, StepAnswers};
 ghost use Rattle.ua_server.specs.declared.step.Step.{Step};
 ghost use Rattle.ua_server.specs.declared.step.StepFault.{StepFault};
 ghost use Rattle.ua_server.specs.Said.{Course, start, with_more, said_of, left_by, last_words, said, left, used_in};
-ghost use Rattle.ua_server.specs.Sharing.{SharedEvent, SharedState, Changed, StandsAmong, at_moment, course_at, opened, seen_by, sent_to, shared_over, told_by};
+ghost use Rattle.ua_server.specs.Sharing.{SharedEvent, SharedState, Changed, EndsAmong, StandsAmong, at_moment, course_at, opened, seen_by, sent_to, shared_over, told_by};
 ghost use Rattle.ua_services.specs.declared.request.Request.{Request};
 ghost use Rattle.ua_opening.specs.declared.header.RequestHeader.{RequestHeader};
 ghost use Rattle.ua_services.specs.Request.{request_read};
@@ -26,6 +32,8 @@ ghost use Rattle.ua_server.specs.Answer.{fault_of, session_header};
 ghost use Rattle.ua_server.specs.Reply.{answered};
 ghost use Rattle.ua_server.specs.Status.{bad_session_id_invalid};
 ghost use Rattle.ua_server.specs.State.{State, begun, session_token, with_nodes, with_session};
+ghost use Rattle.ua_server.specs.Stored.{stored_items};
+ghost use Rattle.ua_structures.specs.declared.attribute.WriteValue.{WriteValue};
 ghost use Rattle.ua_server.specs.declared.session.Session.{Session};
 
 /// What is said of what is told in two parts is said of the first, and then of the second from where
@@ -111,6 +119,34 @@ pub fn one_of_several_connections_stands_by_itself()
     ensures silent { (channels : ℕ → ℕ) (k : ℕ) (p : SharedState) (nodes : Nodes) → (sent_to channels k p (Changed nodes ∷ []) ≡ []) × (told_by k (Changed nodes ∷ []) ≡ []) }
 {}
 
+/// Each of several connections follows its client as a server on its own does, renewals of its token among
+/// the messages, whatever the others tell and are sent between: behind octets that begin a conversation it
+/// was told the beginning of what that tells, and behind all of it just that; none of it is refused, and
+/// nothing but a CLO closes it.
+pub fn each_connection_follows_its_client()
+    ensures begins { (channels : ℕ → ℕ) (k : ℕ) (x : ServerChannel) (session : Option Session) (octets more : List ℕ) (es : List SharedEvent) (first now : State) (all : List Told) (at : AtServer)
+        → StandsAmong channels k x session octets es first now → ServerReads (limits_of x) (channel_of x) (octets ++ more) all at → (later : List Told) × (all ≡ told_by k es ++ later) }
+    ensures all { (channels : ℕ → ℕ) (k : ℕ) (x : ServerChannel) (session : Option Session) (octets : List ℕ) (es : List SharedEvent) (first now : State) (all : List Told) (at : AtServer)
+        → StandsAmong channels k x session octets es first now → ServerReads (limits_of x) (channel_of x) octets all at → told_by k es ≡ all }
+    ensures not_refused { (channels : ℕ → ℕ) (k : ℕ) (x : ServerChannel) (octets out more : List ℕ) (es new : List SharedEvent) (first before now : State) (code : ℕ) (all : List Told) (at : AtServer)
+        → EndsAmong (Stopped code) channels k x octets out es new first before now → ServerReads (limits_of x) (channel_of x) (octets ++ more) all at → ⊥ }
+    ensures not_closed { (channels : ℕ → ℕ) (k : ℕ) (x : ServerChannel) (octets out more : List ℕ) (es new : List SharedEvent) (first before now : State) (all : List Told) (at : AtServer)
+        → EndsAmong Over channels k x octets out es new first before now → ServerReads (limits_of x) (channel_of x) (octets ++ more) all at → ⊥ }
+    ensures closed { (channels : ℕ → ℕ) (k : ℕ) (x : ServerChannel) (octets out more : List ℕ) (es new : List SharedEvent) (first before now : State) (all : List Told)
+        → EndsAmong Over channels k x octets out es new first before now → ServerCloses (limits_of x) (channel_of x) (octets ++ more) all → told_by k (es ++ new) ≡ all }
+{}
+
+/// A hostile client ends its own connection, and no other: that ends at the first wrong frame, with the
+/// code of its first reason, and changes nothing more; what an unfinished frame and unfinished messages of a
+/// connection take is bounded by its own octets alone, as [`Connection::held`](crate::Connection::held) says.
+pub fn a_hostile_client_ends_its_own_connection()
+    ensures refused { (channels : ℕ → ℕ) (k : ℕ) (x : ServerChannel) (octets out : List ℕ) (es new : List SharedEvent) (first before now : State) (code : ℕ)
+        → EndsAmong (Stopped code) channels k x octets out es new first before now
+        → (frames : List Frame) × (rest : List ℕ) × Run (server_rules (limits_of x) (channel_of x)) octets frames rest (Stopped code) × StopsAt (server_rules (limits_of x) (channel_of x)) frames rest code × (events (server_rules (limits_of x) (channel_of x)) frames ≡ told_by k (es ++ new)) × (now ≡ before) }
+    ensures holds { (channels : ℕ → ℕ) (k : ℕ) (x : ServerChannel) (session : Option Session) (octets : List ℕ) (es : List SharedEvent) (first now : State)
+        → StandsAmong channels k x session octets es first now → (frames : List Frame) × (rest : List ℕ) × Holds x octets frames rest }
+{}
+
 /// A message that is a request under the AuthenticationToken of a session that another connection has, or
 /// had, is answered by Bad_SessionIdInvalid, and changes nothing: sessions of one connection say nothing to
 /// another.
@@ -124,4 +160,10 @@ pub fn a_token_of_another_connection_is_no_token()
     ensures close { (m : CloseSessionRequest) → session_header (kinds.CloseSession m) ≡ Some m.request_header }
     ensures read { (m : ReadRequest) → session_header (kinds.Read m) ≡ Some m.request_header }
     ensures write { (m : WriteRequest) → session_header (kinds.Write m) ≡ Some m.request_header }
+{}
+
+/// What a Write stores is what it changes: each node is left as by the stored items alone (OPC 10000-4,
+/// 5.11.4).
+pub fn what_a_write_stores_is_what_it_changes()
+    ensures { (items : List WriteValue) (moment : DateTime) (nodes : Nodes) (id : NodeId) → node_at (after_write (stored_items nodes items) moment nodes) id ≡ node_at (after_write items moment nodes) id }
 {}

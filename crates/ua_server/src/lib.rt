@@ -35,6 +35,7 @@ mod session;
 mod sessions;
 mod step;
 mod watch;
+mod written;
 
 pub use connection::Connection;
 pub use endpoint::Endpoint;
@@ -45,3 +46,4 @@ pub use serving::{serve, serve_watched};
 pub use session::SessionSlot;
 pub use step::{End, Step, StepFault};
 pub use watch::{AnsweredRequest, Unwatched, Watch};
+pub use written::Written;

@@ -7,13 +7,17 @@ ghost use Rattle.ua_services.specs.Response.{header_of, response};
 ghost use Rattle.ua_server.specs.Answer.{answer, fault_of};
 ghost use Rattle.ua_server.specs.Reply.{IsBodyWithin, answered};
 ghost use Rattle.ua_server.specs.Requests.{count_asked, items_asked, kind_asked, request_answered};
+ghost use Rattle.ua_server.specs.Stored.{results_of};
 
 use crate::services::Services;
 use crate::watch::{AnsweredRequest, items_asked};
 use std::alloc::{AllocError, Global};
+use std::mem;
 use ua_builtin::{DateTime, Source, StatusCode, WriteFault};
 use ua_nodes::values_that_their_nodes_cannot_take_change_no_write;
-use ua_services::{Request, RequestFault, Response, read_request_for, response_body};
+use ua_services::{
+    Request, RequestFault, Response, UaArray, empty_body, read_request_for, write_response,
+};
 
 impl Services {
     /// The body of the reply to a message with this body: the response to the request that it is,
@@ -33,24 +37,29 @@ impl Services {
         ensures refused { OnErr result ((self.new ≡ self.old) ⊎ (self.new ≡ (answered self.old moment (S.octets src.old)).0)) }
     {
         match self.reply_telling(alloc, src, moment, None) {
-            Ok(told) => Ok(told.0),
+            Ok((body, _request, results)) => {
+                drop(results);
+                Ok(body)
+            }
             Err(error) => Err(error),
         }
     }
 
-    /// What [`reply`](Services::reply) does, with what is told of the message. The results of a Read are
-    /// given up once the body has more than `most` octets. Of a Write no value is kept that its node could
-    /// not take: its item is refused, at the latest for the type, or all are before a session is activated.
+    /// What [`reply`](Services::reply) does, with what is told of the message, and the results of a Write.
+    /// The results of a Read are given up once the body has more than `most` octets. Of a Write no value is
+    /// kept that its node could not take: its item is refused, at the latest for the type, or all are before
+    /// a session is activated.
     pub(crate) fn reply_telling<S: Source>(
         &mut self,
         alloc: Global,
         src: &mut S,
         moment: DateTime,
         most: Option<usize>,
-    ) -> Result<(Vec<u8>, AnsweredRequest), AllocError>
+    ) -> Result<(Vec<u8>, AnsweredRequest, UaArray<StatusCode>), AllocError>
         ensures body { IfOk result (λ told. IsBodyWithin most (response.canonical (answered self.old moment (S.octets src.old)).1) told.0.items) }
         ensures some { IfOk result (λ told. 0 < length told.0.items) }
         ensures request { IfOk result (λ told. told.1 ≡ request_answered None self.old moment (S.octets src.old)) }
+        ensures results { IfOk result (λ told. told.2 ≡ results_of (answered self.old moment (S.octets src.old)).1) }
         ensures state { IfOk result (λ told. self.new ≡ (answered self.old moment (S.octets src.old)).0) }
         ensures refused { OnErr result ((self.new ≡ self.old) ⊎ (self.new ≡ (answered self.old moment (S.octets src.old)).0)) }
     {
@@ -78,36 +87,39 @@ impl Services {
         read_request_for(alloc, src, self)
     }
 
-    /// The body of the response to a request, and what is told of it.
-    #[tactic(auto, using(crate::proofs::Answered::kept_by))]
+    /// The body of the response to a request, what is told of it, and the results of a Write.
+    #[tactic(auto, using(crate::proofs::Answered::kept_by, crate::proofs::Stores::read_results))]
     fn body_for(
         &mut self,
         alloc: Global,
         request: Request,
         moment: DateTime,
         most: Option<usize>,
-    ) -> Result<(Vec<u8>, AnsweredRequest), AllocError>
+    ) -> Result<(Vec<u8>, AnsweredRequest, UaArray<StatusCode>), AllocError>
         ensures body { IfOk result (λ told. IsBodyWithin most (response.canonical (answer self.old moment request).1) told.0.items) }
         ensures some { IfOk result (λ told. 0 < length told.0.items) }
         ensures request { IfOk result (λ told. told.1 ≡ record { kind = Some (kind_of request); items = items_asked request; code = (header_of (answer self.old moment request).1).service_result }) }
+        ensures results { IfOk result (λ told. told.2 ≡ results_of (answer self.old moment request).1) }
         ensures state { IfOk result (λ told. self.new ≡ (answer self.old moment request).0) }
         ensures refused { OnErr result ((self.new ≡ self.old) ⊎ (self.new ≡ (answer self.old moment request).0)) }
     {
         let kind = Some(request.kind());
         let items = items_asked(&request);
-        let (body, code) = match request.into_read() {
+        let (body, code, results) = match request.into_read() {
             Ok(message) => {
                 let read = self.read_body(alloc, &message, moment, most);
                 drop(message);
-                read?
+                let (body, code) = read?;
+                (body, code, UaArray::null())
             }
             Err(other) => {
                 let response = self.answer(alloc, other, moment)?;
                 let code = response.header().service_result;
-                (body_of(alloc, response)?, code)
+                let (body, results) = body_with_results(alloc, response)?;
+                (body, code, results)
             }
         };
-        Ok((body, AnsweredRequest { kind, items, code }))
+        Ok((body, AnsweredRequest { kind, items, code }, results))
     }
 
     /// The body of the ServiceFault that answers what is no request, and what is told of it.
@@ -117,10 +129,11 @@ impl Services {
         handle: u32,
         code: StatusCode,
         moment: DateTime,
-    ) -> Result<(Vec<u8>, AnsweredRequest), AllocError>
+    ) -> Result<(Vec<u8>, AnsweredRequest, UaArray<StatusCode>), AllocError>
         ensures body { IfOk result (λ told. told.0.items ≡ response.canonical (fault_of handle code.code moment)) }
         ensures some { IfOk result (λ told. 0 < length told.0.items) }
         ensures request { IfOk result (λ told. told.1 ≡ record { kind = None; items = 0; code = code }) }
+        ensures results { IfOk result (λ told. told.2 ≡ None) }
     {
         let body = body_of(alloc, self.fault(handle, code, moment))?;
         let request = AnsweredRequest {
@@ -128,20 +141,56 @@ impl Services {
             items: 0,
             code,
         };
-        Ok((body, request))
+        Ok((body, request, UaArray::null()))
     }
 }
 
 /// The body of a response that can be written, which is let go of.
-#[tactic(auto, using(crate::proofs::Replies::response_takes_some))]
 pub(crate) fn body_of(alloc: Global, message: Response) -> Result<Vec<u8>, AllocError>
     requires { IsTrue (response.encodable message) }
     ensures body { IfOk result (λ body. body.items ≡ response.canonical message) }
     ensures some { IfOk result (λ body. 0 < length body.items) }
 {
-    match response_body(alloc, message) {
-        Ok(body) => Ok(body),
+    match body_with_results(alloc, message) {
+        Ok((body, results)) => {
+            drop(results);
+            Ok(body)
+        }
+        Err(refused) => Err(refused),
+    }
+}
+
+/// The body of a response that can be written, and the results of a Write, where it is the response to
+/// one.
+#[tactic(auto, using(crate::proofs::Replies::response_takes_some))]
+fn body_with_results(
+    alloc: Global,
+    message: Response,
+) -> Result<(Vec<u8>, UaArray<StatusCode>), AllocError>
+    requires { IsTrue (response.encodable message) }
+    ensures body { IfOk result (λ given. given.0.items ≡ response.canonical message) }
+    ensures some { IfOk result (λ given. 0 < length given.0.items) }
+    ensures results { IfOk result (λ given. given.1 ≡ results_of message) }
+{
+    let mut body = empty_body(alloc);
+    let written = write_response(&message, &mut body);
+    let results = into_results(message);
+    match written {
+        Ok(()) => Ok((body, results)),
         Err(WriteFault::OutOfMemory) => Err(AllocError),
         Err(WriteFault::NotWritable) => unreachable!(),
     }
+}
+
+/// The results of a Write, null of another response.
+fn into_results(message: Response) -> UaArray<StatusCode>
+    ensures { result ≡ results_of message }
+{
+    let mut message = message;
+    let results = match &mut message {
+        Response::Write(answer) => mem::replace(&mut answer.results, UaArray::null()),
+        _ => UaArray::null(),
+    };
+    drop(message);
+    results
 }

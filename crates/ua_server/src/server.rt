@@ -16,11 +16,13 @@ ghost use Rattle.ua_server.specs.Requests.{request_answered};
 ghost use Rattle.ua_server.specs.Said.{lane_at};
 ghost use Rattle.ua_server.specs.State.{State};
 ghost use Rattle.ua_server.specs.Stepping.{AnswersBehind, IsReplyAt, StepStands, is_given_up};
+ghost use Rattle.ua_server.specs.Stored.{stored_of};
 ghost use Rattle.ua_server.specs.declared.step.StepFault.TheVariants as step_fault;
 
 use crate::services::Services;
 use crate::step::{End, Step, StepFault};
 use crate::watch::AnsweredRequest;
+use crate::written::Written;
 use std::alloc::Global;
 use ua_builtin::DateTime;
 use ua_channel::{ChannelFault, ReplyFault, ServerChannel, ServerEvent};
@@ -71,7 +73,7 @@ fn next_answered(
     (taken, Ok(ServerEvent::NeedMore))
 }
 
-/// Answers a whole message, under its request id, with what is told of it.
+/// Answers a whole message, under its request id, with what is told of it and what it stored.
 fn reply_to(
     alloc: Global,
     channel: &mut ServerChannel,
@@ -79,12 +81,13 @@ fn reply_to(
     id: u32,
     message: Message,
     moment: DateTime,
-) -> Result<(Vec<u8>, AnsweredRequest), StepFault>
+) -> Result<(Vec<u8>, AnsweredRequest, Written), StepFault>
     ensures sent { (octets : List ℕ) (before : List Told) (token : ℕ) → GoesTelling channel.old octets before (Asked id token (concat message))
         → IfOk result (λ told. GoesTelling channel.new octets before (Asked id token (concat message))
         × IsReplyAt (channel_of channel.old) token (agreed_by before) (response.canonical (answered services.old moment (concat message)).1) (next_of channel.old) id told.0.items (next_of channel.new)) }
     ensures noted { (octets : List ℕ) (before : List Told) (token : ℕ) → GoesTelling channel.old octets before (Asked id token (concat message))
         → IfOk result (λ told. told.1 ≡ request_answered (lane_at (channel_of channel.old) token (agreed_by before)) services.old moment (concat message)) }
+    ensures stored { IfOk result (λ told. told.2 ≡ stored_of services.old (concat message)) }
     ensures state { IfOk result (λ told. services.new ≡ (answered services.old moment (concat message)).0) }
     ensures failed { (octets : List ℕ) (before : List Told) (token : ℕ) → GoesTelling channel.old octets before (Asked id token (concat message))
         → OnErr result ((result ≡ Err step_fault.OutOfMemory) × IsDone channel.new) }
@@ -95,18 +98,19 @@ fn reply_to(
 {
     let most = channel.most_octets();
     let told = services.reply_telling(alloc, &mut message.source(), moment, most);
-    drop(message);
-    let (body, request) = match told {
+    let (body, request, results) = match told {
         Ok(told) => told,
         Err(_) => {
+            drop(message);
             channel.end();
             return Err(StepFault::OutOfMemory);
         }
     };
+    let written = Written::of(message, results);
     match channel.respond(id, &body) {
         Ok(sent) => {
             let request = request.sent_as(sent.is_abort);
-            Ok((sent.octets, request))
+            Ok((sent.octets, request, written))
         }
         Err(ReplyFault::OutOfMemory) => Err(StepFault::OutOfMemory),
         Err(ReplyFault::NotOpen) => Err(StepFault::Closed),
@@ -122,6 +126,7 @@ fn refusal(alloc: Global, taken: usize, fault: ChannelFault) -> Result<Step, Ste
         → NowBehind old moment piece taken (Err fault) mid octets told
         → StepNow (limits_of old) (channel_of old) (next_of old) moment piece result mid octets told before before }
     ensures taken { IfOk result (λ step. (step.taken ≡ taken) × (step.end ≡ None → ⊥)) }
+    ensures stored { IfOk result (λ step. step.written ≡ []) }
     ensures closed { fault ≡ channel_fault.Closed → result ≡ Err step_fault.Closed }
 {
     match fault {
@@ -132,6 +137,7 @@ fn refusal(alloc: Global, taken: usize, fault: ChannelFault) -> Result<Step, Ste
                     taken,
                     out,
                     end: Some(End::Refused(code)),
+                    written: Written::nothing(),
                 }),
                 Err(_) => Err(StepFault::OutOfMemory),
             }
@@ -165,6 +171,7 @@ impl Server {
     ghost use Rattle.ua_server.specs.Serving.{IsClean};
     ghost use Rattle.ua_server.specs.State.{State};
     ghost use Rattle.ua_server.specs.Stepping.{AnswersBehind, Advances, AdvanceStands, Stands, StepAnswers, StepStands, Takes, is_given_up};
+    ghost use Rattle.ua_server.specs.Storing.{AdvanceStores, StepStores};
     ghost use Rattle.ua_server.specs.declared.step.StepFault.TheVariants as step_fault;
 
     /// Waits for the HEL of a client, with these limits; the channel will have this id.
@@ -222,6 +229,8 @@ impl Server {
             → StepOver (limits_of (channel_in self.old)) (channel_of (channel_in self.old)) moment piece.now result (channel_in self.new) octets hs first services.old services.new }
         // Where it then stands is the same whatever the services are.
         ensures stands { (octets : List ℕ) (told : List Told) → Goes (channel_in self.old) octets told → StepStands piece.now result (channel_in self.new) octets told }
+        // Just the items that the Write that it answered stored are told, in order.
+        ensures stores { (octets : List ℕ) (told : List Told) → Goes (channel_in self.old) octets told → StepStores piece.now result (channel_in self.new) octets told services.old }
         ensures endpoint { services.new.endpoint ≡ services.old.endpoint }
         ensures progress { IfOk result (λ step. Takes piece.now step) }
         // After want of memory, the bound is what it was before the call.
@@ -257,6 +266,7 @@ impl Server {
         ensures now { (octets : List ℕ) (told : List Told) → Goes (channel_in self.old) octets told
             → AdvanceNow (limits_of (channel_in self.old)) (channel_of (channel_in self.old)) (next_of (channel_in self.old)) moment piece.now result (channel_in self.new) octets told services.old services.new }
         ensures stands { (octets : List ℕ) (told : List Told) → Goes (channel_in self.old) octets told → AdvanceStands piece.now result (channel_in self.new) octets told }
+        ensures stores { (octets : List ℕ) (told : List Told) → Goes (channel_in self.old) octets told → AdvanceStores piece.now result (channel_in self.new) octets told services.old }
         ensures endpoint { services.new.endpoint ≡ services.old.endpoint }
         ensures progress { IfOk result (λ found. Takes piece.now found.0) }
         ensures starved { (octets : List ℕ) (told : List Told) → Goes (channel_in self.old) octets told
@@ -290,6 +300,8 @@ impl Server {
             → AdvanceNow (limits_of old) (channel_of old) (next_of old) moment piece result (channel_in self.new) octets told services.old services.new }
         ensures stands { (old : ServerChannel) (piece octets : List ℕ) (told : List Told)
             → AnswersBehind (channel_of old) (next_of old) moment piece taken (Ok event) (channel_in self.old) octets told → AdvanceStands piece result (channel_in self.new) octets told }
+        ensures stores { (old : ServerChannel) (piece octets : List ℕ) (told : List Told)
+            → AnswersBehind (channel_of old) (next_of old) moment piece taken (Ok event) (channel_in self.old) octets told → AdvanceStores piece result (channel_in self.new) octets told services.old }
         ensures endpoint { services.new.endpoint ≡ services.old.endpoint }
         ensures taken { IfOk result (λ found. found.0.taken ≡ taken) }
         ensures starved { (old : ServerChannel) (piece octets : List ℕ) (told : List Told) → Goes old octets told → limits_of (channel_in self.old) ≡ limits_of old
@@ -300,10 +312,14 @@ impl Server {
     {
         match event {
             ServerEvent::NeedMore => Ok((Step::silent(self.alloc, taken, None), false, None)),
-            ServerEvent::Send(out) => Ok((Step::saying(taken, out), true, None)),
+            ServerEvent::Send(out) => Ok((
+                Step::saying(taken, out, Written::nothing()),
+                true,
+                None,
+            )),
             ServerEvent::Asked(id, message) => {
                 match reply_to(self.alloc, &mut self.channel, services, id, message, moment) {
-                    Ok(told) => Ok((Step::saying(taken, told.0), true, Some(told.1))),
+                    Ok(told) => Ok((Step::saying(taken, told.0, told.2), true, Some(told.1))),
                     Err(fault) => Err(fault),
                 }
             }

@@ -2,6 +2,7 @@
 
 ghost use Rattle.std.specs.Prelude.{◌≡◌, [], None};
 
+use crate::written::Written;
 use std::alloc::Global;
 use thiserror::Error;
 use ua_builtin::StatusCode;
@@ -28,6 +29,9 @@ pub struct Step {
     pub out: Vec<u8>,
     /// How the connection ended, if it did.
     pub end: Option<End>,
+    /// What the Write that was answered stored, if it was one. A step takes nothing for it but the message,
+    /// which it keeps instead of letting it go.
+    pub written: Written,
 }
 
 impl Step {
@@ -36,22 +40,25 @@ impl Step {
         ensures taken { result.taken ≡ taken }
         ensures out { result.out.items ≡ [] }
         ensures end { result.end ≡ end }
+        ensures written { result.written ≡ [] }
     {
         Step {
             taken,
             out: Vec::new(alloc),
             end,
+            written: Written::nothing(),
         }
     }
 
-    /// These octets are said, and the connection goes on.
-    pub(crate) fn saying(taken: usize, out: Vec<u8>) -> Step
-        ensures { result ≡ record { taken = taken; out = out; end = None } }
+    /// These octets are said, this was stored, and the connection goes on.
+    pub(crate) fn saying(taken: usize, out: Vec<u8>, written: Written) -> Step
+        ensures { result ≡ record { taken = taken; out = out; end = None; written = written } }
     {
         Step {
             taken,
             out,
             end: None,
+            written,
         }
     }
 }

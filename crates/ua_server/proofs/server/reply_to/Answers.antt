@@ -10,6 +10,8 @@ use Rattle.ua_server.specs.Reply.{IsBodyWithin, answered}
 use Rattle.ua_server.specs.Requests.{request_answered}
 use Rattle.ua_server.proofs.Events.{telling-on, replied-there, noted-there}
 use Rattle.ua_server.proofs.GivenUp.{same_reply, same_code}
+use Rattle.ua_server.specs.Stored.{results_of}
+use Rattle.ua_server.proofs.Stores.{kept-stored}
 use Rattle.ua_server.proofs.server.reply_to.Goals as goal
 
 pub returns-in-Ok-respond-clause-sent : goal.returns-in-Ok-respond-clause-sent
@@ -38,3 +40,8 @@ pub returns-clause-failed : goal.returns-clause-failed
 returns-clause-failed c = λ octets before token g.
     let not_open : ReplyFault → Result SentReply ReplyFault = λ f. Err f in
     absurd (server_asked c.args.channel.now octets before c.args.id token (concat c.args.message) g (c.in-Err-NotOpen.ensures.not_open.0 (ap not_open c.in-Err-NotOpen.field-0-is)))
+
+pub returns-in-Ok-respond-clause-stored : goal.returns-in-Ok-respond-clause-stored
+returns-in-Ok-respond-clause-stored c =
+    let results : c.in-Ok.told.2 ≡ results_of (answered c.args.services.now c.args.moment (concat c.args.message)).1 = search rules in
+    kept-stored c.args.services.now c.args.moment (concat c.args.message) c.of-written.result c.in-Ok.told.2 c.of-written.ensures results

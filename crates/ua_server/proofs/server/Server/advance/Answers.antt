@@ -5,6 +5,7 @@ use Rattle.ua_server.proofs.Bounds.{fault-bound}
 use Rattle.ua_server.proofs.Standing.{behind-as}
 use Rattle.ua_server.proofs.Nows.{now-behind, now-ended}
 use Rattle.ua_server.proofs.NowStanding.{as-advanced}
+use Rattle.ua_server.proofs.Stores.{stores-ended}
 use Rattle.ua_server.proofs.server.Server.advance.Goals as goal
 
 pub returns-in-Ok-clause-stands : goal.returns-in-Ok-clause-stands
@@ -72,3 +73,14 @@ pub returns-in-Err-refusal-clause-answers : goal.returns-in-Err-refusal-clause-a
 returns-in-Err-refusal-clause-answers c = λ octets told first moments s.
     as-advanced (channel_in c.args.self.now) c.next_answered-taken.new.channel c.args.moment c.args.piece.now octets told first moments c.args.services.now c.args.services.now (Err c.in-Err-refusal.fault) s
     c.next_answered-taken.ensures.channel (returns-in-Err-refusal-clause-now c octets told s.goes)
+
+pub returns-in-Ok-clause-stores : goal.returns-in-Ok-clause-stores
+returns-in-Ok-clause-stores c = λ octets told g.
+    c.answer.ensures.stores (channel_in c.args.self.now) c.args.piece.now octets told
+    (behind-as (channel_of (channel_in c.args.self.now)) (next_of (channel_in c.args.self.now)) c.args.moment c.args.piece.now c.next_answered-taken.result.0 c.next_answered-taken.new.channel octets told
+    c.next_answered-taken.result.1 (Ok c.in-Ok.event) c.in-Ok.is (c.next_answered-taken.ensures.answers octets told g))
+
+pub returns-in-Ok-refusal-clause-stores : goal.returns-in-Ok-refusal-clause-stores
+returns-in-Ok-refusal-clause-stores c = λ octets told g.
+    let step = c.in-Ok-refusal.step in
+    stores-ended c.args.piece.now step.end step.taken step.out.items step.written c.next_answered-taken.new.channel octets told c.args.services.now c.in-Ok-refusal.ensures.taken.1 c.in-Ok-refusal.ensures.stored

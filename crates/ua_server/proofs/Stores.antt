@@ -1,0 +1,131 @@
+-- What a step tells of a Write is what the Write stored.
+use Rattle.std.specs.Prelude.{◌≡◌, ℕ, IsTrue, Bool, true, false, cond, map, List, [], ◌∷◌, ◌++◌, take, Option, None, Some, Result, Ok, Err}
+use Rattle.std.specs.List.{concat}
+use Rattle.std.proofs.Common.{Vec, Global, refl, sym, ◌∙◌, ap, subst, append_assoc, append-nil}
+use Rattle.ua_builtin.specs.declared.date_time.DateTime.{DateTime}
+use Rattle.ua_builtin.specs.declared.status_code.StatusCode.{StatusCode}
+use Rattle.ua_builtin.specs.Reasons.{first_reason}
+use Rattle.ua_channel.specs.ServerSends.{AreSent}
+use Rattle.ua_channel.specs.ServerStands.{GoesTelling}
+use Rattle.ua_channel.specs.ServerTold.{Told, Agreed, Opened, Asked, GaveUp, Closed}
+use Rattle.ua_channel.specs.declared.server.ServerChannel.{ServerChannel}
+use Rattle.ua_channel.specs.declared.server_event.ServerEvent.{ServerEvent}
+use Rattle.ua_channel.specs.declared.server_event.ServerEvent.TheVariants as event
+use Rattle.ua_nodes.specs.Table.{Nodes, node_at}
+use Rattle.ua_nodes.specs.Write.{write_answer, write_answers}
+use Rattle.ua_services.specs.Request.{request_read}
+use Rattle.ua_services.specs.declared.fault.RequestFault.{RequestFault}
+use Rattle.ua_services.specs.declared.request.Request.{Request}
+use Rattle.ua_services.specs.declared.request.Request.TheVariants.{GetEndpoints, CreateSession, ActivateSession, CloseSession, Read, Write}
+use Rattle.ua_structures.specs.declared.attribute.ReadRequest.{ReadRequest}
+use Rattle.ua_structures.specs.declared.attribute.WriteRequest.{WriteRequest}
+use Rattle.ua_structures.specs.declared.attribute.WriteValue.{WriteValue}
+use Rattle.ua_server.specs.Answer.{read_items, unless}
+use Rattle.ua_server.specs.Attributes.{items_of, read_reasons, statuses_given, values_given, with_written, write_reasons}
+use Rattle.ua_server.specs.Reply.{answered, answered_by}
+use Rattle.ua_server.specs.State.{State}
+use Rattle.ua_server.specs.Stepping.{AnswersBehind, given_up}
+use Rattle.ua_server.specs.Stored.{begins_good, behind_code, good_items, is_good, items_written, results_of, stored_as, stored_items, stored_of, unless_refused}
+use Rattle.ua_server.specs.Storing.{StoresBy, stored_at}
+use Rattle.ua_server.specs.declared.step.End.{End as Ending}
+use Rattle.ua_server.specs.declared.step.Step.{Step}
+use Rattle.ua_server.proofs.Standing.{stands-quiet, stands-sent, stands-replied}
+
+-- ---- the items whose results are Good are those that are stored
+
+pub good_nothing : (items : List WriteValue) → good_items items [] ≡ []
+good_nothing [] = refl
+good_nothing (item ∷ items) = good_nothing items
+
+good-stored : (nodes : Nodes) (items : List WriteValue) → good_items items (write_answers nodes items) ≡ stored_items nodes items
+good-stored nodes [] = refl
+good-stored nodes (item ∷ items) = ap (λ (r : List WriteValue). cond (is_good (write_answer (node_at nodes item.node_id) item)) (item ∷ r) r) (good-stored nodes items)
+
+good-unless : (o : Option ℕ) (s : State) (moment : DateTime) (m : WriteRequest)
+    → good_items (items_of m.nodes_to_write) (items_of (results_of (unless o s moment m.request_header (with_written s moment m, statuses_given s moment m)).1)) ≡ unless_refused o (stored_items s.nodes (items_of m.nodes_to_write))
+good-unless None s moment m = good-stored s.nodes (items_of m.nodes_to_write)
+good-unless (Some code) s moment m = good_nothing (items_of m.nodes_to_write)
+
+good-by : (r : Result Request RequestFault) (s : State) (moment : DateTime) → good_items (items_written r) (items_of (results_of (answered_by r s moment).1)) ≡ stored_as s r
+good-by (Ok (Write m)) s moment = good-unless (first_reason (write_reasons s m)) s moment m
+good-by (Ok (GetEndpoints m)) s moment = refl
+good-by (Ok (CreateSession m)) s moment = refl
+good-by (Ok (ActivateSession m)) s moment = refl
+good-by (Ok (CloseSession m)) s moment = refl
+good-by (Ok (Read m)) s moment = refl
+good-by (Err fault) s moment = refl
+
+read-unless : (o : Option ℕ) (s : State) (moment : DateTime) (m : ReadRequest) → results_of (unless o s moment m.request_header (s, values_given s moment m)).1 ≡ None
+read-unless None s moment m = refl
+read-unless (Some code) s moment m = refl
+
+-- a Read has no results of a Write
+pub read_results : (s : State) (moment : DateTime) (m : ReadRequest) → results_of (read_items s moment m).1 ≡ None
+read_results s moment m = read-unless (first_reason (read_reasons s m)) s moment m
+
+-- what is kept of a message, and of the results of its answer
+pub kept-stored : (s : State) (moment : DateTime) (octets : List ℕ) (kept : List WriteValue) (results : Option (List StatusCode))
+    → kept ≡ good_items (items_written (request_read octets)) (items_of results) → results ≡ results_of (answered s moment octets).1 → kept ≡ stored_of s octets
+kept-stored s moment octets kept results is answers =
+    is ∙ (ap (λ (r : Option (List StatusCode)). good_items (items_written (request_read octets)) (items_of r)) answers ∙ good-by (request_read octets) s moment)
+
+-- ---- a loop over the items and their results
+
+kept-by : (b : Bool) (done rest : List WriteValue) (item : WriteValue) → (done ++ cond b (item ∷ []) []) ++ rest ≡ done ++ cond b (item ∷ rest) rest
+kept-by true done rest item = append_assoc done (item ∷ []) rest
+kept-by false done rest item = ap (λ (d : List WriteValue). d ++ rest) (append-nil done)
+
+-- one item more
+pub kept-on : (done now rest : List WriteValue) (item : WriteValue) (codes behind : List StatusCode) (b : Bool) → now ≡ done ++ cond b (item ∷ []) [] → b ≡ begins_good codes → behind ≡ behind_code codes
+    → now ++ good_items rest behind ≡ done ++ good_items (item ∷ rest) codes
+kept-on done now rest item codes behind b is good left =
+    ap (λ (n : List WriteValue). n ++ good_items rest behind) is
+    ∙ (kept-by b done (good_items rest behind) item
+    ∙ (ap (λ (cs : List StatusCode). done ++ cond b (item ∷ good_items rest cs) (good_items rest cs)) left
+    ∙ ap (λ (t : Bool). done ++ cond t (item ∷ good_items rest (behind_code codes)) (good_items rest (behind_code codes))) good))
+
+-- ---- a step
+
+sent-stores : (channel number : ℕ) (moment : DateTime) (s : State) (t : Told) (octets : List ℕ) → AreSent channel number moment t octets → [] ≡ stored_at s t
+sent-stores channel number moment s (Agreed a) octets sent = refl
+sent-stores channel number moment s (Opened id handle token lifetime) octets sent = refl
+sent-stores channel number moment s (Asked id token message) octets sent = absurd sent
+sent-stores channel number moment s (GaveUp id) octets sent = absurd sent
+sent-stores channel number moment s Closed octets sent = absurd sent
+
+-- where a connection ended nothing is stored
+pub stores-ended : (piece : List ℕ) (end : Option Ending) (n : ℕ) (out : List ℕ) (written : List WriteValue) (new : ServerChannel) (octets : List ℕ) (told : List Told) (before : State)
+    → (end ≡ None → ⊥) → written ≡ [] → StoresBy piece end n out written new octets told before
+stores-ended piece None n out written new octets told before some none = absurd (some refl)
+stores-ended piece (Some end) n out written new octets told before some none = none
+
+module _ (channel number : ℕ) (moment : DateTime) (piece : List ℕ) (n : ℕ) (mid : ServerChannel) (octets : List ℕ) (told : List Told) (before : State) where
+  -- a step that says nothing, and one that says something
+  pub silent-stores : (s : Step) (end : Option Ending) → s.taken ≡ n → s.out.items ≡ [] → s.end ≡ end → s.written ≡ []
+      → ((out : List ℕ) → out ≡ [] → (written : List WriteValue) → written ≡ [] → StoresBy piece end n out written mid octets told before)
+      → StoresBy piece s.end s.taken s.out.items s.written mid octets told before
+  silent-stores s end taken out is none by =
+      subst (λ (k : ℕ). StoresBy piece s.end k s.out.items s.written mid octets told before) (sym taken)
+      (subst (λ (e : Option Ending). StoresBy piece e n s.out.items s.written mid octets told before) (sym is) (by s.out.items out s.written none))
+
+  pub saying-stores : (s t : Step) (new : ServerChannel) → s ≡ t → StoresBy piece t.end t.taken t.out.items t.written new octets told before
+      → StoresBy piece s.end s.taken s.out.items s.written new octets told before
+  saying-stores s t new is a = subst (λ (x : Step). StoresBy piece x.end x.taken x.out.items x.written new octets told before) (sym is) a
+
+  -- nothing came
+  pub stores-quiet : AnswersBehind channel number moment piece n (Ok event.NeedMore) mid octets told → (out : List ℕ) → out ≡ [] → (written : List WriteValue) → written ≡ []
+      → StoresBy piece None n out written mid octets told before
+  stores-quiet b out none written nothing = (stands-quiet channel number moment piece n mid octets told b out none, nothing)
+
+  -- an ACK or an OPN response
+  pub stores-sent : (sent : Vec ℕ Global) (b : AnswersBehind channel number moment piece n (Ok (event.Send sent)) mid octets told) (written : List WriteValue) → written ≡ []
+      → StoresBy piece None n sent.items written mid octets told before
+  stores-sent sent b written nothing =
+      let s = b.answers.1 in
+      (stands-sent channel number moment piece n mid octets told sent b, nothing ∙ sent-stores channel number moment before s.said sent.items s.are_sent)
+
+  -- a message, and its reply
+  pub stores-replied : (id : ℕ) (message : List (List ℕ)) (new : ServerChannel) (out : List ℕ) (b : AnswersBehind channel number moment piece n (Ok (event.Asked id message)) mid octets told) (written : List WriteValue)
+      → GoesTelling new (octets ++ take n piece) (told ++ given_up b.quiet) (Asked id b.answers.1.0.token (concat message)) → written ≡ stored_of before (concat message)
+      → StoresBy piece None n out written new octets told before
+  stores-replied id message new out b written goes is = (stands-replied channel number moment piece n mid octets told id message new out b goes, is)
