@@ -1,5 +1,5 @@
 -- What is written for an item of a Read, part by part.
-use Rattle.std.proofs.Common.{◌≡◌, ◌⊎◌, inl, inr, ℕ, zero, suc, ◌+◌, ◌≤◌, List, [], ◌∷◌, ◌++◌, take, length, length-append, Bool, true, false, ◌&&◌, leb, nat_eq, Option, Some, None, Result, Ok, Err, OnErr, append_assoc, is_some, option_map, refl, sym, ap, ◌∙◌, arith}
+use Rattle.std.proofs.Common.{◌≡◌, ◌⊎◌, inl, inr, ℕ, zero, suc, ◌+◌, ◌≤◌, List, [], ◌∷◌, ◌++◌, take, length, length-append, Bool, true, false, ◌&&◌, leb, nat_eq, Option, None, Result, Ok, Err, OnErr, append_assoc, is_some, option_map, refl, sym, ap, ◌∙◌, arith}
 use Rattle.std.proofs.lemmas.Bool.{le-leb, leb-true}
 use Rattle.std.specs.List.{flat_map}
 use Rattle.ua_builtin.specs.Flags.{flag_bit}
@@ -15,8 +15,7 @@ use Rattle.ua_variant.specs.Fields.{data_flags}
 use Rattle.ua_variant.specs.Measure.{variant_depth}
 use Rattle.ua_nodes.specs.Attribute.{attribute_of, attribute_value}
 use Rattle.ua_nodes.specs.Range.{asked_range}
-use Rattle.ua_nodes.specs.Read.{judged, read_item_reasons, stamps_of, value_read, with_stamps, read_by, read_answer}
-use Rattle.ua_nodes.specs.Table.{Nodes, node_at}
+use Rattle.ua_nodes.specs.Read.{judged, read_item_reasons, stamps_of, value_read, with_stamps, read_by}
 use Rattle.ua_nodes.specs.Within.{IsWithin, NonePassBefore, Passes, with_first}
 use Rattle.ua_nodes.specs.declared.attribute.Attribute.{Attribute}
 use Rattle.ua_nodes.specs.declared.node.Variable.{Variable}
@@ -50,13 +49,12 @@ parts_fit v f h =
 -- ---- whole values
 
 -- an item that is granted, for the Value and without a range
-pub whole_is : (nodes : Nodes) (item : ReadValueId) (v : Variable) (a : Attribute) (stamps : Stamps) (moment : DateTime) → node_at nodes item.node_id ≡ Some v → item.attribute_id ≡ 13
+pub whole_is : (item : ReadValueId) (v : Variable) (a : Attribute) (stamps : Stamps) (moment : DateTime) → item.attribute_id ≡ 13
     → ◌≡◌ {A = Result (Attribute × Option IndexRange) StatusCode} (judged (first_reason (read_item_reasons v item)) (attribute_of item.attribute_id) (asked_range item.index_range)) (Ok (a, None))
-    → read_answer (node_at nodes item.node_id) item stamps moment ≡ valued v.value (stamps_of v true stamps moment)
-whole_is nodes item v a stamps moment there value granted =
+    → read_by (first_reason (read_item_reasons v item)) v item stamps moment ≡ valued v.value (stamps_of v true stamps moment)
+whole_is item v a stamps moment value granted =
     let free = judged_ok (first_reason (read_item_reasons v item)) (attribute_of item.attribute_id) (asked_range item.index_range) a None (sym granted) in
-    ap (λ (o : Option Variable). read_answer o item stamps moment) there
-    ∙ sym (ap (λ (o : Option StatusCode). read_by o v item stamps moment) free.0)
+    sym (ap (λ (o : Option StatusCode). read_by o v item stamps moment) free.0)
     ∙ sym (ap (λ (r : Option IndexRange). with_stamps (option_map (λ b. value_read item.node_id v b r) (attribute_of item.attribute_id)) (stamps_of v (nat_eq item.attribute_id 13) stamps moment)) free.2)
     ∙ ap (λ (n : ℕ). with_stamps (option_map (λ b. attribute_value item.node_id v b) (attribute_of n)) (stamps_of v (nat_eq n 13) stamps moment)) value
 

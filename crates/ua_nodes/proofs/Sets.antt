@@ -3,7 +3,6 @@ use Rattle.std.proofs.Common.{◌≡◌, Bool, true, false, cond, not, List, [],
 use Rattle.std.specs.Map.{set_value}
 use Rattle.std.specs.Option.{is_none}
 use Rattle.ua_builtin.specs.Reasons.{first_reason}
-use Rattle.ua_builtin.specs.DateTime.{date_time}
 use Rattle.ua_builtin.specs.declared.node_id.NodeId.{NodeId}
 use Rattle.ua_variant.specs.Encodable.{data_value_encodable}
 use Rattle.ua_variant.specs.View.{data_value_of}

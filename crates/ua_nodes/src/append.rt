@@ -15,12 +15,12 @@ ghost use Rattle.ua_nodes.specs.declared.stamps.Stamps.{Stamps};
 ghost use Rattle.ua_builtin.specs.declared.date_time.DateTime.{DateTime};
 
 use crate::node::Variable;
-use crate::read::VALUE;
+use crate::read::refused;
 use crate::stamps::Stamps;
 use crate::table::NodeTable;
 use std::alloc::{AllocError, Global};
 use ua_builtin::laws::moment_is_encodable;
-use ua_builtin::{DateTime, Wire};
+use ua_builtin::{DateTime, StatusCode, Wire};
 use ua_structures::ReadValueId;
 use ua_variant::Variant;
 
@@ -72,28 +72,12 @@ impl NodeTable {
         ensures err { OnErr result (Extends out.old.items out.new.items) }
     {
         moment_is_encodable(&moment);
-        match self.whole_value(item) {
-            Some(variable) => variable.append_value(stamps, moment, fields, out),
-            None => {
-                let answer = self.read_item(alloc, item, stamps, moment)?;
-                answer.append(out)
-            }
-        }
-    }
-
-    /// The node whose whole Value an item is answered with; none where the item is refused or asks for
-    /// something else.
-    #[tactic(auto, using(crate::proofs::Appended::whole_is))]
-    fn whole_value(&self, item: &ReadValueId) -> Option<&Variable>
-        ensures { IfSome result (λ v. (stamps : Stamps) (moment : DateTime) → read_answer (node_at self.now item.now.node_id) item.now stamps moment ≡ valued v.now.value (stamps_of v.now true stamps moment)) }
-    {
-        if item.attribute_id != VALUE {
-            return None;
-        }
-        let variable = self.get(&item.node_id)?;
-        match variable.judge_read(item) {
-            Ok((_, None)) => Some(variable),
-            _ => None,
+        let Some(variable) = self.get(&item.node_id) else {
+            return refused(StatusCode::BAD_NODE_ID_UNKNOWN).append(out);
+        };
+        match variable.answer_beside(alloc, item, stamps, moment)? {
+            Some(answer) => answer.append(out),
+            None => variable.append_value(stamps, moment, fields, out),
         }
     }
 }

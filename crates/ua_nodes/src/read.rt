@@ -1,11 +1,11 @@
 //! Items of Read.
 
-ghost use Rattle.std.specs.Prelude.{◌≡◌, IfOk, IsTrue};
+ghost use Rattle.std.specs.Prelude.{◌≡◌, IfOk, IfSome, IsTrue, None, true};
 ghost use Rattle.ua_variant.specs.View.{variant_of, data_value_of, value_within};
 ghost use Rattle.ua_variant.specs.Encodable.{data_value_encodable};
 ghost use Rattle.ua_nodes.specs.declared.attribute.Attribute.TheVariants as attribute;
 ghost use Rattle.ua_nodes.specs.Attribute.{attribute_of, attribute_value, single, type_node};
-ghost use Rattle.ua_variant.specs.Data.{localized_text, node_id as id_leaf};
+ghost use Rattle.ua_variant.specs.Data.{localized_text, node_id as id_leaf, valued};
 ghost use Rattle.ua_nodes.specs.Range.{asked_range};
 ghost use Rattle.ua_nodes.specs.Read.{is_filled, is_default_encoding, read_item_reasons, judged, refused as refused_data, stamps_of, value_read, read_by, read_answer};
 ghost use Rattle.ua_nodes.specs.Sound.{IsSound};
@@ -62,19 +62,39 @@ impl Variable {
     ) -> Result<DataValue, AllocError>
         ensures { IfOk result (λ d. data_value_of d ≡ read_by (first_reason (read_item_reasons self.now item.now)) self.now item.now stamps moment) }
     {
+        match self.answer_beside(alloc, item, stamps, moment)? {
+            Some(answer) => Ok(answer),
+            None => {
+                let value = HeldVariant::new(self.value.try_clone(alloc)?);
+                Ok(self.stamped(Some(value), true, stamps, moment))
+            }
+        }
+    }
+
+    /// The answer to an item for this node, unless that is its Value as it stands.
+    pub(crate) fn answer_beside(
+        &self,
+        alloc: Global,
+        item: &ReadValueId,
+        stamps: Stamps,
+        moment: DateTime,
+    ) -> Result<Option<DataValue>, AllocError>
+        ensures made { IfOk result (λ answer. IfSome answer (λ d. data_value_of d ≡ read_by (first_reason (read_item_reasons self.now item.now)) self.now item.now stamps moment)) }
+        ensures whole { IfOk result (λ answer. answer ≡ None → read_by (first_reason (read_item_reasons self.now item.now)) self.now item.now stamps moment ≡ valued self.now.value (stamps_of self.now true stamps moment)) }
+    {
         let (attribute, range) = match self.judge_read(item) {
             Ok(asked) => asked,
-            Err(code) => return Ok(refused(code)),
+            Err(code) => return Ok(Some(refused(code))),
         };
+        if item.attribute_id == VALUE && range.is_none() {
+            return Ok(None);
+        }
         let value = HeldVariant::new(self.value_read(alloc, &item.node_id, attribute, range)?);
-        Ok(self.stamped(Some(value), item.attribute_id == VALUE, stamps, moment))
+        Ok(Some(self.stamped(Some(value), item.attribute_id == VALUE, stamps, moment)))
     }
 
     /// The attribute and the range that an item for this node asks for, or why the item is refused.
-    pub(crate) fn judge_read(
-        &self,
-        item: &ReadValueId,
-    ) -> Result<(Attribute, Option<IndexRange>), StatusCode>
+    fn judge_read(&self, item: &ReadValueId) -> Result<(Attribute, Option<IndexRange>), StatusCode>
         ensures { result ≡ judged (first_reason (read_item_reasons self.now item.now)) (attribute_of item.now.attribute_id) (asked_range item.now.index_range) }
     {
         let Some(attribute) = Attribute::of_id(item.attribute_id) else {
@@ -208,7 +228,7 @@ fn node_id(id: &NodeId) -> Result<Variant, AllocError>
 }
 
 /// A status alone.
-fn refused(code: StatusCode) -> DataValue
+pub(crate) fn refused(code: StatusCode) -> DataValue
     ensures { data_value_of result ≡ refused_data code }
 {
     DataValue {
