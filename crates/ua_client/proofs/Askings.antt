@@ -1,5 +1,5 @@
 -- What a group of calls sends, one call behind another.
-use Rattle.std.specs.Prelude.{◌≡◌, ℕ, ◌+◌, ◌≤◌, ◌<◌, List, [], ◌∷◌, ◌++◌, length, take, unwrap_or, Option, Some, None}
+use Rattle.std.specs.Prelude.{◌≡◌, ℕ, ◌+◌, ◌≤◌, ◌<◌, List, [], ◌∷◌, ◌++◌, length, take, drop, unwrap_or, Option, Some, None}
 use Rattle.std.proofs.Common.{refl, sym, ◌∙◌, ap, subst, append_assoc, append-nil, arith, add-zero, get_or, zero, suc}
 use Rattle.std.proofs.lemmas.List.{length-append}
 use Rattle.ua_frame.specs.declared.frame.Frame.{Frame}
@@ -10,12 +10,13 @@ use Rattle.ua_channel.specs.Asks.Asking.{Call}
 use Rattle.ua_channel.specs.Client.{ClientStands, SameClient, InPhase, IsCall, client_limits, phase_of, client_next}
 use Rattle.ua_channel_laws.specs.Outgoing.{call_octets, number_behind}
 use Rattle.ua_channel.specs.Received.{Received, received}
+use Rattle.ua_channel.specs.declared.client.asked_call.AskedCall.{AskedCall}
 use Rattle.ua_channel.specs.declared.client.channel.ClientChannel.{ClientChannel}
 use Rattle.ua_channel.specs.declared.client.phase.Phase.{Phase}
 use Rattle.ua_channel.specs.declared.client.phase.Phase.TheVariants.{Waiting, Agreed, Open, Done}
 use Rattle.ua_client.proofs.Lanes.{lane-talks}
 use Rattle.ua_client.specs.Site.{lane_behind}
-use Rattle.ua_client.specs.Sent.{calls_octets, numbers_behind, calls_at, AsksGroup, AsksFrom}
+use Rattle.ua_client.specs.Sent.{calls_octets, numbers_behind, calls_at, asked_octets, AsksGroup, AsksFrom}
 
 -- ---- one call
 
@@ -163,16 +164,33 @@ pub asked-as : (bodies others : List (List ℕ)) (old now : ClientChannel) (out 
 asked-as bodies others old now out more first start a p q r =
     subst (λ (bs : List (List ℕ)). Asked bs old now more start) p (subst (λ (o : List ℕ). Asked bodies old now o start) q (subst (λ (f : Option ℕ). Asked bodies old now out f) r a))
 
-pub take-push : (xs : List (List ℕ)) (i : ℕ) (x d : List ℕ) → i < length xs → x ≡ get_or xs i d → take i xs ++ x ∷ [] ≡ take (i + 1) xs
+-- ---- lists
+
+pub take-push : {A : Type 0} (xs : List A) (i : ℕ) (x d : A) → i < length xs → x ≡ get_or xs i d → take i xs ++ x ∷ [] ≡ take (i + 1) xs
 take-push [] i x d few e = absurd (omega (arith, few))
-take-push (y ∷ ys) zero x d few e = ap (λ (z : List ℕ). z ∷ []) e
-take-push (y ∷ ys) (suc i) x d few e = ap (λ (zs : List (List ℕ)). y ∷ zs) (take-push ys i x d (omega (arith, few)) e) ∙ ap (λ (n : ℕ). take n (y ∷ ys)) (on i)
+take-push {A} (y ∷ ys) zero x d few e = ap (λ (z : A). z ∷ []) e
+take-push {A} (y ∷ ys) (suc i) x d few e = ap (λ (zs : List A). y ∷ zs) (take-push ys i x d (omega (arith, few)) e) ∙ ap (λ (n : ℕ). take n (y ∷ ys)) (on i)
   where
     on : (a : ℕ) → suc (a + 1) ≡ suc a + 1
     on a = omega arith
 
-pub take-whole : (xs : List (List ℕ)) (n : ℕ) → length xs ≤ n → take n xs ≡ xs
+pub take-whole : {A : Type 0} (xs : List A) (n : ℕ) → length xs ≤ n → take n xs ≡ xs
 take-whole [] zero few = refl
 take-whole [] (suc n) few = refl
 take-whole (y ∷ ys) zero few = absurd (omega (arith, few))
-take-whole (y ∷ ys) (suc n) few = ap (λ (zs : List (List ℕ)). y ∷ zs) (take-whole ys n (omega (arith, few)))
+take-whole {A} (y ∷ ys) (suc n) few = ap (λ (zs : List A). y ∷ zs) (take-whole ys n (omega (arith, few)))
+
+-- ---- the octets of calls
+
+pub asked-octets-push : (calls : List AskedCall) (call : AskedCall) → asked_octets calls ++ call.octets.items ≡ asked_octets (calls ++ call ∷ [])
+asked-octets-push [] call = sym (append-nil call.octets.items)
+asked-octets-push (c ∷ calls) call = append_assoc c.octets.items (asked_octets calls) call.octets.items ∙ ap (λ (o : List ℕ). c.octets.items ++ o) (asked-octets-push calls call)
+
+-- those before one of them, its own, and those behind it
+pub asked-octets-at : (calls : List AskedCall) (i : ℕ) (call d : AskedCall) → i < length calls → call ≡ get_or calls i d
+    → asked_octets calls ≡ asked_octets (take i calls) ++ (call.octets.items ++ asked_octets (drop (suc i) calls))
+asked-octets-at [] i call d few e = absurd (omega (arith, few))
+asked-octets-at (c ∷ calls) zero call d few e = ap (λ (x : AskedCall). x.octets.items ++ asked_octets calls) (sym e)
+asked-octets-at (c ∷ calls) (suc i) call d few e =
+    ap (λ (o : List ℕ). c.octets.items ++ o) (asked-octets-at calls i call d (omega (arith, few)) e)
+    ∙ sym (append_assoc c.octets.items (asked_octets (take i calls)) (call.octets.items ++ asked_octets (drop (suc i) calls)))

@@ -139,3 +139,16 @@ part-front octets at count a b c w some h =
         sym (take-append-drop at octets)
         ∙ (ap (λ (t : List ℕ). take at octets ++ t) (sym (take-append-drop count (drop at octets)) ∙ (ap (λ (t : List ℕ). t ++ drop count (drop at octets)) e.parts ∙ append_assoc sent e.more (drop count (drop at octets))))
         ∙ sym (append_assoc (take at octets) sent (e.more ++ drop count (drop at octets))))
+
+-- ---- writes, one behind the other
+
+-- a beginning of these octets is written behind others, of which the last are not written
+pub joined-front : (before here behind : List ℕ) (a b c : Option Traffic) → WhereTold (Carries [] before) a b → 0 < length here → WhereTold (WritesFront here) b c → WhereTold (WritesFront (before ++ (here ++ behind))) a c
+joined-front before here behind a b c w some h =
+    let front = sends-front here b c h in
+    front-of (before ++ front.0) (before ++ (here ++ behind)) a c
+    (record {
+      more = front.1.more ++ behind;
+      parts = ap (λ (t : List ℕ). before ++ t) (ap (λ (t : List ℕ). t ++ behind) front.1.parts ∙ append_assoc front.0 front.1.more behind) ∙ sym (append_assoc before front.0 (front.1.more ++ behind));
+    })
+    (omega (arith, front.3 some, length-append before front.0, length-append before (here ++ behind), length-append here behind)) (carried-then [] before [] front.0 a b c w front.2)

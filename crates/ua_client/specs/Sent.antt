@@ -1,5 +1,6 @@
 -- What a client sends: the chunks of its calls, and which of them it does not ask.
 use Rattle.std.specs.Prelude.{◌≡◌, ◌<◌, ◌+◌, ◌++◌, not, ℕ, Bool, true, false, List, [], ◌∷◌, map, length, take, Option, Some, None, Result, Ok, Err}
+use Rattle.std.specs.List.{flat_map}
 use Rattle.ua_builtin.specs.Reasons.{or_else, renamed_reason}
 use Rattle.ua_chunk.specs.declared.lane.Lane.{Lane}
 use Rattle.ua_services.specs.Request.{request}
@@ -11,6 +12,7 @@ use Rattle.ua_channel.specs.ClientTable.{of_ack}
 use Rattle.ua_channel_laws.specs.Outgoing.{asks_at, outgoing_number, outgoing_octets}
 use Rattle.ua_channel_laws.specs.Outgoing.Outgoing.{CallWith}
 use Rattle.ua_channel.specs.Received.{received}
+use Rattle.ua_channel.specs.declared.client.asked_call.AskedCall.{AskedCall}
 use Rattle.ua_channel.specs.declared.client.channel.ClientChannel.{ClientChannel}
 use Rattle.ua_frame.specs.declared.ack.Ack.{Ack}
 use Rattle.ua_frame.specs.declared.frame.Frame.{Frame}
@@ -108,6 +110,10 @@ pub record AsksGroup (bodies : List (List ℕ)) (old new : ClientChannel) (asks 
   pub stands : ClientStands new (asks ++ calls_at (length octets) (next_id (asked_in asks)) bodies) octets frames rest
   pub out_is : out ≡ calls_octets (lane_behind (received frames)) (client_next old) (next_id (asked_in asks)) bodies
   pub next_is : client_next new ≡ numbers_behind (lane_behind (received frames)) (client_next old) bodies
+
+-- the octets of calls that were asked, one behind the other
+abbrev pub asked_octets : List AskedCall → List ℕ
+asked_octets calls = flat_map (λ (call : AskedCall). call.octets.items) calls
 
 -- the same, and this is the request id of the first
 abbrev pub AsksFrom : List (List ℕ) → ClientChannel → ClientChannel → List Placed → List ℕ → List Frame → List ℕ → ℕ × List ℕ → Type 0

@@ -13,7 +13,7 @@ use crate::fault::{CallsFault, ClientFault};
 use crate::group::{Body, ask_group, judge_group};
 use crate::laws::{calls_are_told_behind, clients_are_settled};
 use crate::reply::Reply;
-use crate::sending::write_frames;
+use crate::sending::write_calls;
 use std::alloc::Global;
 use ua_builtin::DateTime;
 use ua_channel::Line;
@@ -62,8 +62,8 @@ impl Connection {
         calls_are_told_behind();
         make_room(replies, requests.len())?;
         let asked = ask_group(alloc, &mut self.channel, bodies)?;
-        let (first, octets) = asked;
-        let Ok(()) = write_frames(line, &octets) else {
+        let (first, calls) = asked;
+        let Ok(()) = write_calls(line, &calls) else {
             return Err(ClientFault::Write);
         };
         let mut slots = empty_slots(alloc, requests)?;

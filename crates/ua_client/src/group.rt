@@ -6,15 +6,15 @@ ghost use Rattle.ua_frame.specs.declared.frame.Frame.{Frame};
 ghost use Rattle.ua_services.specs.Request.{request};
 ghost use Rattle.ua_channel.specs.Asks.{Placed};
 ghost use Rattle.ua_channel.specs.Client.{ClientStands, SameClient, phase_of, ask_refusal};
-ghost use Rattle.ua_client.specs.Sent.{of_ask, AnswersBy, request_refusal, group_refusal, bodies_of, AsksFrom, AsksOr, RefusesBy, place_by};
+ghost use Rattle.ua_client.specs.Sent.{asked_octets, of_ask, AnswersBy, request_refusal, group_refusal, bodies_of, AsksFrom, AsksOr, RefusesBy, place_by};
 ghost use Rattle.ua_client.specs.Hearing.{fault_alone};
 ghost use Rattle.ua_client.specs.declared.fault.ClientFault.TheVariants.{OutOfMemory};
 
 use crate::fault::{CallsFault, ClientFault};
-use std::alloc::{AllocError, Global};
+use std::alloc::Global;
 use std::marker::Model;
 use ua_builtin::WriteFault;
-use ua_channel::{AskFault, ClientChannel};
+use ua_channel::{AskFault, AskedCall, ClientChannel};
 use ua_services::{Request, empty_body, write_request};
 
 /// The body of a call, which is not empty.
@@ -145,41 +145,27 @@ pub fn judge_group(
     Ok(bodies)
 }
 
-/// Octets, and behind them others: the others as they stand where there are none before.
-fn joined(front: Vec<u8>, more: Vec<u8>) -> Result<Vec<u8>, AllocError>
-    ensures { IfOk result (λ all. all.items ≡ front.items ++ more.items) }
-{
-    if front.is_empty() {
-        return Ok(more);
-    }
-    let mut all = front;
-    all.extend_from_slice(&more)?;
-    Ok(all)
-}
-
-/// The chunks of a call of each body, in order, and the request id of the first.
+/// A call of each body, in order, and the request id of the first.
 pub fn ask_group(
     alloc: Global,
     channel: &mut ClientChannel,
     bodies: &[Body],
-) -> Result<(u32, Vec<u8>), ClientFault>
+) -> Result<(u32, Vec<AskedCall>), ClientFault>
     ensures asks { (asks : List Placed) (octets : List ℕ) (frames : List Frame) (rest : List ℕ) → ClientStands channel.old asks octets frames rest
-        → AsksOr (λ found. AsksFrom bodies.now channel.old channel.new asks octets frames rest (found.0, found.1.items)) result }
+        → AsksOr (λ found. AsksFrom bodies.now channel.old channel.new asks octets frames rest (found.0, asked_octets found.1.items)) result }
     ensures same { SameClient channel.old channel.new }
     ensures memory { IfErr result (λ fault. fault ≡ OutOfMemory) }
 {
-    let mut out = Vec::new(alloc);
+    let mut calls = Vec::new(alloc);
     let mut first = None;
     for body in bodies {
-        let (id, octets) = match channel.ask(body.octets()) {
-            Ok(asked) => asked,
-            Err(_) => return Err(ClientFault::OutOfMemory),
+        let Ok(call) = channel.call(body.octets()) else {
+            return Err(ClientFault::OutOfMemory);
         };
-        out = match joined(out, octets) {
-            Ok(all) => all,
-            Err(_) => return Err(ClientFault::OutOfMemory),
+        first = Some(first.unwrap_or(call.id));
+        let Ok(()) = calls.push(call) else {
+            return Err(ClientFault::OutOfMemory);
         };
-        first = Some(first.unwrap_or(id));
     }
-    Ok((first.unwrap_or(0), out))
+    Ok((first.unwrap_or(0), calls))
 }

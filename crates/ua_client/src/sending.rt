@@ -3,10 +3,9 @@
 ghost use Rattle.std.specs.Prelude.{◌≡◌, ◌<◌, ◌≤◌, length, OnErr};
 ghost use Rattle.ua_channel.specs.Line.{WhereTold, failures_after};
 ghost use Rattle.ua_client.specs.Carried.{Writes};
+ghost use Rattle.ua_client.specs.Sent.{asked_octets};
 
-use ua_channel::{Line, LineFault};
-use ua_frame::HEADER_LEN;
-use ua_wire::front_number;
+use ua_channel::{AskedCall, Line, LineFault};
 
 /// Writes octets whole: by one write where the line takes them so, and where it takes fewer, on from
 /// where it stopped.
@@ -25,31 +24,48 @@ pub fn write_whole<L: Line>(line: &mut L, octets: &[u8]) -> Result<(), LineFault
     Ok(())
 }
 
-/// How many octets the first of these frames has, by the size in its header (OPC 10000-6, 7.1.2.2): at
-/// least one, and at most all that there are.
-fn frame_len(octets: &[u8]) -> usize
-    requires { 0 < length octets.now }
-    ensures some { 0 < result }
-    ensures within { result ≤ length octets.now }
+/// Where the frame ends that begins at a place of so many octets: it has `frame_len`, or those that are
+/// left.
+fn frame_end(at: usize, frame_len: usize, len: usize) -> usize
+    requires some { 0 < frame_len }
+    requires left { at < len }
+    ensures some { at < result }
+    ensures within { result ≤ len }
 {
-    if octets.len() < HEADER_LEN {
-        return octets.len();
+    if len - at <= frame_len {
+        return len;
     }
-    let (size, _) = front_number(&octets[4..]);
-    (size as usize).max(1).min(octets.len())
+    at + frame_len
 }
 
-/// Writes frames whole, each by one write where the line takes it so.
-pub fn write_frames<L: Line>(line: &mut L, octets: &[u8]) -> Result<(), LineFault>
+/// Writes frames whole, each by one write where the line takes it so. Each but the last has `frame_len`
+/// octets.
+fn write_frames<L: Line>(line: &mut L, octets: &[u8], frame_len: usize) -> Result<(), LineFault>
+    requires { 0 < frame_len }
     ensures written { WhereTold (Writes result octets.now) (L.traffic line.old) (L.traffic line.new) }
     ensures some { OnErr result (0 < length octets.now) }
     ensures failed { L.failures line.new ≡ failures_after (L.failures line.old) result }
 {
     let mut at = 0;
     while at < octets.len() {
-        let end = at + frame_len(&octets[at..]);
+        let end = frame_end(at, frame_len, octets.len());
         match write_whole(line, &octets[at..end]) {
             Ok(()) => at = end,
+            Err(fault) => return Err(fault),
+        }
+    }
+    Ok(())
+}
+
+/// Writes the frames of calls whole, each by one write where the line takes it so.
+pub fn write_calls<L: Line>(line: &mut L, calls: &[AskedCall]) -> Result<(), LineFault>
+    ensures written { WhereTold (Writes result (asked_octets calls.now)) (L.traffic line.old) (L.traffic line.new) }
+    ensures some { OnErr result (0 < length (asked_octets calls.now)) }
+    ensures failed { L.failures line.new ≡ failures_after (L.failures line.old) result }
+{
+    for call in calls {
+        match write_frames(line, &call.octets, call.frame_len) {
+            Ok(()) => {}
             Err(fault) => return Err(fault),
         }
     }

@@ -1,20 +1,18 @@
-use Rattle.std.proofs.Common.{◌≤◌, ◌+◌, ◌-◌, arith, length, ◌∙◌}
-use Rattle.ua_client.proofs.Carrying.{length-rest, part-written, part-front}
+use Rattle.std.proofs.Common.{rules, ◌<◌, ◌≤◌, ◌-◌, length, ◌∙◌, arith}
+use Rattle.ua_client.proofs.Carrying.{part-written, part-front}
 use Rattle.ua_client.proofs.sending.write_frames.Goals as goal
 
 pub loop-at-preserved : goal.loop-at-preserved
 loop-at-preserved g c =
-    let few = c.frame_len.ensures.within in
-    let rest = length-rest c.args.octets.now c.loop-at.at in
-    let more = c.loop-at-test.true in
-    let fits : c.loop-at.at + c.frame_len.result ≤ length c.args.octets.now = omega (arith, few, rest, more) in
+    let more : c.loop-at.at < c.frame_end-end.result = search rules in
+    let fits : c.frame_end-end.result ≤ length c.args.octets.now = search rules in
     record {
-      written = part-written c.args.octets.now c.loop-at.at (c.loop-at.at + c.frame_len.result) (g.L.Line.traffic c.args.line.now) (g.L.Line.traffic c.loop-at.line) (g.L.Line.traffic c.write_whole.new.line)
-          c.loop-at.invariant.written (omega arith) fits c.in-Ok.ensures.written;
+      written = part-written c.args.octets.now c.loop-at.at c.frame_end-end.result (g.L.Line.traffic c.args.line.now) (g.L.Line.traffic c.loop-at.line) (g.L.Line.traffic c.write_whole.new.line)
+          c.loop-at.invariant.written (omega (arith, more)) fits c.in-Ok.ensures.written;
       same = c.in-Ok.ensures.failed ∙ c.loop-at.invariant.same;
     }
 
 pub returns-in-Err-clause-written : goal.returns-in-Err-clause-written
 returns-in-Err-clause-written g c =
-    part-front c.args.octets.now c.loop-at.at (c.loop-at.at + c.frame_len.result - c.loop-at.at) (g.L.Line.traffic c.args.line.now) (g.L.Line.traffic c.loop-at.line) (g.L.Line.traffic c.write_whole.new.line)
+    part-front c.args.octets.now c.loop-at.at (c.frame_end-end.result - c.loop-at.at) (g.L.Line.traffic c.args.line.now) (g.L.Line.traffic c.loop-at.line) (g.L.Line.traffic c.write_whole.new.line)
     c.loop-at.invariant.written c.in-Err.ensures.some c.in-Err.ensures.written

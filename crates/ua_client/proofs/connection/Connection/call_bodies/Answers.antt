@@ -1,9 +1,11 @@
 use Rattle.std.proofs.Common.{◌++◌, ◌<◌, length, refl, sym, ◌∙◌, ap, subst}
-use Rattle.std.specs.Prelude.{ℕ, List, []}
+use Rattle.std.specs.Prelude.{List, []}
 use Rattle.std.proofs.lemmas.Result.{err_from_is_err_and}
 use Rattle.ua_channel.specs.Line.{WhereTold}
+use Rattle.ua_channel.specs.declared.client.asked_call.AskedCall.{AskedCall}
 use Rattle.ua_client.specs.Carried.{Carries, WritesFront}
 use Rattle.ua_client.specs.Replies.{front_of}
+use Rattle.ua_client.specs.Sent.{asked_octets}
 use Rattle.ua_client.specs.declared.reply.Reply.{Reply}
 use Rattle.ua_client.specs.declared.connection.Connection.{Connection}
 use Rattle.ua_client.proofs.GroupCalls.{IsAsked, none-refused, group-unasked, memory-failures, group-unwritten, group-unslotted, group-kept, kept-count, kept-fewer, kept-more}
@@ -34,7 +36,7 @@ returns-in_err-asked-clause-failed g c =
 pub returns-in_default-clause-calls : goal.returns-in_default-clause-calls
 returns-in_default-clause-calls g c =
     let mid : Connection = record { channel = c.ask_group.new.channel; piece = c.args.self.now.piece } in
-    let asked : IsAsked c.args.requests.now c.args.self.now mid c.in_ok-asked.asked.0 c.in_ok-asked.asked.1.items = record {
+    let asked : IsAsked c.args.requests.now c.args.self.now mid c.in_ok-asked.asked.0 (asked_octets c.in_ok-asked.asked.1.items) = record {
       bodies = c.args.bodies.now;
       bodies_are = c.requires.bodies;
       judged = none-refused c.args.requests.now c.requires.few c.args.self.now.channel c.requires.judged;
@@ -43,14 +45,14 @@ returns-in_default-clause-calls g c =
       some = c.requires.some;
       asks = c.in_ok-asked.ensures.asks;
     } in
-    group-unwritten c.args.requests.now c.args.self.now mid c.in_ok-asked.asked.0 c.in_ok-asked.asked.1.items asked (g.L.Line.traffic c.args.line.now) (g.L.Line.traffic c.write_frames.new.line) c.args.reads.now c.args.replies.now.items c.make_room.new.replies.items c.in_ok-make_room.ensures.same (subst (λ (o : List ℕ). 0 < length o) c.deref.ensures.value c.in_default.ensures.some)
-    (subst (λ (o : List ℕ). WhereTold (WritesFront o) (g.L.Line.traffic c.args.line.now) (g.L.Line.traffic c.write_frames.new.line)) c.deref.ensures.value c.in_default.ensures.written)
+    group-unwritten c.args.requests.now c.args.self.now mid c.in_ok-asked.asked.0 (asked_octets c.in_ok-asked.asked.1.items) asked (g.L.Line.traffic c.args.line.now) (g.L.Line.traffic c.write_calls.new.line) c.args.reads.now c.args.replies.now.items c.make_room.new.replies.items c.in_ok-make_room.ensures.same (subst (λ (cs : List AskedCall). 0 < length (asked_octets cs)) c.deref.ensures.value c.in_default.ensures.some)
+    (subst (λ (cs : List AskedCall). WhereTold (WritesFront (asked_octets cs)) (g.L.Line.traffic c.args.line.now) (g.L.Line.traffic c.write_calls.new.line)) c.deref.ensures.value c.in_default.ensures.written)
 
 pub returns-in_err-slots-clause-calls : goal.returns-in_err-slots-clause-calls
 returns-in_err-slots-clause-calls g c =
     let p = err_from_is_err_and c.from_residual-in_err-slots.result c.from_residual-in_err-slots.ensures.1 in
     let mid : Connection = record { channel = c.ask_group.new.channel; piece = c.args.self.now.piece } in
-    let asked : IsAsked c.args.requests.now c.args.self.now mid c.in_ok-asked.asked.0 c.in_ok-asked.asked.1.items = record {
+    let asked : IsAsked c.args.requests.now c.args.self.now mid c.in_ok-asked.asked.0 (asked_octets c.in_ok-asked.asked.1.items) = record {
       bodies = c.args.bodies.now;
       bodies_are = c.requires.bodies;
       judged = none-refused c.args.requests.now c.requires.few c.args.self.now.channel c.requires.judged;
@@ -59,8 +61,8 @@ returns-in_err-slots-clause-calls g c =
       some = c.requires.some;
       asks = c.in_ok-asked.ensures.asks;
     } in
-    rw (p.1, p.2) (group-unslotted c.args.requests.now c.args.self.now mid c.in_ok-asked.asked.0 c.in_ok-asked.asked.1.items asked c.calls_are_told_behind.ensures (g.L.Line.traffic c.args.line.now) (g.L.Line.traffic c.write_frames.new.line) c.args.reads.now
-    (subst (λ (o : List ℕ). WhereTold (Carries [] o) (g.L.Line.traffic c.args.line.now) (g.L.Line.traffic c.write_frames.new.line)) c.deref.ensures.value c.in-Ok.ensures.written)
+    rw (p.1, p.2) (group-unslotted c.args.requests.now c.args.self.now mid c.in_ok-asked.asked.0 (asked_octets c.in_ok-asked.asked.1.items) asked c.calls_are_told_behind.ensures (g.L.Line.traffic c.args.line.now) (g.L.Line.traffic c.write_calls.new.line) c.args.reads.now
+    (subst (λ (cs : List AskedCall). WhereTold (Carries [] (asked_octets cs)) (g.L.Line.traffic c.args.line.now) (g.L.Line.traffic c.write_calls.new.line)) c.deref.ensures.value c.in-Ok.ensures.written)
     c.in_err-slots.field-0.0 c.args.replies.now.items c.make_room.new.replies.items c.in_ok-make_room.ensures.same c.in_err-slots.ensures.err)
 
 pub returns-in_err-slots-clause-failed : goal.returns-in_err-slots-clause-failed
@@ -71,7 +73,7 @@ returns-in_err-slots-clause-failed g c =
 pub returns-clause-calls : goal.returns-clause-calls
 returns-clause-calls g c =
     let mid : Connection = record { channel = c.ask_group.new.channel; piece = c.args.self.now.piece } in
-    let asked : IsAsked c.args.requests.now c.args.self.now mid c.in_ok-asked.asked.0 c.in_ok-asked.asked.1.items = record {
+    let asked : IsAsked c.args.requests.now c.args.self.now mid c.in_ok-asked.asked.0 (asked_octets c.in_ok-asked.asked.1.items) = record {
       bodies = c.args.bodies.now;
       bodies_are = c.requires.bodies;
       judged = none-refused c.args.requests.now c.requires.few c.args.self.now.channel c.requires.judged;
@@ -80,8 +82,8 @@ returns-clause-calls g c =
       some = c.requires.some;
       asks = c.in_ok-asked.ensures.asks;
     } in
-    group-kept c.args.requests.now c.args.self.now mid c.in_ok-asked.asked.0 c.in_ok-asked.asked.1.items asked c.calls_are_told_behind.ensures c.collect-waited.new.self (g.L.Line.traffic c.args.line.now) (g.L.Line.traffic c.write_frames.new.line) (g.L.Line.traffic c.collect-waited.new.line) c.args.reads.now c.collect-waited.new.reads
-    (subst (λ (o : List ℕ). WhereTold (Carries [] o) (g.L.Line.traffic c.args.line.now) (g.L.Line.traffic c.write_frames.new.line)) c.deref.ensures.value c.in-Ok.ensures.written)
+    group-kept c.args.requests.now c.args.self.now mid c.in_ok-asked.asked.0 (asked_octets c.in_ok-asked.asked.1.items) asked c.calls_are_told_behind.ensures c.collect-waited.new.self (g.L.Line.traffic c.args.line.now) (g.L.Line.traffic c.write_calls.new.line) (g.L.Line.traffic c.collect-waited.new.line) c.args.reads.now c.collect-waited.new.reads
+    (subst (λ (cs : List AskedCall). WhereTold (Carries [] (asked_octets cs)) (g.L.Line.traffic c.args.line.now) (g.L.Line.traffic c.write_calls.new.line)) c.deref.ensures.value c.in-Ok.ensures.written)
     c.collect-waited.new.slots.items c.args.replies.now.items c.append_front.new.replies.items (c.append_front.ensures ∙ ap (λ (rs : List Reply). rs ++ front_of c.collect-waited.new.slots.items) c.in_ok-make_room.ensures.same) c.collect-waited.result c.collect-waited.ensures.collects
 
 pub returns-clause-more : goal.returns-clause-more
