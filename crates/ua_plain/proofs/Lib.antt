@@ -1,0 +1,3 @@
+mod Words
+mod Decimals
+mod Moments

@@ -1,0 +1,59 @@
+//! Moments as times of RFC 3339 in UTC.
+
+ghost use Rattle.std.specs.Prelude.{◌≡◌, ◌↔◌, IfSome, IsSome, Some};
+ghost use Rattle.ua_plain.specs.Moment.{IsInCalendar, IsMomentText, moment_denoted};
+ghost use Rattle.ua_plain.specs.Word.{IsWord};
+
+use arrayvec::ArrayString;
+use jiff_core::Timestamp;
+use jiff_fmt::temporal::{self, DateTimePrinter};
+use ua_builtin::DateTime;
+
+/// The text of a moment, of at most 33 octets.
+pub type MomentText = ArrayString<33>;
+
+/// The nanoseconds from 1601-01-01T00:00:00Z to 1970-01-01T00:00:00Z.
+const NANOS_TO_1970: i128 = 11_644_473_600_000_000_000;
+
+/// The nanoseconds of a unit of DateTime.
+const NANOS_IN_TICK: i128 = 100;
+
+/// 0000-01-01T00:00:00Z.
+const FIRST: i64 = -505_227_456_000_000_000;
+
+/// 9999-12-30T22:00:00.9999999Z.
+const LAST: i64 = 2_650_466_808_009_999_999;
+
+/// The time of a moment in UTC, such as `2026-11-27T08:00:00.1234567Z`, with as many digits of the second as
+/// it needs. `None` for 0, which is no moment (OPC 10000-6, 5.2.2.5), and before the year 0 and behind
+/// 9999-12-30T22:00:00.9999999Z, where the calendar ends.
+pub fn moment_text(moment: DateTime) -> Option<MomentText>
+    ensures some { IsSome result ↔ IsInCalendar moment.ticks }
+    ensures form { IfSome result (λ text. IsMomentText moment.ticks text.bytes) }
+    ensures reads { IfSome result (λ text. moment_denoted text.bytes ≡ Some moment) }
+    ensures word { IfSome result (λ text. IsWord text.bytes) }
+{
+    if moment.ticks == 0 || moment.ticks < FIRST || LAST < moment.ticks {
+        return None;
+    }
+    match Timestamp::from_nanosecond(i128::from(moment.ticks) * NANOS_IN_TICK - NANOS_TO_1970) {
+        Ok(time) => Some(DateTimePrinter::new().timestamp_text(time)),
+        Err(_) => unreachable!(),
+    }
+}
+
+/// The moment that a text writes as a time of RFC 3339, with `Z` or an offset behind it. `None` where the
+/// text is none, or its moment no whole number of units of 100 nanoseconds.
+#[tactic(auto, unfolding(crate::specs::Moment::moment_denoted))]
+pub fn parse_moment(text: &str) -> Option<DateTime>
+    ensures { result ≡ moment_denoted text.now }
+{
+    let time = temporal::parse_timestamp(text.as_bytes()).ok()?;
+    let nanos = time.nanosecond + NANOS_TO_1970;
+    if nanos.rem_euclid(NANOS_IN_TICK) != 0 {
+        return None;
+    }
+    Some(DateTime {
+        ticks: nanos.div_euclid(NANOS_IN_TICK) as i64,
+    })
+}
