@@ -57,9 +57,9 @@ static void talk(void) {
         fetch(&server, down, &down_count);
         for (size_t at = back; at < down_count; at += taken)
             check(ua_client_take(&client, down + at, down_count - at, moment, &taken, &event, &id, &code), "take");
-    } while (event == UA_SEND);
+    } while (event == UA_EVENT_SEND);
     reply_count = 0;
-    if (event == UA_ANSWERED)
+    if (event == UA_EVENT_ANSWERED)
         fetch(&client, reply, &reply_count);
 }
 
@@ -77,7 +77,7 @@ static void ask(uint32_t status, const char *what) {
     talk();
     printf("%s %zu event %u id %u code %08X reply %zu", what, request_count, (unsigned)event, (unsigned)id,
            (unsigned)code, reply_count);
-    if (event == UA_ANSWERED)
+    if (event == UA_EVENT_ANSWERED)
         say_kind(reply, reply_count);
     printf("\n");
 }
@@ -193,11 +193,163 @@ static void make(void) {
     say_text("decode", ua_decode_value((const uint8_t *)"\x06\x06\0\0\0", 5, INTO));
 }
 
+/* ---- nodes that two connections share */
+
+static const char plant[] = "ns=1;s=Pump\trw\tPump\tInt32\t5\nns=1;s=Temp\tr\tTemp\tDouble\t0x0000000000000000\n"
+                            "ns=1;s=Row\trw\tRow\tUInt16[]\t1,2\n";
+static const char asked[] = "ns=1;s=Temp\nns=1;s=Pump";
+static struct ua_nodes shared;
+static struct ua_connection lines[2];
+static struct ua_handle clients[2];
+static uint8_t tokens[2][64];
+static size_t token_counts[2];
+
+/* The same as `talk` over one of the two connections. */
+static void talk_over(int k) {
+    uint8_t octets[4096];
+    size_t count, taken, waiting;
+    do {
+        check(ua_fetch(&clients[k], octets, sizeof octets, &count), "fetch");
+        for (size_t at = 0; at < count; at += taken)
+            check(ua_connection_step(&lines[k], &shared, octets + at, count - at, moment, &taken, &waiting, &code), "connection_step");
+        check(ua_connection_fetch(&lines[k], octets, sizeof octets, &count), "connection_fetch");
+        for (size_t at = 0; at < count; at += taken)
+            check(ua_client_take(&clients[k], octets + at, count - at, moment, &taken, &event, &id, &code), "take");
+    } while (event == UA_EVENT_SEND);
+    reply_count = 0;
+    if (event == UA_EVENT_ANSWERED)
+        fetch(&clients[k], reply, &reply_count);
+}
+
+static void ask_over(int k, uint32_t status, const char *what) {
+    check(status, what);
+    check(ua_client_ask(&clients[k], request, request_count, &id), "ask");
+    talk_over(k);
+}
+
+static void open_over(int k) {
+    check(ua_connection_new(&limits, (uint32_t)k + 1, &lines[k]), "connection_new");
+    check(ua_client_new(&limits, TEXT(url), &clients[k]), "client_new");
+    check(ua_client_hello(&clients[k]), "hello");
+    talk_over(k);
+    ask_over(k, ua_create_session_request(TEXT(url), moment, 1, REQUEST), "create_session");
+    check(ua_session_token(reply, reply_count, tokens[k], sizeof tokens[k], &token_counts[k], &code), "session_token");
+    ask_over(k, ua_activate_session_request(tokens[k], token_counts[k], moment, 2, REQUEST), "activate_session");
+    printf("connection %d token %.*s\n", k, (int)token_counts[k], (const char *)tokens[k]);
+}
+
+static void read_over(int k) {
+    ask_over(k, ua_read_request(tokens[k], token_counts[k], moment, 3, TEXT(asked), TEXT(""), REQUEST), "read");
+    printf("connection %d ", k);
+    say_text("reads", ua_response_text(TEXT(asked), reply, reply_count, INTO, &code));
+}
+
+static void say_nodes(const char *file, const char *uri) {
+    size_t line;
+    uint32_t reason, status = ua_nodes_new(TEXT(file), TEXT(url), TEXT(uri), TEXT("plant"), 1048576, &shared, &line, &reason);
+    printf("nodes_new %u line %zu reason %u\n", (unsigned)status, line, (unsigned)reason);
+}
+
+static void say_find(const char *node) {
+    size_t index, status = ua_node_find(&shared, TEXT(node), &index);
+    printf("node_find %s %zu index %zu\n", node, status, index);
+}
+
+static void say_set(const char *what, size_t index, const uint8_t *octets, size_t count, const struct ua_reading *reading) {
+    printf("node_set %s %u\n", what, (unsigned)ua_node_set(&shared, index, octets, count, reading));
+}
+
+static void say_get(size_t index, size_t room) {
+    struct ua_reading is;
+    uint8_t octets[64];
+    size_t needed;
+    uint32_t status = ua_node_get(&shared, index, octets, room, &needed, &is);
+    printf("node_get %zu %u needs %zu at %zu size %zu status %u %08X time %u %lld picoseconds %u %u server %u %u ", index,
+           (unsigned)status, needed, is.value_at, is.value_len, is.has_status, (unsigned)is.status, is.has_source_time,
+           (long long)is.source_time, is.has_source_picoseconds, is.source_picoseconds, is.has_server_time, is.has_server_picoseconds);
+    say_digits("value", octets, status == UA_OK ? needed : 0);
+}
+
+/* What the program sets both clients read, and what one of them writes the program and the other one. */
+static void share(void) {
+    uint8_t value[32] = {0xFF, 0xFF}, no_limits[4] = {0};
+    size_t size = ua_put_double(value + 2, 21.25), taken, waiting;
+    struct ua_reading is = ua_reading_of(size, 0x40000000, 99);
+    say_nodes("#\nns=1;s=Pump\trw\tPump\tInt32\t5x\n", "urn:a");
+    say_nodes("ns=1;s=Pump\trw\tPump\tInt32\n", "urn:a");
+    say_nodes("ns=1;s=Pump\trw\tPump\tInt32\t5\nns=1;s=Pump\tr\tPump\tInt32\t5", "urn:a");
+    say_nodes("\xFF", "urn:a");
+    say_nodes(plant, "urn:\xFF");
+    printf("node_find %u\n", (unsigned)ua_node_find(&shared, TEXT("i=1"), &taken));
+    say_nodes(plant, "urn:a");
+    printf("connection_new %u\n", (unsigned)ua_connection_new(&(struct ua_limits){8191, 8192, 1, 1}, 1, &lines[0]));
+    printf("connection_step %u\n", (unsigned)ua_connection_step(&lines[0], &shared, no_limits, 4, moment, &taken, &waiting, &code));
+    for (int k = 0; k < 2; k++)
+        open_over(k);
+    say_find("ns=1;s=Temp");
+    say_find("ns=1;s=Row");
+    say_find("ns=1;s=None");
+    say_find("Temp");
+    is.value_at = 2;
+    is.has_source_picoseconds = 1;
+    is.source_picoseconds = 7;
+    say_set("Temp", 1, value, sizeof value, &is);
+    say_set("a node of another type", 0, value, sizeof value, &is);
+    say_set("no node", 3, value, sizeof value, &is);
+    say_set("no octets", 1, value, 10, &is);
+    is.value_at = SIZE_MAX;
+    say_set("octets far behind", 1, value, sizeof value, &is);
+    is.value_at = 1;
+    say_set("no value", 1, value, sizeof value, &is);
+    is.has_source_time = 0;
+    say_set("no time", 1, value, sizeof value, &is);
+    for (int k = 0; k < 2; k++)
+        read_over(k);
+    ask_over(0, ua_write_request(tokens[0], token_counts[0], moment, 4, TEXT("ns=1;s=Pump"), TEXT("Int32"), TEXT("7"), REQUEST), "write");
+    read_over(1);
+    say_get(0, sizeof value);
+    say_get(1, sizeof value);
+    say_get(2, sizeof value);
+    say_get(2, 8);
+    say_get(3, sizeof value);
+    printf("connection_step %u\n",
+           (unsigned)ua_connection_step(&lines[0], (struct ua_nodes *)&lines[1], value, 1, moment, &taken, &waiting, &code));
+    printf("held %zu bound %zu waiting %zu\n", ua_connection_held(&lines[0]), ua_connection_bound(&lines[0]), ua_connection_waiting(&lines[0]));
+    for (int k = 0; k < 2; k++) {
+        ua_connection_free(&lines[k]);
+        ua_free(&clients[k]);
+    }
+    ua_nodes_free(&shared);
+    printf("node_get %u\n", (unsigned)ua_node_get(&shared, 0, value, sizeof value, &size, &is));
+}
+
+/* Numbers as values: their encodings, and back. */
+static void number(void) {
+    uint8_t octets[32];
+    int16_t one = 0, pair[2] = {-2, 258}, back[2] = {0, 0};
+    uint16_t other = 0;
+    float half = 0;
+    size_t count;
+    say_digits("boolean", octets, ua_put_boolean(octets, 1));
+    say_digits("int16", octets, ua_put_int16(octets, -2));
+    printf("int16 %d", ua_get_int16(octets, 3, &one));
+    printf(" %d\n", one);
+    printf("int16 %d, uint16 %d\n", ua_get_int16(octets, 2, &one), ua_get_uint16(octets, 3, &other));
+    say_digits("float", octets, ua_put_float(octets, 0.5f));
+    printf("float %d", ua_get_float(octets, 5, &half));
+    printf(" %g\n", half);
+    say_digits("int16_array", octets, ua_put_int16_array(octets, sizeof octets, pair, 2));
+    printf("int16_array %d", ua_get_int16_array(octets, 9, back, 1, &count));
+    printf(" %zu %d %d\n", count, back[0], back[1]);
+    printf("int16_array %d", ua_get_int16_array(octets, 8, back, 2, &count));
+    printf(" %zu, needs %zu\n", count, ua_put_int16_array(octets, 8, pair, 2));
+}
+
 /* Words for numbers, and null pointers, whose length is 0. */
 static void name(void) {
     printf("version %s\n", ua_version() == UA_VERSION ? "same" : "another");
     say_text("status 18", ua_status_text(UA_TOO_SMALL, INTO));
-    printf("status 23: %u\n", (unsigned)ua_status_text(23, INTO));
+    printf("status 99: %u\n", (unsigned)ua_status_text(99, INTO));
     say_text("code 80340000", ua_code_name(0x80340000, INTO));
     printf("code 80340001: %u\n", (unsigned)ua_code_name(0x80340001, INTO));
     check(ua_encode_value(TEXT("String"), NULL, 0, INTO), "encode");
@@ -214,6 +366,8 @@ int main(int count, char **words) {
     go_on();
     fail();
     make();
+    share();
+    number();
     name();
     ua_free(&client);
     ua_free(&server);

@@ -5,7 +5,8 @@
  * It stops behind PIECES pieces or SECONDS seconds, whichever comes first. A STREAM is a file of octets
  * as one end sent them; a piece is random, or a part of a stream with octets that are changed, left out
  * or said twice. A further server and a client talk to each other: the client asks, renews and closes,
- * and what passes between them is changed now and then. A machine that ended is made anew. Besides what
+ * and what passes between them is changed now and then. A machine that ended is made anew. Each server is now one of a
+ * connection at a time, now a connection over nodes that both share and that are set and got between the pieces. Besides what
  * a sanitizer or valgrind sees, it checks what ua.h says: what is taken lies within the piece, nothing
  * is taken or waits at other statuses, no more is held than the bound, a buffer is written just where it
  * is said to be, and UA_NO_MEMORY is answered only where memory was refused. That is never, unless it is
@@ -29,13 +30,15 @@ static const struct ua_limits limits = {65535, 65535, 1048576, 256};
 static const char nodes[] = "ns=1;s=Pump\trw\tPump\tInt32\t5\nns=1;s=Row\trw\tRow\tInt32[]\t1,2,3\n";
 static const char url[] = "opc.tcp://localhost:4840";
 static const char *const asked_nodes[] = {"ns=1;s=Pump", "ns=1;s=Row", "ns=1;s=Pump\nns=1;s=Row"};
-static struct ua_handle handles[HANDLES];
+static struct ua_connection machines[HANDLES]; /* each is a handle; a connection where `shares` says so */
+static int shares[HANDLES];
+static struct ua_nodes shared;
 static uint8_t streams[MOST_STREAMS][MOST_OCTETS], piece[MOST_OCTETS], text[2048];
 static size_t sizes[MOST_STREAMS], stream_count, places[2], stream_of[2], room, needed;
 static uint8_t line[HANDLES][2 * MOST_OCTETS]; /* what a talking machine was sent, and did not take yet */
 static size_t line_size[HANDLES];
 static char token[64] = "i=0";
-static unsigned long long state, seen[HANDLES][32], events[8], put[32], asked[32], taken_in_all, fetched_in_all;
+static unsigned long long state, seen[HANDLES][32], events[8], put[32], asked[32], set[32], taken_in_all, fetched_in_all;
 static unsigned long long refused, refused_in_all;
 
 static uint32_t next(uint32_t below) {
@@ -118,17 +121,17 @@ static size_t take_piece(int kind) {
 /* Fetches all that waits in pieces of any size, and says how many octets; hands them to the other end. */
 static size_t fetch_all(int kind, uint8_t *out, size_t most) {
     uint8_t buffer[512];
-    size_t waiting = ua_waiting(&handles[kind]), fetched, count = 0;
+    size_t waiting = ua_waiting(&machines[kind].handle), fetched, count = 0;
     while (waiting > 0) {
         size_t size = next(sizeof buffer + 1);
-        uint32_t status = said(ua_fetch(&handles[kind], buffer, size, &fetched));
+        uint32_t status = said(ua_fetch(&machines[kind].handle, buffer, size, &fetched));
         if (status == UA_NO_MEMORY && fetched == 0)
             continue;
         if (status != UA_OK || fetched != (size < waiting ? size : waiting))
             fail("fetch");
         waiting -= fetched;
         fetched_in_all += fetched;
-        if (ua_waiting(&handles[kind]) != waiting)
+        if (ua_waiting(&machines[kind].handle) != waiting)
             fail("waiting");
         for (size_t at = 0; at < fetched && count < most; at++)
             out[count++] = buffer[at];
@@ -164,7 +167,7 @@ static uint32_t checked(uint32_t status) {
 
 /* The talking client asks a request of one of the calls, or other octets, or renews or closes. */
 static uint32_t ask(void) {
-    struct ua_handle *client = &handles[TALKING_CLIENT];
+    struct ua_handle *client = &machines[TALKING_CLIENT].handle;
     uint32_t id, choice = next(64), status = UA_OK;
     const char *read = asked_nodes[next(3)], *written = asked_nodes[next(8) == 0], *range = next(4) ? "" : "0:1";
     needed = 0;
@@ -216,28 +219,60 @@ static void read_octets(const uint8_t *octets, size_t size) {
     checked(ua_encode_value(TEXT("String"), octets, size, text, make_room(), &needed));
 }
 
-static void make(int kind) {
+static uint32_t make_server(int kind) {
     size_t bad;
+    if ((shares[kind] = next(4) > 0))
+        return ua_connection_new(&limits, 1 + next(1024), &machines[kind]);
+    return ua_server_new(TEXT(nodes), &limits, TEXT(url), 1, &machines[kind].handle, &bad);
+}
+
+static void make(int kind) {
     uint32_t status;
     do
-        status = said(kind & 1 ? ua_client_new(&limits, TEXT(url), &handles[kind])
-                               : ua_server_new(TEXT(nodes), &limits, TEXT(url), 1, &handles[kind], &bad));
+        status = said(kind & 1 ? ua_client_new(&limits, TEXT(url), &machines[kind].handle) : make_server(kind));
     while (status == UA_NO_MEMORY);
-    while (kind & 1 && status == UA_OK && said(ua_client_hello(&handles[kind])) == UA_NO_MEMORY)
+    while (kind & 1 && status == UA_OK && said(ua_client_hello(&machines[kind].handle)) == UA_NO_MEMORY)
         continue;
-    if (status != UA_OK || (kind & 1) != (ua_waiting(&handles[kind]) > 0))
+    if (status != UA_OK || (kind & 1) != (ua_waiting(&machines[kind].handle) > 0))
         fail("new");
     pass_on(kind);
 }
 
+/* A server takes octets. */
+static uint32_t step(int kind, const uint8_t *octets, size_t size, size_t *taken, size_t *waiting, uint32_t *code) {
+    if (shares[kind])
+        return ua_connection_step(&machines[kind], &shared, octets, size, 7, taken, waiting, code);
+    return ua_server_step(&machines[kind].handle, octets, size, 7, taken, waiting, code);
+}
+
+/* A node is set, to what may be no reading, and got. */
+static void set_and_get(void) {
+    static int32_t row[64];
+    uint8_t value[300];
+    size_t index = next(8) ? next(2) : next(1024), size = index ? ua_put_int32_array(value, sizeof value, row, next(64)) : ua_put_int32(value, 6);
+    struct ua_reading reading = ua_reading_of(size, next(2), 7), is;
+    if (next(8) == 0)
+        value[next((uint32_t)size)] = (uint8_t)next(256);
+    if (next(8) == 0)
+        reading.value_at = next(2) ? next(300) : (size_t)0 - next(300);
+    reading.has_source_picoseconds = (uint8_t)next(2);
+    uint32_t status = said(ua_node_set(&shared, index, value, sizeof value, &reading));
+    set[status]++;
+    if (status == UA_OK && index > 1)
+        fail("set");
+    uint32_t got = checked(ua_node_get(&shared, index, text, make_room(), &needed, &is));
+    if (status == UA_OK && got == UA_OK && (needed != size || memcmp(text, value + reading.value_at, size) || is.status != reading.status))
+        fail("got");
+}
+
 /* Gives one piece to a machine, and says whether it ended. */
 static int give(int kind, size_t size) {
-    struct ua_handle *handle = &handles[kind];
+    struct ua_handle *handle = &machines[kind].handle;
     for (size_t at = 0, taken; at < size; at += taken) {
         size_t waiting = 0, none;
-        uint32_t code, event = UA_NEED_MORE, id, other;
+        uint32_t code, event = UA_EVENT_NEED_MORE, id, other;
         uint32_t status = kind & 1 ? ua_client_take(handle, piece + at, size - at, 7, &taken, &event, &id, &code)
-                                   : ua_server_step(handle, piece + at, size - at, 7, &taken, &waiting, &code);
+                                   : step(kind, piece + at, size - at, &taken, &waiting, &code);
         seen[kind][said(status)]++;
         if (kind & 1)
             events[event]++;
@@ -252,11 +287,11 @@ static int give(int kind, size_t size) {
         taken_in_all += taken;
         if (status == UA_OK && ua_waiting(handle) > 0 && next(4) == 0) {
             uint32_t second = kind & 1 ? ua_client_take(handle, piece, 1, 7, &none, &other, &id, &code)
-                                       : ua_server_step(handle, piece, 1, 7, &none, &waiting, &code);
+                                       : step(kind, piece, 1, &none, &waiting, &code);
             if (second != UA_FETCH_FIRST || none != 0)
                 fail("fetch first");
         }
-        if (event == UA_ANSWERED) {
+        if (event == UA_EVENT_ANSWERED) {
             static uint8_t body[MOST_OCTETS];
             read_octets(body, fetch_all(kind, body, sizeof body));
         }
@@ -281,9 +316,9 @@ static void talk(void) {
     }
     if (is_over) {
         line_size[TALKING_SERVER] = line_size[TALKING_CLIENT] = 0;
-        if (next(2))
+        if (shares[TALKING_SERVER] || next(2))
             make(TALKING_SERVER);
-        else if (ua_server_next_connection(&handles[TALKING_SERVER], next(1024)) != UA_OK)
+        else if (ua_server_next_connection(&machines[TALKING_SERVER].handle, next(1024)) != UA_OK)
             fail("next connection");
         make(TALKING_CLIENT);
     }
@@ -295,9 +330,9 @@ static void throw_piece(int kind) {
         return;
     places[kind] = 0;
     stream_of[kind] = next((uint32_t)stream_count);
-    if (kind == CLIENT || next(2))
+    if (kind == CLIENT || shares[kind] || next(2))
         make(kind);
-    else if (ua_server_next_connection(&handles[kind], next(1024)) != UA_OK)
+    else if (ua_server_next_connection(&machines[kind].handle, next(1024)) != UA_OK)
         fail("next connection");
 }
 
@@ -322,10 +357,16 @@ int main(int count, char **words) {
         fclose(file);
     }
     stream_of[CLIENT] = stream_count - 1;
+    size_t bad;
+    uint32_t reason;
+    while (said(ua_nodes_new(TEXT(nodes), TEXT(url), TEXT("urn:a"), TEXT("a"), 0, &shared, &bad, &reason)) == UA_NO_MEMORY)
+        continue;
     for (int kind = 0; kind < HANDLES; kind++)
         make(kind);
     for (; done < pieces && ((done & 1023) || time(NULL) < end); done++) {
         uint32_t choice = next(4);
+        if (next(16) == 0)
+            set_and_get();
         if (choice < TALKING_SERVER)
             throw_piece((int)choice);
         else
@@ -335,10 +376,12 @@ int main(int count, char **words) {
            taken_in_all, fetched_in_all, refused_in_all);
     for (int kind = 0; kind < HANDLES; kind++) {
         print_counts(names[kind], seen[kind], 32);
-        ua_free(&handles[kind]);
+        ua_connection_free(&machines[kind]);
     }
+    ua_nodes_free(&shared);
     print_counts("client event", events, 8);
     print_counts("asked status", asked, 32);
     print_counts("put status", put, 32);
+    print_counts("set status", set, 32);
     return 0;
 }

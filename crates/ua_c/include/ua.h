@@ -1,12 +1,16 @@
 /* The OPC UA Binary stack for C, C++ and whatever can call C: the static library libua_c.a.
  *
+ * A server: nodes (`struct ua_nodes`), which the program sets and gets, and any number of connections over
+ * them (`struct ua_connection`), a step each time octets came. A client: a `struct ua_handle`.
+ *
  * Each call is proved for every input under the rules below; docs/C.md says what is proved, and
  * crates/ua_c/specs/ has it as definitions. This file is written by hand; tools/check_c_header
  * compares its declarations with the exports.
  *
  * What C has to keep
  *
- * - A handle begins as `struct ua_handle h = {0};`. C never reads or writes what is in it, copies it,
+ * - A handle begins as `struct ua_handle h = {0};`, and nodes and a connection as `{{0}}`: they are handles of
+ *   types of their own, so that a compiler refuses a step on a client. C never reads or writes what is in it, copies it,
  *   or moves it to another address while a call runs. The calls below alone change it. `ua_free` ends
  *   it; it may then be used again, as one that begins.
  * - A pointer is never null, but where the length behind it is 0, and at `ua_free`. (What calls the
@@ -31,9 +35,9 @@
  * - A handle that holds nothing, one that holds a machine of the other kind, and one whose connection
  *   ended are statuses; only `ua_client_hello` still makes its HEL then. Where octets wait,
  *   UA_FETCH_FIRST comes in front of UA_CLOSED.
- * - UA_NO_MEMORY: `malloc` or `realloc` gave null. At `ua_server_step` and `ua_client_take` the
- *   connection then failed, and holds nothing; the server's nodes and session are as they were, or as
- *   the message that was being answered leaves them. At every other call nothing has changed.
+ * - UA_NO_MEMORY: `malloc` or `realloc` gave null. At `ua_connection_step`, `ua_server_step` and
+ *   `ua_client_take` the connection then failed, and holds nothing; the server's nodes and session are as
+ *   they were, or as the message that was being answered leaves them. At every other call nothing has changed.
  */
 #ifndef UA_H
 #define UA_H
@@ -75,20 +79,53 @@ enum {
     UA_BAD_SIDE = 19,        /* the side is neither 0 nor 1 */
     UA_BAD_OCTETS = 20,      /* the octets encode nothing that the call takes */
     UA_SERVICE = 21,         /* the service failed, with `code` */
-    UA_UNKNOWN = 22          /* the response is that of another request, or has not as many answers;
-                                nothing has this number */
+    UA_UNKNOWN = 22,         /* the response is that of another request, or has not as many answers;
+                                nothing has this number; there is no such node */
+    UA_MISMATCH = 23,        /* the node takes no value of this type */
+    UA_BAD_READING = 24      /* the reading has no value within the octets, or no source time */
+};
+
+/* Why a line of a node file is none: the first of these that holds. */
+enum {
+    UA_LINE_FIELDS = 1,      /* it has not just five fields, with a tab between */
+    UA_LINE_NODE = 2,        /* the first names no NodeId */
+    UA_LINE_ACCESS = 3,      /* the second is none of `r`, `w`, `rw` and `-` */
+    UA_LINE_NAME = 4,        /* the third is empty */
+    UA_LINE_TYPE = 5,        /* the fourth names no type */
+    UA_LINE_VALUE = 6,       /* the fifth denotes no value of the type */
+    UA_LINE_DUPLICATE = 7    /* a line before it has the same NodeId */
+};
+
+/* Which of several texts is none. */
+enum {
+    UA_TEXT_NODES = 1,
+    UA_TEXT_URL = 2,
+    UA_TEXT_APPLICATION_URI = 3,
+    UA_TEXT_NAME = 4
 };
 
 /* Events of ua_client_take. */
 enum {
-    UA_NEED_MORE = 0,        /* more octets are to come */
-    UA_SEND = 1,             /* the octets that wait are to be sent */
-    UA_OPEN = 2,             /* the channel is open: calls may be asked */
-    UA_ANSWERED = 3,         /* the octets that wait are the body of the reply to the call `id` */
-    UA_ABORTED = 4,          /* the server gave up its reply to the call `id`, for `code` */
-    UA_RENEWED = 5,          /* a renewal was answered by the token `id` */
-    UA_FAILED = 6,           /* this end refused what came, for `code` (status UA_REFUSED) */
-    UA_FAILED_BY_PEER = 7    /* the server refused, for `code` (status UA_REFUSED) */
+    UA_EVENT_NEED_MORE = 0,      /* more octets are to come */
+    UA_EVENT_SEND = 1,           /* the octets that wait are to be sent */
+    UA_EVENT_OPEN = 2,           /* the channel is open: calls may be asked */
+    UA_EVENT_ANSWERED = 3,       /* the octets that wait are the body of the reply to the call `id` */
+    UA_EVENT_ABORTED = 4,        /* the server gave up its reply to the call `id`, for `code` */
+    UA_EVENT_RENEWED = 5,        /* a renewal was answered by the token `id` */
+    UA_EVENT_FAILED = 6,         /* this end refused what came, for `code` (status UA_REFUSED) */
+    UA_EVENT_FAILED_BY_PEER = 7  /* the server refused, for `code` (status UA_REFUSED) */
+};
+
+/* Their names without EVENT, which go with the next version. */
+enum {
+    UA_NEED_MORE = UA_EVENT_NEED_MORE,
+    UA_SEND = UA_EVENT_SEND,
+    UA_OPEN = UA_EVENT_OPEN,
+    UA_ANSWERED = UA_EVENT_ANSWERED,
+    UA_ABORTED = UA_EVENT_ABORTED,
+    UA_RENEWED = UA_EVENT_RENEWED,
+    UA_FAILED = UA_EVENT_FAILED,
+    UA_FAILED_BY_PEER = UA_EVENT_FAILED_BY_PEER
 };
 
 /* Responses, by the number of their binary encoding (OPC 10000-6, A.3). */
@@ -105,6 +142,36 @@ enum {
 /* A handle of a server or a client. It begins as {0}. */
 struct ua_handle {
     void *at;
+};
+
+/* Nodes with their values, and what a server says of itself, for any number of connections. It begins as
+ * {{0}}. `handle` is for the calls of any handle. */
+struct ua_nodes {
+    struct ua_handle handle;
+};
+
+/* One connection of a server: its channel and its session. It begins as {{0}}. `handle` is for the calls of
+ * any handle. */
+struct ua_connection {
+    struct ua_handle handle;
+};
+
+/* A value by the place of its encoding in octets, with its status and times (OPC 10000-4, 7.11). A field is
+ * there where its flag is not 0, and is 0 where its flag is. Picoseconds are in units of 10. */
+struct ua_reading {
+    size_t value_at;
+    size_t value_len;
+    int64_t source_time;
+    int64_t server_time;
+    uint32_t status;
+    uint16_t source_picoseconds;
+    uint16_t server_picoseconds;
+    uint8_t has_value;
+    uint8_t has_status;
+    uint8_t has_source_time;
+    uint8_t has_server_time;
+    uint8_t has_source_picoseconds;
+    uint8_t has_server_picoseconds;
 };
 
 /* What one end of a connection allows: the octets of frames each way (8192 at least), and for
@@ -138,7 +205,95 @@ size_t ua_held(struct ua_handle *handle);
  * messages of the greatest size. 0 where the handle holds nothing. */
 size_t ua_bound(struct ua_handle *handle);
 
-/* ---- a server */
+/* ---- nodes that connections share. Where a handle holds nothing, or not what the call takes, the status is
+ * UA_NO_HANDLE or UA_OTHER_HANDLE, and no handle changes */
+
+/* Makes the nodes of a node file (a text, as `ua serve` reads it), with what a server of them says of itself:
+ * its URL, its ApplicationUri and its name, and how many octets a request may have (0 where it does not say),
+ * and puts them into `out`, in the place of what that held.
+ * UA_BAD_NODES: `line` is the first bad line, counted from 1, and `reason` a number UA_LINE_.. .
+ * UA_BAD_TEXT: `reason` is a number UA_TEXT_.. : the node file is not UTF-8, or another text is none that can
+ * be sent. UA_NO_MEMORY, with such a number at one of the other texts. After a failure `out` holds what it held. */
+uint32_t ua_nodes_new(const uint8_t *file, size_t file_len, const uint8_t *url, size_t url_len,
+                      const uint8_t *application_uri, size_t application_uri_len,
+                      const uint8_t *name, size_t name_len, uint32_t max_message_size,
+                      struct ua_nodes *out, size_t *line, uint32_t *reason);
+
+/* The index of the node that a NodeId's text names. It is the place of the node in the node file, from 0, and
+ * stays. The nodes are looked through in their order: find each once. UA_UNKNOWN: there is no such node.
+ * UA_BAD_TEXT: the text names no NodeId. UA_NO_MEMORY. */
+uint32_t ua_node_find(struct ua_nodes *nodes, const uint8_t *node, size_t node_len, size_t *index);
+
+/* Sets what the node at an index holds to a reading, whose value is encoded in `octets` where `reading` says:
+ * also where clients may only read. A client that reads the node from now on is answered so. The server time
+ * of a reading is passed over. Nothing changes but with UA_OK.
+ * UA_UNKNOWN: the nodes have no such index. UA_BAD_READING: the reading has no source time, or no value within
+ * the octets. UA_BAD_OCTETS: these encode no value of at most 99 levels. UA_MISMATCH: the node takes values
+ * of another type. UA_NO_MEMORY. */
+uint32_t ua_node_set(struct ua_nodes *nodes, size_t index, const uint8_t *octets, size_t octets_len,
+                     const struct ua_reading *reading);
+
+/* What the node at an index holds, as the program set it or a client wrote it: the encoding of its value, at
+ * the front of the buffer, with its status and source time. The reading is told with UA_TOO_SMALL, too, and
+ * at every other status nothing of it is there. UA_UNKNOWN: the nodes have no such index. UA_TOO_SMALL,
+ * UA_NO_MEMORY. */
+uint32_t ua_node_get(struct ua_nodes *nodes, size_t index, uint8_t *buffer, size_t buffer_len,
+                     size_t *needed, struct ua_reading *reading);
+
+/* ---- connections over nodes. Each is stepped with the same nodes from its first step on: its session is one
+ * of theirs */
+
+/* Makes a connection of these limits, whose channel has this id, another one than each open connection over
+ * the same nodes, and puts it into `out`, in the place of what that held.
+ * UA_BAD_LIMITS, UA_NO_MEMORY: `out` holds what it held. */
+uint32_t ua_connection_new(const struct ua_limits *limits, uint32_t channel,
+                           struct ua_connection *out);
+
+/* One step over nodes: takes octets of the client up to the end of the first frame that is answered or that
+ * ends the connection, else the whole piece. `taken` says how many: go on with the rest. What is to be sent
+ * then waits (`waiting` octets): fetch it and send it before the next step of this connection. A piece that
+ * is not empty is taken in part at least. A request is answered from the nodes as the program and all
+ * connections left them.
+ * UA_OK: the connection goes on. UA_ENDED: the client closed it, and nothing is to be sent.
+ * UA_REFUSED: what the octets that were taken end with is refused for `code`, and the ERR frame
+ * waits. UA_CLOSED: it ended or failed before. UA_FETCH_FIRST: octets wait.
+ * Also UA_NO_MEMORY, UA_NO_HANDLE, UA_OTHER_HANDLE. */
+uint32_t ua_connection_step(struct ua_connection *connection, struct ua_nodes *nodes,
+                            const uint8_t *piece, size_t piece_len, int64_t moment, size_t *taken,
+                            size_t *waiting, uint32_t *code);
+
+/* The calls of any handle, for these two. */
+static inline void ua_nodes_free(struct ua_nodes *nodes) {
+    if (nodes)
+        ua_free(&nodes->handle);
+}
+
+static inline void ua_connection_free(struct ua_connection *connection) {
+    if (connection)
+        ua_free(&connection->handle);
+}
+
+static inline size_t ua_connection_waiting(struct ua_connection *connection) {
+    return ua_waiting(&connection->handle);
+}
+
+static inline uint32_t ua_connection_fetch(struct ua_connection *connection, uint8_t *buffer,
+                                           size_t buffer_len, size_t *fetched) {
+    static uint8_t none[1];
+    return ua_fetch(&connection->handle, buffer ? buffer : none, buffer_len, fetched);
+}
+
+static inline size_t ua_connection_held(struct ua_connection *connection) {
+    return ua_held(&connection->handle);
+}
+
+static inline size_t ua_connection_bound(struct ua_connection *connection) {
+    return ua_bound(&connection->handle);
+}
+
+/* ---- a server of one connection at a time. These three calls go with the next version: ua_nodes_new and
+ * ua_connection_new replace ua_server_new; ua_connection_step replaces ua_server_step; a ua_connection_new for
+ * each connection, over the nodes that stay, replaces ua_server_next_connection */
 
 /* Makes a server over the nodes of a node file (a text, as `ua serve` reads it), found at this URL,
  * whose channel has this id, and puts it into `out`, in the place of what that held.
@@ -180,7 +335,7 @@ uint32_t ua_client_hello(struct ua_handle *handle);
 /* Takes octets of the server up to the end of the first frame at which there is something to be sent
  * or to be told, else the whole piece. `taken` says how many, `event` what came of them, `id` and
  * `code` of what it speaks.
- * UA_OK. UA_REFUSED: the connection failed for `code`, with the event UA_FAILED or UA_FAILED_BY_PEER.
+ * UA_OK. UA_REFUSED: the connection failed for `code`, with the event UA_EVENT_FAILED or UA_EVENT_FAILED_BY_PEER.
  * UA_CLOSED: it failed or was closed before. UA_FETCH_FIRST: octets wait.
  * Also UA_NO_MEMORY, UA_NO_HANDLE, UA_OTHER_HANDLE. */
 uint32_t ua_client_take(struct ua_handle *handle, const uint8_t *piece, size_t piece_len,
@@ -306,6 +461,7 @@ uint32_t ua_status_text(uint32_t status, uint8_t *buffer, size_t buffer_len, siz
 uint32_t ua_code_name(uint32_t code, uint8_t *buffer, size_t buffer_len, size_t *needed);
 
 #include "ua_null.h"
+#include "ua_values.h"
 
 #ifdef __cplusplus
 }

@@ -22,6 +22,41 @@ static inline uint32_t ua_fetch_some(struct ua_handle *handle, uint8_t *buffer, 
 }
 #define ua_fetch ua_fetch_some
 
+static inline uint32_t ua_nodes_new_some(const uint8_t *file, size_t file_len, const uint8_t *url,
+    size_t url_len, const uint8_t *application_uri, size_t application_uri_len, const uint8_t *name,
+    size_t name_len, uint32_t max_message_size, struct ua_nodes *out, size_t *line,
+    uint32_t *reason) {
+    return ua_nodes_new(ua_some(file), file_len, ua_some(url), url_len, ua_some(application_uri),
+        application_uri_len, ua_some(name), name_len, max_message_size, out, line, reason);
+}
+#define ua_nodes_new ua_nodes_new_some
+
+static inline uint32_t ua_node_find_some(struct ua_nodes *nodes, const uint8_t *node,
+    size_t node_len, size_t *index) {
+    return ua_node_find(nodes, ua_some(node), node_len, index);
+}
+#define ua_node_find ua_node_find_some
+
+static inline uint32_t ua_node_set_some(struct ua_nodes *nodes, size_t index, const uint8_t *octets,
+    size_t octets_len, const struct ua_reading *reading) {
+    return ua_node_set(nodes, index, ua_some(octets), octets_len, reading);
+}
+#define ua_node_set ua_node_set_some
+
+static inline uint32_t ua_node_get_some(struct ua_nodes *nodes, size_t index, uint8_t *buffer,
+    size_t buffer_len, size_t *needed, struct ua_reading *reading) {
+    return ua_node_get(nodes, index, ua_room(buffer), buffer_len, needed, reading);
+}
+#define ua_node_get ua_node_get_some
+
+static inline uint32_t ua_connection_step_some(struct ua_connection *connection,
+    struct ua_nodes *nodes, const uint8_t *piece, size_t piece_len, int64_t moment, size_t *taken,
+    size_t *waiting, uint32_t *code) {
+    return ua_connection_step(connection, nodes, ua_some(piece), piece_len, moment, taken, waiting,
+        code);
+}
+#define ua_connection_step ua_connection_step_some
+
 static inline uint32_t ua_server_new_some(const uint8_t *nodes, size_t nodes_len,
     const struct ua_limits *limits, const uint8_t *url, size_t url_len, uint32_t channel,
     struct ua_handle *out, size_t *line) {

@@ -1,5 +1,8 @@
 mod Asked
+mod Connected
+mod Gotten
 pub mod Handles
+mod Indexed
 mod Made
 mod Named
 mod Parts

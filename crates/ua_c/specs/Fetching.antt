@@ -5,14 +5,14 @@ use Rattle.ua_channel.specs.Client.{ClientStands, IsClientDone, client_bound, cl
 use Rattle.ua_channel.specs.Received.{received}
 use Rattle.ua_channel.specs.ServerStands.{Stands, IsDone, bound_of, bound_after, held_after, limits_of}
 use Rattle.ua_frame.specs.declared.frame.Frame.{Frame}
-use Rattle.ua_server.specs.Served.{channel_in}
+use Rattle.ua_server.specs.Served.{channel_at, channel_in}
 use Rattle.ua_c.specs.Status.{ok, no_memory, no_handle}
 use Rattle.ua_c.specs.Waiting.{Moves}
 use Rattle.ua_c.specs.declared.holding.Holding.{Holding}
 use Rattle.ua_c.specs.declared.holding.Machine.{Machine}
 use Rattle.ua_c.specs.declared.holding.Machine.TheVariants as machine
 
--- what `Server::held` and `ClientChannel::held` say of this count
+-- what `Server::held`, `ClientChannel::held` and `Connection::held` say of this count; nodes hold no octets
 abbrev pub Holds : Machine → ℕ → Type 0
 Holds (machine.Server station) count =
     ((octets : List ℕ) (frames : List Frame) (rest : List ℕ) → Stands (channel_in station.server) octets frames rest → count ≡ held_after (received frames) rest)
@@ -22,8 +22,13 @@ Holds (machine.Client client) count =
     ((asks : List Placed) (octets : List ℕ) (frames : List Frame) (rest : List ℕ) → ClientStands client asks octets frames rest → count ≡ held_octets frames rest)
     × ((asks : List Placed) (octets : List ℕ) (frames : List Frame) (rest : List ℕ) → ClientStands client asks octets frames rest → count ≤ client_bound client)
     × (IsClientDone client → count ≡ 0)
+Holds (machine.Nodes shared) count = count ≡ 0
+Holds (machine.Connection connection) count =
+    ((octets : List ℕ) (frames : List Frame) (rest : List ℕ) → Stands (channel_at connection) octets frames rest → count ≡ held_after (received frames) rest)
+    × ((octets : List ℕ) (frames : List Frame) (rest : List ℕ) → Stands (channel_at connection) octets frames rest → count ≤ bound_after (limits_of (channel_at connection)) (received frames))
+    × (IsDone (channel_at connection) → count ≡ 0)
 
--- what `Server::bound` and `ClientChannel::bound` say of this count
+-- what `Server::bound`, `ClientChannel::bound` and `Connection::bound` say of this count
 abbrev pub Bounds : Machine → ℕ → Type 0
 Bounds (machine.Server station) count =
     ((octets : List ℕ) (frames : List Frame) (rest : List ℕ) → Stands (channel_in station.server) octets frames rest → count ≡ bound_after (limits_of (channel_in station.server)) (received frames))
@@ -31,6 +36,10 @@ Bounds (machine.Server station) count =
 Bounds (machine.Client client) count =
     ((asks : List Placed) (octets : List ℕ) (frames : List Frame) (rest : List ℕ) → ClientStands client asks octets frames rest → count ≡ client_bound_behind (client_limits client) (received frames).ack)
     × (count ≡ client_bound client)
+Bounds (machine.Nodes shared) count = count ≡ 0
+Bounds (machine.Connection connection) count =
+    ((octets : List ℕ) (frames : List Frame) (rest : List ℕ) → Stands (channel_at connection) octets frames rest → count ≡ bound_after (limits_of (channel_at connection)) (received frames))
+    × (count ≡ bound_of (channel_at connection))
 
 -- a count of what is held, which is 0 where nothing is
 abbrev pub Counts : (Holding → Type 0) → ℕ → Option Holding → Type 0

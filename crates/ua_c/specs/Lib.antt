@@ -1,12 +1,15 @@
 pub mod Asking
+pub mod Connecting
 pub mod Fetching
 pub mod Handled
 pub mod Held
 pub mod Limits
 pub mod Making
+pub mod Readings
 pub mod Requests
 pub mod Responses
 pub mod Serving
+pub mod Shared
 pub mod Status
 pub mod Texts
 pub mod Waiting

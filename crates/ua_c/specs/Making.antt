@@ -1,9 +1,9 @@
 -- Servers and clients as they begin.
-use Rattle.std.specs.Prelude.{◌≡◌, ◌⊎◌, ℕ, List, [], Option, Some, Result, Ok, Err, codes}
+use Rattle.std.specs.Prelude.{◌≡◌, ◌⊎◌, ◌+◌, ℕ, List, [], Option, Some, Result, Ok, Err, codes}
 use Rattle.std.specs.Str.{IsUtf8}
 use Rattle.ua_channel.specs.declared.client.channel.ClientChannel.{ClientChannel}
 use Rattle.ua_frame.specs.declared.limits.Limits.{Limits}
-use Rattle.ua_nodes.specs.NodeFile.{IsFirstBad, WriteNodes, node_lines}
+use Rattle.ua_nodes.specs.NodeFile.{IsFirstBad, WriteNodes, node_lines, place}
 use Rattle.ua_nodes.specs.Table.{Nodes}
 use Rattle.ua_nodes.specs.declared.fault.LineReason.{LineReason}
 use Rattle.ua_server.specs.State.{fresh}
@@ -11,7 +11,7 @@ use Rattle.ua_server.specs.declared.endpoint.Endpoint.{Endpoint}
 use Rattle.ua_c.specs.Asking.{IsNewClient}
 use Rattle.ua_c.specs.Limits.{AreEnough, AreThese}
 use Rattle.ua_c.specs.Serving.{IsFresh}
-use Rattle.ua_c.specs.Status.{ok, no_memory, bad_limits, bad_nodes, bad_text}
+use Rattle.ua_c.specs.Status.{ok, no_memory, bad_limits, bad_nodes, bad_text, text_nodes}
 use Rattle.ua_c.specs.Texts.{IsNoString, IsStringOf}
 use Rattle.ua_c.specs.declared.holding.Holding.{Holding}
 use Rattle.ua_c.specs.declared.holding.Machine.{Machine}
@@ -21,15 +21,22 @@ use Rattle.ua_c.specs.declared.station.Station.{Station}
 
 -- ---- texts
 
--- the line of this number is the first bad one of a node file
-pub record IsBadAt (octets : List ℕ) (line : ℕ) : Type 0 where
+-- the line of this number is the first bad one of a node file, for the reason of this number: in the order in which they are judged, from 1
+pub record IsBadAt (octets : List ℕ) (line number : ℕ) : Type 0 where
   pub utf8 : IsUtf8 octets
   pub reason : LineReason
   pub is : IsFirstBad (node_lines octets) line reason
+  pub number_is : number ≡ place reason + 1
 
 -- memory was refused, or octets are no text, or the node file has a first bad line
+abbrev pub RefusesFile : List ℕ → ℕ → ℕ → ℕ → Type 0
+RefusesFile octets line reason status = ((status ≡ no_memory) × (line ≡ 0) × (reason ≡ 0))
+    ⊎ ((status ≡ bad_text) × (line ≡ 0) × (reason ≡ text_nodes) × ¬ (IsUtf8 octets))
+    ⊎ ((status ≡ bad_nodes) × IsBadAt octets line reason)
+
+-- the same, where the reason is not told
 abbrev pub RefusesNodes : List ℕ → ℕ → ℕ → Type 0
-RefusesNodes octets line status = ((status ≡ no_memory) × (line ≡ 0)) ⊎ ((status ≡ bad_text) × (line ≡ 0) × ¬ (IsUtf8 octets)) ⊎ ((status ≡ bad_nodes) × IsBadAt octets line)
+RefusesNodes octets line status = (reason : ℕ) × RefusesFile octets line reason status
 
 -- what a server says of itself: the application `ua`, at its URL
 abbrev pub endpoint_of : Option (List ℕ) → ℕ → Endpoint

@@ -92,3 +92,29 @@ service = 21
 -- the response is that of another request
 abbrev pub unknown : ℕ
 unknown = 22
+
+-- the node takes no value of this type
+abbrev pub mismatch : ℕ
+mismatch = 23
+
+-- a reading has no value within the octets, or no source time
+abbrev pub bad_reading : ℕ
+bad_reading = 24
+
+-- ---- which of several texts is none
+
+-- the node file
+abbrev pub text_nodes : ℕ
+text_nodes = 1
+
+-- the URL
+abbrev pub text_url : ℕ
+text_url = 2
+
+-- the ApplicationUri
+abbrev pub text_application_uri : ℕ
+text_application_uri = 3
+
+-- the application's name
+abbrev pub text_name : ℕ
+text_name = 4

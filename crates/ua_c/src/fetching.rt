@@ -15,6 +15,8 @@ impl Holding {
         match &self.machine {
             Machine::Server(station) => station.server.held(),
             Machine::Client(client) => client.held(),
+            Machine::Nodes(_) => 0,
+            Machine::Connection(connection) => connection.held(),
         }
     }
 
@@ -24,6 +26,8 @@ impl Holding {
         match &self.machine {
             Machine::Server(station) => station.server.bound(),
             Machine::Client(client) => client.bound(),
+            Machine::Nodes(_) => 0,
+            Machine::Connection(connection) => connection.bound(),
         }
     }
 }

@@ -28,6 +28,12 @@ impl Model for UaHandle {
     ghost also_owns = { λ h. held (heap.dealloc_token h.alloc) holding_row h.at h.value };
 }
 
+/// The handle of nodes, which to C is a type of its own.
+pub type UaNodes = UaHandle;
+
+/// The handle of a connection, which to C is a type of its own.
+pub type UaConnection = UaHandle;
+
 impl UaHandle {
     fn empty(alloc: Global) -> UaHandle
         ensures { result.value ≡ None }

@@ -3,12 +3,14 @@
 ghost use Rattle.ua_c.specs.Serving.{NextMachine, StepsMachine};
 
 use crate::report::Report;
+use crate::shared::SharedNodes;
 use crate::station::Station;
 use crate::status::{FETCH_FIRST, OK, OTHER_HANDLE};
 use crate::waiting::Waiting;
 use std::alloc::Global;
 use ua_builtin::DateTime;
 use ua_channel::ClientChannel;
+use ua_server::Connection;
 
 /// A machine over octets.
 #[derive(Drop)]
@@ -17,6 +19,10 @@ pub enum Machine {
     Server(Station),
     /// A client.
     Client(ClientChannel),
+    /// Nodes that connections share.
+    Nodes(SharedNodes),
+    /// A connection over shared nodes.
+    Connection(Connection),
 }
 
 /// What a handle holds: a machine, and the octets of what it answered that were not fetched yet.

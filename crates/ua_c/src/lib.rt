@@ -6,16 +6,19 @@
 #![tactic(auto)]
 
 mod asking;
+mod connecting;
 mod fetching;
 mod handle;
 mod holding;
 mod limits;
 mod loose;
 mod making;
+mod readings;
 mod report;
 mod requests;
 mod responses;
 mod serving;
+mod shared;
 mod station;
 mod status;
 mod texts;
@@ -23,5 +26,6 @@ mod told;
 mod waiting;
 mod words;
 
-pub use handle::UaHandle;
+pub use handle::{UaConnection, UaHandle, UaNodes};
 pub use limits::UaLimits;
+pub use readings::UaReading;

@@ -7,12 +7,13 @@ ghost use Rattle.ua_nodes.specs.NodeFile.{WriteNodes, node_lines};
 ghost use Rattle.ua_nodes.specs.Sound.{IsSound};
 ghost use Rattle.ua_wire.specs.Counted.{text};
 ghost use Rattle.ua_server.specs.State.{fresh};
-ghost use Rattle.ua_c.specs.Making.{MakesClient, MakesServer, MakesStation, RefusesNodes, Seats, endpoint_of};
+ghost use Rattle.ua_c.specs.Making.{MakesClient, MakesServer, MakesStation, RefusesFile, Seats, endpoint_of};
 ghost use Rattle.ua_c.specs.Status.{no_memory};
 
 use crate::handle::UaHandle;
 use crate::holding::{Holding, Machine};
 use crate::limits::{UaLimits, allowed};
+use crate::shared::{TEXT_NODES, reason_number};
 use crate::station::Station;
 use crate::status::{BAD_LIMITS, BAD_NODES, BAD_TEXT, NO_MEMORY, OK};
 use crate::texts::string_of;
@@ -26,7 +27,7 @@ use ua_nodes::{LoadFault, NodeTable};
 use ua_server::{Endpoint, Services};
 
 /// Puts a machine into a handle, in the place of what it held.
-fn seat(alloc: Global, machine: Machine, out: &mut UaHandle) -> u32
+pub(crate) fn seat(alloc: Global, machine: Machine, out: &mut UaHandle) -> u32
     ensures { Seats machine out.old.value out.new.value result }
 {
     let holding = Holding {
@@ -64,22 +65,36 @@ pub extern "C" fn ua_client_new(
     }
 }
 
-/// The nodes that the lines of a text write, or a status and the number of the first bad line.
-fn nodes_of(alloc: Global, octets: &[u8], line: &mut usize) -> Result<NodeTable, u32>
+/// The nodes that the lines of a text write, or a status, the number of the first bad line and that of the
+/// reason.
+pub(crate) fn nodes_of(
+    alloc: Global,
+    octets: &[u8],
+    line: &mut usize,
+    reason: &mut u32,
+) -> Result<NodeTable, u32>
     ensures nodes { IfOk result (λ nodes. WriteNodes (node_lines octets.now) nodes) }
     ensures utf8 { OnOk result (IsUtf8 octets.now) }
     ensures sound { IfOk result (λ nodes. IsSound nodes) }
-    ensures fault { IfErr result (λ status. RefusesNodes octets.now line.new status) }
-    ensures none { OnOk result (line.new ≡ 0) }
+    ensures fault { IfErr result (λ status. RefusesFile octets.now line.new reason.new status) }
+    ensures none { OnOk result ((line.new ≡ 0) × (reason.new ≡ 0)) }
 {
     *line = 0;
+    *reason = 0;
     let Ok(text) = str::from_utf8(octets) else {
+        *reason = TEXT_NODES;
         return Err(BAD_TEXT);
     };
     match NodeTable::load(alloc, text) {
         Ok(nodes) => Ok(nodes),
-        Err(LoadFault::Line { line: number, .. }) => {
+        Err(
+            LoadFault::Line {
+                line: number,
+                reason: why,
+            },
+        ) => {
             *line = number;
+            *reason = reason_number(why);
             Err(BAD_NODES)
         }
         Err(LoadFault::OutOfMemory) => Err(NO_MEMORY),
@@ -126,7 +141,8 @@ fn station(
 {
     *line = 0;
     let url = string_of(alloc, url)?;
-    let nodes = nodes_of(alloc, nodes, line)?;
+    let mut reason = 0;
+    let nodes = nodes_of(alloc, nodes, line, &mut reason)?;
     match services(alloc, nodes, url, limits.max_message_size) {
         Ok(services) => Ok(Station::new(alloc, services, limits, channel)),
         Err(_) => Err(NO_MEMORY),

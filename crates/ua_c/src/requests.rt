@@ -29,7 +29,7 @@ fn node_named(alloc: Global, text: &str) -> Result<NodeId, u32>
 }
 
 /// The NodeId that octets name, or a status.
-fn node_of(alloc: Global, octets: &[u8]) -> Result<NodeId, u32>
+pub(crate) fn node_of(alloc: Global, octets: &[u8]) -> Result<NodeId, u32>
     ensures node { IfOk result (λ node. IsNodeText octets.now node) }
     ensures fault { IfErr result (λ status. IsNoNode octets.now status) }
 {

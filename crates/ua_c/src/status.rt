@@ -46,3 +46,7 @@ pub const BAD_OCTETS: u32 = 20;
 pub const SERVICE: u32 = 21;
 /// The response is that of another request.
 pub const UNKNOWN: u32 = 22;
+/// The node takes no value of this type.
+pub const MISMATCH: u32 = 23;
+/// A reading has no value within the octets, or no source time.
+pub const BAD_READING: u32 = 24;

@@ -108,14 +108,12 @@ pub(crate) fn value_of(alloc: Global, kind: &[u8], text: &[u8]) -> Result<Varian
 }
 
 /// The canonical encoding of a value, or a status.
-fn encoding_of(alloc: Global, value: Variant) -> Result<Vec<u8>, u32>
-    ensures octets { IfOk result (λ octets. IsEncodingOf value octets.items) }
-    ensures fault { IfErr result (λ status. IsNoEncoding value status) }
+pub(crate) fn encoding_of(alloc: Global, value: &Variant) -> Result<Vec<u8>, u32>
+    ensures octets { IfOk result (λ octets. IsEncodingOf value.now octets.items) }
+    ensures fault { IfErr result (λ status. IsNoEncoding value.now status) }
 {
     let mut octets = Vec::new(alloc);
-    let written = value.write(&mut octets);
-    drop(value);
-    match written {
+    match value.write(&mut octets) {
         Ok(()) => Ok(octets),
         Err(WriteFault::NotWritable) => Err(BAD_TEXT),
         Err(WriteFault::OutOfMemory) => Err(NO_MEMORY),
@@ -138,7 +136,9 @@ pub extern "C" fn ua_encode_value(
         Ok(value) => value,
         Err(status) => return status,
     };
-    match encoding_of(alloc, value) {
+    let encoding = encoding_of(alloc, &value);
+    drop(value);
+    match encoding {
         Ok(octets) => put(octets.as_slice(), buffer, needed),
         Err(status) => status,
     }

@@ -12,21 +12,21 @@ use std::alloc::Global;
 use ua_channel::{AskFault, ClientEvent, ClientTakeFault};
 
 /// More octets are to come.
-const NEED_MORE: u32 = 0;
+const EVENT_NEED_MORE: u32 = 0;
 /// What waits is to be sent.
-const SEND: u32 = 1;
+const EVENT_SEND: u32 = 1;
 /// The channel is open.
-const OPEN: u32 = 2;
+const EVENT_OPEN: u32 = 2;
 /// What waits is the body of the reply to a call.
-const ANSWERED: u32 = 3;
+const EVENT_ANSWERED: u32 = 3;
 /// The server gave up its reply to a call.
-const ABORTED: u32 = 4;
+const EVENT_ABORTED: u32 = 4;
 /// A renewal was answered.
-const RENEWED: u32 = 5;
+const EVENT_RENEWED: u32 = 5;
 /// This end refused what came.
-const FAILED: u32 = 6;
+const EVENT_FAILED: u32 = 6;
 /// The server refused, by an ERR frame.
-const FAILED_BY_PEER: u32 = 7;
+const EVENT_FAILED_BY_PEER: u32 = 7;
 
 /// A status, how many octets were taken, and what they told: an event, the request id or the token
 /// that it speaks of, and a code.
@@ -44,7 +44,7 @@ impl Told {
     pub(crate) fn only(status: u32) -> Told
         ensures { result ≡ only status }
     {
-        Told::event(status, 0, NEED_MORE, 0, 0)
+        Told::event(status, 0, EVENT_NEED_MORE, 0, 0)
     }
 
     fn event(status: u32, taken: usize, event: u32, id: u32, code: u32) -> Told
@@ -64,20 +64,24 @@ impl Told {
         ensures { ShowsEvent taken event result waiting.old waiting.new }
     {
         match event {
-            ClientEvent::NeedMore => Told::event(OK, taken, NEED_MORE, 0, 0),
+            ClientEvent::NeedMore => Told::event(OK, taken, EVENT_NEED_MORE, 0, 0),
             ClientEvent::Send(octets) => {
                 *waiting = Waiting::of(octets);
-                Told::event(OK, taken, SEND, 0, 0)
+                Told::event(OK, taken, EVENT_SEND, 0, 0)
             }
-            ClientEvent::Open => Told::event(OK, taken, OPEN, 0, 0),
+            ClientEvent::Open => Told::event(OK, taken, EVENT_OPEN, 0, 0),
             ClientEvent::Answered(id, message) => {
                 *waiting = Waiting::message(alloc, message);
-                Told::event(OK, taken, ANSWERED, id, 0)
+                Told::event(OK, taken, EVENT_ANSWERED, id, 0)
             }
-            ClientEvent::Aborted(id, code) => Told::event(OK, taken, ABORTED, id, code.code),
-            ClientEvent::Renewed(token) => Told::event(OK, taken, RENEWED, token, 0),
+            ClientEvent::Aborted(id, code) => Told::event(OK, taken, EVENT_ABORTED, id, code.code),
+            ClientEvent::Renewed(token) => Told::event(OK, taken, EVENT_RENEWED, token, 0),
             ClientEvent::Failed { code, peer } => {
-                let event = if peer { FAILED_BY_PEER } else { FAILED };
+                let event = if peer {
+                    EVENT_FAILED_BY_PEER
+                } else {
+                    EVENT_FAILED
+                };
                 Told::event(REFUSED, taken, event, 0, code.code)
             }
         }

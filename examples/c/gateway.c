@@ -1,12 +1,16 @@
-/* Serves the nodes of a file on a port of this machine, to several connections at once: a handle each.
+/* A gateway: serves the nodes of a file on a port of this machine, to several connections at once, while a sensor
+ * moves one node and clients write another.
  *
- *     serve NODES PORT CONNECTIONS [SECONDS]
+ *     gateway NODES PORT CONNECTIONS [SECONDS]
  *
  * It prints `listening PORT`, and one line for each connection as it ends, and ends behind the last of
  * CONNECTIONS. A connection on which nothing moved for SECONDS (60) is ended as `Idle`. No connection waits for
- * another: where a client does not read, its octets wait, and no more of it is read, until it does. Each connection
- * has the nodes of the file as they are there: what is written by one is not seen by another. docs/C.md says how it
- * is built. */
+ * another: where a client does not read, its octets wait, and no more of it is read, until it does. All connections
+ * share the nodes: what one client writes the others read.
+ *
+ * Where there is a node `ns=1;s=Sensor` of the type Double, it is set every 100 milliseconds, to the seconds since
+ * the start. Where there is a node `ns=1;s=Setpoint` of that type, `setpoint VALUE` is printed for each value that
+ * it has come to hold. docs/C.md says how it is built. */
 #include <arpa/inet.h>
 #include <errno.h>
 #include <fcntl.h>
@@ -24,10 +28,12 @@
 
 #define MOST 16
 #define PIECE 4096
+#define TEXT(t) (const uint8_t *)(t), strlen(t)
+#define NO_INDEX ((size_t)-1)
 
 /* A connection: what came and was not taken yet, and what was fetched and not sent yet. */
 struct connection {
-    struct ua_handle handle;
+    struct ua_connection connection;
     unsigned number;
     time_t moved; /* when octets last went either way */
     uint8_t in[PIECE], out[PIECE];
@@ -36,8 +42,9 @@ struct connection {
 };
 
 static const struct ua_limits limits = {65535, 65535, 1048576, 256};
-static uint8_t *nodes;
-static size_t nodes_len;
+static struct ua_nodes nodes; /* one table for all connections, the sensor and the setpoint */
+static size_t sensor = NO_INDEX, setpoint = NO_INDEX;
+static int64_t setpoint_time;
 static struct connection connections[MOST];
 static struct pollfd polled[MOST + 1];
 
@@ -53,15 +60,57 @@ static time_t seconds(void) {
     return now.tv_sec;
 }
 
-static void read_nodes(const char *name) {
+/* The index of a node, if there is one. */
+static size_t find(const char *node) {
+    size_t index;
+    return ua_node_find(&nodes, TEXT(node), &index) == UA_OK ? index : NO_INDEX;
+}
+
+static void read_nodes(const char *name, const char *url) {
     FILE *file = fopen(name, "rb");
-    size_t room = 1 << 20;
-    nodes = malloc(room);
-    if (!file || !nodes || (nodes_len = fread(nodes, 1, room, file)) == room || ferror(file)) {
-        fprintf(stderr, "serve: cannot read %s\n", name);
+    size_t room = 1 << 20, count, line;
+    uint8_t *octets = malloc(room);
+    uint32_t status, reason;
+    if (!file || !octets || (count = fread(octets, 1, room, file)) == room || ferror(file)) {
+        fprintf(stderr, "gateway: cannot read %s\n", name);
         exit(1);
     }
     fclose(file);
+    status = ua_nodes_new(octets, count, TEXT(url), TEXT("urn:example:gateway"), TEXT("gateway"), limits.max_message_size,
+                          &nodes, &line, &reason);
+    free(octets);
+    if (status != UA_OK) {
+        fprintf(stderr, "gateway: status %u, line %zu, reason %u\n", (unsigned)status, line, (unsigned)reason);
+        exit(1);
+    }
+    sensor = find("ns=1;s=Sensor");
+    setpoint = find("ns=1;s=Setpoint");
+}
+
+/* What the sensor measures now goes into its node. */
+static void measure(int64_t start) {
+    uint8_t value[UA_NUMBER_ROOM];
+    int64_t now = moment();
+    struct ua_reading reading = ua_reading_of(ua_put_double(value, (double)(now - start) / 1e7), 0, now);
+    if (sensor != NO_INDEX && ua_node_set(&nodes, sensor, value, sizeof value, &reading) != UA_OK)
+        sensor = NO_INDEX;
+}
+
+/* Prints the value that clients wrote to the setpoint, where it is another one than before. */
+static void follow(void) {
+    static double last;
+    uint8_t octets[UA_NUMBER_ROOM];
+    struct ua_reading reading;
+    size_t size;
+    double value;
+    if (setpoint == NO_INDEX || ua_node_get(&nodes, setpoint, octets, sizeof octets, &size, &reading) != UA_OK)
+        return;
+    if (ua_get_double(octets, size, &value) && (value != last || reading.source_time != setpoint_time)) {
+        printf("setpoint %g\n", value);
+        fflush(stdout);
+        last = value;
+        setpoint_time = reading.source_time;
+    }
 }
 
 static int is_later(ssize_t count) {
@@ -70,10 +119,10 @@ static int is_later(ssize_t count) {
 
 /* Sends what waits, as far as the line takes it: 1 where all was sent, 0 where some is left for later, -1 where it failed. */
 static int send_waiting(int line, struct connection *of) {
-    while (of->out_at < of->out_count || ua_waiting(&of->handle) > 0) {
+    while (of->out_at < of->out_count || ua_connection_waiting(&of->connection) > 0) {
         if (of->out_at == of->out_count) {
             of->out_at = of->out_count = 0;
-            if (ua_fetch(&of->handle, of->out, sizeof of->out, &of->out_count) != UA_OK)
+            if (ua_connection_fetch(&of->connection, of->out, sizeof of->out, &of->out_count) != UA_OK)
                 return -1;
         }
         ssize_t count = write(line, of->out + of->out_at, of->out_count - of->out_at);
@@ -90,7 +139,8 @@ static void take(struct connection *of) {
     static char refused[MOST][32];
     size_t taken, waiting;
     uint32_t code;
-    switch (ua_server_step(&of->handle, of->in + of->in_at, of->in_count - of->in_at, moment(), &taken, &waiting, &code)) {
+    switch (ua_connection_step(&of->connection, &nodes, of->in + of->in_at, of->in_count - of->in_at, moment(), &taken,
+                               &waiting, &code)) {
     case UA_OK: break;
     case UA_ENDED: of->end = "Closed"; break;
     case UA_REFUSED:
@@ -126,24 +176,20 @@ static const char *serve(int line, struct connection *of) {
 }
 
 /* Takes a connection, if there is one, into a free place: 1 where there is one. */
-static int accept_line(int listener, unsigned number, const char *url) {
+static int accept_line(int listener, unsigned number) {
     int place = 0;
-    size_t bad;
     while (polled[place].fd >= 0)
         place++;
     int line = accept(listener, NULL, NULL);
     if (line < 0 && (is_later(line) || errno == ECONNABORTED))
         return 0;
     if (line < 0 || fcntl(line, F_SETFL, O_NONBLOCK) < 0) {
-        perror("serve: accept");
+        perror("gateway: accept");
         exit(1);
     }
     connections[place] = (struct connection){.number = number, .moved = seconds()};
-    uint32_t status = ua_server_new(nodes, nodes_len, &limits, (const uint8_t *)url, strlen(url), number,
-                                    &connections[place].handle, &bad);
-    if (status != UA_OK) {
-        fprintf(stderr, status == UA_BAD_NODES ? "serve: line %zu\n" : "serve: status %zu\n",
-                status == UA_BAD_NODES ? bad : (size_t)status);
+    if (ua_connection_new(&limits, number, &connections[place].connection) != UA_OK) {
+        fprintf(stderr, "gateway: no memory\n");
         exit(1);
     }
     polled[place] = (struct pollfd){.fd = line};
@@ -155,7 +201,7 @@ static void end_line(int place, const char *end) {
     printf("connection %u %s\n", connections[place].number, end);
     fflush(stdout);
     close(polled[place].fd);
-    ua_free(&connections[place].handle);
+    ua_connection_free(&connections[place].connection);
     polled[place] = (struct pollfd){.fd = -1};
 }
 
@@ -175,9 +221,10 @@ int main(int count, char **words) {
     int port = atoi(words[2]), idle = count == 5 ? atoi(words[4]) : 60;
     unsigned most = (unsigned)atoi(words[3]), taken = 0, ended = 0;
     char url[64];
+    int64_t start = moment();
     signal(SIGPIPE, SIG_IGN);
-    read_nodes(words[1]);
     snprintf(url, sizeof url, "opc.tcp://localhost:%d", port);
+    read_nodes(words[1], url);
     int listener = listen_at(port);
     for (int place = 0; place <= MOST; place++)
         polled[place] = (struct pollfd){.fd = -1};
@@ -189,13 +236,14 @@ int main(int count, char **words) {
             struct connection *of = &connections[place];
             polled[place].events = of->out_at < of->out_count ? POLLOUT : POLLIN;
         }
-        if (poll(polled, MOST + 1, 1000) < 0) {
+        if (poll(polled, MOST + 1, sensor == NO_INDEX ? 1000 : 100) < 0) {
             if (errno == EINTR)
                 continue;
             return 1;
         }
+        measure(start);
         if (polled[MOST].revents)
-            taken += (unsigned)accept_line(listener, taken + 1, url);
+            taken += (unsigned)accept_line(listener, taken + 1);
         for (int place = 0; place < MOST; place++) {
             const char *end = NULL;
             if (polled[place].fd < 0)
@@ -209,7 +257,8 @@ int main(int count, char **words) {
                 ended++;
             }
         }
+        follow();
     }
-    free(nodes);
+    ua_nodes_free(&nodes);
     return 0;
 }

@@ -1,0 +1,98 @@
+-- What a connection over shared nodes does for C: each clause of the calls of `Connection`, over what two handles hold.
+use Rattle.std.specs.Prelude.{◌≡◌, ◌⊎◌, ℕ, List, [], Option, Some, None, Result, Ok, Err, IfOk, IsErrOf}
+use Rattle.ua_builtin.specs.declared.date_time.DateTime.{DateTime}
+use Rattle.ua_channel.specs.ServerStands.{limits_of, channel_of, next_of, bound_of, IsDone, Goes, Stands as Holds}
+use Rattle.ua_channel.specs.ServerTold.{Told}
+use Rattle.ua_frame.specs.declared.limits.Limits.{Limits}
+use Rattle.ua_server.specs.History.{ConnectionEvent, StandsOver, StepOver}
+use Rattle.ua_server.specs.Now.{StepNow}
+use Rattle.ua_server.specs.Served.{channel_at, session_at, with_own_session}
+use Rattle.ua_server.specs.Sharing.{SharedEvent, StandsAmong, StepAmong, opened, shared_over, told_by}
+use Rattle.ua_server.specs.State.{State}
+use Rattle.ua_server.specs.Stepping.{StepStands, Takes}
+use Rattle.ua_server.specs.Storing.{StepStores}
+use Rattle.ua_server.specs.declared.connection.Connection.{Connection}
+use Rattle.ua_server.specs.declared.step.Step.{Step}
+use Rattle.ua_server.specs.declared.step.StepFault.{StepFault}
+use Rattle.ua_server.specs.declared.step.StepFault.TheVariants as step_fault
+use Rattle.ua_c.specs.Handled.{OfShared, WhereNone}
+use Rattle.ua_c.specs.Limits.{AreEnough, AreThese}
+use Rattle.ua_c.specs.Making.{Seats}
+use Rattle.ua_c.specs.Serving.{Shows, nothing}
+use Rattle.ua_c.specs.Status.{bad_limits, other_handle}
+use Rattle.ua_c.specs.declared.holding.Holding.{Holding}
+use Rattle.ua_c.specs.declared.holding.Machine.TheVariants as machine
+use Rattle.ua_c.specs.declared.limits.UaLimits.{UaLimits}
+use Rattle.ua_c.specs.declared.report.Report.{Report}
+use Rattle.ua_c.specs.declared.shared.SharedNodes.{SharedNodes}
+
+-- ---- a connection
+
+-- what `Connection::new` says of the connection that it makes
+pub record IsNewConnection (limits : Limits) (channel : ℕ) (connection : Connection) : Type 0 where
+  pub among : (channels : ℕ → ℕ) (k : ℕ) (es : List SharedEvent) (first now : State) → channels k ≡ channel → told_by k es ≡ [] → (shared_over channels (opened first) es).state ≡ now
+      → StandsAmong channels k (channel_at connection) (session_at connection) [] es first now
+  pub history : (first : State) → StandsOver (channel_at connection) [] [] first first
+  pub holds : Holds (channel_at connection) [] [] []
+  pub session_is : session_at connection ≡ None
+  pub limits_is : limits_of (channel_at connection) ≡ limits
+  pub channel_is : channel_of (channel_at connection) ≡ channel
+
+-- what `Connection::step` says of what it answers to a piece at a moment, and of the connection and the services that it leaves
+pub record StepsConnectionAs (connection : Connection) (services : State) (piece : List ℕ) (moment : DateTime) (answer : Result Step StepFault) (new : Connection) (left : State) : Type 0 where
+  pub among : (channels : ℕ → ℕ) (k : ℕ) (octets : List ℕ) (es : List SharedEvent) (first : State) → StandsAmong channels k (channel_at connection) (session_at connection) octets es first services
+      → StepAmong (limits_of (channel_at connection)) channels k moment piece answer (channel_at new) (session_at new) octets es first services left
+  pub now : (octets : List ℕ) (told : List Told) → Goes (channel_at connection) octets told
+      → StepNow (limits_of (channel_at connection)) (channel_of (channel_at connection)) (next_of (channel_at connection)) moment piece answer (channel_at new) octets told (with_own_session connection services) (with_own_session new left)
+  pub history : (octets : List ℕ) (hs : List ConnectionEvent) (first : State) → StandsOver (channel_at connection) octets hs first (with_own_session connection services)
+      → StepOver (limits_of (channel_at connection)) (channel_of (channel_at connection)) moment piece answer (channel_at new) octets hs first (with_own_session connection services) (with_own_session new left)
+  pub stands : (octets : List ℕ) (told : List Told) → Goes (channel_at connection) octets told → StepStands piece answer (channel_at new) octets told
+  pub stores : (octets : List ℕ) (told : List Told) → Goes (channel_at connection) octets told → StepStores piece answer (channel_at new) octets told (with_own_session connection services)
+  pub apart : left.session ≡ services.session
+  pub endpoint : left.endpoint ≡ services.endpoint
+  pub progress : IfOk answer (λ step. Takes piece step)
+  pub starved : (octets : List ℕ) (told : List Told) → Goes (channel_at connection) octets told
+      → IsErrOf answer step_fault.OutOfMemory → bound_of (channel_at new) ≡ bound_of (channel_at connection)
+  pub closed : IsDone (channel_at connection) → (answer ≡ Err step_fault.Closed) × (new ≡ connection) × (left ≡ services)
+  pub limits : limits_of (channel_at new) ≡ limits_of (channel_at connection)
+  pub channel : channel_of (channel_at new) ≡ channel_of (channel_at connection)
+
+-- ---- what handles hold
+
+-- a connection was made
+pub record IsMadeConnection (limits : UaLimits) (channel : ℕ) (old new : Option Holding) (status : ℕ) : Type 0 where
+  pub these : Limits
+  pub connection : Connection
+  pub enough : AreEnough limits
+  pub are_these : AreThese limits these
+  pub made : IsNewConnection these channel connection
+  pub seated : Seats (machine.Connection connection) old new status
+
+-- a connection was made, or the handle is as it was
+abbrev pub MakesConnection : UaLimits → ℕ → Option Holding → Option Holding → ℕ → Type 0
+MakesConnection limits channel old new status = IsMadeConnection limits channel old new status ⊎ ((new ≡ old) × (status ≡ bad_limits) × ¬ (AreEnough limits))
+
+-- only a status is told, and nothing waits
+abbrev pub TellsOnly : ℕ → Report → ℕ → Type 0
+TellsOnly why report waiting = (report ≡ nothing why) × (waiting ≡ 0)
+
+-- one step of a connection over shared nodes: the answer is one of `Connection::step`, and C is told just that
+pub record StepsConnection (old : Connection) (shared : SharedNodes) (new before after : Holding) (piece : List ℕ) (moment : DateTime) (report : Report) : Type 0 where
+  pub answer : Result Step StepFault
+  pub connection : Connection
+  pub left : SharedNodes
+  pub machine_is : new.machine ≡ machine.Connection connection
+  pub nodes_are : after ≡ record { machine = machine.Nodes left; waiting = before.waiting }
+  pub steps : StepsConnectionAs old shared.services piece moment answer connection left.services
+  pub ids_are : left.ids ≡ shared.ids
+  pub shown : Shows answer report [] new.waiting
+
+-- a step says only a status, and the nodes are as they were
+abbrev pub SaysOnly : Report → Holding → Holding → ℕ → Type 0
+SaysOnly report before after why = (report ≡ nothing why) × (after ≡ before)
+
+-- what a step does with what two handles hold
+abbrev pub StepsShared : Holding → Holding → Holding → Holding → List ℕ → DateTime → Report → Type 0
+StepsShared old new before after piece moment report =
+    OfShared old.machine before.machine (SaysOnly report before after other_handle × (new ≡ old))
+    (λ connection shared. WhereNone old new (SaysOnly report before after) (StepsConnection connection shared new before after piece moment report))

@@ -1,0 +1,167 @@
+//! Nodes apart from connections: one table, and what a server says of itself, for any number of them.
+
+ghost use Rattle.std.specs.Prelude.{◌≡◌, ◌+◌, IfOk, IfErr, OnOk};
+ghost use Rattle.std.specs.Map.{keys_of};
+ghost use Rattle.ua_nodes.specs.NodeFile.{place};
+ghost use Rattle.ua_server.specs.Endpoint.{Fits};
+ghost use Rattle.ua_c.specs.Shared.{IsAbout, IsNoAbout, MakesNodes, MakesShared};
+ghost use Rattle.ua_c.specs.Texts.{IsNoString, IsStringOf};
+
+use crate::handle::UaNodes;
+use crate::holding::Machine;
+use crate::making::{nodes_of, seat};
+use crate::status::NO_MEMORY;
+use crate::texts::string_of;
+use std::alloc::{AllocError, Global};
+use ua_builtin::{NodeId, UaString};
+use ua_nodes::{LineReason, NodeTable};
+use ua_server::{Endpoint, Services};
+
+/// The text of the node file.
+pub const TEXT_NODES: u32 = 1;
+/// The text of the URL.
+pub const TEXT_URL: u32 = 2;
+/// The text of the ApplicationUri.
+pub const TEXT_APPLICATION_URI: u32 = 3;
+/// The text of the application's name.
+pub const TEXT_NAME: u32 = 4;
+
+/// A line has not just five fields.
+const LINE_FIELDS: u32 = 1;
+/// The first field of a line names no NodeId.
+const LINE_NODE: u32 = 2;
+/// The second field is none of `r`, `w`, `rw` and `-`.
+const LINE_ACCESS: u32 = 3;
+/// The third field is empty.
+const LINE_NAME: u32 = 4;
+/// The fourth field names no type.
+const LINE_TYPE: u32 = 5;
+/// The fifth field denotes no value of the type.
+const LINE_VALUE: u32 = 6;
+/// A line before it has the same NodeId.
+const LINE_DUPLICATE: u32 = 7;
+
+/// The services over nodes, and the NodeIds of these in their order, by which C names them.
+#[derive(Drop)]
+pub struct SharedNodes {
+    pub services: Services,
+    pub ids: Vec<NodeId>,
+}
+
+/// The number of a reason against a line.
+pub(crate) fn reason_number(reason: LineReason) -> u32
+    ensures { result ≡ place reason + 1 }
+{
+    match reason {
+        LineReason::Fields => LINE_FIELDS,
+        LineReason::Node => LINE_NODE,
+        LineReason::Access => LINE_ACCESS,
+        LineReason::Name => LINE_NAME,
+        LineReason::Kind => LINE_TYPE,
+        LineReason::Value => LINE_VALUE,
+        LineReason::Duplicate => LINE_DUPLICATE,
+    }
+}
+
+/// The NodeIds of nodes, in their order.
+fn ids_of(alloc: Global, nodes: &NodeTable) -> Result<Vec<NodeId>, AllocError>
+    ensures { IfOk result (λ ids. ids.items ≡ keys_of nodes.now) }
+{
+    let mut ids = Vec::with_capacity(alloc, nodes.len())?;
+    for index in 0..nodes.len() {
+        let Some((id, _)) = nodes.get_index(index) else {
+            unreachable!();
+        };
+        ids.push(id.try_clone()?)?;
+    }
+    Ok(ids)
+}
+
+/// The String that octets are, or a status; then `reason` is the number of this text.
+fn text_of(alloc: Global, octets: &[u8], number: u32, reason: &mut u32) -> Result<UaString, u32>
+    ensures value { IfOk result (λ value. IsStringOf octets.now value) }
+    ensures fault { IfErr result (λ status. IsNoString octets.now status) }
+    ensures reason { reason.new ≡ number }
+{
+    *reason = number;
+    string_of(alloc, octets)
+}
+
+/// What a server says of itself, or a status and the number of the text that is none.
+#[tactic(auto, using(crate::proofs::Connected::about_made))]
+fn about(
+    alloc: Global,
+    url: &[u8],
+    application_uri: &[u8],
+    name: &[u8],
+    max_message_size: u32,
+    reason: &mut u32,
+) -> Result<Endpoint, u32>
+    ensures endpoint { IfOk result (λ e. IsAbout url.now application_uri.now name.now max_message_size e) }
+    ensures fits { IfOk result (λ e. Fits e) }
+    ensures fault { IfErr result (λ status. IsNoAbout url.now application_uri.now name.now reason.new status) }
+{
+    Ok(Endpoint {
+        url: text_of(alloc, url, TEXT_URL, reason)?,
+        application_uri: text_of(alloc, application_uri, TEXT_APPLICATION_URI, reason)?,
+        name: text_of(alloc, name, TEXT_NAME, reason)?,
+        message_limit: max_message_size,
+    })
+}
+
+/// The nodes of a file with what a server of them says of itself, or a status, the number of the first bad
+/// line and that of the reason.
+fn shared(
+    alloc: Global,
+    file: &[u8],
+    url: &[u8],
+    application_uri: &[u8],
+    name: &[u8],
+    max_message_size: u32,
+    line: &mut usize,
+    reason: &mut u32,
+) -> Result<SharedNodes, u32>
+    ensures { MakesShared file.now url.now application_uri.now name.now max_message_size line.new reason.new result }
+{
+    *line = 0;
+    let endpoint = about(alloc, url, application_uri, name, max_message_size, reason)?;
+    let nodes = nodes_of(alloc, file, line, reason)?;
+    match ids_of(alloc, &nodes) {
+        Ok(ids) => Ok(SharedNodes {
+            services: Services::new(nodes, endpoint),
+            ids,
+        }),
+        Err(_) => Err(NO_MEMORY),
+    }
+}
+
+/// Makes the nodes of a node file, with what a server of them says of itself, for any number of connections,
+/// and puts them into a handle. A bad node file says its first bad line and why.
+#[unsafe(no_mangle)]
+pub extern "C" fn ua_nodes_new(
+    alloc: Global,
+    file: &[u8],
+    url: &[u8],
+    application_uri: &[u8],
+    name: &[u8],
+    max_message_size: u32,
+    out: &mut UaNodes,
+    line: &mut usize,
+    reason: &mut u32,
+) -> u32
+    ensures { MakesNodes file.now url.now application_uri.now name.now max_message_size out.old.value out.new.value line.new reason.new result }
+{
+    match shared(
+        alloc,
+        file,
+        url,
+        application_uri,
+        name,
+        max_message_size,
+        line,
+        reason,
+    ) {
+        Ok(nodes) => seat(alloc, Machine::Nodes(nodes), out),
+        Err(status) => status,
+    }
+}
