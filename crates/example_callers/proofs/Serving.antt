@@ -13,10 +13,10 @@ use Rattle.ua_channel.specs.ServerStands.{IsDone, channel_of, limits_of}
 use Rattle.ua_channel.specs.ServerTold.{Told, Asked}
 use Rattle.ua_channel_laws.proofs.ReadOn.{told_behind}
 use Rattle.ua_server.specs.Reply.{answered}
-use Rattle.ua_server.specs.Said.{Course, first_of, left, left_by as course_by, with_more}
+use Rattle.ua_server.specs.Said.{Course, first_of, state_after, course_after as course_by, with_more}
 use Rattle.ua_server.specs.Served.{channel_in}
 use Rattle.ua_server.specs.State.{State}
-use Rattle.ua_server.specs.Stepping.{LeftByMessage, Stands, StepAnswers, StepBreaks, given_up}
+use Rattle.ua_server.specs.Stepping.{LeftByMessage, ServerStands, StepAnswers, StepBreaks, given_up}
 use Rattle.ua_server.specs.declared.server.Server.{Server}
 use Rattle.ua_server.specs.declared.step.End.{End as Ending}
 use Rattle.ua_server.specs.declared.step.End.TheVariants as ending
@@ -25,7 +25,7 @@ use Rattle.ua_server.specs.declared.step.StepFault.{StepFault}
 use Rattle.ua_server.specs.declared.step.StepFault.TheVariants as step_fault
 use Rattle.ua_loopback.specs.Beginning.{Beginning}
 use Rattle.ua_loopback.specs.Kept.{EndsAt, Keeps, Serves}
-use Rattle.ua_loopback.specs.Says.{end_by, left_by, read_by, said_to, spent, state_told}
+use Rattle.ua_loopback.specs.Says.{end_by, services_after, reading_at_server, server_output, times_of_answers, state_told}
 use Rattle.ua_loopback.specs.declared.stage.Stage.TheVariants as stage
 use Rattle.ua_loopback.proofs.Replying.{none_left}
 use Rattle.ua_loopback.proofs.Saying.{end_is, left_by_run, left_on, rules_by, said_by_run}
@@ -35,21 +35,21 @@ use Rattle.example_callers.specs.Serve.{Answers, BreaksOff}
 -- ---- octets behind the end of a connection
 
 module _ (b : Beginning) (octets more : List ℕ) (over : end_by b octets ≡ Going → ⊥) where
-  run_past : Run (rules_by b) (octets ++ more) (read_by b octets).frames ((read_by b octets).rest ++ more) (end_by b octets)
-  run_past = ends_stay (rules_by b) octets more (read_by b octets).frames (read_by b octets).rest (end_by b octets) over (read_by b octets).run
+  run_past : Run (rules_by b) (octets ++ more) (reading_at_server b octets).frames ((reading_at_server b octets).rest ++ more) (end_by b octets)
+  run_past = ends_stay (rules_by b) octets more (reading_at_server b octets).frames (reading_at_server b octets).rest (end_by b octets) over (reading_at_server b octets).run
 
-  said_past : said_to b (octets ++ more) ≡ said_to b octets
+  said_past : server_output b (octets ++ more) ≡ server_output b octets
   said_past =
-      said_by_run b (octets ++ more) (read_by b octets).frames ((read_by b octets).rest ++ more) (end_by b octets) run_past
-      ∙ sym (said_by_run b octets (read_by b octets).frames (read_by b octets).rest (end_by b octets) (read_by b octets).run)
+      said_by_run b (octets ++ more) (reading_at_server b octets).frames ((reading_at_server b octets).rest ++ more) (end_by b octets) run_past
+      ∙ sym (said_by_run b octets (reading_at_server b octets).frames (reading_at_server b octets).rest (end_by b octets) (reading_at_server b octets).run)
 
-  left_past : left_by b (octets ++ more) ≡ left_by b octets
+  left_past : services_after b (octets ++ more) ≡ services_after b octets
   left_past =
-      left_by_run b (octets ++ more) (read_by b octets).frames ((read_by b octets).rest ++ more) (end_by b octets) run_past
-      ∙ sym (left_by_run b octets (read_by b octets).frames (read_by b octets).rest (end_by b octets) (read_by b octets).run)
+      left_by_run b (octets ++ more) (reading_at_server b octets).frames ((reading_at_server b octets).rest ++ more) (end_by b octets) run_past
+      ∙ sym (left_by_run b octets (reading_at_server b octets).frames (reading_at_server b octets).rest (end_by b octets) (reading_at_server b octets).run)
 
   end_past : end_by b (octets ++ more) ≡ end_by b octets
-  end_past = end_is b (octets ++ more) (read_by b octets).frames ((read_by b octets).rest ++ more) (end_by b octets) run_past
+  end_past = end_is b (octets ++ more) (reading_at_server b octets).frames ((reading_at_server b octets).rest ++ more) (end_by b octets) run_past
 
 not_going : (b : Beginning) (end : Ending) (octets : List ℕ) → EndsAt (stage.Ended end) b octets → end_by b octets ≡ Going → ⊥
 not_going b ending.Closed octets e going = let no : ◌≡◌ {A = End ℕ} Over Going = sym e ∙ going in absurd cc
@@ -73,7 +73,7 @@ quiet_state channel c (id ∷ ids) = quiet_state channel c ids
 given_up_leave : (b : Beginning) (told : List Told) (ids : List ℕ) → state_told b (told ++ given_up ids) ≡ state_told b told
 given_up_leave b told ids =
     ap (λ (c : Course). c.state) (left_on b told (given_up ids))
-    ∙ quiet_state b.channel (with_more (left b.channel b.first told (spent told b.moment)) (spent (given_up ids) b.moment)) ids
+    ∙ quiet_state b.channel (with_more (state_after b.channel b.first told (times_of_answers told b.moment)) (times_of_answers (given_up ids) b.moment)) ids
 
 -- what a whole message leaves
 message_leaves : (b : Beginning) (told : List Told) (id token : ℕ) (message : List ℕ) → state_told b (told ++ Asked id token message ∷ []) ≡ (answered (state_told b told) b.moment message).0
@@ -82,7 +82,7 @@ message_leaves b told id token message =
     ∙ ap (λ (ms : List DateTime). (answered (state_told b told) (first_of (ms ++ b.moment ∷ [])) message).0) (none_left b.channel b.first told b.moment)
 
 module _ (b : Beginning) (server : Server) (now : State) (octets piece : List ℕ) (before : State) (s : Serves b server before octets) where
-  left_message : (l : LeftByMessage (limits_of (channel_in server)) (channel_of (channel_in server)) b.moment piece octets s.told before now) → now ≡ left_by b (octets ++ take l.ends.n piece)
+  left_message : (l : LeftByMessage (limits_of (channel_in server)) (channel_of (channel_in server)) b.moment piece octets s.told before now) → now ≡ services_after b (octets ++ take l.ends.n piece)
   left_message l =
       let e = l.ends in
       let rules_are : server_rules (limits_of (channel_in server)) (channel_of (channel_in server)) ≡ rules_by b =
@@ -92,8 +92,8 @@ module _ (b : Beginning) (server : Server) (now : State) (octets piece : List �
       let told_is =
       subst (λ (R : Rules Told ℕ). events R (e.frames ++ e.frame ∷ []) ≡ here ++ Asked e.id e.token l.message ∷ []) rules_are
       (told_behind (server_rules (limits_of (channel_in server)) (channel_of (channel_in server))) e.frames e.frame here (Asked e.id e.token l.message) e.told_is e.tells) in
-      let channel_same : (left b.channel b.first s.told (spent s.told b.moment)).state ≡ before =
-      ap (λ (c : ℕ). (left c b.first s.told (spent s.told b.moment)).state) (sym s.channel_is) ∙ s.stands.state_is in
+      let channel_same : (state_after b.channel b.first s.told (times_of_answers s.told b.moment)).state ≡ before =
+      ap (λ (c : ℕ). (state_after c b.first s.told (times_of_answers s.told b.moment)).state) (sym s.channel_is) ∙ s.stands.state_is in
       l.now_is
       ∙ (ap (λ (t : State). (answered t b.moment l.message).0) (sym channel_same ∙ sym (given_up_leave b s.told e.quiet))
       ∙ (sym (message_leaves b here e.id e.token l.message)
@@ -120,7 +120,7 @@ front_there before octets at = record {
 pub record ServedTo (b : Beginning) (moment : DateTime) (before octets : List ℕ) (server : Server) (now : State) (at : ℕ) (old out : List ℕ) : Type 0 where
   pub added : List ℕ
   pub added_is : out ≡ old ++ added
-  pub keeps : Keeps b server now moment (before ++ take at octets) (said_to b before ++ added) 0 stage.Going
+  pub keeps : Keeps b server now moment (before ++ take at octets) (server_output b before ++ added) 0 stage.Going
 
 -- whatever the server took before
 pub record Served (moment : DateTime) (octets : List ℕ) (first : Server) (began : State) (server : Server) (now : State) (at : ℕ) (old out : List ℕ) : Type 0 where
@@ -133,14 +133,14 @@ served_none moment octets server now old = record {
   to = λ b before s dated. record {
     added = [];
     added_is = sym (append-nil old);
-    keeps = kept_as b server now moment before (said_to b before) 0 stage.Going (before ++ []) (said_to b before ++ []) stage.Going (keeps_where b server now moment before dated s) (append-nil before) (append-nil (said_to b before)) refl;
+    keeps = kept_as b server now moment before (server_output b before) 0 stage.Going (before ++ []) (server_output b before ++ []) stage.Going (keeps_where b server now moment before dated s) (append-nil before) (append-nil (server_output b before)) refl;
   };
 }
 
 -- what a step answers, whatever the server took before
 abbrev pub Steps : DateTime → Server → Server → State → State → List ℕ → Result Step StepFault → Type 0
 Steps moment old new before now piece result =
-    (octets : List ℕ) (told : List Told) (first : State) (ms : List DateTime) → Stands (channel_in old) octets told first ms before
+    (octets : List ℕ) (told : List Told) (first : State) (ms : List DateTime) → ServerStands (channel_in old) octets told first ms before
     → StepAnswers (limits_of (channel_in old)) (channel_of (channel_in old)) moment piece result (channel_in new) octets told first ms before now
 
 module _ (moment : DateTime) (octets : List ℕ) (first : Server) (began : State) (x y : Server) (now later : State) (at : ℕ) (old out : List ℕ) (s : Served moment octets first began x now at old out) (piece : List ℕ) (piece_is : piece ≡ drop at octets) where
@@ -162,8 +162,8 @@ module _ (moment : DateTime) (octets : List ℕ) (first : Server) (began : State
             added = t.added ++ step.out.items;
             added_is = added_then b before t new added;
             keeps =
-                kept_as b y later moment ((before ++ take at octets) ++ take step.taken piece) ((said_to b before ++ t.added) ++ step.out.items) 0 stage.Going (before ++ take (at + step.taken) octets) (said_to b before ++ (t.added ++ step.out.items)) stage.Going
-                (keeps_on b x y now later moment (before ++ take at octets) (said_to b before ++ t.added) piece 0 step t.keeps answers same_limits same_channel none) (up_is before) (sym (append_assoc (said_to b before) t.added step.out.items)) refl;
+                kept_as b y later moment ((before ++ take at octets) ++ take step.taken piece) ((server_output b before ++ t.added) ++ step.out.items) 0 stage.Going (before ++ take (at + step.taken) octets) (server_output b before ++ (t.added ++ step.out.items)) stage.Going
+                (keeps_on b x y now later moment (before ++ take at octets) (server_output b before ++ t.added) piece 0 step t.keeps answers same_limits same_channel none) (up_is before) (sym (append_assoc (server_output b before) t.added step.out.items)) refl;
           };
     }
 
@@ -175,8 +175,8 @@ module _ (moment : DateTime) (octets : List ℕ) (first : Server) (began : State
       there : ServedTo b moment before octets x now at old out
       there = s.to b before serves dated
 
-      keeps : Keeps b y later moment up ((said_to b before ++ there.added) ++ step.out.items) 0 (stage.Ended end)
-      keeps = keeps_ended b x y now later moment (before ++ take at octets) (said_to b before ++ there.added) piece 0 step there.keeps answers same_limits same_channel end ended
+      keeps : Keeps b y later moment up ((server_output b before ++ there.added) ++ step.out.items) 0 (stage.Ended end)
+      keeps = keeps_ended b x y now later moment (before ++ take at octets) (server_output b before ++ there.added) piece 0 step there.keeps answers same_limits same_channel end ended
 
       front : Extends up (before ++ octets)
       front = front_of before octets piece at step.taken piece_is
@@ -184,8 +184,8 @@ module _ (moment : DateTime) (octets : List ℕ) (first : Server) (began : State
       over : end_by b up ≡ Going → ⊥
       over = not_going b end up keeps.ends
 
-      pub ended_leaves : later ≡ left_by b (before ++ octets)
-      ended_leaves = keeps.leaves ∙ (sym (left_past b up front.more over) ∙ ap (left_by b) (sym front.parts))
+      pub ended_leaves : later ≡ services_after b (before ++ octets)
+      ended_leaves = keeps.leaves ∙ (sym (left_past b up front.more over) ∙ ap (services_after b) (sym front.parts))
 
       pub ended_ends : EndsAt (stage.Ended end) b (before ++ octets)
       ended_ends = ends_past b end up (before ++ octets) (ap (end_by b) front.parts ∙ end_past b up front.more over) keeps.ends
@@ -193,7 +193,7 @@ module _ (moment : DateTime) (octets : List ℕ) (first : Server) (began : State
       pub ended_answers : (new : List ℕ) → new ≡ out ++ step.out.items → Answers b before (before ++ octets) old new
       ended_answers new added = record {
         more = there.added ++ step.out.items;
-        said_is = ap (said_to b) front.parts ∙ (said_past b up front.more over ∙ (sym keeps.down_is ∙ append_assoc (said_to b before) there.added step.out.items));
+        said_is = ap (server_output b) front.parts ∙ (said_past b up front.more over ∙ (sym keeps.down_is ∙ append_assoc (server_output b before) there.added step.out.items));
         added_is = added_then b before there new added;
       }
 
@@ -201,10 +201,10 @@ module _ (moment : DateTime) (octets : List ℕ) (first : Server) (began : State
     answered_there : (b : Beginning) (before : List ℕ) → Serves b first began before → moment ≡ b.moment → Answers b before (before ++ take at octets) old out
     answered_there b before serves dated = let t = s.to b before serves dated in record { more = t.added; said_is = sym t.keeps.down_is; added_is = t.added_is }
 
-    left_then : (b : Beginning) (before : List ℕ) (serves : Serves b first began before) → moment ≡ b.moment → (end : Option Ending) → step.end ≡ end → later ≡ left_by b ((before ++ take at octets) ++ take step.taken piece)
+    left_then : (b : Beginning) (before : List ℕ) (serves : Serves b first began before) → moment ≡ b.moment → (end : Option Ending) → step.end ≡ end → later ≡ services_after b ((before ++ take at octets) ++ take step.taken piece)
     left_then b before serves dated None is =
         let t = s.to b before serves dated in
-        (keeps_on b x y now later moment (before ++ take at octets) (said_to b before ++ t.added) piece 0 step t.keeps answers same_limits same_channel is).leaves
+        (keeps_on b x y now later moment (before ++ take at octets) (server_output b before ++ t.added) piece 0 step t.keeps answers same_limits same_channel is).leaves
     left_then b before serves dated (Some end) is = (keeps end is b before serves dated).leaves
 
     pub lost_then : (b : Beginning) (before : List ℕ) → Serves b first began before → moment ≡ b.moment → BreaksOff b before (before ++ octets) old out later
@@ -224,7 +224,7 @@ module _ (moment : DateTime) (octets : List ℕ) (first : Server) (began : State
     t : ServedTo b moment before octets x now at old out
     t = s.to b before serves dated
 
-    broken_at : (front : List ℕ) → Extends front (before ++ octets) → Extends (before ++ take at octets) front → later ≡ left_by b front → BreaksOff b before (before ++ octets) old out later
+    broken_at : (front : List ℕ) → Extends front (before ++ octets) → Extends (before ++ take at octets) front → later ≡ services_after b front → BreaksOff b before (before ++ octets) old out later
     broken_at front extends behind left_is = record {
       taken = front;
       taken_front = extends;
@@ -242,7 +242,7 @@ module _ (moment : DateTime) (octets : List ℕ) (first : Server) (began : State
         broken_at ((before ++ take at octets) ++ take l.ends.n piece) (front_of before octets piece at l.ends.n piece_is) (record { more = take l.ends.n piece; parts = refl })
         (left_message b x later (before ++ take at octets) piece now t.keeps.serves l)
 
-    fault_by : (f : StepFault) → StepAnswers (limits_of (channel_in x)) (channel_of (channel_in x)) b.moment piece (Err f) (channel_in y) (before ++ take at octets) t.keeps.serves.told b.first (spent t.keeps.serves.told b.moment) now later
+    fault_by : (f : StepFault) → StepAnswers (limits_of (channel_in x)) (channel_of (channel_in x)) b.moment piece (Err f) (channel_in y) (before ++ take at octets) t.keeps.serves.told b.first (times_of_answers t.keeps.serves.told b.moment) now later
         → BreaksOff b before (before ++ octets) old out later × (f ≡ step_fault.OutOfMemory)
     fault_by step_fault.OutOfMemory a = (broken_by a, refl)
     fault_by step_fault.Closed a = absurd a
@@ -250,8 +250,8 @@ module _ (moment : DateTime) (octets : List ℕ) (first : Server) (began : State
     pub broken : (f : StepFault) → Steps moment x y now later piece (Err f) → BreaksOff b before (before ++ octets) old out later × (f ≡ step_fault.OutOfMemory)
     broken f answers =
         fault_by f
-        (subst (λ (m : DateTime). StepAnswers (limits_of (channel_in x)) (channel_of (channel_in x)) m piece (Err f) (channel_in y) (before ++ take at octets) t.keeps.serves.told b.first (spent t.keeps.serves.told b.moment) now later) dated
-        (answers (before ++ take at octets) t.keeps.serves.told b.first (spent t.keeps.serves.told b.moment) t.keeps.serves.stands))
+        (subst (λ (m : DateTime). StepAnswers (limits_of (channel_in x)) (channel_of (channel_in x)) m piece (Err f) (channel_in y) (before ++ take at octets) t.keeps.serves.told b.first (times_of_answers t.keeps.serves.told b.moment) now later) dated
+        (answers (before ++ take at octets) t.keeps.serves.told b.first (times_of_answers t.keeps.serves.told b.moment) t.keeps.serves.stands))
 
 -- ---- a server that ended
 
@@ -295,13 +295,13 @@ module _ (moment : DateTime) (octets : List ℕ) (first : Server) (began : State
   done : ServedTo b moment before octets x now at old out
   done = s.to b before serves dated
 
-  all_keeps : Keeps b x now moment (before ++ octets) (said_to b before ++ done.added) 0 stage.Going
-  all_keeps = subst (λ (o : List ℕ). Keeps b x now moment (before ++ o) (said_to b before ++ done.added) 0 stage.Going) whole done.keeps
+  all_keeps : Keeps b x now moment (before ++ octets) (server_output b before ++ done.added) 0 stage.Going
+  all_keeps = subst (λ (o : List ℕ). Keeps b x now moment (before ++ o) (server_output b before ++ done.added) 0 stage.Going) whole done.keeps
 
   pub all_taken : Serves b x now (before ++ octets)
   all_taken = all_keeps.serves
 
-  pub all_leaves : now ≡ left_by b (before ++ octets)
+  pub all_leaves : now ≡ services_after b (before ++ octets)
   all_leaves = all_keeps.leaves
 
   pub all_answers : Answers b before (before ++ octets) old out
@@ -313,13 +313,13 @@ module _ (moment : DateTime) (octets : List ℕ) (first : Server) (began : State
 -- ---- from the beginning of a connection
 
 -- a server that waits for a client, over these services
-pub serves_none : (limits : Limits) (channel : ℕ) (first now : State) (moment : DateTime) (server : Server) → now ≡ first → ((s : State) → Stands (channel_in server) [] [] s [] s) → limits_of (channel_in server) ≡ limits → channel_of (channel_in server) ≡ channel
+pub serves_none : (limits : Limits) (channel : ℕ) (first now : State) (moment : DateTime) (server : Server) → now ≡ first → ((s : State) → ServerStands (channel_in server) [] [] s [] s) → limits_of (channel_in server) ≡ limits → channel_of (channel_in server) ≡ channel
     → Serves (record { limits = limits; channel = channel; first = first; moment = moment }) server now []
 serves_none limits channel first now moment server same stands limits_are channel_is =
     let b : Beginning = record { limits = limits; channel = channel; first = first; moment = moment } in
     subst (λ (s : State). Serves b server s []) (sym same) (serves_first b server (stands first) limits_are channel_is)
 
 -- what was added is all that it says
-pub all_said : (r : Result (Option Ending) StepFault) (b : Beginning) (octets old out : List ℕ) → OnOk r (Answers b [] octets old out) → OnOk r (out ≡ old ++ said_to b octets)
+pub all_said : (r : Result (Option Ending) StepFault) (b : Beginning) (octets old out : List ℕ) → OnOk r (Answers b [] octets old out) → OnOk r (out ≡ old ++ server_output b octets)
 all_said (Err f) b octets old out a = tt
 all_said (Ok end) b octets old out a = a.added_is ∙ ap (λ (o : List ℕ). old ++ o) (sym (a.said_is ∙ ap (λ (o : List ℕ). o ++ a.more) (said_none b)))

@@ -4,7 +4,7 @@ use Rattle.ua_wire.specs.Format.{Extends}
 use Rattle.ua_server.specs.State.{State}
 use Rattle.ua_server.specs.declared.step.End.{End as Ending}
 use Rattle.ua_loopback.specs.Beginning.{Beginning}
-use Rattle.ua_loopback.specs.Says.{left_by, said_to}
+use Rattle.ua_loopback.specs.Says.{services_after, server_output}
 use Rattle.ua_loopback.specs.declared.stage.Stage.{Stage}
 use Rattle.ua_loopback.specs.declared.stage.Stage.TheVariants.{Going, Ended}
 
@@ -16,7 +16,7 @@ stage_of (Some end) = Ended end
 -- to octets that are to be sent back these were added: what the server says of all octets that came is what it said of those before, and then these
 pub record Answers (b : Beginning) (before all : List ℕ) (out_before out : List ℕ) : Type 0 where
   pub more : List ℕ
-  pub said_is : said_to b all ≡ said_to b before ++ more
+  pub said_is : server_output b all ≡ server_output b before ++ more
   pub added_is : out ≡ out_before ++ more
 
 -- memory was refused: the services are what a front of all octets that came leaves, and what was added is what the server says of a front of
@@ -24,7 +24,7 @@ pub record Answers (b : Beginning) (before all : List ℕ) (out_before out : Lis
 pub record BreaksOff (b : Beginning) (before all : List ℕ) (out_before out : List ℕ) (services : State) : Type 0 where
   pub taken : List ℕ
   pub taken_front : Extends taken all
-  pub left_is : services ≡ left_by b taken
+  pub left_is : services ≡ services_after b taken
   pub heard : List ℕ
   pub heard_behind : Extends before heard
   pub heard_front : Extends heard all

@@ -4,7 +4,7 @@ ghost use Rattle.std.specs.Prelude.{◌≡◌, ◌<◌, ◌++◌, [], ℕ, List,
 ghost use Rattle.ua_channel.specs.ServerStands.{IsDone};
 ghost use Rattle.ua_loopback.specs.Beginning.{Beginning};
 ghost use Rattle.ua_loopback.specs.Kept.{EndsAt, Serves};
-ghost use Rattle.ua_loopback.specs.Says.{left_by, said_to};
+ghost use Rattle.ua_loopback.specs.Says.{services_after, server_output};
 ghost use Rattle.ua_server.specs.Served.{channel_in};
 ghost use Rattle.ua_server.specs.State.{begun};
 ghost use Rattle.ua_server.specs.declared.step.StepFault.TheVariants.{Closed, OutOfMemory};
@@ -31,7 +31,7 @@ pub fn serve_octets(
     // Octets in: while the connection goes on, the server took all of them.
     ensures takes { (b : Beginning) (before : List ℕ) → Serves b server.old services.old before → moment ≡ b.moment → result ≡ Ok None → Serves b server.new services.new (before ++ octets.now) }
     // Nodes changed: the services are what all octets leave.
-    ensures leaves { (b : Beginning) (before : List ℕ) → Serves b server.old services.old before → moment ≡ b.moment → OnOk result (services.new ≡ left_by b (before ++ octets.now)) }
+    ensures leaves { (b : Beginning) (before : List ℕ) → Serves b server.old services.old before → moment ≡ b.moment → OnOk result (services.new ≡ services_after b (before ++ octets.now)) }
     // Octets out: what is added is what the server says of them.
     ensures answers { (b : Beginning) (before : List ℕ) → Serves b server.old services.old before → moment ≡ b.moment → OnOk result (Answers b before (before ++ octets.now) out.old.items out.new.items) }
     ensures ends { (b : Beginning) (before : List ℕ) → Serves b server.old services.old before → moment ≡ b.moment → IfOk result (λ end. EndsAt (stage_of end) b (before ++ octets.now)) }
@@ -69,8 +69,8 @@ pub fn serve_connection(
     moment: DateTime,
     out: &mut Vec<u8>,
 ) -> Result<Option<End>, StepFault>
-    ensures leaves { OnOk result (services.new ≡ left_by (record { limits = limits; channel = channel_id; first = begun services.old; moment = moment }) octets.now) }
-    ensures answers { OnOk result (out.new.items ≡ out.old.items ++ said_to (record { limits = limits; channel = channel_id; first = begun services.old; moment = moment }) octets.now) }
+    ensures leaves { OnOk result (services.new ≡ services_after (record { limits = limits; channel = channel_id; first = begun services.old; moment = moment }) octets.now) }
+    ensures answers { OnOk result (out.new.items ≡ out.old.items ++ server_output (record { limits = limits; channel = channel_id; first = begun services.old; moment = moment }) octets.now) }
     ensures ends { IfOk result (λ end. EndsAt (stage_of end) (record { limits = limits; channel = channel_id; first = begun services.old; moment = moment }) octets.now) }
     ensures breaks { OnErr result (BreaksOff (record { limits = limits; channel = channel_id; first = begun services.old; moment = moment }) [] octets.now out.old.items out.new.items services.new) }
     ensures memory { IfErr result (λ fault. fault ≡ OutOfMemory) }

@@ -10,7 +10,7 @@ use Rattle.ua_frame.proofs.Readings.{reading}
 use Rattle.ua_channel.specs.ServerRules.{server_rules}
 use Rattle.ua_channel.specs.ServerTold.{Told}
 use Rattle.ua_server.specs.Requests.{requests}
-use Rattle.ua_server.specs.Said.{Course, last_words, left, said, said_of, used_in, uses}
+use Rattle.ua_server.specs.Said.{Course, last_words, state_after, output_of, said_of, used_in, times_used_by}
 use Rattle.ua_server.specs.Serving.{Answer, AreAsked, BrokenOff, EndsAt, LastWord, Nothing, Refusal, end_at, told_at}
 use Rattle.ua_server.specs.State.{State}
 use Rattle.ua_server.specs.declared.watch.AnsweredRequest.{AnsweredRequest}
@@ -24,8 +24,8 @@ use Rattle.test_determinism.proofs.StreamsAlike.{Splits, begins, pushed, split, 
 use Rattle.test_determinism.proofs.StreamsAlike.Splits.{Here, Later, Sooner}
 
 -- nothing is said of nothing
-said-nothing : (channel : ℕ) (first : State) (moments : List DateTime) → said channel first [] Going moments ≡ []
-unfolding said
+said-nothing : (channel : ℕ) (first : State) (moments : List DateTime) → output_of channel first [] Going moments ≡ []
+unfolding output_of
 said-nothing channel first moments = refl
 
 module _ (limits : Limits) (channel : ℕ) (first : State) where
@@ -61,7 +61,7 @@ module _ (limits : Limits) (channel : ℕ) (first : State) where
 
   -- how many moments the last word uses
   abbrev used_last : {whole : List ℕ} {before told : List Told} {end : End ℕ} → SaidAt whole before told end → ℕ
-  used_last (Answers t at is going) = uses t
+  used_last (Answers t at is going) = times_used_by t
   used_last (Refuses code all is) = 0
 
   -- the same without the octets that were read, and with moments that may be more than the given ones, of which none is behind the last word
@@ -70,27 +70,27 @@ module _ (limits : Limits) (channel : ℕ) (first : State) where
     end : End ℕ
     place : SaidAt whole before told end
     given_is : given + used_last place ≡ used_in told + 1
-    state_is : (left channel first told moments).state ≡ now
+    state_is : (state_after channel first told moments).state ≡ now
     asked_is : asked ≡ requests channel first told moments
     part : List ℕ
-    written_is : written ≡ said channel first before Going moments ++ part
+    written_is : written ≡ output_of channel first before Going moments ++ part
     unwritten : List ℕ
-    said_is : said channel first told end moments ≡ written ++ unwritten
+    said_is : output_of channel first told end moments ≡ written ++ unwritten
     some : 0 < length unwritten
 
   -- ---- where it was said
 
   -- nothing was said: then nothing is unwritten
-  no_word : (before : List Told) (moments : List DateTime) (written unwritten : List ℕ) → before ≡ [] → said channel first (before ++ []) Going moments ≡ written ++ unwritten → 0 < length unwritten → ⊥
+  no_word : (before : List Told) (moments : List DateTime) (written unwritten : List ℕ) → before ≡ [] → output_of channel first (before ++ []) Going moments ≡ written ++ unwritten → 0 < length unwritten → ⊥
   no_word before moments written unwritten none said_is some =
-      let silent : said channel first (before ++ []) Going moments ≡ [] = ap (λ (t : List Told). said channel first (t ++ []) Going moments) none ∙ said-nothing channel first moments in
+      let silent : output_of channel first (before ++ []) Going moments ≡ [] = ap (λ (t : List Told). output_of channel first (t ++ []) Going moments) none ∙ said-nothing channel first moments in
       omega (arith, some, ap length said_is, ap length silent, length-append written unwritten)
 
   with_none : (n m : ℕ) → n ≡ m + 1 → n + 0 ≡ m + 1
   with_none n m e = omega (arith, e)
 
   said_at : (front more whole : List ℕ) (before : List Told) (word : LastWord) (moments : List DateTime) (written unwritten : List ℕ) → front ++ more ≡ whole → EndsAt limits channel front before word
-      → said channel first (before ++ told_at word) (end_at word) moments ≡ written ++ unwritten → 0 < length unwritten → AreAsked limits channel front (before ++ told_at word) moments
+      → output_of channel first (before ++ told_at word) (end_at word) moments ≡ written ++ unwritten → 0 < length unwritten → AreAsked limits channel front (before ++ told_at word) moments
       → (place : SaidAt whole before (before ++ told_at word) (end_at word)) × (length moments + used_last place ≡ used_in (before ++ told_at word) + 1)
   said_at front more whole before Nothing moments written unwritten parts ends said_is some asked = absurd (no_word before moments written unwritten ends.1 said_is some)
   said_at front more whole before (Answer t) moments written unwritten parts ends said_is some asked = (
@@ -136,8 +136,8 @@ module _ (limits : Limits) (channel : ℕ) (first : State) where
     -- what is said with one last word is longer than what was written, and so than what is said before another
     no_more : (now then : State) (asked also : List AnsweredRequest) (told other more : List Told) (given other_given : ℕ) (a : Breaks whole written moments given now asked told) (b : Breaks whole written moments other_given then also other) → a.end ≡ Going → b.before ≡ told ++ more → ⊥
     no_more now then asked also told other more given other_given a b going is =
-        let all : said channel first told Going moments ≡ written ++ a.unwritten = ap (λ (e : End ℕ). said channel first told e moments) (sym going) ∙ a.said_is in
-        let on = ap (λ (t : List Told). said channel first t Going moments) is ∙ said-append channel first told more Going moments in
+        let all : output_of channel first told Going moments ≡ written ++ a.unwritten = ap (λ (e : End ℕ). output_of channel first told e moments) (sym going) ∙ a.said_is in
+        let on = ap (λ (t : List Told). output_of channel first t Going moments) is ∙ said-append channel first told more Going moments in
         omega (
           arith,
           a.some,
@@ -145,8 +145,8 @@ module _ (limits : Limits) (channel : ℕ) (first : State) where
           ap length b.written_is,
           ap length on,
           length-append written a.unwritten,
-          length-append (said channel first b.before Going moments) b.part,
-          length-append (said channel first told Going moments) (said_of channel (left channel first told moments) more ++ last_words Going),
+          length-append (output_of channel first b.before Going moments) b.part,
+          length-append (output_of channel first told Going moments) (said_of channel (state_after channel first told moments) more ++ last_words Going),
         )
 
     -- the frames of a longer reading go on behind the frame that is answered
@@ -186,7 +186,7 @@ module _ (limits : Limits) (channel : ℕ) (first : State) where
       told_once : (p : SaidAt whole a.before told a.end) (q : SaidAt whole b.before other b.end) → (told ≡ other) × (used_last p ≡ used_last q)
       told_once (Answers t p is going) (Answers u q too going_too) =
           let same = both_answered t u p q is too going going_too in
-          (same, ap uses (pushed a.before b.before t u (sym is ∙ (same ∙ too))).1)
+          (same, ap times_used_by (pushed a.before b.before t u (sym is ∙ (same ∙ too))).1)
       told_once (Answers t p is going) (Refuses code q too) =
           let behind = ahead a.before t p q.frames q.rest (Stopped code) q.run in
           let on = told_on a.before told b.before t p is behind.0 q.frames behind.1 q.told_is in
@@ -201,7 +201,7 @@ module _ (limits : Limits) (channel : ℕ) (first : State) where
       breaks_once =
           let same = told_once a.place b.place in (
             a.asked_is ∙ (ap (λ (ts : List Told). requests channel first ts moments) same.0 ∙ sym b.asked_is),
-            sym a.state_is ∙ (ap (λ (ts : List Told). (left channel first ts moments).state) same.0 ∙ b.state_is),
+            sym a.state_is ∙ (ap (λ (ts : List Told). (state_after channel first ts moments).state) same.0 ∙ b.state_is),
             as_many given other_given (used_last a.place) (used_last b.place) (used_in told) (used_in other) a.given_is b.given_is same.1 (ap used_in same.0),
           )
 

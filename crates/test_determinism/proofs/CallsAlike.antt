@@ -13,7 +13,7 @@ use Rattle.ua_frame.specs.Run.{Rules, Run, End, Going, Stopped, events}
 use Rattle.ua_frame.specs.declared.limits.Limits.{Limits}
 use Rattle.ua_client.specs.Carried.{Carries, IsAtEnd}
 use Rattle.ua_client.specs.Client.{connection_of}
-use Rattle.ua_client.specs.Hearing.{Moves, most_reads, untaken_of}
+use Rattle.ua_client.specs.Hearing.{MovesConnection, most_reads, untaken_of}
 use Rattle.ua_client.specs.declared.client.Client.{Client}
 use Rattle.ua_client.specs.declared.connection.Connection.{Connection}
 use Rattle.ua_client.specs.declared.fault.ClientFault.{ClientFault}
@@ -40,7 +40,7 @@ pub record Ran (new : Connection) (sent taken : List ℕ) (line after : Option T
 regroup : (taken left got more start : List ℕ) → start ++ got ≡ taken ++ left → taken ++ (left ++ more) ≡ start ++ (got ++ more)
 regroup taken left got more start e = sym (append_assoc taken left more) ∙ (ap (λ (t : List ℕ). t ++ more) (sym e) ∙ append_assoc start got more)
 
-pub ran : (old new : Connection) (sent : List ℕ) (line after : Option Traffic) (coming : List ℕ) (t : Traffic) (m : Moves old new sent line after) → line ≡ Some t → ((more : List ℕ) → untaken_of old ++ t.coming more ≡ coming) → Ran new sent m.taken line after coming
+pub ran : (old new : Connection) (sent : List ℕ) (line after : Option Traffic) (coming : List ℕ) (t : Traffic) (m : MovesConnection old new sent line after) → line ≡ Some t → ((more : List ℕ) → untaken_of old ++ t.coming more ≡ coming) → Ran new sent m.taken line after coming
 ran old new sent line after coming t m e brings =
     let p = where_told (Carries m.got sent) line after t e m.carried in
     let all : (more : List ℕ) → m.taken ++ (untaken_of new ++ p.after.coming more) ≡ coming =
@@ -105,7 +105,7 @@ read_same one two sent other taken got line after elsewhere later coming r q non
     ∙ (r.parts ∙ (sym q.parts ∙ (ap (λ (u : List ℕ). got ++ (u ++ q.last.coming [])) also ∙ ap (λ (c : List ℕ). got ++ c) (sym (come after later r.last q.last r.last_is q.last_is same))))))
 
 -- fewer octets than the most reads
-pub few_reads : (old new : Connection) (sent : List ℕ) (line after : Option Traffic) (coming before : List ℕ) (t : Traffic) (m : Moves old new sent line after) → line ≡ Some t → ((more : List ℕ) → untaken_of old ++ t.coming more ≡ coming) → length (before ++ coming) < 0xFFFF_FFFF_FFFF_FFFF → most_reads ≤ length m.got → ⊥
+pub few_reads : (old new : Connection) (sent : List ℕ) (line after : Option Traffic) (coming before : List ℕ) (t : Traffic) (m : MovesConnection old new sent line after) → line ≡ Some t → ((more : List ℕ) → untaken_of old ++ t.coming more ≡ coming) → length (before ++ coming) < 0xFFFF_FFFF_FFFF_FFFF → most_reads ≤ length m.got → ⊥
 few_reads old new sent line after coming before t m e brings few most =
     let p = where_told (Carries m.got sent) line after t e m.carried in
     omega (arith, few, most, length-append before coming, ap length (brings (sent ++ [])), length-append (untaken_of old) (t.coming (sent ++ [])), ap length (p.holds.coming []), length-append m.got (p.after.coming []))

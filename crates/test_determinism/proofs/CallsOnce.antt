@@ -10,7 +10,7 @@ use Rattle.ua_client.specs.Calls.{AllAt, CallsAll, all_of}
 use Rattle.ua_client.specs.Client.{IsLeft, client_channel, connection_of}
 use Rattle.ua_client.specs.Hearing.{channel_of, fault_alone}
 use Rattle.ua_client.specs.Kept.{CallsInto, IntoAt}
-use Rattle.ua_client.specs.Site.{Site}
+use Rattle.ua_client.specs.ClientPlace.{ClientPlace}
 use Rattle.ua_client.specs.declared.client.Client.{Client}
 use Rattle.ua_client.specs.declared.connection.Connection.{Connection}
 use Rattle.ua_client.specs.declared.fault.CallsFault.{CallsFault}
@@ -27,7 +27,7 @@ use Rattle.test_determinism.proofs.LinesAlike.{Ways, fault_of, had_first, had_se
 -- ---- what calls come to
 
 -- what became of requests is such a walk; behind those that are answered these are the replies
-record Met {A : Type 0} (view : A → List Reply) (limits : Limits) (x : ClientChannel) (requests : List Request) (s : Site) (coming sent taken : List ℕ) (a : Result A ClientFault) : Type 0 where
+record Met {A : Type 0} (view : A → List Reply) (limits : Limits) (x : ClientChannel) (requests : List Request) (s : ClientPlace) (coming sent taken : List ℕ) (a : Result A ClientFault) : Type 0 where
   replies : List Reply
   count : ℕ
   walk : Walk false limits x (fault_of a) requests s coming sent taken replies count
@@ -39,7 +39,7 @@ same_found v w e = cc
 err_found : {A P : Type 0} (f : ClientFault) (v : A) → ◌≡◌ {A = Result A ClientFault} (Err f) (Ok v) → P
 err_found f v e = cc
 
-met : {A : Type 0} (view : A → List Reply) (limits : Limits) (requests : List Request) (s : Site) (new : Connection) (sent taken more : List ℕ) → client_limits (channel_of new) ≡ limits → (a : Result A ClientFault)
+met : {A : Type 0} (view : A → List Reply) (limits : Limits) (requests : List Request) (s : ClientPlace) (new : Connection) (sent taken more : List ℕ) → client_limits (channel_of new) ≡ limits → (a : Result A ClientFault)
     → ((f : ClientFault) → fault_of a ≡ Some f → (f ≡ fault.Ended) ⊎ (f ≡ fault.Read) → more ≡ []) → ((f : ClientFault) → fault_of a ≡ Some f → f ≡ fault.OutOfMemory → ⊥) → ((f : ClientFault) → fault_of a ≡ Some f → f ≡ fault.TooLong → ⊥)
     → AllAt view requests s new sent taken a → Met view limits (channel_of new) requests s (taken ++ more) sent taken a
 met view limits requests s new sent taken more same (Ok v) stop had short k = record {
@@ -74,7 +74,7 @@ same_answers view (Ok v) (Err g) e h = none_option g e
 same_answers view (Err f) (Ok w) e h = none_option f (sym e)
 same_answers view (Err f) (Err g) e h = same_option f g e
 
-pub called_once : {A : Type 0} (once : OneBody) (view : A → List Reply) (one two x y : Client) (requests : List Request) (a b : Result A ClientFault) (line after other later : Option Traffic) (s : Site) (coming : List ℕ)
+pub called_once : {A : Type 0} (once : OneBody) (view : A → List Reply) (one two x y : Client) (requests : List Request) (a b : Result A ClientFault) (line after other later : Option Traffic) (s : ClientPlace) (coming : List ℕ)
     → StandReady one two line other s coming → HadMemory fault.OutOfMemory a b → CallsAll view requests (connection_of one) (connection_of x) line after a → CallsAll view requests (connection_of two) (connection_of y) other later b
     → IsLeft a x → IsLeft b y → CallsAlike a b line after other later → CalledOnce view a b x y line after other later
 called_once {A} once view one two x y requests a b line after other later s coming stand had h k left left_too alike = record {
@@ -115,7 +115,7 @@ one_answer (Err f) (Err g) e = ap Err e
 -- ---- calls that keep what is answered
 
 -- what became of requests is such a walk: these replies are added, and a fault names the request behind those that are counted
-record Added (limits : Limits) (x : ClientChannel) (requests : List Request) (s : Site) (coming sent taken : List ℕ) (added : List Reply) (a : Result (Unit {0}) CallsFault) : Type 0 where
+record Added (limits : Limits) (x : ClientChannel) (requests : List Request) (s : ClientPlace) (coming sent taken : List ℕ) (added : List Reply) (a : Result (Unit {0}) CallsFault) : Type 0 where
   count : ℕ
   walk : Walk true limits x (fault_of (fault_alone a)) requests s coming sent taken added count
   named : (c : CallsFault) → a ≡ Err c → c.request ≡ count
@@ -126,7 +126,7 @@ found_err c e = cc
 same_named : (c d : CallsFault) → ◌≡◌ {A = Result (Unit {0}) CallsFault} (Err c) (Err d) → c ≡ d
 same_named c d e = cc
 
-added_by : (limits : Limits) (requests : List Request) (s : Site) (new : Connection) (sent taken more : List ℕ) (added : List Reply) → client_limits (channel_of new) ≡ limits → (a : Result (Unit {0}) CallsFault)
+added_by : (limits : Limits) (requests : List Request) (s : ClientPlace) (new : Connection) (sent taken more : List ℕ) (added : List Reply) → client_limits (channel_of new) ≡ limits → (a : Result (Unit {0}) CallsFault)
     → ((f : ClientFault) → fault_of (fault_alone a) ≡ Some f → (f ≡ fault.Ended) ⊎ (f ≡ fault.Read) → more ≡ []) → ((f : ClientFault) → fault_of (fault_alone a) ≡ Some f → f ≡ fault.OutOfMemory → ⊥)
     → ((f : ClientFault) → fault_of (fault_alone a) ≡ Some f → f ≡ fault.TooLong → ⊥) → IntoAt requests s new sent taken a added → Added limits (channel_of new) requests s (taken ++ more) sent taken added a
 added_by limits requests s new sent taken more added same (Ok done) stop had short k = record {
@@ -158,7 +158,7 @@ same_outcomes (Ok done) (Err d) e h = none_option d.fault e
 same_outcomes (Err c) (Ok done) e h = none_option c.fault (sym e)
 same_outcomes (Err c) (Err d) e h = ap Err (same_calls c d (h c d refl refl) (same_option c.fault d.fault e))
 
-pub added_once : (once : OneBody) (one two x y : Client) (requests : List Request) (a b : Result (Unit {0}) CallsFault) (had_replies have other_had also : List Reply) (line after other later : Option Traffic) (s : Site) (coming : List ℕ)
+pub added_once : (once : OneBody) (one two x y : Client) (requests : List Request) (a b : Result (Unit {0}) CallsFault) (had_replies have other_had also : List Reply) (line after other later : Option Traffic) (s : ClientPlace) (coming : List ℕ)
     → had_replies ≡ other_had → StandReady one two line other s coming → HadMemory fault.OutOfMemory (fault_alone a) (fault_alone b) → CallsInto requests (connection_of one) (connection_of x) line after a had_replies have
     → CallsInto requests (connection_of two) (connection_of y) other later b other_had also → IsLeft (fault_alone a) x → IsLeft (fault_alone b) y → CallsAlike (fault_alone a) (fault_alone b) line after other later
     → AddedOnce a b have also x y line after other later

@@ -27,7 +27,7 @@ use Rattle.ua_client.specs.Hearing.{is_line_fault}
 use Rattle.ua_client.specs.Kept.{IsRefusedFor}
 use Rattle.ua_client.specs.Replies.{AreAwaited, AreReplies, AreSlots, IsAnswer, IsAt, IsFront, IsMisanswer, IsMisanswered, IsReply, IsReplyBy, IsSlot, IsUntold, LacksAnswer}
 use Rattle.ua_client.specs.Sent.{group_reasons, request_reasons}
-use Rattle.ua_client.specs.Site.{Site, At, id_at}
+use Rattle.ua_client.specs.ClientPlace.{ClientPlace, StandsAt, id_at}
 use Rattle.ua_client.specs.Told.{is_told_of, told_of}
 use Rattle.ua_client.specs.declared.fault.ClientFault.{ClientFault}
 use Rattle.ua_client.specs.declared.fault.ClientFault.TheVariants as fault
@@ -202,7 +202,7 @@ lacking_misses m id told r (inr q) p = not_misanswered (kind_of m) id q.0 r (sub
 -- ---- which request is refused
 
 -- the same of a group that is not asked
-abbrev pub Refuses : Bool → List Request → Site → ClientFault → List Reply → ℕ → Type 0
+abbrev pub Refuses : Bool → List Request → ClientPlace → ClientFault → List Reply → ℕ → Type 0
 Refuses false requests s f kept place = (kept ≡ []) × (place ≡ 0)
 Refuses true requests s f kept place = (kept ≡ []) × IsRefusedFor requests s f place
 
@@ -252,27 +252,27 @@ refused_once ack id (m ∷ ms) (suc n) (suc k) f g p q r s =
     (sym (reasons_behind (request_reasons ack id m) (group_reasons ack (id + 1) (take k ms)) own) ∙ r)
     (sym (reasons_behind (request_reasons ack id m) (group_reasons ack (id + 1) (take (k + 1) ms)) own) ∙ (ap (reasons_at ack id) (sym (take_next k m ms)) ∙ s)))
 
-refuses_once : (b : Bool) (requests : List Request) (s : Site) (f g : ClientFault) (rs qs : List Reply) (n k : ℕ) → Refuses b requests s f rs n → Refuses b requests s g qs k → (rs ≡ qs) × (n ≡ k)
+refuses_once : (b : Bool) (requests : List Request) (s : ClientPlace) (f g : ClientFault) (rs qs : List Reply) (n k : ℕ) → Refuses b requests s f rs n → Refuses b requests s g qs k → (rs ≡ qs) × (n ≡ k)
 refuses_once false requests s f g rs qs n k p q = (p.0 ∙ sym q.0, p.1 ∙ sym q.1)
 refuses_once true requests s f g rs qs n k p q = (p.0 ∙ sym q.0, refused_once s.before.ack (id_at s) requests n k f g p.1.0 p.1.1 q.1.0 q.1.1)
 
 -- ---- a group that is answered
 
 -- the rules by which a channel of these limits hears of a group that is asked there
-abbrev pub rules_at : Limits → List Request → Site → Rules ClientTold Why
+abbrev pub rules_at : Limits → List Request → ClientPlace → Rules ClientTold Why
 rules_at limits requests s = client_rules limits (asked_at s requests)
 
 -- behind a front of these octets a channel of these limits stands there, and all are answered
-pub record IsDone (limits : Limits) (requests : List Request) (s : Site) (coming : List ℕ) (x : ClientChannel) (t : Site) (taken : List ℕ) (replies : List Reply) : Type 0 where
+pub record IsDone (limits : Limits) (requests : List Request) (s : ClientPlace) (coming : List ℕ) (x : ClientChannel) (t : ClientPlace) (taken : List ℕ) (replies : List Reply) : Type 0 where
   pub limits_are : client_limits x ≡ limits
-  pub at : At x t
+  pub at : StandsAt x t
   pub came : LastCame x requests (id_at s) t.asks t.octets t.told
   pub answered : IsAnsweredAt requests s t taken replies
   pub more : List ℕ
   pub parts : taken ++ more ≡ coming
 
 -- two are one
-pub record DoneOnce (t u : Site) (taken got : List ℕ) (replies others : List Reply) : Type 0 where
+pub record DoneOnce (t u : ClientPlace) (taken got : List ℕ) (replies others : List Reply) : Type 0 where
   pub place : t ≡ u
   pub octets : taken ≡ got
   pub replies_are : replies ≡ others
@@ -285,22 +285,22 @@ pub data WaitsBy (f : ClientFault) (e : End Why) : Type 0 where
   ByRead : f ≡ fault.Read → e ≡ Going → WaitsBy f e
 
 -- it is not answered, by this fault: replies were awaited up to the end, or one was no answer, or it was not asked, or not written
-pub data Broke (b : Bool) (limits : Limits) (requests : List Request) (s : Site) (coming : List ℕ) (x : ClientChannel) (sent taken : List ℕ) (kept : List Reply) (place : ℕ) (f : ClientFault) : Type 0 where
+pub data Broke (b : Bool) (limits : Limits) (requests : List Request) (s : ClientPlace) (coming : List ℕ) (x : ClientChannel) (sent taken : List ℕ) (kept : List Reply) (place : ℕ) (f : ClientFault) : Type 0 where
   Waited : (e : End Why) → WaitsBy f e → IsSentAt requests s sent → (told : List ClientTold) → ReadsAll (rules_at limits requests s) (s.octets ++ coming) told e → AreAwaited requests (id_at s) told → Keeps b IsUntold requests (id_at s) told kept place
       → Broke b limits requests s coming x sent taken kept place f
   Missed : f ≡ fault.UnknownResponse → IsSentAt requests s sent → (told : List ClientTold) → ReadsFront (rules_at limits requests s) (s.octets ++ coming) told → IsMisanswered requests (id_at s) told → Keeps b LacksAnswer requests (id_at s) told kept place
       → Broke b limits requests s coming x sent taken kept place f
-  Judged : refusal_at s requests ≡ Some f → ends f ≡ false → sent ≡ [] → taken ≡ [] → At x s → Refuses b requests s f kept place → Broke b limits requests s coming x sent taken kept place f
+  Judged : refusal_at s requests ≡ Some f → ends f ≡ false → sent ≡ [] → taken ≡ [] → StandsAt x s → Refuses b requests s f kept place → Broke b limits requests s coming x sent taken kept place f
   Unwritten : f ≡ fault.Write → refusal_at s requests ≡ None → length sent < length (sent_at s requests) → kept ≡ [] → place ≡ 0 → Broke b limits requests s coming x sent taken kept place f
 
 -- two are one
-pub record BrokeOnce (s : Site) (x y : ClientChannel) (sent other taken got : List ℕ) (kept also : List Reply) (place again : ℕ) (f g : ClientFault) : Type 0 where
+pub record BrokeOnce (s : ClientPlace) (x y : ClientChannel) (sent other taken got : List ℕ) (kept also : List Reply) (place again : ℕ) (f g : ClientFault) : Type 0 where
   pub fault_is : f ≡ g
   pub sent_is : sent ≡ other
   pub kept_are : kept ≡ also
   pub place_is : place ≡ again
   -- where the client goes on, both stand there still
-  pub stays : ends f ≡ false → (taken ≡ []) × (got ≡ []) × At x s × At y s
+  pub stays : ends f ≡ false → (taken ≡ []) × (got ≡ []) × StandsAt x s × StandsAt y s
 
 differ : true ≡ false → ⊥
 differ e = cc
@@ -342,36 +342,36 @@ fail_alike_too f g (inr same) = inr (sym same)
 
 -- ---- two are one
 
-module _ (once : OneBody) (limits : Limits) (requests : List Request) (s : Site) (coming : List ℕ) where
+module _ (once : OneBody) (limits : Limits) (requests : List Request) (s : ClientPlace) (coming : List ℕ) where
   abbrev R : Rules ClientTold Why
   R = rules_at limits requests s
 
   rules_are : (x : ClientChannel) → client_limits x ≡ limits → client_rules_of x (asked_at s requests) ≡ R
   rules_are x e = ap (λ (l : Limits). client_rules l (asked_at s requests)) e
 
-  abbrev Done : ClientChannel → Site → List ℕ → List Reply → Type 0
+  abbrev Done : ClientChannel → ClientPlace → List ℕ → List Reply → Type 0
   Done x t taken replies = IsDone limits requests s coming x t taken replies
 
   seam : (taken more : List ℕ) → taken ++ more ≡ coming → take (length taken) coming ≡ taken
   seam taken more e = ap (take (length taken)) (sym e) ∙ take-append_seam taken more
 
-  told_by : (x : ClientChannel) (t : Site) (taken : List ℕ) (replies : List Reply) (d : Done x t taken replies) → Tells R s.octets coming d.came.before (length taken) d.came.last
+  told_by : (x : ClientChannel) (t : ClientPlace) (taken : List ℕ) (replies : List Reply) (d : Done x t taken replies) → Tells R s.octets coming d.came.before (length taken) d.came.last
   told_by x t taken replies d =
       to_tells R x (asked_at s requests) s.octets coming d.came.before (length taken) d.came.last (rules_are x d.limits_are) (omega (arith, ap length d.parts, length-append taken d.more))
       (subst (λ (o : List ℕ). ClientGoesTelling x (asked_at s requests) o d.came.before d.came.last) (d.answered.octets ∙ ap (λ (o : List ℕ). s.octets ++ o) (sym (seam taken d.more d.parts)))
       (subst (λ (asked : List Placed). ClientGoesTelling x asked t.octets d.came.before d.came.last) d.answered.asks d.came.tells))
 
-  done_front : (x : ClientChannel) (t : Site) (taken : List ℕ) (replies : List Reply) → Done x t taken replies → ReadsFront R (s.octets ++ coming) t.told
+  done_front : (x : ClientChannel) (t : ClientPlace) (taken : List ℕ) (replies : List Reply) → Done x t taken replies → ReadsFront R (s.octets ++ coming) t.told
   done_front x t taken replies d =
       goes_front R x (asked_at s requests) (s.octets ++ taken) d.more (s.octets ++ coming) t.told (rules_are x d.limits_are) (behind_parts s.octets taken d.more coming d.parts)
       (subst (λ (o : List ℕ). ClientGoes x (asked_at s requests) o t.told) d.answered.octets (subst (λ (asked : List Placed). ClientGoes x asked t.octets t.told) d.answered.asks d.at.goes))
 
   -- where all are answered, what was told later does not leave one awaited
-  not_later : (x : ClientChannel) (t : Site) (taken : List ℕ) (replies : List Reply) (d : Done x t taken replies) (told more : List ClientTold) → AreAwaited requests (id_at s) told → told ≡ (d.came.before ++ d.came.last ∷ []) ++ more → ⊥
+  not_later : (x : ClientChannel) (t : ClientPlace) (taken : List ℕ) (replies : List Reply) (d : Done x t taken replies) (told more : List ClientTold) → AreAwaited requests (id_at s) told → told ≡ (d.came.before ++ d.came.last ∷ []) ++ more → ⊥
   not_later x t taken replies d told more a e =
       none_awaited requests (id_at s) told t.told more replies a.slots (e ∙ ap (λ (ts : List ClientTold). ts ++ more) (sym d.came.told_is)) d.answered.replies_are a.slots_are a.missing
 
-  module _ (x y : ClientChannel) (t u : Site) (taken got : List ℕ) (replies others : List Reply) (d : Done x t taken replies) (e : Done y u got others) where
+  module _ (x y : ClientChannel) (t u : ClientPlace) (taken got : List ℕ) (replies others : List Reply) (d : Done x t taken replies) (e : Done y u got others) where
     by_meeting : Meets d.came.before e.came.before (length taken) (length got) d.came.last e.came.last → DoneOnce t u taken got replies others
     by_meeting (Within more p) = absurd (not_later x t taken replies d e.came.before more e.came.awaited p)
     by_meeting (Around more p) = absurd (not_later y u got others e d.came.before more d.came.awaited p)
@@ -390,7 +390,7 @@ module _ (once : OneBody) (limits : Limits) (requests : List Request) (s : Site)
         by_meeting (tells_tells R s.octets coming d.came.before e.came.before (length taken) (length got) d.came.last e.came.last (told_by x t taken replies d) (told_by y u got others e))
 
   -- one that is answered is not broken
-  pub not_broken : (b : Bool) (x y : ClientChannel) (t : Site) (taken sent got : List ℕ) (replies kept : List Reply) (place : ℕ) (f : ClientFault) → Done x t taken replies → Broke b limits requests s coming y sent got kept place f
+  pub not_broken : (b : Bool) (x y : ClientChannel) (t : ClientPlace) (taken sent got : List ℕ) (replies kept : List Reply) (place : ℕ) (f : ClientFault) → Done x t taken replies → Broke b limits requests s coming y sent got kept place f
       → (f ≡ fault.Write → length (sent_at s requests) ≤ length sent) → ⊥
   not_broken b x y t taken sent got replies kept place f d (Waited e by sent_is told all a k) w =
       let m = front_first R (s.octets ++ coming) t.told told e (done_front x t taken replies d) all in
@@ -405,7 +405,7 @@ module _ (once : OneBody) (limits : Limits) (requests : List Request) (s : Site)
     abbrev Once : Type 0
     Once = BrokeOnce s x y sent other taken got kept also place again f g
 
-    no_stay : ends f ≡ true → ends f ≡ false → (taken ≡ []) × (got ≡ []) × At x s × At y s
+    no_stay : ends f ≡ true → ends f ≡ false → (taken ≡ []) × (got ≡ []) × StandsAt x s × StandsAt y s
     no_stay is not = absurd (differ (sym is ∙ not))
 
     unrefused : refusal_at s requests ≡ None → (h : ClientFault) → refusal_at s requests ≡ Some h → ⊥

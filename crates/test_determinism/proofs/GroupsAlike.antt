@@ -9,13 +9,13 @@ use Rattle.ua_channel.specs.ClientTable.{client_rules}
 use Rattle.ua_channel.specs.ClientTold.{ClientTold, Why, ours, peers}
 use Rattle.ua_channel.specs.declared.client.channel.ClientChannel.{ClientChannel}
 use Rattle.ua_services.specs.declared.request.Request.{Request}
-use Rattle.ua_client.specs.Calls.{AnsweredAll, AreGroups, BreaksAt, BrokenAll, EndsOn, GoesOn, IsSentAt, Rounds, all_of, asked_at, sent_at}
+use Rattle.ua_client.specs.Calls.{AnsweredAll, AreGroups, BreaksAt, BrokenAll, EndsOn, ClientGoesOn, IsSentAt, Rounds, all_of, asked_at, sent_at}
 use Rattle.ua_client.specs.Calls.Rounds.{NoRound, OneRound}
 use Rattle.ua_client.specs.Client.{ends}
 use Rattle.ua_client.specs.Hearing.{channel_of}
 use Rattle.ua_client.specs.Kept.{KeepsAt}
 use Rattle.ua_client.specs.Replies.{AreAwaited, IsFront, IsMisanswered, IsUntold, LacksAnswer}
-use Rattle.ua_client.specs.Site.{Site, At, id_at}
+use Rattle.ua_client.specs.ClientPlace.{ClientPlace, StandsAt, id_at}
 use Rattle.ua_client.specs.declared.connection.Connection.{Connection}
 use Rattle.ua_client.specs.declared.fault.ClientFault.{ClientFault}
 use Rattle.ua_client.specs.declared.fault.ClientFault.TheVariants as fault
@@ -57,12 +57,12 @@ group_once g h others more e p q =
 -- a client that stands there calls these requests, over a line from which these octets are to come: all are answered, or the first group is
 -- not, by this fault; or it is, and so on from there. What was sent and taken, the replies that are kept, and how many requests stand before
 -- the one that the fault names.
-pub data Walk (b : Bool) (limits : Limits) (x : ClientChannel) (o : Option ClientFault) : List Request → Site → List ℕ → List ℕ → List ℕ → List Reply → ℕ → Type 0 where
-  Over : {requests : List Request} {s : Site} {coming sent taken : List ℕ} {replies : List Reply} {count : ℕ} → requests ≡ [] → o ≡ None → sent ≡ [] → taken ≡ [] → replies ≡ [] → count ≡ 0 → At x s
+pub data Walk (b : Bool) (limits : Limits) (x : ClientChannel) (o : Option ClientFault) : List Request → ClientPlace → List ℕ → List ℕ → List ℕ → List Reply → ℕ → Type 0 where
+  Over : {requests : List Request} {s : ClientPlace} {coming sent taken : List ℕ} {replies : List Reply} {count : ℕ} → requests ≡ [] → o ≡ None → sent ≡ [] → taken ≡ [] → replies ≡ [] → count ≡ 0 → StandsAt x s
       → Walk b limits x o requests s coming sent taken replies count
-  Breaks : {requests : List Request} {s : Site} {coming sent taken : List ℕ} {replies : List Reply} {count : ℕ} (f : ClientFault) (g others : List Request) → o ≡ Some f → requests ≡ g ++ others → IsGroup g others
+  Breaks : {requests : List Request} {s : ClientPlace} {coming sent taken : List ℕ} {replies : List Reply} {count : ℕ} (f : ClientFault) (g others : List Request) → o ≡ Some f → requests ≡ g ++ others → IsGroup g others
       → Broke b limits g s coming x sent taken replies count f → Walk b limits x o requests s coming sent taken replies count
-  Step : {requests : List Request} {s : Site} {coming sent taken : List ℕ} {replies : List Reply} {count : ℕ} (g others : List Request) (z : ClientChannel) (m : Site) (part later out rest : List ℕ) (added further : List Reply) (n : ℕ)
+  Step : {requests : List Request} {s : ClientPlace} {coming sent taken : List ℕ} {replies : List Reply} {count : ℕ} (g others : List Request) (z : ClientChannel) (m : ClientPlace) (part later out rest : List ℕ) (added further : List Reply) (n : ℕ)
       → requests ≡ g ++ others → IsGroup g others → IsDone limits g s coming z m part added → coming ≡ part ++ later → sent ≡ sent_at s g ++ out → taken ≡ part ++ rest → replies ≡ added ++ further → count ≡ length g + n
       → Walk b limits x o others m later out rest further n → Walk b limits x o requests s coming sent taken replies count
 
@@ -72,15 +72,15 @@ goes_on None = true
 goes_on (Some f) = not (ends f)
 
 -- two channels stand in one place behind these octets
-pub record Place (x y : ClientChannel) (s : Site) (taken got : List ℕ) : Type 0 where
-  pub site : Site
-  pub first : At x site
-  pub second : At y site
+pub record Place (x y : ClientChannel) (s : ClientPlace) (taken got : List ℕ) : Type 0 where
+  pub site : ClientPlace
+  pub first : StandsAt x site
+  pub second : StandsAt y site
   pub octets : site.octets ≡ s.octets ++ taken
   pub same : taken ≡ got
 
 -- two are one
-pub record WalkOnce (x y : ClientChannel) (o p : Option ClientFault) (s : Site) (sent other taken got : List ℕ) (replies also : List Reply) (n k : ℕ) : Type 0 where
+pub record WalkOnce (x y : ClientChannel) (o p : Option ClientFault) (s : ClientPlace) (sent other taken got : List ℕ) (replies also : List Reply) (n k : ℕ) : Type 0 where
   pub outcome : o ≡ p
   pub sent_is : sent ≡ other
   pub replies_are : replies ≡ also
@@ -106,7 +106,7 @@ not_going f e = by (ends f) refl
     by false is = is
 
 module _ (once : OneBody) (b : Bool) (limits : Limits) (x y : ClientChannel) (o p : Option ClientFault) where
-  over_both : (s : Site) (sent other taken got : List ℕ) (replies also : List Reply) (n k : ℕ) → o ≡ None → p ≡ None → sent ≡ [] → other ≡ [] → taken ≡ [] → got ≡ [] → replies ≡ [] → also ≡ [] → n ≡ 0 → k ≡ 0 → At x s → At y s
+  over_both : (s : ClientPlace) (sent other taken got : List ℕ) (replies also : List Reply) (n k : ℕ) → o ≡ None → p ≡ None → sent ≡ [] → other ≡ [] → taken ≡ [] → got ≡ [] → replies ≡ [] → also ≡ [] → n ≡ 0 → k ≡ 0 → StandsAt x s → StandsAt y s
       → WalkOnce x y o p s sent other taken got replies also n k
   over_both s sent other taken got replies also n k a a' e e' d d' r r' c c' at at' = record {
     outcome = a ∙ sym a';
@@ -116,7 +116,7 @@ module _ (once : OneBody) (b : Bool) (limits : Limits) (x y : ClientChannel) (o 
     stays = λ goes. record { site = s; first = at; second = at'; octets = sym (ap (λ (t : List ℕ). s.octets ++ t) d ∙ append-nil s.octets); same = d ∙ sym d' };
   }
 
-  break_both : (s : Site) (coming sent other taken got : List ℕ) (replies also : List Reply) (n k : ℕ) (f g : ClientFault) (requests : List Request) → o ≡ Some f → p ≡ Some g → Faults o p sent other
+  break_both : (s : ClientPlace) (coming sent other taken got : List ℕ) (replies also : List Reply) (n k : ℕ) (f g : ClientFault) (requests : List Request) → o ≡ Some f → p ≡ Some g → Faults o p sent other
       → Broke b limits requests s coming x sent taken replies n f → Broke b limits requests s coming y other got also k g → WalkOnce x y o p s sent other taken got replies also n k
   break_both s coming sent other taken got replies also n k f g requests e d faults u v =
       let one = broke_once once limits requests s coming b x y sent other taken got replies also n k f g (faults.alike f g e d) (λ is. faults.written (inl (e ∙ ap Some is))) u v in
@@ -130,7 +130,7 @@ module _ (once : OneBody) (b : Bool) (limits : Limits) (x y : ClientChannel) (o 
             record { site = s; first = h.2; second = h.3; octets = sym (ap (λ (t : List ℕ). s.octets ++ t) h.0 ∙ append-nil s.octets); same = h.0 ∙ sym h.1 };
       }
 
-  behind_step : (s m : Site) (part sent other out also_out taken got rest also_rest : List ℕ) (replies also added further also_further : List Reply) (n k c i j : ℕ) (start : List ℕ)
+  behind_step : (s m : ClientPlace) (part sent other out also_out taken got rest also_rest : List ℕ) (replies also added further also_further : List Reply) (n k c i j : ℕ) (start : List ℕ)
       → sent ≡ start ++ out → other ≡ start ++ also_out → taken ≡ part ++ rest → got ≡ part ++ also_rest → replies ≡ added ++ further → also ≡ added ++ also_further → n ≡ c + i → k ≡ c + j → m.octets ≡ s.octets ++ part
       → WalkOnce x y o p m out also_out rest also_rest further also_further i j → WalkOnce x y o p s sent other taken got replies also n k
   behind_step s m part sent other out also_out taken got rest also_rest replies also added further also_further n k c i j start e e' d d' r r' q q' at w = record {
@@ -150,13 +150,13 @@ module _ (once : OneBody) (b : Bool) (limits : Limits) (x y : ClientChannel) (o 
   }
 
   -- one that breaks off where the other goes on
-  parts_ways : (limits_too : Limits) (s : Site) (coming sent other : List ℕ) (g h others more : List Request) (z w : ClientChannel) (m : Site) (part got out : List ℕ) (added kept : List Reply) (k : ℕ) (f : ClientFault)
+  parts_ways : (limits_too : Limits) (s : ClientPlace) (coming sent other : List ℕ) (g h others more : List Request) (z w : ClientChannel) (m : ClientPlace) (part got out : List ℕ) (added kept : List Reply) (k : ℕ) (f : ClientFault)
       → g ≡ h → IsDone limits_too g s coming z m part added → sent ≡ sent_at s g ++ out → (f ≡ fault.Write → sent ≡ other) → Broke b limits_too h s coming w other got kept k f → ⊥
   parts_ways limits_too s coming sent other g h others more z w m part got out added kept k f same d e written u =
       not_broken once limits_too g s coming b z w m part other got added kept k f d (subst (λ (ms : List Request). Broke b limits_too ms s coming w other got kept k f) (sym same) u)
       (λ is. let lengths = ap length (sym (written is) ∙ e) in omega (arith, lengths, length-append (sent_at s g) out))
 
-  pub walks_once : (requests : List Request) (s : Site) (coming sent other taken got : List ℕ) (replies also : List Reply) (n k : ℕ) → Walk b limits x o requests s coming sent taken replies n → Walk b limits y p requests s coming other got also k
+  pub walks_once : (requests : List Request) (s : ClientPlace) (coming sent other taken got : List ℕ) (replies also : List Reply) (n k : ℕ) → Walk b limits x o requests s coming sent taken replies n → Walk b limits y p requests s coming other got also k
       → Faults o p sent other → WalkOnce x y o p s sent other taken got replies also n k
   walks_once requests s coming sent other taken got replies also n k (Over none a e d r c at) (Over none' a' e' d' r' c' at') faults = over_both s sent other taken got replies also n k a a' e e' d d' r r' c c' at at'
   walks_once requests s coming sent other taken got replies also n k (Over none a e d r c at) (Breaks g h more a' is' group' u) faults = absurd (no_requests requests h more none is' group')
@@ -178,7 +178,7 @@ module _ (once : OneBody) (b : Bool) (limits : Limits) (x y : ClientChannel) (o 
       let ahead : later' ≡ later = append_cancel_left part later' later (ap (λ (t : List ℕ). t ++ later') one.octets ∙ (sym c' ∙ c)) in
       let there : Walk b limits y p others m later out' rest' further' j =
       subst (λ (ms : List Request). Walk b limits y p ms m later out' rest' further' j) (sym same.1)
-      (subst (λ (t : Site). Walk b limits y p others' t later out' rest' further' j) (sym one.place) (subst (λ (t : List ℕ). Walk b limits y p others' m' t out' rest' further' j) ahead w')) in
+      (subst (λ (t : ClientPlace). Walk b limits y p others' t later out' rest' further' j) (sym one.place) (subst (λ (t : List ℕ). Walk b limits y p others' m' t out' rest' further' j) ahead w')) in
       let start : other ≡ sent_at s g ++ out' = e' ∙ ap (λ (ms : List Request). sent_at s ms ++ out') (sym same.0) in
       behind_step s m part sent other out out' taken got rest rest' replies also added further further' n k (length g) i j (sent_at s g) e start d (d' ∙ ap (λ (t : List ℕ). t ++ rest') (sym one.octets)) r
       (r' ∙ ap (λ (t : List Reply). t ++ further') (sym one.replies_are)) q (q' ∙ ap (λ (ms : List Request). length ms + j) (sym same.0)) done.answered.octets
@@ -187,7 +187,7 @@ module _ (once : OneBody) (b : Bool) (limits : Limits) (x y : ClientChannel) (o 
 
 -- ---- rounds as a walk
 
-pub walk_as : (b : Bool) (limits : Limits) (x : ClientChannel) (o : Option ClientFault) (requests others : List Request) (s : Site) (coming later sent out taken rest : List ℕ) (replies further : List Reply) (n k : ℕ)
+pub walk_as : (b : Bool) (limits : Limits) (x : ClientChannel) (o : Option ClientFault) (requests others : List Request) (s : ClientPlace) (coming later sent out taken rest : List ℕ) (replies further : List Reply) (n k : ℕ)
     → requests ≡ others → coming ≡ later → sent ≡ out → taken ≡ rest → replies ≡ further → n ≡ k → Walk b limits x o requests s coming sent taken replies n → Walk b limits x o others s later out rest further k
 walk_as b limits x o requests others s coming later sent out taken rest replies further n k p c e d r q w =
     subst (λ (t : ℕ). Walk b limits x o others s later out rest further t) q (subst (λ (t : List Reply). Walk b limits x o others s later out rest t n) r (subst (λ (t : List ℕ). Walk b limits x o others s later out t replies n) d
@@ -225,9 +225,9 @@ last_group : (gs : List (List Request)) (g : List Request) → AreGroups (gs ++ 
 last_group [] g h = (h.0, h.1)
 last_group (k ∷ gs) g h = last_group gs g h.3
 
-module _ (b : Bool) (limits : Limits) (x client : ClientChannel) (same : client_limits client ≡ limits) (o : Option ClientFault) (s : Site) where
+module _ (b : Bool) (limits : Limits) (x client : ClientChannel) (same : client_limits client ≡ limits) (o : Option ClientFault) (s : ClientPlace) where
   -- rounds, and from there a walk
-  prepend : {groups : List (List Request)} {t : Site} {sent taken : List ℕ} {replies : List Reply} (others : List Request) (later out rest : List ℕ) (further : List Reply) (n : ℕ) → Rounds client s groups t sent taken replies → Grouped groups others
+  prepend : {groups : List (List Request)} {t : ClientPlace} {sent taken : List ℕ} {replies : List Reply} (others : List Request) (later out rest : List ℕ) (further : List Reply) (n : ℕ) → Rounds client s groups t sent taken replies → Grouped groups others
       → Walk b limits x o others t later out rest further n → Walk b limits x o (all_of groups ++ others) s (taken ++ later) (sent ++ out) (taken ++ rest) (replies ++ further) (length (all_of groups) + n)
   prepend others later out rest further n NoRound h w = walk_as b limits x o others others s later later out out rest rest further further n (0 + n) refl refl refl refl refl (omega arith) w
   prepend others later out rest further n (OneRound {groups = gs} {m = m} {t = t} {sent = sent} {taken = taken} {part = part} {replies = replies} {added = added} group z r behind a) h w =
@@ -242,7 +242,7 @@ module _ (b : Bool) (limits : Limits) (x client : ClientChannel) (same : client_
 
 -- ---- where a group is not answered
 
-module _ (limits : Limits) (requests : List Request) (s : Site) (new : Connection) (sent taken more : List ℕ) (same : client_limits (channel_of new) ≡ limits) where
+module _ (limits : Limits) (requests : List Request) (s : ClientPlace) (new : Connection) (sent taken more : List ℕ) (same : client_limits (channel_of new) ≡ limits) where
   abbrev R : Rules ClientTold Why
   R = rules_at limits requests s
 
@@ -264,14 +264,14 @@ module _ (limits : Limits) (requests : List Request) (s : Site) (new : Connectio
       let all = ended_reads R (channel_of new) (asked_at s requests) (s.octets ++ taken) more whole (s.told ++ k.1.0) why rules parts k.1.1 in
       Waited (Stopped why) (ByFault by) k.0 (s.told ++ k.1.0) all k.1.2 (keeps (s.told ++ k.1.0) all)
 
-  gone_by : (b : Bool) (kept : List Reply) (place : ℕ) (f : ClientFault) → WaitsBy f Going → more ≡ [] → IsSentAt requests s sent × GoesOn (channel_of new) (asked_at s requests) (s.octets ++ taken) s.told (AreAwaited requests (id_at s))
+  gone_by : (b : Bool) (kept : List Reply) (place : ℕ) (f : ClientFault) → WaitsBy f Going → more ≡ [] → IsSentAt requests s sent × ClientGoesOn (channel_of new) (asked_at s requests) (s.octets ++ taken) s.told (AreAwaited requests (id_at s))
       → ((told : List ClientTold) → ClientGoes (channel_of new) (asked_at s requests) (s.octets ++ taken) told → Keeps b IsUntold requests (id_at s) told kept place) → Ending b kept place f
   gone_by b kept place f by none k keeps =
       Waited Going by k.0 (s.told ++ k.1.0)
       (goes_reads R (channel_of new) (asked_at s requests) (s.octets ++ taken) whole (s.told ++ k.1.0) rules (ap (λ (o : List ℕ). s.octets ++ o) (sym (ap (λ (o : List ℕ). taken ++ o) none ∙ append-nil taken))) k.1.1)
       k.1.2 (keeps (s.told ++ k.1.0) k.1.1)
 
-  missed_by : (b : Bool) (kept : List Reply) (place : ℕ) → IsSentAt requests s sent × GoesOn (channel_of new) (asked_at s requests) (s.octets ++ taken) s.told (IsMisanswered requests (id_at s))
+  missed_by : (b : Bool) (kept : List Reply) (place : ℕ) → IsSentAt requests s sent × ClientGoesOn (channel_of new) (asked_at s requests) (s.octets ++ taken) s.told (IsMisanswered requests (id_at s))
       → ((told : List ClientTold) → ClientGoes (channel_of new) (asked_at s requests) (s.octets ++ taken) told → Keeps b LacksAnswer requests (id_at s) told kept place) → Ending b kept place fault.UnknownResponse
   missed_by b kept place k keeps = Missed refl k.0 (s.told ++ k.1.0) (goes_front R (channel_of new) (asked_at s requests) (s.octets ++ taken) more whole (s.told ++ k.1.0) rules parts k.1.1) k.1.2 (keeps (s.told ++ k.1.0) k.1.1)
 
@@ -282,7 +282,7 @@ module _ (limits : Limits) (requests : List Request) (s : Site) (new : Connectio
       let same_told = all_once R whole (s.told ++ q.1.0) told (Stopped why) (Stopped why) (ended_reads R (channel_of new) (asked_at s requests) (s.octets ++ taken) more whole (s.told ++ q.1.0) why rules parts q.1.1) all in
       (q.0, subst (λ (ts : List ClientTold). IsFront IsUntold kept requests (id_at s) ts) same_told.0 q.1.2)
 
-  keeps_gone : (Misses : Request → ℕ → List ClientTold → Type 0) (kept : List Reply) (place : ℕ) → (place ≡ length kept) × GoesOn (channel_of new) (asked_at s requests) (s.octets ++ taken) s.told (IsFront Misses kept requests (id_at s))
+  keeps_gone : (Misses : Request → ℕ → List ClientTold → Type 0) (kept : List Reply) (place : ℕ) → (place ≡ length kept) × ClientGoesOn (channel_of new) (asked_at s requests) (s.octets ++ taken) s.told (IsFront Misses kept requests (id_at s))
       → (told : List ClientTold) → ClientGoes (channel_of new) (asked_at s requests) (s.octets ++ taken) told → Keeps true Misses requests (id_at s) told kept place
   keeps_gone Misses kept place q told g =
       let here = goes_reads R (channel_of new) (asked_at s requests) (s.octets ++ taken) (s.octets ++ taken) (s.told ++ q.1.0) rules refl q.1.1 in
@@ -332,7 +332,7 @@ module _ (limits : Limits) (requests : List Request) (s : Site) (new : Connectio
 
 -- ---- calls as a walk
 
-module _ (b : Bool) (limits : Limits) (requests : List Request) (s : Site) (sent taken more : List ℕ) where
+module _ (b : Bool) (limits : Limits) (requests : List Request) (s : ClientPlace) (sent taken more : List ℕ) where
   -- all are answered
   pub walk_answered : (x : ClientChannel) → client_limits x ≡ limits → (replies : List Reply) (a : AnsweredAll requests s x sent taken replies) → Walk b limits x None requests s (taken ++ more) sent taken replies (length (all_of a.groups) + 0)
   walk_answered x same replies a =

@@ -5,8 +5,8 @@ use Rattle.std.proofs.lemmas.List.{append_cancel_left}
 use Rattle.ua_channel.specs.Client.{SameClient, client_limits}
 use Rattle.ua_channel.specs.Line.{Traffic}
 use Rattle.ua_client.specs.Client.{IsLeft, IsReady, client_channel, connection_of, ends}
-use Rattle.ua_client.specs.Hearing.{Moves, StopsAt, is_line_fault, most_reads, untaken_of}
-use Rattle.ua_client.specs.Site.{Site}
+use Rattle.ua_client.specs.Hearing.{MovesConnection, StopsAt, is_line_fault, most_reads, untaken_of}
+use Rattle.ua_client.specs.ClientPlace.{ClientPlace}
 use Rattle.ua_client.specs.declared.client.Client.{Client}
 use Rattle.ua_client.specs.declared.fault.ClientFault.{ClientFault}
 use Rattle.ua_client.specs.declared.fault.ClientFault.TheVariants as fault
@@ -71,8 +71,8 @@ pub record Ways {A : Type 0} (a b : Result A ClientFault) (taken got sent other 
   pub stop_too : (f : ClientFault) → fault_of b ≡ Some f → (f ≡ fault.Ended) ⊎ (f ≡ fault.Read) → rest ≡ []
   pub faults : Faults (fault_of a) (fault_of b) sent other
 
-module _ {A : Type 0} (one two x y : Client) (a b : Result A ClientFault) (line after other later : Option Traffic) (s : Site) (coming : List ℕ) (stand : StandReady one two line other s coming)
-    (sent also : List ℕ) (m : Moves (connection_of one) (connection_of x) sent line after) (n : Moves (connection_of two) (connection_of y) also other later)
+module _ {A : Type 0} (one two x y : Client) (a b : Result A ClientFault) (line after other later : Option Traffic) (s : ClientPlace) (coming : List ℕ) (stand : StandReady one two line other s coming)
+    (sent also : List ℕ) (m : MovesConnection (connection_of one) (connection_of x) sent line after) (n : MovesConnection (connection_of two) (connection_of y) also other later)
     (same : SameClient (client_channel one) (client_channel x)) (same_too : SameClient (client_channel two) (client_channel y))
     (stops : StopsAt most_reads most_reads m.got (connection_of x) after a) (stops_too : StopsAt most_reads most_reads n.got (connection_of y) later b) where
   p : (t : Traffic) × (line ≡ Some t) × ((more : List ℕ) → untaken_of (connection_of one) ++ t.coming more ≡ coming)

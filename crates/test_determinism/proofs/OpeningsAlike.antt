@@ -18,7 +18,7 @@ use Rattle.ua_client.specs.Client.{IsFresh, IsOver, OpensClient, OpensNothing, c
 use Rattle.ua_client.specs.Hearing.{BreaksOff, StopsAt, channel_of, most_reads, untaken_of}
 use Rattle.ua_client.specs.Opening.{BreaksWaiting, IsOpened, Opens, OpensAt, hello_octets, open_octets}
 use Rattle.ua_client.specs.Renewing.{IsSettled}
-use Rattle.ua_client.specs.Site.{Site, At}
+use Rattle.ua_client.specs.ClientPlace.{ClientPlace, StandsAt}
 use Rattle.ua_client.specs.declared.client.Client.{Client}
 use Rattle.ua_client.specs.declared.connection.Connection.{Connection}
 use Rattle.ua_client.specs.declared.fault.ClientFault.{ClientFault}
@@ -107,7 +107,7 @@ module _ {A : Type 0} (R : Rules ClientTold Why) (limits : Limits) (url : Option
 
 -- the law of where a client stands behind its opening
 abbrev pub SettledBehind : Type 0
-SettledBehind = (x : ClientChannel) (octets : List ℕ) → IsOpened x octets → (s : Site) × (s.octets ≡ octets) × (s.asks ≡ []) × At x s × IsSettled s
+SettledBehind = (x : ClientChannel) (octets : List ℕ) → IsOpened x octets → (s : ClientPlace) × (s.octets ≡ octets) × (s.asks ≡ []) × StandsAt x s × IsSettled s
 
 pub record OpenedOnce (a b : Result Client ClientFault) (line after other later : Option Traffic) : Type 0 where
   pub answers : OpenAlike a b after later
@@ -181,8 +181,8 @@ module _ (settled : SettledBehind) (limits : Limits) (url : Option (List ℕ)) (
         record {
           ready = ready;
           ready_too = ready_too;
-          first = subst (λ (c : Connection). At (channel_of c) s.0) (sym is) s.3;
-          second = subst (λ (c : Connection). At (channel_of c) s.0) (sym is_too) (subst (At (channel_of k.last)) (sym place) t.3);
+          first = subst (λ (c : Connection). StandsAt (channel_of c) s.0) (sym is) s.3;
+          second = subst (λ (c : Connection). StandsAt (channel_of c) s.0) (sym is_too) (subst (StandsAt (channel_of k.last)) (sym place) t.3);
           same = record {
             limits = ap (λ (c : Connection). client_limits (channel_of c)) is ∙ (limits_same ∙ sym (ap (λ (c : Connection). client_limits (channel_of c)) is_too));
             url = ap (λ (c : Connection). url_of (channel_of c)) is ∙ ((sym h.opens.keeps.same.url ∙ h.fresh.url_is) ∙ (sym (sym k.opens.keeps.same.url ∙ k.fresh.url_is) ∙ sym (ap (λ (c : Connection). url_of (channel_of c)) is_too)));

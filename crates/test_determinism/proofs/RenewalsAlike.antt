@@ -20,7 +20,7 @@ use Rattle.ua_client.specs.Client.{Closes, ClosesAt, IsDone, IsLeft, client_chan
 use Rattle.ua_client.specs.Hearing.{StopsAt, channel_of, most_reads, untaken_of}
 use Rattle.ua_client.specs.Opening.{GoesWithout, EndsWithout}
 use Rattle.ua_client.specs.Renewing.{IsRefusal, IsRenewed, Renews, RenewsAt, asks_renewed, is_renewed, refused_by, renewal_at}
-use Rattle.ua_client.specs.Site.{Site, At}
+use Rattle.ua_client.specs.ClientPlace.{ClientPlace, StandsAt}
 use Rattle.ua_client.specs.declared.client.Client.{Client}
 use Rattle.ua_client.specs.declared.connection.Connection.{Connection}
 use Rattle.ua_client.specs.declared.fault.ClientFault.{ClientFault}
@@ -47,10 +47,10 @@ true_false e = cc
 
 -- ---- a close
 
-abbrev ClosesTo : Site → DateTime → List ℕ → Result (Unit {0}) ClientFault → Type 0
+abbrev ClosesTo : ClientPlace → DateTime → List ℕ → Result (Unit {0}) ClientFault → Type 0
 ClosesTo s moment sent a = (a ≡ Ok tt) × (sent ≡ closing_at s moment)
 
-closes_to : (s : Site) (moment : DateTime) (sent : List ℕ) (a : Result (Unit {0}) ClientFault) → ClosesAt s moment sent a → line_failed a ≡ false → ¬ (IsErrOf a fault.OutOfMemory) → ClosesTo s moment sent a
+closes_to : (s : ClientPlace) (moment : DateTime) (sent : List ℕ) (a : Result (Unit {0}) ClientFault) → ClosesAt s moment sent a → line_failed a ≡ false → ¬ (IsErrOf a fault.OutOfMemory) → ClosesTo s moment sent a
 closes_to s moment sent (Ok u) h unbroken had = (refl, h)
 closes_to s moment sent (Err fault.Write) h unbroken had = absurd (true_false unbroken)
 closes_to s moment sent (Err fault.OutOfMemory) h unbroken had = absurd (had refl)
@@ -60,7 +60,7 @@ pub record ClosedOnce (a b : Result (Unit {0}) ClientFault) (line after other la
   pub answers : a ≡ b
   pub written : WroteAlike line after other later
 
-pub closed_once : (one two : Client) (moment : DateTime) (a b : Result (Unit {0}) ClientFault) (line after other later : Option Traffic) (s : Site) (coming : List ℕ) → StandReady one two line other s coming → HadMemory fault.OutOfMemory a b → CallsAlike a b line after other later
+pub closed_once : (one two : Client) (moment : DateTime) (a b : Result (Unit {0}) ClientFault) (line after other later : Option Traffic) (s : ClientPlace) (coming : List ℕ) → StandReady one two line other s coming → HadMemory fault.OutOfMemory a b → CallsAlike a b line after other later
     → Closes moment (client_channel one) line after a → Closes moment (client_channel two) other later b → ClosedOnce a b line after other later
 closed_once one two moment a b line after other later s coming stand had faults h k = by_faults faults
   where
@@ -97,7 +97,7 @@ closed_once one two moment a b line after other later s coming stand had faults 
 -- ---- one place
 
 -- two channels of the same limits stand in one place, where they asked the same, took the same and send the same number next
-pub site_once : (x y : ClientChannel) (s t : Site) → At x s → At y t → client_limits x ≡ client_limits y → s.asks ≡ t.asks → s.octets ≡ t.octets → s.number ≡ t.number → s ≡ t
+pub site_once : (x y : ClientChannel) (s t : ClientPlace) → StandsAt x s → StandsAt y t → client_limits x ≡ client_limits y → s.asks ≡ t.asks → s.octets ≡ t.octets → s.number ≡ t.number → s ≡ t
 site_once x y s t p q limits asks octets number = same s.asks t.asks s.octets t.octets s.before t.before s.told t.told s.number t.number asks octets before told number
   where
     run : Run (client_rules_of y t.asks) t.octets p.goes.frames p.goes.rest Going
@@ -113,18 +113,18 @@ site_once x y s t p q limits asks octets number = same s.asks t.asks s.octets t.
     told = sym p.goes.told_is ∙ (ap (events (client_rules_of x s.asks)) frames ∙ q.goes.told_is)
 
     same : (asked bs : List Placed) (os ps : List ℕ) (b c : Received) (ts us : List ClientTold) (m n : ℕ) → asked ≡ bs → os ≡ ps → b ≡ c → ts ≡ us → m ≡ n
-        → ◌≡◌ {A = Site} (record { asks = asked; octets = os; before = b; told = ts; number = m }) (record { asks = bs; octets = ps; before = c; told = us; number = n })
+        → ◌≡◌ {A = ClientPlace} (record { asks = asked; octets = os; before = b; told = ts; number = m }) (record { asks = bs; octets = ps; before = c; told = us; number = n })
     same asked bs os ps b c ts us m n e1 e2 e3 e4 e5 = cc
 
 -- ---- a renewal
 
 -- what a renewal comes to, where no call of the line failed and memory was had
-data RenewsTo (R : Rules ClientTold Why) (whole : List ℕ) (s : Site) (moment : DateTime) (new : ClientChannel) (sent taken : List ℕ) (a : Result (Unit {0}) ClientFault) : Type 0 where
-  Done : a ≡ Ok tt → sent ≡ renewal_at s moment → (t : Site) → IsRenewed new s t taken → RenewsTo R whole s moment new sent taken a
+data RenewsTo (R : Rules ClientTold Why) (whole : List ℕ) (s : ClientPlace) (moment : DateTime) (new : ClientChannel) (sent taken : List ℕ) (a : Result (Unit {0}) ClientFault) : Type 0 where
+  Done : a ≡ Ok tt → sent ≡ renewal_at s moment → (t : ClientPlace) → IsRenewed new s t taken → RenewsTo R whole s moment new sent taken a
   Waited : (f : ClientFault) (e : End Why) → a ≡ Err f → EndsBy f e → sent ≡ renewal_at s moment → (heard : List ClientTold) → list_any is_renewed heard ≡ false → ReadsAll R whole (s.told ++ heard) e → RenewsTo R whole s moment new sent taken a
   Judged : (f : ClientFault) → a ≡ Err f → refused_by a ≡ Some f → IsRefusal a → sent ≡ [] → RenewsTo R whole s moment new sent taken a
 
-module _ (R : Rules ClientTold Why) (old new : Connection) (moment : DateTime) (s : Site) (line after : Option Traffic) (coming : List ℕ) (t : Traffic) (line_is : line ≡ Some t) (brings : (more : List ℕ) → untaken_of old ++ t.coming more ≡ coming) (few : length (s.octets ++ coming) < 0xFFFF_FFFF_FFFF_FFFF)
+module _ (R : Rules ClientTold Why) (old new : Connection) (moment : DateTime) (s : ClientPlace) (line after : Option Traffic) (coming : List ℕ) (t : Traffic) (line_is : line ≡ Some t) (brings : (more : List ℕ) → untaken_of old ++ t.coming more ≡ coming) (few : length (s.octets ++ coming) < 0xFFFF_FFFF_FFFF_FFFF)
     (a : Result (Unit {0}) ClientFault) (h : Renews moment old new line after a) (rules : client_rules_of (channel_of new) (asks_renewed s) ≡ R) where
   r : Ran new h.sent h.moves.taken line after coming
   r = ran old new h.sent line after coming t h.moves line_is brings
@@ -153,7 +153,7 @@ module _ (R : Rules ClientTold Why) (old new : Connection) (moment : DateTime) (
   renews_by (Err (fault.Refused code)) e k stops unbroken had = broken (fault.Refused code) (ours code.code) (ByOurs code refl refl) e k
   renews_by (Err f) e k stops unbroken had = absurd k
 
-  renews_to : At (channel_of old) s → line_failed a ≡ false → ¬ (IsErrOf a fault.OutOfMemory) → RenewsTo R (s.octets ++ coming) s moment (channel_of new) h.sent h.moves.taken a
+  renews_to : StandsAt (channel_of old) s → line_failed a ≡ false → ¬ (IsErrOf a fault.OutOfMemory) → RenewsTo R (s.octets ++ coming) s moment (channel_of new) h.sent h.moves.taken a
   renews_to at unbroken had = renews_by a refl (h.answers s at) h.stops unbroken had
 
 -- ---- two renewals are one
@@ -187,7 +187,7 @@ done_by f one two a after later e d p q =
 left_done : (f : ClientFault) (x : Client) (a : Result (Unit {0}) ClientFault) → a ≡ Err f → ends f ≡ true → IsLeft a x → IsDone x
 left_done f x a e d h = let k : IsLeft {A = Unit {0}} (Err f) x = subst (λ (z : Result (Unit {0}) ClientFault). IsLeft z x) e h in k ∙ d
 
-module _ (one two x y : Client) (moment : DateTime) (a b : Result (Unit {0}) ClientFault) (line after other later : Option Traffic) (s : Site) (coming : List ℕ)
+module _ (one two x y : Client) (moment : DateTime) (a b : Result (Unit {0}) ClientFault) (line after other later : Option Traffic) (s : ClientPlace) (coming : List ℕ)
     (stand : StandReady one two line other s coming) (had : HadMemory fault.OutOfMemory a b)
     (h : Renews moment (connection_of one) (connection_of x) line after a) (k : Renews moment (connection_of two) (connection_of y) other later b)
     (left : IsLeft a x) (left_too : IsLeft b y)
@@ -223,7 +223,7 @@ module _ (one two x y : Client) (moment : DateTime) (a b : Result (Unit {0}) Cli
   front octets taken more e = ap (λ (o : List ℕ). octets ++ o) (ap (take (length taken)) (sym e) ∙ take-append_seam taken more)
 
   -- the frame that brought the token is the first that tells one
-  told_by : (z : Client) (taken more : List ℕ) (t : Site) (r : IsRenewed (client_channel z) s t taken) → client_rules_of (client_channel z) (asks_renewed s) ≡ R → taken ++ more ≡ coming
+  told_by : (z : Client) (taken more : List ℕ) (t : ClientPlace) (r : IsRenewed (client_channel z) s t taken) → client_rules_of (client_channel z) (asks_renewed s) ≡ R → taken ++ more ≡ coming
       → Tells R s.octets coming (s.told ++ r.heard) (length taken) (Renewed r.token)
   told_by z taken more t r rules e =
       to_tells R (client_channel z) (asks_renewed s) s.octets coming (s.told ++ r.heard) (length taken) (Renewed r.token) rules (omega (arith, ap length e, length-append taken more))
@@ -231,19 +231,19 @@ module _ (one two x y : Client) (moment : DateTime) (a b : Result (Unit {0}) Cli
       (subst (λ (asked : List Placed). ClientGoesTelling (client_channel z) asked t.octets (s.told ++ r.heard) (Renewed r.token)) r.asks r.tells))
 
   -- what was told up to the token begins all that is told
-  front_told : (z : Client) (taken more : List ℕ) (t : Site) (r : IsRenewed (client_channel z) s t taken) → client_rules_of (client_channel z) (asks_renewed s) ≡ R → taken ++ more ≡ coming → ReadsFront R (s.octets ++ coming) ((s.told ++ r.heard) ++ Renewed r.token ∷ [])
+  front_told : (z : Client) (taken more : List ℕ) (t : ClientPlace) (r : IsRenewed (client_channel z) s t taken) → client_rules_of (client_channel z) (asks_renewed s) ≡ R → taken ++ more ≡ coming → ReadsFront R (s.octets ++ coming) ((s.told ++ r.heard) ++ Renewed r.token ∷ [])
   front_told z taken more t r rules e =
       goes_front R (client_channel z) (asks_renewed s) (s.octets ++ taken) more (s.octets ++ coming) ((s.told ++ r.heard) ++ Renewed r.token ∷ []) rules (behind_parts s.octets taken more coming e)
       (subst (λ (ts : List ClientTold). ClientGoes (client_channel z) (asks_renewed s) (s.octets ++ taken) ts) (r.told ∙ sym (append_assoc s.told r.heard (Renewed r.token ∷ [])))
       (subst (λ (o : List ℕ). ClientGoes (client_channel z) (asks_renewed s) o t.told) r.octets (subst (λ (asked : List Placed). ClientGoes (client_channel z) asked t.octets t.told) r.asks r.at.goes)))
 
-  never_waited : (z : Client) (taken more : List ℕ) (t : Site) (r : IsRenewed (client_channel z) s t taken) → client_rules_of (client_channel z) (asks_renewed s) ≡ R → taken ++ more ≡ coming
+  never_waited : (z : Client) (taken more : List ℕ) (t : ClientPlace) (r : IsRenewed (client_channel z) s t taken) → client_rules_of (client_channel z) (asks_renewed s) ≡ R → taken ++ more ≡ coming
       → (e : End Why) (heard : List ClientTold) → list_any is_renewed heard ≡ false → ReadsAll R (s.octets ++ coming) (s.told ++ heard) e → ⊥
   never_waited z taken more t r rules parts e heard none all =
       let f = front_first R (s.octets ++ coming) ((s.told ++ r.heard) ++ Renewed r.token ∷ []) (s.told ++ heard) e (front_told z taken more t r rules parts) all in
       not_heard s.told heard r.heard f.0 r.token f.1 none
 
-  same_taken : (t u : Site) (r : IsRenewed (client_channel x) s t h.moves.taken) (v : IsRenewed (client_channel y) s u k.moves.taken)
+  same_taken : (t u : ClientPlace) (r : IsRenewed (client_channel x) s t h.moves.taken) (v : IsRenewed (client_channel y) s u k.moves.taken)
       → Meets (s.told ++ r.heard) (s.told ++ v.heard) (length h.moves.taken) (length k.moves.taken) (Renewed r.token) (Renewed v.token) → h.moves.taken ≡ k.moves.taken
   same_taken t u r v (AsOne n e d) =
       sym (take-append_seam h.moves.taken (untaken_of (connection_of x) ++ first.last.coming [])) ∙ (ap (take (length h.moves.taken)) first.parts
@@ -251,7 +251,7 @@ module _ (one two x y : Client) (moment : DateTime) (a b : Result (Unit {0}) Cli
   same_taken t u r v (Within more e) = absurd (not_heard s.told v.heard r.heard more r.token e v.none_before)
   same_taken t u r v (Around more e) = absurd (not_heard s.told r.heard v.heard more v.token e r.none_before)
 
-  both_done : a ≡ Ok tt → b ≡ Ok tt → h.sent ≡ renewal_at s moment → k.sent ≡ renewal_at s moment → (t u : Site) → IsRenewed (client_channel x) s t h.moves.taken → IsRenewed (client_channel y) s u k.moves.taken → CalledOnce a b x y line after other later
+  both_done : a ≡ Ok tt → b ≡ Ok tt → h.sent ≡ renewal_at s moment → k.sent ≡ renewal_at s moment → (t u : ClientPlace) → IsRenewed (client_channel x) s t h.moves.taken → IsRenewed (client_channel y) s u k.moves.taken → CalledOnce a b x y line after other later
   both_done e d sent also t u r v =
       let m = tells_tells R s.octets coming (s.told ++ r.heard) (s.told ++ v.heard) (length h.moves.taken) (length k.moves.taken) (Renewed r.token) (Renewed v.token)
       (told_by x h.moves.taken (untaken_of (connection_of x) ++ first.last.coming []) t r mine first.parts) (told_by y k.moves.taken (untaken_of (connection_of y) ++ second.last.coming []) u v theirs second.parts) in
@@ -270,7 +270,7 @@ module _ (one two x y : Client) (moment : DateTime) (a b : Result (Unit {0}) Cli
             ready = subst (λ (z : Result (Unit {0}) ClientFault). IsLeft z x) e left;
             ready_too = subst (λ (z : Result (Unit {0}) ClientFault). IsLeft z y) d left_too;
             first = r.at;
-            second = subst (At (client_channel y)) (sym place) v.at;
+            second = subst (StandsAt (client_channel y)) (sym place) v.at;
             same = record { limits = limits_same; url = sym h.same.url ∙ (stand.same.url ∙ k.same.url) };
             comes = ran_comes x (connection_of x) h.sent h.moves.taken line after coming first refl;
             comes_too = subst (ComesTo y later) (sym ahead) (ran_comes y (connection_of y) k.sent k.moves.taken other later coming second refl);
@@ -347,7 +347,7 @@ module _ (one two x y : Client) (moment : DateTime) (a b : Result (Unit {0}) Cli
     left = done_by fault.Write x y a after later f refl (left_done fault.Write x a f refl left) (left_done fault.Write y b g refl left_too);
   }
 
-pub renewed_once : (one two x y : Client) (moment : DateTime) (a b : Result (Unit {0}) ClientFault) (line after other later : Option Traffic) (s : Site) (coming : List ℕ) → StandReady one two line other s coming → HadMemory fault.OutOfMemory a b → CallsAlike a b line after other later
+pub renewed_once : (one two x y : Client) (moment : DateTime) (a b : Result (Unit {0}) ClientFault) (line after other later : Option Traffic) (s : ClientPlace) (coming : List ℕ) → StandReady one two line other s coming → HadMemory fault.OutOfMemory a b → CallsAlike a b line after other later
     → Renews moment (connection_of one) (connection_of x) line after a → Renews moment (connection_of two) (connection_of y) other later b → IsLeft a x → IsLeft b y
     → (IsRefusal a → (x ≡ one) × (after ≡ line)) → (IsRefusal b → (y ≡ two) × (later ≡ other)) → CalledOnce a b x y line after other later
 renewed_once one two x y moment a b line after other later s coming stand had faults h k left left_too kept kept_too = by_faults one two x y moment a b line after other later s coming stand had h k left left_too kept kept_too faults

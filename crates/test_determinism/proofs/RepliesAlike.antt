@@ -12,7 +12,7 @@ use Rattle.ua_channel.specs.Received.{Received, received}
 use Rattle.ua_channel.specs.ServerRefusals.{last_used}
 use Rattle.ua_channel.specs.ServerRules.{server_rules}
 use Rattle.ua_channel.specs.ServerSends.{IsReply, RepliesGo, replied}
-use Rattle.ua_channel.specs.ServerStands.{limits_of, channel_of, next_of, rules_of, Goes, Stands}
+use Rattle.ua_channel.specs.ServerStands.{limits_of, channel_of, next_of, rules_of, Goes, ChannelStands}
 use Rattle.ua_channel.specs.ServerTold.{Told}
 use Rattle.ua_channel.specs.declared.server.ServerChannel.{ServerChannel}
 use Rattle.ua_channel.specs.declared.server_fault.ReplyFault.{ReplyFault}
@@ -79,7 +79,7 @@ next_alike view x y new other octets told s body id v w p q =
 -- ---- where it leaves them
 
 -- a channel with the same limits and id that stands after the same frames goes on as before
-goes_on : (x new : ServerChannel) (octets : List ℕ) (told : List Told) (g : Goes x octets told) → limits_of new ≡ limits_of x → channel_of new ≡ channel_of x → Stands new octets g.frames g.rest → Goes new octets told
+goes_on : (x new : ServerChannel) (octets : List ℕ) (told : List Told) (g : Goes x octets told) → limits_of new ≡ limits_of x → channel_of new ≡ channel_of x → ChannelStands new octets g.frames g.rest → Goes new octets told
 goes_on x new octets told g p q s = record {
   frames = g.frames;
   rest = g.rest;
@@ -89,7 +89,7 @@ goes_on x new octets told g p q s = record {
 
 -- what a channel says of where it stands behind a reply
 pub record IsLeft {A : Type 0} (x new : ServerChannel) (octets : List ℕ) (frames : List Frame) (rest : List ℕ) (a : Result A ReplyFault) : Type 0 where
-  pub stands : OnOk a (Stands new octets frames rest)
+  pub stands : OnOk a (ChannelStands new octets frames rest)
   pub unchanged : IsErrOf a NotOpen → new ≡ x
   pub limits : limits_of new ≡ limits_of x
   pub channel : channel_of new ≡ channel_of x

@@ -9,14 +9,14 @@ use Rattle.ua_frame.specs.declared.frame.Frame.{Frame}
 use Rattle.ua_frame.specs.declared.limits.Limits.{Limits}
 use Rattle.ua_frame.proofs.Ends.{ends_stay}
 use Rattle.ua_frame.proofs.Unique.{unique}
-use Rattle.ua_channel.specs.Line.{Traffic, WhereTold}
+use Rattle.ua_channel.specs.Line.{Traffic, IfTrafficKnown}
 use Rattle.ua_channel.specs.Moments.{Gives}
 use Rattle.ua_channel.specs.ServerRules.{server_rules}
 use Rattle.ua_channel.specs.ServerTold.{Told}
 use Rattle.ua_server.specs.Happening.{Event, Given, Happens, Leads, Noted, noted_in, ticks_in}
 use Rattle.ua_server.specs.Requests.{requests}
-use Rattle.ua_server.specs.Said.{left, said, Course}
-use Rattle.ua_server.specs.Serving.{Answered, AnsweredTo, AreAsked, IsClean, Moves, RanOut, Serves, ServesBy, ServesTelling, TellsAll, TellsBy, moment_of, told_at}
+use Rattle.ua_server.specs.Said.{state_after, output_of, Course}
+use Rattle.ua_server.specs.Serving.{Answered, AnsweredTo, AreAsked, IsClean, MovesTraffic, RanOut, Serves, ServesBy, ServesTelling, TellsAll, TellsBy, moment_of, told_at}
 use Rattle.ua_server.specs.State.{State, begun}
 use Rattle.ua_server.specs.declared.serve_fault.ServeFault.{ServeFault}
 use Rattle.ua_server.specs.declared.serve_fault.ServeFault.TheVariants as fault
@@ -50,7 +50,7 @@ pub record WasTold (P : Traffic → Traffic → Type 0) (before : Traffic) (line
   pub is : line ≡ Some after
   pub holds : P before after
 
-pub where_told : (P : Traffic → Traffic → Type 0) (old new : Option Traffic) (before : Traffic) → old ≡ Some before → WhereTold P old new → WasTold P before new
+pub where_told : (P : Traffic → Traffic → Type 0) (old new : Option Traffic) (before : Traffic) → old ≡ Some before → IfTrafficKnown P old new → WasTold P before new
 where_told P None new before e h = absurd (none_some before e)
 where_told P (Some t) None before e h = absurd h
 where_told P (Some t) (Some u) before e h = record { after = u; is = refl; holds = subst (λ (z : Traffic). P z u) (same_some t before e) h }
@@ -87,7 +87,7 @@ module _ (limits : Limits) (channel : ℕ) (first : State) where
   R = server_rules limits channel
 
   abbrev Says : List ℕ → List Told → End ℕ → List DateTime → List ℕ → State → List AnsweredRequest → Type 0
-  Says whole told end moments written now asked = (written ≡ said channel first told end moments) × ((left channel first told moments).state ≡ now) × (asked ≡ requests channel first told moments) × AreAsked limits channel whole told moments
+  Says whole told end moments written now asked = (written ≡ output_of channel first told end moments) × ((state_after channel first told moments).state ≡ now) × (asked ≡ requests channel first told moments) × AreAsked limits channel whole told moments
 
   says_more : (whole : List ℕ) (told : List Told) (end : End ℕ) (ms more : List DateTime) (written other : List ℕ) (now then : State) (asked also : List AnsweredRequest) → Says whole told end ms written now asked → Says whole told end (ms ++ more) other then also → SaysOnce written other now then asked also
   says_more whole told end ms more written other now then asked also a b = let enough = all-asked limits channel whole told ms a.3 in record {
@@ -249,7 +249,7 @@ pub record ServedSo {M : Type 0} (limits : Limits) (channel : ℕ) (gives : M �
   pub read : List ℕ
   pub written : List ℕ
   pub ticks : List ℤ
-  pub moved : Moves read written before after
+  pub moved : MovesTraffic read written before after
   pub given : Gives gives moments ticks later
   pub comes : Comes limits channel first result read written (map moment_of ticks) now (after.coming []) asked
 

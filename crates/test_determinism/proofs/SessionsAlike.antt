@@ -14,7 +14,7 @@ use Rattle.ua_client.specs.Calls.{sent_at}
 use Rattle.ua_client.specs.Client.{IsLeft, client_channel, connection_of}
 use Rattle.ua_client.specs.Hearing.{channel_of}
 use Rattle.ua_client.specs.Session.{ActivatesBehind, BeginsAt, BeginsSessionAs, Replies, ServesAt, activating_at, brings_any, brings_token, creating_at, reply_failure, token_in}
-use Rattle.ua_client.specs.Site.{Site, At}
+use Rattle.ua_client.specs.ClientPlace.{ClientPlace, StandsAt}
 use Rattle.ua_client.specs.declared.client.Client.{Client}
 use Rattle.ua_client.specs.declared.connection.Connection.{Connection}
 use Rattle.ua_client.specs.declared.fault.ClientFault.{ClientFault}
@@ -36,12 +36,12 @@ failed_by (Some code) = Some (fault.Service code)
 
 -- what becomes of a service whose request is called there by itself: it is not answered, by this fault; or it is, and the reply says whether
 -- it failed
-data Served (limits : Limits) (request : Request) (s : Site) (coming : List ℕ) (x : ClientChannel) (sent taken : List ℕ) (o : Option ClientFault) : Type 0 where
+data Served (limits : Limits) (request : Request) (s : ClientPlace) (coming : List ℕ) (x : ClientChannel) (sent taken : List ℕ) (o : Option ClientFault) : Type 0 where
   Fails : (f : ClientFault) → o ≡ Some f → Broke false limits (request ∷ []) s coming x sent taken [] 0 f → Served limits request s coming x sent taken o
-  Says : (t : Site) (reply : Reply) → o ≡ failed_by (reply_failure reply) → sent ≡ sent_at s (request ∷ []) → IsDone limits (request ∷ []) s coming x t taken (reply ∷ []) → Served limits request s coming x sent taken o
+  Says : (t : ClientPlace) (reply : Reply) → o ≡ failed_by (reply_failure reply) → sent ≡ sent_at s (request ∷ []) → IsDone limits (request ∷ []) s coming x t taken (reply ∷ []) → Served limits request s coming x sent taken o
 
 -- two are one
-record ServedOnce (x y : ClientChannel) (o p : Option ClientFault) (s : Site) (sent other taken got : List ℕ) : Type 0 where
+record ServedOnce (x y : ClientChannel) (o p : Option ClientFault) (s : ClientPlace) (sent other taken got : List ℕ) : Type 0 where
   outcome : o ≡ p
   sent_is : sent ≡ other
   stays : goes_on o ≡ true → Place x y s taken got
@@ -51,15 +51,15 @@ same_reply r q e = cc
 
 module _ (once : OneBody) (limits : Limits) (x y : ClientChannel) (o p : Option ClientFault) where
   -- what is answered for one is not broken off for the other
-  says_not_fails : (requests : List Request) (s t : Site) (coming sent other taken got : List ℕ) (z w : ClientChannel) (replies : List Reply) (f : ClientFault) (out : List ℕ) → IsDone limits requests s coming z t taken replies → sent ≡ sent_at s requests ++ out
+  says_not_fails : (requests : List Request) (s t : ClientPlace) (coming sent other taken got : List ℕ) (z w : ClientChannel) (replies : List Reply) (f : ClientFault) (out : List ℕ) → IsDone limits requests s coming z t taken replies → sent ≡ sent_at s requests ++ out
       → Broke false limits requests s coming w other got [] 0 f → (f ≡ fault.Write → sent ≡ other) → ⊥
   says_not_fails requests s t coming sent other taken got z w replies f out d e u written =
       not_broken once limits requests s coming false z w t taken other got replies [] 0 f d u (λ is. let lengths = ap length (sym (written is) ∙ e) in omega (arith, lengths, length-append (sent_at s requests) out))
 
-  all_sent : (s : Site) (requests : List Request) (sent : List ℕ) → sent ≡ sent_at s requests → sent ≡ sent_at s requests ++ []
+  all_sent : (s : ClientPlace) (requests : List Request) (sent : List ℕ) → sent ≡ sent_at s requests → sent ≡ sent_at s requests ++ []
   all_sent s requests sent e = e ∙ sym (append-nil (sent_at s requests))
 
-  served_once : (request : Request) (s : Site) (coming sent other taken got : List ℕ) → Served limits request s coming x sent taken o → Served limits request s coming y other got p → Faults o p sent other → ServedOnce x y o p s sent other taken got
+  served_once : (request : Request) (s : ClientPlace) (coming sent other taken got : List ℕ) → Served limits request s coming x sent taken o → Served limits request s coming y other got p → Faults o p sent other → ServedOnce x y o p s sent other taken got
   served_once request s coming sent other taken got (Fails f e u) (Fails g d v) faults =
       let one = broke_once once limits (request ∷ []) s coming false x y sent other taken got [] [] 0 0 f g (faults.alike f g e d) (λ is. faults.written (inl (e ∙ ap Some is))) u v in
       record {
@@ -78,11 +78,11 @@ module _ (once : OneBody) (limits : Limits) (x y : ClientChannel) (o p : Option 
       record {
         outcome = e ∙ (ap (λ (r : Reply). failed_by (reply_failure r)) (same_reply reply reply' one.replies_are) ∙ sym d);
         sent_is = sent_is ∙ sym also;
-        stays = λ goes. record { site = t; first = done.at; second = subst (At y) (sym one.place) done'.at; octets = done.answered.octets; same = one.octets };
+        stays = λ goes. record { site = t; first = done.at; second = subst (StandsAt y) (sym one.place) done'.at; octets = done.answered.octets; same = one.octets };
       }
 
 -- by what the client's clauses say
-module _ (limits : Limits) (request : Request) (s : Site) (new : Connection) (sent taken more : List ℕ) (same : client_limits (channel_of new) ≡ limits) where
+module _ (limits : Limits) (request : Request) (s : ClientPlace) (new : Connection) (sent taken more : List ℕ) (same : client_limits (channel_of new) ≡ limits) where
   -- it was answered
   says_by : (o : Option ClientFault) (P : Reply → Type 0) → ((reply : Reply) → P reply → o ≡ failed_by (reply_failure reply)) → Replies request s (channel_of new) sent taken P → Served limits request s (taken ++ more) (channel_of new) sent taken o
   says_by o P is r = Says r.behind r.reply (is r.reply r.says) r.replied.sent_is (record { limits_are = same; at = r.at; came = r.replied.came; answered = r.replied.answered; more = more; parts = refl })
@@ -112,13 +112,13 @@ module _ (limits : Limits) (request : Request) (s : Site) (new : Connection) (se
 -- ---- both services
 
 -- what becomes of a session that is begun there: CreateSession failed; or it brought this token, and behind it this became of ActivateSession
-data Begun (limits : Limits) (url policy_id : Option (List ℕ)) (moment : DateTime) (s : Site) (coming : List ℕ) (x : ClientChannel) (sent taken : List ℕ) (o : Option ClientFault) (given : Option NodeId) : Type 0 where
+data Begun (limits : Limits) (url policy_id : Option (List ℕ)) (moment : DateTime) (s : ClientPlace) (coming : List ℕ) (x : ClientChannel) (sent taken : List ℕ) (o : Option ClientFault) (given : Option NodeId) : Type 0 where
   Uncreated : (f : ClientFault) → o ≡ Some f → given ≡ None → Served limits (creating_at url moment s) s coming x sent taken o → Begun limits url policy_id moment s coming x sent taken o given
-  Created : (token : NodeId) (z : ClientChannel) (t : Site) (reply : Reply) (out part rest later : List ℕ) → IsDone limits (creating_at url moment s ∷ []) s coming z t part (reply ∷ []) → reply_failure reply ≡ None → token_in reply ≡ Some token
+  Created : (token : NodeId) (z : ClientChannel) (t : ClientPlace) (reply : Reply) (out part rest later : List ℕ) → IsDone limits (creating_at url moment s ∷ []) s coming z t part (reply ∷ []) → reply_failure reply ≡ None → token_in reply ≡ Some token
       → sent ≡ sent_at s (creating_at url moment s ∷ []) ++ out → taken ≡ part ++ rest → coming ≡ part ++ later → (o ≡ None → given ≡ Some token) → ((f : ClientFault) → o ≡ Some f → given ≡ None)
       → Served limits (activating_at policy_id token moment t) t later x out rest o → Begun limits url policy_id moment s coming x sent taken o given
 
-record BegunOnce (x y : ClientChannel) (o p : Option ClientFault) (s : Site) (sent other taken got : List ℕ) (given also : Option NodeId) : Type 0 where
+record BegunOnce (x y : ClientChannel) (o p : Option ClientFault) (s : ClientPlace) (sent other taken got : List ℕ) (given also : Option NodeId) : Type 0 where
   once : ServedOnce x y o p s sent other taken got
   given_is : given ≡ also
 
@@ -130,7 +130,7 @@ same_token a b e = cc
 
 module _ (once : OneBody) (limits : Limits) (url policy_id : Option (List ℕ)) (moment : DateTime) (x y : ClientChannel) (o p : Option ClientFault) where
   -- CreateSession did not fail for one and fail for the other
-  not_both : (request : Request) (s t : Site) (coming sent other taken part got : List ℕ) (z w : ClientChannel) (q : Option ClientFault) (reply : Reply) (f : ClientFault) (out : List ℕ) → q ≡ Some f → Served limits request s coming w other got q
+  not_both : (request : Request) (s t : ClientPlace) (coming sent other taken part got : List ℕ) (z w : ClientChannel) (q : Option ClientFault) (reply : Reply) (f : ClientFault) (out : List ℕ) → q ≡ Some f → Served limits request s coming w other got q
       → IsDone limits (request ∷ []) s coming z t part (reply ∷ []) → reply_failure reply ≡ None → sent ≡ sent_at s (request ∷ []) ++ out → (q ≡ Some fault.Write → sent ≡ other) → ⊥
   not_both request s t coming sent other taken part got z w q reply f out e (Fails g d u) done good sent_is written =
       says_not_fails once limits z w q q (request ∷ []) s t coming sent other part got z w (reply ∷ []) g out done sent_is u (λ is. written (d ∙ ap Some is))
@@ -139,7 +139,7 @@ module _ (once : OneBody) (limits : Limits) (url policy_id : Option (List ℕ)) 
       none_fault f (sym (d ∙ (ap (λ (r : Reply). failed_by (reply_failure r)) (sym (same_reply reply reply' one.replies_are)) ∙ ap failed_by good)) ∙ e)
 
   -- what ActivateSession leaves, behind CreateSession
-  behind_creating : (s m : Site) (start part sent other out also_out taken got rest also_rest : List ℕ) → sent ≡ start ++ out → other ≡ start ++ also_out → taken ≡ part ++ rest → got ≡ part ++ also_rest → m.octets ≡ s.octets ++ part
+  behind_creating : (s m : ClientPlace) (start part sent other out also_out taken got rest also_rest : List ℕ) → sent ≡ start ++ out → other ≡ start ++ also_out → taken ≡ part ++ rest → got ≡ part ++ also_rest → m.octets ≡ s.octets ++ part
       → ServedOnce x y o p m out also_out rest also_rest → ServedOnce x y o p s sent other taken got
   behind_creating s m start part sent other out also_out taken got rest also_rest e e' d d' at w = record {
     outcome = w.outcome;
@@ -162,7 +162,7 @@ module _ (once : OneBody) (limits : Limits) (url policy_id : Option (List ℕ)) 
       by None e = a e ∙ (ap Some same ∙ sym (c (sym is ∙ e)))
       by (Some f) e = b f e ∙ sym (d f (sym is ∙ e))
 
-  begun_once : (s : Site) (coming sent other taken got : List ℕ) (given also : Option NodeId) → Begun limits url policy_id moment s coming x sent taken o given → Begun limits url policy_id moment s coming y other got p also → Faults o p sent other
+  begun_once : (s : ClientPlace) (coming sent other taken got : List ℕ) (given also : Option NodeId) → Begun limits url policy_id moment s coming x sent taken o given → Begun limits url policy_id moment s coming y other got p also → Faults o p sent other
       → BegunOnce x y o p s sent other taken got given also
   begun_once s coming sent other taken got given also (Uncreated f e none u) (Uncreated g d none' v) faults = record {
     once = served_once once limits x y o p (creating_at url moment s) s coming sent other taken got u v faults;
@@ -178,7 +178,7 @@ module _ (once : OneBody) (limits : Limits) (url policy_id : Option (List ℕ)) 
       let ahead : later' ≡ later = append_cancel_left part later' later (ap (λ (o : List ℕ). o ++ later') one.octets ∙ (sym c' ∙ c)) in
       let there : Served limits (activating_at policy_id token moment t) t later y out' rest' p =
       subst (λ (n : NodeId). Served limits (activating_at policy_id n moment t) t later y out' rest' p) (sym tokens)
-      (subst (λ (u : Site). Served limits (activating_at policy_id token' moment u) u later y out' rest' p) (sym one.place) (subst (λ (l : List ℕ). Served limits (activating_at policy_id token' moment t') t' l y out' rest' p) ahead v')) in
+      (subst (λ (u : ClientPlace). Served limits (activating_at policy_id token' moment u) u later y out' rest' p) (sym one.place) (subst (λ (l : List ℕ). Served limits (activating_at policy_id token' moment t') t' l y out' rest' p) ahead v')) in
       let second = served_once once limits x y o p (activating_at policy_id token moment t) t later out out' rest rest' v there
       (record { alike = faults.alike; written = λ write. append_cancel_left (sent_at s (creating_at url moment s ∷ [])) out out' (sym sent_is ∙ (faults.written write ∙ sent_is')) }) in
       record {
@@ -194,7 +194,7 @@ token_of (Err f) = None
 none_some : {P : Type 0} (f : ClientFault) → ◌≡◌ {A = Option ClientFault} None (Some f) → P
 none_some f e = cc
 
-module _ (limits : Limits) (url policy_id : Option (List ℕ)) (moment : DateTime) (s : Site) (new : Connection) (sent taken more : List ℕ) (same : client_limits (channel_of new) ≡ limits) where
+module _ (limits : Limits) (url policy_id : Option (List ℕ)) (moment : DateTime) (s : ClientPlace) (new : Connection) (sent taken more : List ℕ) (same : client_limits (channel_of new) ≡ limits) where
   abbrev Comes : Option ClientFault → Option NodeId → Type 0
   Comes o given = Begun limits url policy_id moment s (taken ++ more) (channel_of new) sent taken o given
 
@@ -233,7 +233,7 @@ same_result (Err f) (Err g) e d = ap Err (same_fault f g e)
     same_fault : (h k : ClientFault) → Some h ≡ Some k → h ≡ k
     same_fault h k c = cc
 
-pub session_once : (once : OneBody) (one two x y : Client) (policy_id again : Option (List ℕ)) (moment : DateTime) (a b : Result NodeId ClientFault) (line after other later : Option Traffic) (s : Site) (coming : List ℕ) → policy_id ≡ again
+pub session_once : (once : OneBody) (one two x y : Client) (policy_id again : Option (List ℕ)) (moment : DateTime) (a b : Result NodeId ClientFault) (line after other later : Option Traffic) (s : ClientPlace) (coming : List ℕ) → policy_id ≡ again
     → StandReady one two line other s coming → HadMemory fault.OutOfMemory a b → BeginsSessionAs policy_id moment (connection_of one) (connection_of x) line after a → BeginsSessionAs again moment (connection_of two) (connection_of y) other later b
     → IsLeft a x → IsLeft b y → CallsAlike a b line after other later → SessionOnce a b x y line after other later
 session_once once one two x y policy_id again moment a b line after other later s coming same_policy stand had h k left left_too alike = record {

@@ -14,9 +14,9 @@ use Rattle.ua_channel.specs.ServerStands.{limits_of, channel_of, bound_of, bound
 use Rattle.ua_channel.specs.ServerTold.{Told, Closed}
 use Rattle.ua_channel.specs.Stops.{StopsAt}
 use Rattle.ua_channel.specs.declared.server.ServerChannel.{ServerChannel}
-use Rattle.ua_server.specs.Said.{is_answered, said, left}
+use Rattle.ua_server.specs.Said.{is_answered, output_of, state_after}
 use Rattle.ua_server.specs.State.{State}
-use Rattle.ua_server.specs.Stepping.{Stands, Stops, StepAnswers, StepBy, given_up, spent}
+use Rattle.ua_server.specs.Stepping.{ServerStands, Stops, StepAnswers, StepBy, given_up, times_of_answers}
 use Rattle.ua_server.specs.declared.step.End.{End as Ending}
 use Rattle.ua_server.specs.declared.step.End.TheVariants as ending
 use Rattle.ua_server.specs.declared.step.Step.{Step}
@@ -73,21 +73,21 @@ Answer = Result Step StepFault
 
 -- what a step answers, where memory was had, and where it leaves the server
 data Came (channel : ℕ) (moment : DateTime) (piece octets : List ℕ) (told : List Told) (begun : State) (moments : List DateTime) (before : State) (a : Answer) (x : ServerChannel) (now : State) : Type 0 where
-  Nothing : (step : Step) → a ≡ Ok step → step.end ≡ None → (quiet : List ℕ) → step.taken ≡ length piece → step.out.items ≡ [] → Stands x (octets ++ take step.taken piece) ((told ++ given_up quiet) ++ []) begun (moments ++ spent [] moment) now
+  Nothing : (step : Step) → a ≡ Ok step → step.end ≡ None → (quiet : List ℕ) → step.taken ≡ length piece → step.out.items ≡ [] → ServerStands x (octets ++ take step.taken piece) ((told ++ given_up quiet) ++ []) begun (moments ++ times_of_answers [] moment) now
       → Came channel moment piece octets told begun moments before a x now
   Comes : (step : Step) → a ≡ Ok step → step.end ≡ None → (quiet : List ℕ) (t : Told) → step.taken ≤ length piece → is_answered t ≡ true → GoesTelling x (octets ++ take step.taken piece) (told ++ given_up quiet) t
-      → Stands x (octets ++ take step.taken piece) ((told ++ given_up quiet) ++ t ∷ []) begun (moments ++ spent (t ∷ []) moment) now
-      → said channel begun ((told ++ given_up quiet) ++ t ∷ []) Going (moments ++ spent (t ∷ []) moment) ≡ said channel begun told Going moments ++ step.out.items
+      → ServerStands x (octets ++ take step.taken piece) ((told ++ given_up quiet) ++ t ∷ []) begun (moments ++ times_of_answers (t ∷ []) moment) now
+      → output_of channel begun ((told ++ given_up quiet) ++ t ∷ []) Going (moments ++ times_of_answers (t ∷ []) moment) ≡ output_of channel begun told Going moments ++ step.out.items
       → Came channel moment piece octets told begun moments before a x now
   Closes : (step : Step) → a ≡ Ok step → step.end ≡ Some ending.Closed → (quiet : List ℕ) → step.taken ≤ length piece → ClosedAt x (octets ++ take step.taken piece) ((told ++ given_up quiet) ++ Closed ∷ []) → step.out.items ≡ [] → now ≡ before
       → Came channel moment piece octets told begun moments before a x now
   Refuses : (step : Step) (code : StatusCode) → a ≡ Ok step → step.end ≡ Some (ending.Refused code) → (quiet : List ℕ) → step.taken ≤ length piece → RefusedAt x (octets ++ take step.taken piece) (told ++ given_up quiet) code.code
-      → said channel begun (told ++ given_up quiet) (Stopped code.code) moments ≡ said channel begun told Going moments ++ step.out.items → now ≡ before
+      → output_of channel begun (told ++ given_up quiet) (Stopped code.code) moments ≡ output_of channel begun told Going moments ++ step.out.items → now ≡ before
       → Came channel moment piece octets told begun moments before a x now
 
 came_on : (channel : ℕ) (moment : DateTime) (piece octets : List ℕ) (told : List Told) (begun : State) (moments : List DateTime) (before now : State) (x : ServerChannel) (step : Step) (more : List Told) (quiet : List ℕ) → step.end ≡ None
-    → Stops x octets piece step.taken step.out.items (told ++ given_up quiet) more → Stands x (octets ++ take step.taken piece) ((told ++ given_up quiet) ++ more) begun (moments ++ spent more moment) now
-    → said channel begun ((told ++ given_up quiet) ++ more) Going (moments ++ spent more moment) ≡ said channel begun told Going moments ++ step.out.items → Came channel moment piece octets told begun moments before (Ok step) x now
+    → Stops x octets piece step.taken step.out.items (told ++ given_up quiet) more → ServerStands x (octets ++ take step.taken piece) ((told ++ given_up quiet) ++ more) begun (moments ++ times_of_answers more moment) now
+    → output_of channel begun ((told ++ given_up quiet) ++ more) Going (moments ++ times_of_answers more moment) ≡ output_of channel begun told Going moments ++ step.out.items → Came channel moment piece octets told begun moments before (Ok step) x now
 came_on channel moment piece octets told begun moments before now x step [] quiet e stops stands out = Nothing step refl e quiet stops.0 stops.1 stands
 came_on channel moment piece octets told begun moments before now x step (t ∷ []) quiet e stops stands out = Comes step refl e quiet t stops.1 stops.2 stops.3 stands out
 came_on channel moment piece octets told begun moments before now x step (t ∷ (u ∷ more)) quiet e stops stands out = absurd stops
@@ -129,17 +129,17 @@ module _ (channel : ℕ) (moment : DateTime) (piece octets : List ℕ) (told : L
   }
 
   -- both stand after the same
-  stand : (n m : ℕ) (later more : List Told) (used : List DateTime) → n ≡ m → later ≡ more → Stands x (octets ++ take n piece) (told ++ later) begun (moments ++ used) now → Stands y (octets ++ take m piece) (told ++ more) begun (moments ++ used) other
+  stand : (n m : ℕ) (later more : List Told) (used : List DateTime) → n ≡ m → later ≡ more → ServerStands x (octets ++ take n piece) (told ++ later) begun (moments ++ used) now → ServerStands y (octets ++ take m piece) (told ++ more) begun (moments ++ used) other
       → StepsAlike x y (octets ++ take n piece) (told ++ later) begun (moments ++ used) now other
   stand n m later more used e d p q = record {
     first = p;
-    second = subst (λ (k : ℕ). Stands y (octets ++ take k piece) (told ++ later) begun (moments ++ used) other) (sym e) (subst (λ (z : List Told). Stands y (octets ++ take m piece) (told ++ z) begun (moments ++ used) other) (sym d) q);
+    second = subst (λ (k : ℕ). ServerStands y (octets ++ take k piece) (told ++ later) begun (moments ++ used) other) (sym e) (subst (λ (z : List Told). ServerStands y (octets ++ take m piece) (told ++ z) begun (moments ++ used) other) (sym d) q);
     limits = limits;
     channel = ids;
   }
 
   same_state : (o : List ℕ) (t : List Told) (used : List DateTime) → StepsAlike x y o t begun used now other → now ≡ other
-  same_state o t used s = sym s.first.state_is ∙ (ap (λ (k : ℕ). (left k begun t used).state) ids ∙ s.second.state_is)
+  same_state o t used s = sym s.first.state_is ∙ (ap (λ (k : ℕ). (state_after k begun t used).state) ids ∙ s.second.state_is)
 
   leaves : (end : Option Ending) (n : ℕ) (later : List Told) (used : List DateTime) → end ≡ None → StepsAlike x y (octets ++ take n piece) (told ++ later) begun (moments ++ used) now other → LeavesSteps end x y (octets ++ take n piece) told begun moments now other
   leaves end n later used e s = subst (λ (z : Option Ending). LeavesSteps z x y (octets ++ take n piece) told begun moments now other) (sym e) (later, used, s)
@@ -148,7 +148,7 @@ module _ (channel : ℕ) (moment : DateTime) (piece octets : List ℕ) (told : L
   ends end how n e d = subst (λ (z : Option Ending). LeavesSteps z x y (octets ++ take n piece) told begun moments now other) (sym e) d
 
   goes_on : (a b : Answer) (step also : Step) (us vs : List Told) (used : List DateTime) → a ≡ Ok step → b ≡ Ok also → step.end ≡ None → also.end ≡ None → step.taken ≡ also.taken → step.out.items ≡ also.out.items → us ≡ vs
-      → Stands x (octets ++ take step.taken piece) (told ++ us) begun (moments ++ used) now → Stands y (octets ++ take also.taken piece) (told ++ vs) begun (moments ++ used) other → Both a b x y octets piece told begun moments now other
+      → ServerStands x (octets ++ take step.taken piece) (told ++ us) begun (moments ++ used) now → ServerStands y (octets ++ take also.taken piece) (told ++ vs) begun (moments ++ used) other → Both a b x y octets piece told begun moments now other
   goes_on a b step also us vs used p q e d taken out same s r =
       let alike = stand step.taken also.taken us vs used taken same s r in
       by_equal a b step also p q (record { taken = taken; out = out; end = e ∙ sym d }) (same_state _ _ _ alike) (leaves step.end step.taken us used e alike)
@@ -158,7 +158,7 @@ module _ (channel : ℕ) (moment : DateTime) (piece octets : List ℕ) (told : L
 
   -- ---- by the rules of both
 
-  quiet_by : (z : ServerChannel) (n : ℕ) (g : List Told) (used : List DateTime) (s : State) → rules_of z ≡ rules_of y → n ≡ length piece → Stands z (octets ++ take n piece) ((told ++ g) ++ []) begun used s → Quiet (rules_of y) octets piece (told ++ g) n
+  quiet_by : (z : ServerChannel) (n : ℕ) (g : List Told) (used : List DateTime) (s : State) → rules_of z ≡ rules_of y → n ≡ length piece → ServerStands z (octets ++ take n piece) ((told ++ g) ++ []) begun used s → Quiet (rules_of y) octets piece (told ++ g) n
   quiet_by z n g used s same all st = to_quiet (rules_of y) z octets piece (told ++ g) n same all (subst (λ (t : List ℕ). Goes z t (told ++ g)) (whole_taken octets piece n all) (subst (λ (t : List Told). Goes z (octets ++ take n piece) t) (append-nil (told ++ g)) st.goes))
 
   tells_by : (z : ServerChannel) (n : ℕ) (g : List Told) (t : Told) → rules_of z ≡ rules_of y → n ≤ length piece → GoesTelling z (octets ++ take n piece) (told ++ g) t → Tells (rules_of y) octets piece (told ++ g) n t
@@ -172,7 +172,7 @@ module _ (channel : ℕ) (moment : DateTime) (piece octets : List ℕ) (told : L
 
   -- ---- what cannot be
 
-  never_quiet : (z w : ServerChannel) (n m : ℕ) (ids others : List ℕ) (used : List DateTime) (s : State) (t : Told) → rules_of z ≡ rules_of y → rules_of w ≡ rules_of y → n ≡ length piece → Stands z (octets ++ take n piece) ((told ++ given_up ids) ++ []) begun used s
+  never_quiet : (z w : ServerChannel) (n m : ℕ) (ids others : List ℕ) (used : List DateTime) (s : State) (t : Told) → rules_of z ≡ rules_of y → rules_of w ≡ rules_of y → n ≡ length piece → ServerStands z (octets ++ take n piece) ((told ++ given_up ids) ++ []) begun used s
       → m ≤ length piece → is_answered t ≡ true → GoesTelling w (octets ++ take m piece) (told ++ given_up others) t → ⊥
   never_quiet z w n m ids others used s t e d all st within said_so goes =
       let more = quiet_tells (rules_of y) octets piece (told ++ given_up others) (told ++ given_up ids) n m t (quiet_by z n (given_up ids) used s e all st) (tells_by w m (given_up others) t d within goes) in
@@ -193,27 +193,27 @@ module _ (channel : ℕ) (moment : DateTime) (piece octets : List ℕ) (told : L
   -- ---- what is the same
 
   both_quiet : (a b : Answer) (step also : Step) (ids others : List ℕ) → a ≡ Ok step → b ≡ Ok also → step.end ≡ None → also.end ≡ None → step.taken ≡ length piece → also.taken ≡ length piece → step.out.items ≡ [] → also.out.items ≡ []
-      → Stands x (octets ++ take step.taken piece) ((told ++ given_up ids) ++ []) begun (moments ++ spent [] moment) now → Stands y (octets ++ take also.taken piece) ((told ++ given_up others) ++ []) begun (moments ++ spent [] moment) other → Both a b x y octets piece told begun moments now other
+      → ServerStands x (octets ++ take step.taken piece) ((told ++ given_up ids) ++ []) begun (moments ++ times_of_answers [] moment) now → ServerStands y (octets ++ take also.taken piece) ((told ++ given_up others) ++ []) begun (moments ++ times_of_answers [] moment) other → Both a b x y octets piece told begun moments now other
   both_quiet a b step also ids others p q e d all all' out out' s r =
       let same = quiet_quiet (rules_of y) octets piece (told ++ given_up ids) (told ++ given_up others) step.taken also.taken (quiet_by x step.taken (given_up ids) _ now rules all s) (quiet_by y also.taken (given_up others) _ other refl all' r) in
-      goes_on a b step also (given_up ids) (given_up others) (spent [] moment) p q e d same.0 (out ∙ sym out') (append_cancel_left told (given_up ids) (given_up others) same.1)
-      (subst (λ (t : List Told). Stands x (octets ++ take step.taken piece) t begun (moments ++ spent [] moment) now) (append-nil (told ++ given_up ids)) s)
-      (subst (λ (t : List Told). Stands y (octets ++ take also.taken piece) t begun (moments ++ spent [] moment) other) (append-nil (told ++ given_up others)) r)
+      goes_on a b step also (given_up ids) (given_up others) (times_of_answers [] moment) p q e d same.0 (out ∙ sym out') (append_cancel_left told (given_up ids) (given_up others) same.1)
+      (subst (λ (t : List Told). ServerStands x (octets ++ take step.taken piece) t begun (moments ++ times_of_answers [] moment) now) (append-nil (told ++ given_up ids)) s)
+      (subst (λ (t : List Told). ServerStands y (octets ++ take also.taken piece) t begun (moments ++ times_of_answers [] moment) other) (append-nil (told ++ given_up others)) r)
 
-  same_out : (us vs : List Told) (t d : Told) (out also : List ℕ) → us ≡ vs → t ≡ d → said channel begun (us ++ t ∷ []) Going (moments ++ spent (t ∷ []) moment) ≡ said channel begun told Going moments ++ out → said channel begun (vs ++ d ∷ []) Going (moments ++ spent (d ∷ []) moment) ≡ said channel begun told Going moments ++ also → out ≡ also
+  same_out : (us vs : List Told) (t d : Told) (out also : List ℕ) → us ≡ vs → t ≡ d → output_of channel begun (us ++ t ∷ []) Going (moments ++ times_of_answers (t ∷ []) moment) ≡ output_of channel begun told Going moments ++ out → output_of channel begun (vs ++ d ∷ []) Going (moments ++ times_of_answers (d ∷ []) moment) ≡ output_of channel begun told Going moments ++ also → out ≡ also
   same_out us vs t d out also e f p q =
-      append_cancel_left (said channel begun told Going moments) out also (sym p ∙ (ap (λ (z : List Told). said channel begun (z ++ t ∷ []) Going (moments ++ spent (t ∷ []) moment)) e ∙ (ap (λ (z : Told). said channel begun (vs ++ z ∷ []) Going (moments ++ spent (z ∷ []) moment)) f ∙ q)))
+      append_cancel_left (output_of channel begun told Going moments) out also (sym p ∙ (ap (λ (z : List Told). output_of channel begun (z ++ t ∷ []) Going (moments ++ times_of_answers (t ∷ []) moment)) e ∙ (ap (λ (z : Told). output_of channel begun (vs ++ z ∷ []) Going (moments ++ times_of_answers (z ∷ []) moment)) f ∙ q)))
 
   both_tell : (a b : Answer) (step also : Step) (ids others : List ℕ) (t d : Told) → a ≡ Ok step → b ≡ Ok also → step.end ≡ None → also.end ≡ None → is_answered t ≡ true → is_answered d ≡ true
-      → Stands x (octets ++ take step.taken piece) ((told ++ given_up ids) ++ t ∷ []) begun (moments ++ spent (t ∷ []) moment) now → Stands y (octets ++ take also.taken piece) ((told ++ given_up others) ++ d ∷ []) begun (moments ++ spent (d ∷ []) moment) other
-      → said channel begun ((told ++ given_up ids) ++ t ∷ []) Going (moments ++ spent (t ∷ []) moment) ≡ said channel begun told Going moments ++ step.out.items
-      → said channel begun ((told ++ given_up others) ++ d ∷ []) Going (moments ++ spent (d ∷ []) moment) ≡ said channel begun told Going moments ++ also.out.items
+      → ServerStands x (octets ++ take step.taken piece) ((told ++ given_up ids) ++ t ∷ []) begun (moments ++ times_of_answers (t ∷ []) moment) now → ServerStands y (octets ++ take also.taken piece) ((told ++ given_up others) ++ d ∷ []) begun (moments ++ times_of_answers (d ∷ []) moment) other
+      → output_of channel begun ((told ++ given_up ids) ++ t ∷ []) Going (moments ++ times_of_answers (t ∷ []) moment) ≡ output_of channel begun told Going moments ++ step.out.items
+      → output_of channel begun ((told ++ given_up others) ++ d ∷ []) Going (moments ++ times_of_answers (d ∷ []) moment) ≡ output_of channel begun told Going moments ++ also.out.items
       → Meets (told ++ given_up ids) (told ++ given_up others) step.taken also.taken t d → Both a b x y octets piece told begun moments now other
   both_tell a b step also ids others t d p q e f said_so also_so s r out out' (AsOne taken same one) =
-      goes_on a b step also (given_up ids ++ t ∷ []) (given_up others ++ t ∷ []) (spent (t ∷ []) moment) p q e f taken (same_out _ _ t d _ _ same one out out')
+      goes_on a b step also (given_up ids ++ t ∷ []) (given_up others ++ t ∷ []) (times_of_answers (t ∷ []) moment) p q e f taken (same_out _ _ t d _ _ same one out out')
       (ap (λ (z : List Told). z ++ t ∷ []) (append_cancel_left told (given_up ids) (given_up others) same))
-      (subst (λ (z : List Told). Stands x (octets ++ take step.taken piece) z begun (moments ++ spent (t ∷ []) moment) now) (append_assoc told (given_up ids) (t ∷ [])) s)
-      (subst (λ (z : List Told). Stands y (octets ++ take also.taken piece) z begun (moments ++ spent (t ∷ []) moment) other) (append_assoc told (given_up others) (t ∷ [])) (subst (λ (u : Told). Stands y (octets ++ take also.taken piece) ((told ++ given_up others) ++ u ∷ []) begun (moments ++ spent (u ∷ []) moment) other) (sym one) r))
+      (subst (λ (z : List Told). ServerStands x (octets ++ take step.taken piece) z begun (moments ++ times_of_answers (t ∷ []) moment) now) (append_assoc told (given_up ids) (t ∷ [])) s)
+      (subst (λ (z : List Told). ServerStands y (octets ++ take also.taken piece) z begun (moments ++ times_of_answers (t ∷ []) moment) other) (append_assoc told (given_up others) (t ∷ [])) (subst (λ (u : Told). ServerStands y (octets ++ take also.taken piece) ((told ++ given_up others) ++ u ∷ []) begun (moments ++ times_of_answers (u ∷ []) moment) other) (sym one) r))
   both_tell a b step also ids others t d p q e f said_so also_so s r out out' (Within more eq) = absurd (not_among told (given_up ids) (given_up others) more t eq (none_given_up others) said_so)
   both_tell a b step also ids others t d p q e f said_so also_so s r out out' (Around more eq) = absurd (not_among told (given_up others) (given_up ids) more d eq (none_given_up ids) also_so)
 
@@ -227,13 +227,13 @@ module _ (channel : ℕ) (moment : DateTime) (piece octets : List ℕ) (told : L
       let frames = (unique (rules_of y) (octets ++ take step.taken piece) c.frames d.frames [] [] Over Over (subst (λ (S : Rules Told ℕ). Run S (octets ++ take step.taken piece) c.frames [] Over) rules c.run) (subst (λ (t : List ℕ). Run (rules_of y) t d.frames [] Over) at d.run)).frames in
       by_equal a b step also p q (record { taken = one.0; out = out ∙ sym out'; end = e ∙ sym f }) (s ∙ (states ∙ sym r)) (ends step.end ending.Closed step.taken e (record { first = c.done; second = d.done; bound = same_bound c.frames d.frames frames c.bound_is d.bound_is }))
 
-  same_last : (us vs : List Told) (c d : StatusCode) (out also : List ℕ) → us ≡ vs → c ≡ d → said channel begun us (Stopped c.code) moments ≡ said channel begun told Going moments ++ out → said channel begun vs (Stopped d.code) moments ≡ said channel begun told Going moments ++ also → out ≡ also
+  same_last : (us vs : List Told) (c d : StatusCode) (out also : List ℕ) → us ≡ vs → c ≡ d → output_of channel begun us (Stopped c.code) moments ≡ output_of channel begun told Going moments ++ out → output_of channel begun vs (Stopped d.code) moments ≡ output_of channel begun told Going moments ++ also → out ≡ also
   same_last us vs c d out also e f p q =
-      append_cancel_left (said channel begun told Going moments) out also (sym p ∙ (ap (λ (z : List Told). said channel begun z (Stopped c.code) moments) e ∙ (ap (λ (z : StatusCode). said channel begun vs (Stopped z.code) moments) f ∙ q)))
+      append_cancel_left (output_of channel begun told Going moments) out also (sym p ∙ (ap (λ (z : List Told). output_of channel begun z (Stopped c.code) moments) e ∙ (ap (λ (z : StatusCode). output_of channel begun vs (Stopped z.code) moments) f ∙ q)))
 
   both_refuse : (a b : Answer) (step also : Step) (code reason : StatusCode) (ids others : List ℕ) → a ≡ Ok step → b ≡ Ok also → step.end ≡ Some (ending.Refused code) → also.end ≡ Some (ending.Refused reason) → step.taken ≤ length piece → also.taken ≤ length piece
       → RefusedAt x (octets ++ take step.taken piece) (told ++ given_up ids) code.code → RefusedAt y (octets ++ take also.taken piece) (told ++ given_up others) reason.code
-      → said channel begun (told ++ given_up ids) (Stopped code.code) moments ≡ said channel begun told Going moments ++ step.out.items → said channel begun (told ++ given_up others) (Stopped reason.code) moments ≡ said channel begun told Going moments ++ also.out.items
+      → output_of channel begun (told ++ given_up ids) (Stopped code.code) moments ≡ output_of channel begun told Going moments ++ step.out.items → output_of channel begun (told ++ given_up others) (Stopped reason.code) moments ≡ output_of channel begun told Going moments ++ also.out.items
       → now ≡ before → other ≡ earlier → Both a b x y octets piece told begun moments now other
   both_refuse a b step also code reason ids others p q e f within within' c d out out' s r =
       let w = wrong_by x step.taken code.code (given_up ids) rules within c in
@@ -278,5 +278,5 @@ pub alike : (one two x y : ServerChannel) (moment : DateTime) (piece octets : Li
     → IsStepped one x moment piece octets told begun moments before now a → IsStepped two y moment piece octets told begun moments earlier other b → HadMemory step_fault.OutOfMemory a b → Both a b x y octets piece told begun moments now other
 alike one two x y moment piece octets told begun moments before earlier now other a b s p q had =
     stepped_twice (channel_of one) moment piece octets told begun moments before earlier now other x y (p.limits ∙ (s.limits ∙ sym q.limits)) (p.channel ∙ (s.channel ∙ sym q.channel))
-    (sym s.first.state_is ∙ (ap (λ (k : ℕ). (left k begun told moments).state) s.channel ∙ s.second.state_is)) (limits_of one) a b p.answers
+    (sym s.first.state_is ∙ (ap (λ (k : ℕ). (state_after k begun told moments).state) s.channel ∙ s.second.state_is)) (limits_of one) a b p.answers
     (subst (λ (l : Limits). StepAnswers l (channel_of one) moment piece b y octets told begun moments earlier other) (sym s.limits) (subst (λ (k : ℕ). StepAnswers (limits_of two) k moment piece b y octets told begun moments earlier other) (sym s.channel) q.answers)) had

@@ -4,7 +4,7 @@ use Rattle.ua_channel.specs.Client.{SameClient}
 use Rattle.ua_channel.specs.Line.{Traffic}
 use Rattle.ua_client.specs.Client.{IsDone, IsReady, client_channel, connection_of, ends}
 use Rattle.ua_client.specs.Hearing.{is_line_fault, untaken_of}
-use Rattle.ua_client.specs.Site.{Site, At}
+use Rattle.ua_client.specs.ClientPlace.{ClientPlace, StandsAt}
 use Rattle.ua_client.specs.declared.client.Client.{Client}
 use Rattle.ua_client.specs.declared.fault.ClientFault.{ClientFault}
 use Rattle.ua_client.specs.declared.fault.ClientFault.TheVariants as fault
@@ -33,11 +33,11 @@ ComesTo x None octets = ⊥
 
 -- two clients of the same limits and URL stand in one place, where they may be called, and the same octets are to come to both; these and
 -- those that came are fewer than 18446744073709551615
-pub record StandReady (one two : Client) (line other : Option Traffic) (s : Site) (coming : List ℕ) : Type 0 where
+pub record StandReady (one two : Client) (line other : Option Traffic) (s : ClientPlace) (coming : List ℕ) : Type 0 where
   pub ready : IsReady one
   pub ready_too : IsReady two
-  pub first : At (client_channel one) s
-  pub second : At (client_channel two) s
+  pub first : StandsAt (client_channel one) s
+  pub second : StandsAt (client_channel two) s
   pub same : SameClient (client_channel one) (client_channel two)
   pub comes : ComesTo one line coming
   pub comes_too : ComesTo two other coming
@@ -51,7 +51,7 @@ pub record AreDone (one two : Client) : Type 0 where
 -- both are done, or they stand in one place again
 abbrev pub StandBy : Bool → Client → Client → Option Traffic → Option Traffic → Type 0
 StandBy true one two line other = AreDone one two
-StandBy false one two line other = (s : Site) × (coming : List ℕ) × StandReady one two line other s coming
+StandBy false one two line other = (s : ClientPlace) × (coming : List ℕ) × StandReady one two line other s coming
 
 -- where an answer leaves them
 abbrev pub LeavesBoth : {A : Type 0} → Result A ClientFault → Client → Client → Option Traffic → Option Traffic → Type 0

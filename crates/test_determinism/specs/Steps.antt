@@ -5,7 +5,7 @@ use Rattle.ua_channel.specs.ServerStands.{limits_of, channel_of}
 use Rattle.ua_channel.specs.ServerTold.{Told}
 use Rattle.ua_channel.specs.declared.server.ServerChannel.{ServerChannel}
 use Rattle.ua_server.specs.State.{State}
-use Rattle.ua_server.specs.Stepping.{Stands}
+use Rattle.ua_server.specs.Stepping.{ServerStands}
 use Rattle.ua_server.specs.declared.step.End.{End}
 use Rattle.ua_server.specs.declared.step.Step.{Step}
 use Rattle.ua_server.specs.declared.step.StepFault.{StepFault}
@@ -14,8 +14,8 @@ use Rattle.test_determinism.specs.Servers.{ServersDone}
 -- two servers of the same limits and the same id stand after these octets, which told both this, where their services were in the same
 -- state as the connection began, and each of the moments was used
 pub record StepsAlike (one two : ServerChannel) (octets : List ℕ) (told : List Told) (begun : State) (moments : List DateTime) (state other : State) : Type 0 where
-  pub first : Stands one octets told begun moments state
-  pub second : Stands two octets told begun moments other
+  pub first : ServerStands one octets told begun moments state
+  pub second : ServerStands two octets told begun moments other
   pub limits : limits_of one ≡ limits_of two
   pub channel : channel_of one ≡ channel_of two
 

@@ -2,7 +2,7 @@
 
 ghost use Rattle.std.specs.Prelude.{◌≡◌, ℕ, List, IsTrue};
 ghost use Rattle.ua_client.specs.Hearing.{fault_alone};
-ghost use Rattle.ua_client.specs.Site.{Site};
+ghost use Rattle.ua_client.specs.ClientPlace.{ClientPlace};
 ghost use Rattle.ua_client.specs.declared.fault.ClientFault.TheVariants.{OutOfMemory};
 ghost use Rattle.ua_wire.specs.Counted.{text};
 ghost use Rattle.test_determinism.specs.Calling.{AreDone, CallsAlike, LeavesBoth, OpenAlike, StandReady};
@@ -52,9 +52,9 @@ pub fn close_twice<L: Line, K: Line>(
     other: &mut K,
     moment: DateTime,
 ) -> (Result<(), ClientFault>, Result<(), ClientFault>)
-    ensures answers { (s : Site) (coming : List ℕ) → StandReady one.old two.old (L.traffic line.old) (K.traffic other.old) s coming → HadMemory OutOfMemory result.0 result.1
+    ensures answers { (s : ClientPlace) (coming : List ℕ) → StandReady one.old two.old (L.traffic line.old) (K.traffic other.old) s coming → HadMemory OutOfMemory result.0 result.1
         → CallsAlike result.0 result.1 (L.traffic line.old) (L.traffic line.new) (K.traffic other.old) (K.traffic other.new) → result.0 ≡ result.1 }
-    ensures written { (s : Site) (coming : List ℕ) → StandReady one.old two.old (L.traffic line.old) (K.traffic other.old) s coming → HadMemory OutOfMemory result.0 result.1
+    ensures written { (s : ClientPlace) (coming : List ℕ) → StandReady one.old two.old (L.traffic line.old) (K.traffic other.old) s coming → HadMemory OutOfMemory result.0 result.1
         → CallsAlike result.0 result.1 (L.traffic line.old) (L.traffic line.new) (K.traffic other.old) (K.traffic other.new) → WroteAlike (L.traffic line.old) (L.traffic line.new) (K.traffic other.old) (K.traffic other.new) }
     ensures left { AreDone one.new two.new }
 {
@@ -73,11 +73,11 @@ pub fn renew_twice<L: Line, K: Line>(
     other: &mut K,
     moment: DateTime,
 ) -> (Result<(), ClientFault>, Result<(), ClientFault>)
-    ensures answers { (s : Site) (coming : List ℕ) → StandReady one.old two.old (L.traffic line.old) (K.traffic other.old) s coming → HadMemory OutOfMemory result.0 result.1
+    ensures answers { (s : ClientPlace) (coming : List ℕ) → StandReady one.old two.old (L.traffic line.old) (K.traffic other.old) s coming → HadMemory OutOfMemory result.0 result.1
         → CallsAlike result.0 result.1 (L.traffic line.old) (L.traffic line.new) (K.traffic other.old) (K.traffic other.new) → result.0 ≡ result.1 }
-    ensures written { (s : Site) (coming : List ℕ) → StandReady one.old two.old (L.traffic line.old) (K.traffic other.old) s coming → HadMemory OutOfMemory result.0 result.1
+    ensures written { (s : ClientPlace) (coming : List ℕ) → StandReady one.old two.old (L.traffic line.old) (K.traffic other.old) s coming → HadMemory OutOfMemory result.0 result.1
         → CallsAlike result.0 result.1 (L.traffic line.old) (L.traffic line.new) (K.traffic other.old) (K.traffic other.new) → WroteAlike (L.traffic line.old) (L.traffic line.new) (K.traffic other.old) (K.traffic other.new) }
-    ensures left { (s : Site) (coming : List ℕ) → StandReady one.old two.old (L.traffic line.old) (K.traffic other.old) s coming → HadMemory OutOfMemory result.0 result.1
+    ensures left { (s : ClientPlace) (coming : List ℕ) → StandReady one.old two.old (L.traffic line.old) (K.traffic other.old) s coming → HadMemory OutOfMemory result.0 result.1
         → CallsAlike result.0 result.1 (L.traffic line.old) (L.traffic line.new) (K.traffic other.old) (K.traffic other.new) → LeavesBoth result.0 one.new two.new (L.traffic line.new) (K.traffic other.new) }
 {
     let first = one.renew(line, moment);
@@ -96,11 +96,11 @@ pub fn call_twice<L: Line, K: Line>(
     request: &Request,
     moment: DateTime,
 ) -> (Result<Reply, ClientFault>, Result<Reply, ClientFault>)
-    ensures answers { (s : Site) (coming : List ℕ) → StandReady one.old two.old (L.traffic line.old) (K.traffic other.old) s coming → HadMemory OutOfMemory result.0 result.1
+    ensures answers { (s : ClientPlace) (coming : List ℕ) → StandReady one.old two.old (L.traffic line.old) (K.traffic other.old) s coming → HadMemory OutOfMemory result.0 result.1
         → CallsAlike result.0 result.1 (L.traffic line.old) (L.traffic line.new) (K.traffic other.old) (K.traffic other.new) → result.0 ≡ result.1 }
-    ensures written { (s : Site) (coming : List ℕ) → StandReady one.old two.old (L.traffic line.old) (K.traffic other.old) s coming → HadMemory OutOfMemory result.0 result.1
+    ensures written { (s : ClientPlace) (coming : List ℕ) → StandReady one.old two.old (L.traffic line.old) (K.traffic other.old) s coming → HadMemory OutOfMemory result.0 result.1
         → CallsAlike result.0 result.1 (L.traffic line.old) (L.traffic line.new) (K.traffic other.old) (K.traffic other.new) → WroteAlike (L.traffic line.old) (L.traffic line.new) (K.traffic other.old) (K.traffic other.new) }
-    ensures left { (s : Site) (coming : List ℕ) → StandReady one.old two.old (L.traffic line.old) (K.traffic other.old) s coming → HadMemory OutOfMemory result.0 result.1
+    ensures left { (s : ClientPlace) (coming : List ℕ) → StandReady one.old two.old (L.traffic line.old) (K.traffic other.old) s coming → HadMemory OutOfMemory result.0 result.1
         → CallsAlike result.0 result.1 (L.traffic line.old) (L.traffic line.new) (K.traffic other.old) (K.traffic other.new) → LeavesBoth result.0 one.new two.new (L.traffic line.new) (K.traffic other.new) }
 {
     bodies_of_responses_differ();
@@ -123,11 +123,11 @@ pub fn call_all_twice<L: Line, K: Line>(
     Result<Vec<Reply>, ClientFault>,
     Result<Vec<Reply>, ClientFault>,
 )
-    ensures answers { (s : Site) (coming : List ℕ) → StandReady one.old two.old (L.traffic line.old) (K.traffic other.old) s coming → HadMemory OutOfMemory result.0 result.1
+    ensures answers { (s : ClientPlace) (coming : List ℕ) → StandReady one.old two.old (L.traffic line.old) (K.traffic other.old) s coming → HadMemory OutOfMemory result.0 result.1
         → CallsAlike result.0 result.1 (L.traffic line.old) (L.traffic line.new) (K.traffic other.old) (K.traffic other.new) → SameBy (λ replies. replies.items) result.0 result.1 }
-    ensures written { (s : Site) (coming : List ℕ) → StandReady one.old two.old (L.traffic line.old) (K.traffic other.old) s coming → HadMemory OutOfMemory result.0 result.1
+    ensures written { (s : ClientPlace) (coming : List ℕ) → StandReady one.old two.old (L.traffic line.old) (K.traffic other.old) s coming → HadMemory OutOfMemory result.0 result.1
         → CallsAlike result.0 result.1 (L.traffic line.old) (L.traffic line.new) (K.traffic other.old) (K.traffic other.new) → WroteAlike (L.traffic line.old) (L.traffic line.new) (K.traffic other.old) (K.traffic other.new) }
-    ensures left { (s : Site) (coming : List ℕ) → StandReady one.old two.old (L.traffic line.old) (K.traffic other.old) s coming → HadMemory OutOfMemory result.0 result.1
+    ensures left { (s : ClientPlace) (coming : List ℕ) → StandReady one.old two.old (L.traffic line.old) (K.traffic other.old) s coming → HadMemory OutOfMemory result.0 result.1
         → CallsAlike result.0 result.1 (L.traffic line.old) (L.traffic line.new) (K.traffic other.old) (K.traffic other.new) → LeavesBoth result.0 one.new two.new (L.traffic line.new) (K.traffic other.new) }
 {
     bodies_of_responses_differ();
@@ -149,13 +149,13 @@ pub fn call_into_twice<L: Line, K: Line>(
     others: &mut Vec<Reply>,
 ) -> (Result<(), CallsFault>, Result<(), CallsFault>)
     requires same { replies.old.items ≡ others.old.items }
-    ensures answers { (s : Site) (coming : List ℕ) → StandReady one.old two.old (L.traffic line.old) (K.traffic other.old) s coming → HadMemory OutOfMemory (fault_alone result.0) (fault_alone result.1)
+    ensures answers { (s : ClientPlace) (coming : List ℕ) → StandReady one.old two.old (L.traffic line.old) (K.traffic other.old) s coming → HadMemory OutOfMemory (fault_alone result.0) (fault_alone result.1)
         → CallsAlike (fault_alone result.0) (fault_alone result.1) (L.traffic line.old) (L.traffic line.new) (K.traffic other.old) (K.traffic other.new) → result.0 ≡ result.1 }
-    ensures kept { (s : Site) (coming : List ℕ) → StandReady one.old two.old (L.traffic line.old) (K.traffic other.old) s coming → HadMemory OutOfMemory (fault_alone result.0) (fault_alone result.1)
+    ensures kept { (s : ClientPlace) (coming : List ℕ) → StandReady one.old two.old (L.traffic line.old) (K.traffic other.old) s coming → HadMemory OutOfMemory (fault_alone result.0) (fault_alone result.1)
         → CallsAlike (fault_alone result.0) (fault_alone result.1) (L.traffic line.old) (L.traffic line.new) (K.traffic other.old) (K.traffic other.new) → replies.new.items ≡ others.new.items }
-    ensures written { (s : Site) (coming : List ℕ) → StandReady one.old two.old (L.traffic line.old) (K.traffic other.old) s coming → HadMemory OutOfMemory (fault_alone result.0) (fault_alone result.1)
+    ensures written { (s : ClientPlace) (coming : List ℕ) → StandReady one.old two.old (L.traffic line.old) (K.traffic other.old) s coming → HadMemory OutOfMemory (fault_alone result.0) (fault_alone result.1)
         → CallsAlike (fault_alone result.0) (fault_alone result.1) (L.traffic line.old) (L.traffic line.new) (K.traffic other.old) (K.traffic other.new) → WroteAlike (L.traffic line.old) (L.traffic line.new) (K.traffic other.old) (K.traffic other.new) }
-    ensures left { (s : Site) (coming : List ℕ) → StandReady one.old two.old (L.traffic line.old) (K.traffic other.old) s coming → HadMemory OutOfMemory (fault_alone result.0) (fault_alone result.1)
+    ensures left { (s : ClientPlace) (coming : List ℕ) → StandReady one.old two.old (L.traffic line.old) (K.traffic other.old) s coming → HadMemory OutOfMemory (fault_alone result.0) (fault_alone result.1)
         → CallsAlike (fault_alone result.0) (fault_alone result.1) (L.traffic line.old) (L.traffic line.new) (K.traffic other.old) (K.traffic other.new) → LeavesBoth (fault_alone result.0) one.new two.new (L.traffic line.new) (K.traffic other.new) }
 {
     bodies_of_responses_differ();
@@ -174,11 +174,11 @@ pub fn begin_session_twice<L: Line, K: Line>(
     other: &mut K,
     moment: DateTime,
 ) -> (Result<NodeId, ClientFault>, Result<NodeId, ClientFault>)
-    ensures answers { (s : Site) (coming : List ℕ) → StandReady one.old two.old (L.traffic line.old) (K.traffic other.old) s coming → HadMemory OutOfMemory result.0 result.1
+    ensures answers { (s : ClientPlace) (coming : List ℕ) → StandReady one.old two.old (L.traffic line.old) (K.traffic other.old) s coming → HadMemory OutOfMemory result.0 result.1
         → CallsAlike result.0 result.1 (L.traffic line.old) (L.traffic line.new) (K.traffic other.old) (K.traffic other.new) → result.0 ≡ result.1 }
-    ensures written { (s : Site) (coming : List ℕ) → StandReady one.old two.old (L.traffic line.old) (K.traffic other.old) s coming → HadMemory OutOfMemory result.0 result.1
+    ensures written { (s : ClientPlace) (coming : List ℕ) → StandReady one.old two.old (L.traffic line.old) (K.traffic other.old) s coming → HadMemory OutOfMemory result.0 result.1
         → CallsAlike result.0 result.1 (L.traffic line.old) (L.traffic line.new) (K.traffic other.old) (K.traffic other.new) → WroteAlike (L.traffic line.old) (L.traffic line.new) (K.traffic other.old) (K.traffic other.new) }
-    ensures left { (s : Site) (coming : List ℕ) → StandReady one.old two.old (L.traffic line.old) (K.traffic other.old) s coming → HadMemory OutOfMemory result.0 result.1
+    ensures left { (s : ClientPlace) (coming : List ℕ) → StandReady one.old two.old (L.traffic line.old) (K.traffic other.old) s coming → HadMemory OutOfMemory result.0 result.1
         → CallsAlike result.0 result.1 (L.traffic line.old) (L.traffic line.new) (K.traffic other.old) (K.traffic other.new) → LeavesBoth result.0 one.new two.new (L.traffic line.new) (K.traffic other.new) }
 {
     bodies_of_responses_differ();
@@ -198,11 +198,11 @@ pub fn begin_session_as_twice<L: Line, K: Line>(
     moment: DateTime,
 ) -> (Result<NodeId, ClientFault>, Result<NodeId, ClientFault>)
     requires same { policy_id ≡ again }
-    ensures answers { (s : Site) (coming : List ℕ) → StandReady one.old two.old (L.traffic line.old) (K.traffic other.old) s coming → HadMemory OutOfMemory result.0 result.1
+    ensures answers { (s : ClientPlace) (coming : List ℕ) → StandReady one.old two.old (L.traffic line.old) (K.traffic other.old) s coming → HadMemory OutOfMemory result.0 result.1
         → CallsAlike result.0 result.1 (L.traffic line.old) (L.traffic line.new) (K.traffic other.old) (K.traffic other.new) → result.0 ≡ result.1 }
-    ensures written { (s : Site) (coming : List ℕ) → StandReady one.old two.old (L.traffic line.old) (K.traffic other.old) s coming → HadMemory OutOfMemory result.0 result.1
+    ensures written { (s : ClientPlace) (coming : List ℕ) → StandReady one.old two.old (L.traffic line.old) (K.traffic other.old) s coming → HadMemory OutOfMemory result.0 result.1
         → CallsAlike result.0 result.1 (L.traffic line.old) (L.traffic line.new) (K.traffic other.old) (K.traffic other.new) → WroteAlike (L.traffic line.old) (L.traffic line.new) (K.traffic other.old) (K.traffic other.new) }
-    ensures left { (s : Site) (coming : List ℕ) → StandReady one.old two.old (L.traffic line.old) (K.traffic other.old) s coming → HadMemory OutOfMemory result.0 result.1
+    ensures left { (s : ClientPlace) (coming : List ℕ) → StandReady one.old two.old (L.traffic line.old) (K.traffic other.old) s coming → HadMemory OutOfMemory result.0 result.1
         → CallsAlike result.0 result.1 (L.traffic line.old) (L.traffic line.new) (K.traffic other.old) (K.traffic other.new) → LeavesBoth result.0 one.new two.new (L.traffic line.new) (K.traffic other.new) }
 {
     bodies_of_responses_differ();

@@ -1,7 +1,7 @@
 -- What a connection over shared nodes does for C: each clause of the calls of `Connection`, over what two handles hold.
 use Rattle.std.specs.Prelude.{◌≡◌, ◌⊎◌, ℕ, List, [], Option, Some, None, Result, Ok, Err, IfOk, IsErrOf}
 use Rattle.ua_builtin.specs.declared.date_time.DateTime.{DateTime}
-use Rattle.ua_channel.specs.ServerStands.{limits_of, channel_of, next_of, bound_of, IsDone, Goes, Stands as Holds}
+use Rattle.ua_channel.specs.ServerStands.{limits_of, channel_of, next_of, bound_of, IsDone, Goes, ChannelStands as Holds}
 use Rattle.ua_channel.specs.ServerTold.{Told}
 use Rattle.ua_frame.specs.declared.limits.Limits.{Limits}
 use Rattle.ua_server.specs.History.{ConnectionEvent, StandsOver, StepOver}
@@ -9,7 +9,7 @@ use Rattle.ua_server.specs.Now.{StepNow}
 use Rattle.ua_server.specs.Served.{channel_at, session_at, with_own_session}
 use Rattle.ua_server.specs.Sharing.{SharedEvent, StandsAmong, StepAmong, opened, shared_over, told_by}
 use Rattle.ua_server.specs.State.{State}
-use Rattle.ua_server.specs.Stepping.{StepStands, Takes}
+use Rattle.ua_server.specs.Stepping.{StepStands, StepTakes}
 use Rattle.ua_server.specs.Storing.{StepStores}
 use Rattle.ua_server.specs.declared.connection.Connection.{Connection}
 use Rattle.ua_server.specs.declared.step.Step.{Step}
@@ -50,7 +50,7 @@ pub record StepsConnectionAs (connection : Connection) (services : State) (piece
   pub stores : (octets : List ℕ) (told : List Told) → Goes (channel_at connection) octets told → StepStores piece answer (channel_at new) octets told (with_own_session connection services)
   pub apart : left.session ≡ services.session
   pub endpoint : left.endpoint ≡ services.endpoint
-  pub progress : IfOk answer (λ step. Takes piece step)
+  pub progress : IfOk answer (λ step. StepTakes piece step)
   pub starved : (octets : List ℕ) (told : List Told) → Goes (channel_at connection) octets told
       → IsErrOf answer step_fault.OutOfMemory → bound_of (channel_at new) ≡ bound_of (channel_at connection)
   pub closed : IsDone (channel_at connection) → (answer ≡ Err step_fault.Closed) × (new ≡ connection) × (left ≡ services)

@@ -3,11 +3,11 @@ use Rattle.std.specs.Prelude.{◌≡◌, ◌⊎◌, ◌≤◌, ℕ, List, Option
 use Rattle.ua_channel.specs.Asks.{Placed}
 use Rattle.ua_channel.specs.Client.{ClientStands, IsClientDone, client_bound, client_bound_behind, held_octets, client_limits}
 use Rattle.ua_channel.specs.Received.{received}
-use Rattle.ua_channel.specs.ServerStands.{Stands, IsDone, bound_of, bound_after, held_after, limits_of}
+use Rattle.ua_channel.specs.ServerStands.{ChannelStands, IsDone, bound_of, bound_after, held_after, limits_of}
 use Rattle.ua_frame.specs.declared.frame.Frame.{Frame}
 use Rattle.ua_server.specs.Served.{channel_at, channel_in}
 use Rattle.ua_c.specs.Status.{ok, no_memory, no_handle}
-use Rattle.ua_c.specs.Waiting.{Moves}
+use Rattle.ua_c.specs.Waiting.{FillsBuffer}
 use Rattle.ua_c.specs.declared.holding.Holding.{Holding}
 use Rattle.ua_c.specs.declared.holding.Machine.{Machine}
 use Rattle.ua_c.specs.declared.holding.Machine.TheVariants as machine
@@ -15,8 +15,8 @@ use Rattle.ua_c.specs.declared.holding.Machine.TheVariants as machine
 -- what `Server::held`, `ClientChannel::held` and `Connection::held` say of this count; nodes hold no octets
 abbrev pub Holds : Machine → ℕ → Type 0
 Holds (machine.Server station) count =
-    ((octets : List ℕ) (frames : List Frame) (rest : List ℕ) → Stands (channel_in station.server) octets frames rest → count ≡ held_after (received frames) rest)
-    × ((octets : List ℕ) (frames : List Frame) (rest : List ℕ) → Stands (channel_in station.server) octets frames rest → count ≤ bound_after (limits_of (channel_in station.server)) (received frames))
+    ((octets : List ℕ) (frames : List Frame) (rest : List ℕ) → ChannelStands (channel_in station.server) octets frames rest → count ≡ held_after (received frames) rest)
+    × ((octets : List ℕ) (frames : List Frame) (rest : List ℕ) → ChannelStands (channel_in station.server) octets frames rest → count ≤ bound_after (limits_of (channel_in station.server)) (received frames))
     × (IsDone (channel_in station.server) → count ≡ 0)
 Holds (machine.Client client) count =
     ((asks : List Placed) (octets : List ℕ) (frames : List Frame) (rest : List ℕ) → ClientStands client asks octets frames rest → count ≡ held_octets frames rest)
@@ -24,21 +24,21 @@ Holds (machine.Client client) count =
     × (IsClientDone client → count ≡ 0)
 Holds (machine.Nodes shared) count = count ≡ 0
 Holds (machine.Connection connection) count =
-    ((octets : List ℕ) (frames : List Frame) (rest : List ℕ) → Stands (channel_at connection) octets frames rest → count ≡ held_after (received frames) rest)
-    × ((octets : List ℕ) (frames : List Frame) (rest : List ℕ) → Stands (channel_at connection) octets frames rest → count ≤ bound_after (limits_of (channel_at connection)) (received frames))
+    ((octets : List ℕ) (frames : List Frame) (rest : List ℕ) → ChannelStands (channel_at connection) octets frames rest → count ≡ held_after (received frames) rest)
+    × ((octets : List ℕ) (frames : List Frame) (rest : List ℕ) → ChannelStands (channel_at connection) octets frames rest → count ≤ bound_after (limits_of (channel_at connection)) (received frames))
     × (IsDone (channel_at connection) → count ≡ 0)
 
 -- what `Server::bound`, `ClientChannel::bound` and `Connection::bound` say of this count
 abbrev pub Bounds : Machine → ℕ → Type 0
 Bounds (machine.Server station) count =
-    ((octets : List ℕ) (frames : List Frame) (rest : List ℕ) → Stands (channel_in station.server) octets frames rest → count ≡ bound_after (limits_of (channel_in station.server)) (received frames))
+    ((octets : List ℕ) (frames : List Frame) (rest : List ℕ) → ChannelStands (channel_in station.server) octets frames rest → count ≡ bound_after (limits_of (channel_in station.server)) (received frames))
     × (count ≡ bound_of (channel_in station.server))
 Bounds (machine.Client client) count =
     ((asks : List Placed) (octets : List ℕ) (frames : List Frame) (rest : List ℕ) → ClientStands client asks octets frames rest → count ≡ client_bound_behind (client_limits client) (received frames).ack)
     × (count ≡ client_bound client)
 Bounds (machine.Nodes shared) count = count ≡ 0
 Bounds (machine.Connection connection) count =
-    ((octets : List ℕ) (frames : List Frame) (rest : List ℕ) → Stands (channel_at connection) octets frames rest → count ≡ bound_after (limits_of (channel_at connection)) (received frames))
+    ((octets : List ℕ) (frames : List Frame) (rest : List ℕ) → ChannelStands (channel_at connection) octets frames rest → count ≡ bound_after (limits_of (channel_at connection)) (received frames))
     × (count ≡ bound_of (channel_at connection))
 
 -- a count of what is held, which is 0 where nothing is
@@ -51,5 +51,5 @@ abbrev pub FetchesHandle : Option Holding → Option Holding → List ℕ → Li
 FetchesHandle None new before after count status = (status ≡ no_handle) × (count ≡ 0) × (after ≡ before) × (new ≡ None)
 FetchesHandle (Some old) None before after count status = ⊥
 FetchesHandle (Some old) (Some new) before after count status = (new.machine ≡ old.machine)
-    × (((status ≡ ok) × Moves old.waiting new.waiting before after count)
+    × (((status ≡ ok) × FillsBuffer old.waiting new.waiting before after count)
     ⊎ ((status ≡ no_memory) × (count ≡ 0) × (after ≡ before) × (new.waiting ≡ old.waiting)))

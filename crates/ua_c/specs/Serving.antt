@@ -1,14 +1,14 @@
 -- What a server does for C: each clause of the calls of `ua_server`, over what a handle holds.
 use Rattle.std.specs.Prelude.{◌≡◌, ℕ, List, [], Option, Some, None, Result, Ok, Err, IfOk, IsErrOf}
 use Rattle.ua_builtin.specs.declared.date_time.DateTime.{DateTime}
-use Rattle.ua_channel.specs.ServerStands.{limits_of, channel_of, next_of, bound_of, IsDone, Goes, Stands as Holds}
+use Rattle.ua_channel.specs.ServerStands.{limits_of, channel_of, next_of, bound_of, IsDone, Goes, ChannelStands as Holds}
 use Rattle.ua_channel.specs.ServerTold.{Told}
 use Rattle.ua_frame.specs.declared.limits.Limits.{Limits}
 use Rattle.ua_server.specs.History.{ConnectionEvent, StandsOver, StepOver}
 use Rattle.ua_server.specs.Now.{StepNow}
 use Rattle.ua_server.specs.Served.{channel_in}
 use Rattle.ua_server.specs.State.{State, begun}
-use Rattle.ua_server.specs.Stepping.{Stands, StepAnswers, StepStands, Takes}
+use Rattle.ua_server.specs.Stepping.{ServerStands, StepAnswers, StepStands, StepTakes}
 use Rattle.ua_server.specs.Storing.{StepStores}
 use Rattle.ua_server.specs.declared.server.Server.{Server}
 use Rattle.ua_server.specs.declared.step.End.{End}
@@ -27,7 +27,7 @@ use Rattle.ua_c.specs.declared.station.Station.{Station}
 
 -- what `Server::new` says of the server that it makes
 pub record IsFresh (limits : Limits) (channel : ℕ) (server : Server) : Type 0 where
-  pub stands : (first : State) → Stands (channel_in server) [] [] first [] first
+  pub stands : (first : State) → ServerStands (channel_in server) [] [] first [] first
   pub history : (first : State) → StandsOver (channel_in server) [] [] first first
   pub holds : Holds (channel_in server) [] [] []
   pub limits_is : limits_of (channel_in server) ≡ limits
@@ -35,7 +35,7 @@ pub record IsFresh (limits : Limits) (channel : ℕ) (server : Server) : Type 0 
 
 -- what `Server::step` says of what it answers to a piece at a moment, and of the server and the services that it leaves
 pub record StepsAs (server : Server) (services : State) (piece : List ℕ) (moment : DateTime) (answer : Result Step StepFault) (new : Server) (left : State) : Type 0 where
-  pub answers : (octets : List ℕ) (told : List Told) (first : State) (moments : List DateTime) → Stands (channel_in server) octets told first moments services
+  pub answers : (octets : List ℕ) (told : List Told) (first : State) (moments : List DateTime) → ServerStands (channel_in server) octets told first moments services
       → StepAnswers (limits_of (channel_in server)) (channel_of (channel_in server)) moment piece answer (channel_in new) octets told first moments services left
   pub now : (octets : List ℕ) (told : List Told) → Goes (channel_in server) octets told
       → StepNow (limits_of (channel_in server)) (channel_of (channel_in server)) (next_of (channel_in server)) moment piece answer (channel_in new) octets told services left
@@ -44,7 +44,7 @@ pub record StepsAs (server : Server) (services : State) (piece : List ℕ) (mome
   pub stands : (octets : List ℕ) (told : List Told) → Goes (channel_in server) octets told → StepStands piece answer (channel_in new) octets told
   pub stores : (octets : List ℕ) (told : List Told) → Goes (channel_in server) octets told → StepStores piece answer (channel_in new) octets told services
   pub endpoint : left.endpoint ≡ services.endpoint
-  pub progress : IfOk answer (λ step. Takes piece step)
+  pub progress : IfOk answer (λ step. StepTakes piece step)
   pub starved : (octets : List ℕ) (told : List Told) → Goes (channel_in server) octets told
       → IsErrOf answer step_fault.OutOfMemory → bound_of (channel_in new) ≡ bound_of (channel_in server)
   pub closed : IsDone (channel_in server) → (answer ≡ Err step_fault.Closed) × (new ≡ server) × (left ≡ services)

@@ -9,10 +9,10 @@ waiting None octets = octets
 waiting (Some parts) octets = concat parts
 
 -- as many octets as fit go to the front of a buffer, whose rest is as it was; the others wait
-abbrev pub Moves : List ℕ → List ℕ → List ℕ → List ℕ → ℕ → Type 0
-Moves old new before after count = (count ≡ min (length old) (length before)) × (after ≡ take count old ++ drop count before) × (new ≡ drop count old)
+abbrev pub FillsBuffer : List ℕ → List ℕ → List ℕ → List ℕ → ℕ → Type 0
+FillsBuffer old new before after count = (count ≡ min (length old) (length before)) × (after ≡ take count old ++ drop count before) × (new ≡ drop count old)
 
 -- the same, or memory was refused and nothing changed
 abbrev pub Fetches : List ℕ → List ℕ → List ℕ → List ℕ → Result ℕ AllocError → Type 0
-Fetches old new before after (Ok count) = Moves old new before after count
+Fetches old new before after (Ok count) = FillsBuffer old new before after count
 Fetches old new before after (Err e) = (new ≡ old) × (after ≡ before)

@@ -19,7 +19,7 @@ use Rattle.ua_channel.specs.declared.step_fault.StepFault.{StepFault}
 use Rattle.ua_channel.specs.declared.step_fault.StepFault.TheVariants.{Refused, Peer, Closed, OutOfMemory}
 use Rattle.ua_channel.specs.Ends.{Side, EndDone, EndGoes, EndStands, EndStarves, EndStops, EndTells, HandsOutParts, rules_by}
 use Rattle.ua_channel.specs.inside.Ends.{ComesBy, ComesNext, EndNexts, EndSteps, EndTook, FailsBy, IsBehind, JudgesWhole, MovesBy, RefusedBy, SameEnd, TakenBy, TakesWhole, closes_by}
-use Rattle.ua_channel.specs.inside.Parts.{MayEndIn, Moves}
+use Rattle.ua_channel.specs.inside.Parts.{MayEndIn, IsWithinPiece}
 use Rattle.ua_channel.specs.inside.StepFaults.{least_at, of_frame_fault}
 use Rattle.ua_channel.proofs.Stepping.{Breaks, Halts, fault_comes, frame_at, frame_breaks, frame_broken, frame_halts, frame_run, part}
 
@@ -195,7 +195,7 @@ module _ (piece : List ℕ) (taken n : ℕ) (room : taken < length piece) where
   rest_length = ap length rest_is ∙ length-drop taken piece
 
   -- a step is one of the piece
-  moves_there : Moves (take (length piece - taken) (drop taken piece)) n → Moves piece (taken + n)
+  moves_there : IsWithinPiece (take (length piece - taken) (drop taken piece)) n → IsWithinPiece piece (taken + n)
   moves_there m = let within = m.0 in let some = m.1 (omega (arith, rest_length, room)) in (omega (arith, within, rest_length, room), λ h. omega (arith, some))
 
   within_there : n ≤ length (take (length piece - taken) (drop taken piece)) → taken + n ≤ length piece
@@ -275,7 +275,7 @@ module _ {R P E : Type 0} (S : Side R P E) where
       (subst (λ (Q : Rules S.Told S.Why). Breaks Q octets g.frames (frame_octets g.frame)) same (frame_broken (rules_by S mid k) octets g.frames g.frame g.stands.run))
       (ap (λ (Q : Rules S.Told S.Why). events Q g.frames) (sym same) ∙ g.told_is)
 
-pub moves_nothing : (piece : List ℕ) (taken : ℕ) → taken ≤ length piece → length piece ≤ taken → Moves piece taken
+pub moves_nothing : (piece : List ℕ) (taken : ℕ) → taken ≤ length piece → length piece ≤ taken → IsWithinPiece piece taken
 moves_nothing piece taken within all = (within, λ some. omega (arith, some, all))
 
 -- ---- what is held

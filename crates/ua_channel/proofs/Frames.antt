@@ -24,7 +24,7 @@ use Rattle.ua_channel.specs.Content.Content.{Greets, Closes}
 use Rattle.ua_channel.specs.Received.{Received, nothing_received, or_before, after}
 use Rattle.ua_channel.specs.inside.ServerParts.{AgreesTo, IsRefusalFor, IsRefused, JudgesHello, Judges, JudgesClose}
 use Rattle.ua_channel.specs.ServerStands.{HasGreeted, InServerPhase, bound_behind, bound_after}
-use Rattle.ua_channel.specs.inside.ServerFrames.{phase_gate, GoesOn, JudgesFrame, ServerTakesFrame}
+use Rattle.ua_channel.specs.inside.ServerFrames.{phase_gate, PhaseBehindFrame, JudgesFrame, ServerTakesFrame}
 use Rattle.ua_channel.specs.ServerRules.{opening_gate}
 use Rattle.ua_channel.specs.ServerTold.{Told as told, server_tells}
 use Rattle.ua_frame.specs.declared.gate.Gate.{Gate}
@@ -83,7 +83,7 @@ module _ (r : ServerRules) (before : Received) (f : Frame) (bound : ℕ) (bound_
   pub running_judged : (run : Running) (c : Content) (answer : Result (Option Event) StepFault) → content f ≡ c → (after before c).hello ≡ before.hello → Judges r.limits r.channel before c answer run → JudgesFrame r before (content f) (Open run) bound answer
   running_judged run c (Ok e) is hello j = subst (λ (d : Content). JudgesFrame r before d (Open run) bound (Ok e)) (sym is) (record {
     takes = j.0;
-    goes = subst (λ (b : Bool). GoesOn b r.limits (Open run) (after before c)) (sym j.1.goes_on) j.1;
+    goes = subst (λ (b : Bool). PhaseBehindFrame b r.limits (Open run) (after before c)) (sym j.1.goes_on) j.1;
     bound_is = bound_is ∙ ap (bound_behind r.limits) (sym hello);
   })
   running_judged run c (Err fault) is hello j = refuses r.limits r.channel before f c fault is j
@@ -106,7 +106,7 @@ hel_taken r before f bound a is none bound_is agrees =
         tells = ap (λ (o : Option Hello). server_tells r.limits before (Greets o)) agrees.reads ∙ ap (λ (x : Agreement). told.Agreed x ∷ []) (sym agrees.agreement_is);
         parts = tt;
       };
-      goes = subst (λ (b : Received). GoesOn b.closed r.limits (Greeted a) b) (sym received) greeted;
+      goes = subst (λ (b : Received). PhaseBehindFrame b.closed r.limits (Greeted a) b) (sym received) greeted;
       bound_is = bound_is ∙ (ap (λ (x : Agreement). x.ack.receive_buffer_size + 4 * r.limits.max_message_size) agrees.agreement_is ∙ ap (bound_after r.limits) (sym received));
     })
 
@@ -136,7 +136,7 @@ parts_are cs c None h = tt
 parts_are cs c (Some e) h = h
 
 module _ (r : ServerRules) (frames : List Frame) (f : Frame) (p : Phase) (bound : ℕ) where
-  behind_is : (b : Bool) → GoesOn b r.limits p (after (received frames) (content f)) → IsBehind server_side b r tt p (frames ++ f ∷ [])
+  behind_is : (b : Bool) → PhaseBehindFrame b r.limits p (after (received frames) (content f)) → IsBehind server_side b r tt p (frames ++ f ∷ [])
   behind_is false h = subst (InServerPhase r.limits p) (sym (received-push frames f)) h
   behind_is true h = h
 
@@ -148,7 +148,7 @@ module _ (r : ServerRules) (frames : List Frame) (f : Frame) (p : Phase) (bound 
         tells = t.takes.tells ∙ list_is e;
         last = ap (λ (b : Received). b.closed) (received-push frames f) ∙ last;
         parts = parts_are (received frames).messages (content f) e t.takes.parts;
-        behind = behind_is (closes_by server_side e) (subst (λ (b : Bool). GoesOn b r.limits p (after (received frames) (content f))) last t.goes);
+        behind = behind_is (closes_by server_side e) (subst (λ (b : Bool). PhaseBehindFrame b r.limits p (after (received frames) (content f))) last t.goes);
         bound_is = t.bound_is ∙ ap (bound_after r.limits) (sym (received-push frames f));
       }
 

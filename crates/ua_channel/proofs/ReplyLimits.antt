@@ -11,7 +11,7 @@ use Rattle.ua_channel.specs.Agreement.{Agreement, agreement_of, lane_of}
 use Rattle.ua_channel.specs.Received.{Received, received}
 use Rattle.ua_channel.specs.ServerRefusals.{last_used}
 use Rattle.ua_channel.specs.ServerSends.{RepliesGo}
-use Rattle.ua_channel.specs.ServerStands.{limits_of, channel_of, InServerPhase, Stands}
+use Rattle.ua_channel.specs.ServerStands.{limits_of, channel_of, InServerPhase, ChannelStands}
 use Rattle.ua_channel.specs.inside.ServerFrames.{LaneIs}
 
 one_hello : (a b : Hello) → ◌≡◌ {A = Option Hello} (Some a) (Some b) → a ≡ b
@@ -29,5 +29,5 @@ in_phase limits channel (Open r) before mine lane s is (h, hello_is, lane_is) =
 in_phase limits channel Done before mine lane s is goes = absurd is
 
 -- replies go in one lane
-pub lane_there : (x : ServerChannel) (octets : List ℕ) (frames : List Frame) (rest : List ℕ) (mine lane : Lane) → LaneIs (channel_of x) x.end.phase mine → Stands x octets frames rest → RepliesGo (limits_of x) (channel_of x) (received frames) lane → mine ≡ lane
+pub lane_there : (x : ServerChannel) (octets : List ℕ) (frames : List Frame) (rest : List ℕ) (mine lane : Lane) → LaneIs (channel_of x) x.end.phase mine → ChannelStands x octets frames rest → RepliesGo (limits_of x) (channel_of x) (received frames) lane → mine ≡ lane
 lane_there x octets frames rest mine lane is s goes = in_phase (limits_of x) (channel_of x) x.end.phase (received frames) mine lane s.phase_is is goes

@@ -9,10 +9,10 @@ use Rattle.ua_channel.specs.declared.server.Phase.TheVariants.{Waiting}
 use Rattle.ua_channel.specs.declared.server.ServerChannel.{ServerChannel}
 use Rattle.ua_channel.specs.Received.{Received, received}
 use Rattle.ua_channel.specs.ServerRules.{server_gate}
-use Rattle.ua_channel.specs.ServerStands.{limits_of, rules_of, InServerPhase, bound_after, Stands, Goes}
+use Rattle.ua_channel.specs.ServerStands.{limits_of, rules_of, InServerPhase, bound_after, ChannelStands, Goes}
 use Rattle.ua_channel.proofs.OneFrameMore.{received-nil}
 
-pub stands_first : (x : ServerChannel) → x.end.reader ≡ open_reader hello_gate [] → x.end.phase ≡ Waiting → x.end.bound ≡ 8192 → Stands x [] [] []
+pub stands_first : (x : ServerChannel) → x.end.reader ≡ open_reader hello_gate [] → x.end.phase ≡ Waiting → x.end.bound ≡ 8192 → ChannelStands x [] [] []
 stands_first x reader phase bound = record {
   run = run_nil (rules_of x) (ap (λ (b : Received). b.closed) received-nil);
   reader_is = reader ∙ ap (λ (b : Received). open_reader (server_gate (limits_of x) b) []) (sym received-nil);
@@ -21,6 +21,6 @@ stands_first x reader phase bound = record {
   bound_is = bound ∙ sym (ap (bound_after (limits_of x)) received-nil);
 }
 
-pub goes_first : (x : ServerChannel) → Stands x [] [] [] → Goes x [] []
+pub goes_first : (x : ServerChannel) → ChannelStands x [] [] [] → Goes x [] []
 unfolding each_after
 goes_first x s = record { frames = []; rest = []; stands = s; told_is = refl }

@@ -33,12 +33,12 @@ HandsOut (Err fault) buffer before after = after ≡ before
 
 -- what a write did: it took the first of the octets offered, and what is to come is what was to come once they are written; a failure moved
 -- nothing
-abbrev pub Takes : Result ℕ LineFault → List ℕ → Traffic → Traffic → Type 0
-Takes (Ok n) octets before after = (after.written ≡ before.written ++ take n octets) × ((more : List ℕ) → after.coming more ≡ before.coming (take n octets ++ more))
-Takes (Err fault) octets before after = after ≡ before
+abbrev pub WriteTakes : Result ℕ LineFault → List ℕ → Traffic → Traffic → Type 0
+WriteTakes (Ok n) octets before after = (after.written ≡ before.written ++ take n octets) × ((more : List ℕ) → after.coming more ≡ before.coming (take n octets ++ more))
+WriteTakes (Err fault) octets before after = after ≡ before
 
 -- a line that told its octets goes on telling them, and this is what became of them; of a line that does not, nothing is said
-abbrev pub WhereTold : (Traffic → Traffic → Type 0) → Option Traffic → Option Traffic → Type 0
-WhereTold P (Some before) (Some after) = P before after
-WhereTold P (Some before) None = ⊥
-WhereTold P None after = after ≡ None
+abbrev pub IfTrafficKnown : (Traffic → Traffic → Type 0) → Option Traffic → Option Traffic → Type 0
+IfTrafficKnown P (Some before) (Some after) = P before after
+IfTrafficKnown P (Some before) None = ⊥
+IfTrafficKnown P None after = after ≡ None

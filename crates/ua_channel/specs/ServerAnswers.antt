@@ -32,12 +32,12 @@ pub record Asks (id : ℕ) (parts : List (List ℕ)) (new : ServerChannel) (octe
 
 -- where the channel stands with an event, after octets whose frames but the last told this, and what the event hands out; the channel
 -- and the number of its next chunk are given, and the moment of an OPN response
-abbrev pub Hands : ℕ → ℕ → DateTime → ServerEvent → ServerChannel → List ℕ → List Told → Type 0
-Hands channel number moment NeedMore new octets before = Goes new octets before × (next_of new ≡ number)
-Hands channel number moment (Send sent) new octets before = SendsOctets channel number moment sent.items new octets before
-Hands channel number moment (Asked id message) new octets before = Asks id message new octets before × (next_of new ≡ number)
-Hands channel number moment (Aborted id) new octets before = GoesTelling new octets before (told.GaveUp id) × (next_of new ≡ number)
-Hands channel number moment event.Closed new octets before = ClosedAt new octets (before ++ told.Closed ∷ [])
+abbrev pub EventHandedOut : ℕ → ℕ → DateTime → ServerEvent → ServerChannel → List ℕ → List Told → Type 0
+EventHandedOut channel number moment NeedMore new octets before = Goes new octets before × (next_of new ≡ number)
+EventHandedOut channel number moment (Send sent) new octets before = SendsOctets channel number moment sent.items new octets before
+EventHandedOut channel number moment (Asked id message) new octets before = Asks id message new octets before × (next_of new ≡ number)
+EventHandedOut channel number moment (Aborted id) new octets before = GoesTelling new octets before (told.GaveUp id) × (next_of new ≡ number)
+EventHandedOut channel number moment event.Closed new octets before = ClosedAt new octets (before ++ told.Closed ∷ [])
 
 -- the parts of the message that is handed out, if one is
 abbrev pub parts_asked : ServerEvent → Option (List (List ℕ))
@@ -56,7 +56,7 @@ Counts piece n other = (0 < n) × (n ≤ length piece)
 -- what is answered to a piece, after octets whose frames told this, with the number of octets that were taken: at a refusal up to the end of
 -- the frame that is refused, or to the eighth octet of the header that is
 abbrev pub AnswersAt : ℕ → ℕ → DateTime → List ℕ → ℕ → Result ServerEvent ChannelFault → ServerChannel → List ℕ → List Told → Type 0
-AnswersAt channel number moment piece n (Ok e) new octets before = Counts piece n e × Hands channel number moment e new (octets ++ take n piece) before
+AnswersAt channel number moment piece n (Ok e) new octets before = Counts piece n e × EventHandedOut channel number moment e new (octets ++ take n piece) before
 AnswersAt channel number moment piece n (Err (Refused code err)) new octets before = (n ≤ length piece) × RefusedAt new (octets ++ take n piece) before code.code × (err ≡ frame_octets (err_frame code))
 AnswersAt channel number moment piece n (Err OutOfMemory) new octets before = (n ≤ length piece) × IsDone new
 AnswersAt channel number moment piece n (Err Closed) new octets before = ⊥

@@ -119,8 +119,8 @@ abbrev pub rules_of : ServerChannel → Rules Told ℕ
 rules_of x = server_rules (limits_of x) (channel_of x)
 
 -- a channel is where these octets leave it: these are their frames, and this is the rest, of a frame that is not whole
-abbrev pub Stands : ServerChannel → List ℕ → List Frame → List ℕ → Type 0
-Stands x octets frames rest = EndStands server_side x.end tt octets frames rest
+abbrev pub ChannelStands : ServerChannel → List ℕ → List Frame → List ℕ → Type 0
+ChannelStands x octets frames rest = EndStands server_side x.end tt octets frames rest
 
 -- a channel that ended, and holds nothing
 abbrev pub IsDone : ServerChannel → Type 0

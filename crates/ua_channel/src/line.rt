@@ -1,7 +1,7 @@
 //! The line that a connection runs over.
 
 ghost use Rattle.std.specs.Prelude.{◌≡◌, ◌≤◌, ◌<◌, ℕ, Option, length, IfOk};
-ghost use Rattle.ua_channel.specs.Line.{Traffic, HandsOut, Takes, WhereTold, failures_after};
+ghost use Rattle.ua_channel.specs.Line.{Traffic, HandsOut, WriteTakes, IfTrafficKnown, failures_after};
 
 use thiserror::Error;
 
@@ -29,7 +29,7 @@ pub trait Line {
     fn read(&mut self, buffer: &mut [u8]) -> Result<usize, LineFault>
         ensures within { IfOk result (λ n. n ≤ length buffer.new) }
         ensures failed { failures self.new ≡ failures_after (failures self.old) result }
-        ensures octets { WhereTold (HandsOut result buffer.new) (traffic self.old) (traffic self.new) };
+        ensures octets { IfTrafficKnown (HandsOut result buffer.new) (traffic self.old) (traffic self.new) };
 
     /// Takes the first of these octets, as many as it likes but at least one where there is one, and
     /// answers how many.
@@ -37,5 +37,5 @@ pub trait Line {
         ensures within { IfOk result (λ n. n ≤ length octets.now) }
         ensures some { 0 < length octets.now → IfOk result (λ n. 0 < n) }
         ensures failed { failures self.new ≡ failures_after (failures self.old) result }
-        ensures octets { WhereTold (Takes result octets.now) (traffic self.old) (traffic self.new) };
+        ensures octets { IfTrafficKnown (WriteTakes result octets.now) (traffic self.old) (traffic self.new) };
 }

@@ -1,7 +1,7 @@
 //! A line over memory.
 
 ghost use Rattle.std.specs.Prelude.{◌≡◌, ◌≤◌, ◌<◌, [], Some, Option, length, drop, min, IfOk, Ok};
-ghost use Rattle.ua_channel.specs.Line.{HandsOut, Takes, failures_after};
+ghost use Rattle.ua_channel.specs.Line.{HandsOut, WriteTakes, failures_after};
 ghost use Rattle.ua_channel.specs.MemoryLine.{Pace as Calls, Memory, moves, after_call, traffic_of};
 
 use crate::line::{Line, LineFault};
@@ -141,7 +141,7 @@ impl Line for MemoryLine {
         ensures within { IfOk result (λ n. n ≤ length octets.now) }
         ensures some { 0 < length octets.now → IfOk result (λ n. 0 < n) }
         ensures failed { self.new.failures ≡ failures_after self.old.failures result }
-        ensures octets { Takes result octets.now (traffic_of self.old.traffic) (traffic_of self.new.traffic) }
+        ensures octets { WriteTakes result octets.now (traffic_of self.old.traffic) (traffic_of self.new.traffic) }
         ensures paced { IfOk result (λ n. Ok n ≡ moves self.old.writes (length octets.now)) }
         ensures writes { self.new.writes ≡ after_call self.old.writes }
         ensures reads { self.new.reads ≡ self.old.reads }

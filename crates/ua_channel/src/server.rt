@@ -51,7 +51,7 @@ impl ServerChannel {
     ghost use Rattle.ua_channel.specs.Received.{received};
     ghost use Rattle.ua_channel.specs.ServerAnswers.{Progress, AnswersAt, ServerAnswers, AsksInParts, parts_asked};
     ghost use Rattle.ua_channel.specs.inside.ServerSteps.{AnswersTo, StandsWith};
-    ghost use Rattle.ua_channel.specs.ServerStands.{StarvedAt, limits_of, channel_of, next_of, bound_of, HasNoToken, IsWithoutToken, Stands, Goes, IsDone, bound_after, held_after};
+    ghost use Rattle.ua_channel.specs.ServerStands.{StarvedAt, limits_of, channel_of, next_of, bound_of, HasNoToken, IsWithoutToken, ChannelStands, Goes, IsDone, bound_after, held_after};
     ghost use Rattle.ua_channel.specs.inside.ServerFrames.{LaneIs};
     ghost use Rattle.ua_channel.specs.ServerSends.{IsReply, RepliesGo};
     ghost use Rattle.ua_channel.specs.ServerTold.{Told};
@@ -64,7 +64,7 @@ impl ServerChannel {
     /// Waits for the HEL of a client, on behalf of a server with these limits, whose channel will
     /// have this id.
     pub fn new(alloc: Global, limits: Limits, channel: u32) -> ServerChannel
-        ensures stands { Stands result [] [] [] }
+        ensures stands { ChannelStands result [] [] [] }
         ensures goes { Goes result [] [] }
         ensures limits { limits_of result ≡ limits }
         ensures channel { channel_of result ≡ channel }
@@ -261,7 +261,7 @@ impl ServerChannel {
     /// The most octets that the body of a reply can have to be sent; none where the client sets no
     /// such limit, and where no channel is open. One with more becomes an abort.
     pub fn most_octets(&self) -> Option<usize>
-        ensures most { (octets : List ℕ) (frames : List Frame) (rest : List ℕ) → Stands self.now octets frames rest → (IsWithoutToken self.now → ⊥)
+        ensures most { (octets : List ℕ) (frames : List Frame) (rest : List ℕ) → ChannelStands self.now octets frames rest → (IsWithoutToken self.now → ⊥)
             → (lane : Lane) → RepliesGo (limits_of self.now) (channel_of self.now) (received frames) lane → (0 < lane.room) × (result ≡ most_octets lane) }
         ensures not_open { IsWithoutToken self.now → result ≡ None }
     {
@@ -276,15 +276,15 @@ impl ServerChannel {
     /// memory is found the channel fails.
     pub fn respond(&mut self, id: u32, body: &[u8]) -> Result<SentReply, ReplyFault>
         requires { 0 < length body.now }
-        ensures stands { (octets : List ℕ) (frames : List Frame) (rest : List ℕ) → Stands self.old octets frames rest
-            → OnOk result (Stands self.new octets frames rest) }
-        ensures sent { (octets : List ℕ) (frames : List Frame) (rest : List ℕ) → Stands self.old octets frames rest
+        ensures stands { (octets : List ℕ) (frames : List Frame) (rest : List ℕ) → ChannelStands self.old octets frames rest
+            → OnOk result (ChannelStands self.new octets frames rest) }
+        ensures sent { (octets : List ℕ) (frames : List Frame) (rest : List ℕ) → ChannelStands self.old octets frames rest
             → IfOk result (λ sent. (lane : Lane) × RepliesGo (limits_of self.old) (channel_of self.old) (received frames) lane
             × IsReply lane body.now (next_of self.old) id sent.octets.items (next_of self.new) × (sent.is_abort ≡ is_some (cut_refusal lane body.now))) }
         // No channel is open before the first OPN, and once the channel ended, and then alone.
         ensures not_open { IsErrOf result NotOpen ↔ IsWithoutToken self.old }
         ensures unchanged { IsErrOf result NotOpen → self.new ≡ self.old }
-        ensures before { (octets : List ℕ) (frames : List Frame) (rest : List ℕ) → Stands self.old octets frames rest
+        ensures before { (octets : List ℕ) (frames : List Frame) (rest : List ℕ) → ChannelStands self.old octets frames rest
             → IsErrOf result NotOpen ↔ ((received frames).openings ≡ []) }
         ensures failed { IsErrOf result OutOfMemory → IsDone self.new }
         ensures bound { bound_of self.new ≡ bound_of self.old }
@@ -306,15 +306,15 @@ impl ServerChannel {
     /// The octets that [`respond`](ServerChannel::respond) answers: the reply, or an abort in its place.
     pub fn reply(&mut self, id: u32, body: &[u8]) -> Result<Vec<u8>, ReplyFault>
         requires { 0 < length body.now }
-        ensures stands { (octets : List ℕ) (frames : List Frame) (rest : List ℕ) → Stands self.old octets frames rest
-            → OnOk result (Stands self.new octets frames rest) }
-        ensures sent { (octets : List ℕ) (frames : List Frame) (rest : List ℕ) → Stands self.old octets frames rest
+        ensures stands { (octets : List ℕ) (frames : List Frame) (rest : List ℕ) → ChannelStands self.old octets frames rest
+            → OnOk result (ChannelStands self.new octets frames rest) }
+        ensures sent { (octets : List ℕ) (frames : List Frame) (rest : List ℕ) → ChannelStands self.old octets frames rest
             → IfOk result (λ out. (lane : Lane) × RepliesGo (limits_of self.old) (channel_of self.old) (received frames) lane
             × IsReply lane body.now (next_of self.old) id out.items (next_of self.new)) }
         // No channel is open before the first OPN, and once the channel ended, and then alone.
         ensures not_open { IsErrOf result NotOpen ↔ IsWithoutToken self.old }
         ensures unchanged { IsErrOf result NotOpen → self.new ≡ self.old }
-        ensures before { (octets : List ℕ) (frames : List Frame) (rest : List ℕ) → Stands self.old octets frames rest
+        ensures before { (octets : List ℕ) (frames : List Frame) (rest : List ℕ) → ChannelStands self.old octets frames rest
             → IsErrOf result NotOpen ↔ ((received frames).openings ≡ []) }
         ensures failed { IsErrOf result OutOfMemory → IsDone self.new }
         ensures bound { bound_of self.new ≡ bound_of self.old }
@@ -340,9 +340,9 @@ impl ServerChannel {
     /// How many octets are held: those of a frame that is not whole, and those of unfinished
     /// messages. They are never more than [`bound`](ServerChannel::bound) says.
     pub fn held(&self) -> usize
-        ensures held { (octets : List ℕ) (frames : List Frame) (rest : List ℕ) → Stands self.now octets frames rest
+        ensures held { (octets : List ℕ) (frames : List Frame) (rest : List ℕ) → ChannelStands self.now octets frames rest
             → result ≡ held_after (received frames) rest }
-        ensures bound { (octets : List ℕ) (frames : List Frame) (rest : List ℕ) → Stands self.now octets frames rest
+        ensures bound { (octets : List ℕ) (frames : List Frame) (rest : List ℕ) → ChannelStands self.now octets frames rest
             → result ≤ bound_after (limits_of self.now) (received frames) }
         ensures done { IsDone self.now → result ≡ 0 }
     {
@@ -352,7 +352,7 @@ impl ServerChannel {
     /// The most octets that may be held: 8192 before the ACK, then those of a frame of the agreed
     /// size and of 4 messages of the greatest size.
     pub fn bound(&self) -> usize
-        ensures stands { (octets : List ℕ) (frames : List Frame) (rest : List ℕ) → Stands self.now octets frames rest
+        ensures stands { (octets : List ℕ) (frames : List Frame) (rest : List ℕ) → ChannelStands self.now octets frames rest
             → result ≡ bound_after (limits_of self.now) (received frames) }
         ensures is { result ≡ bound_of self.now }
     {
@@ -361,7 +361,7 @@ impl ServerChannel {
 
     /// How many messages are unfinished.
     pub fn open_count(&self) -> usize
-        ensures count { (octets : List ℕ) (frames : List Frame) (rest : List ℕ) → Stands self.now octets frames rest
+        ensures count { (octets : List ℕ) (frames : List Frame) (rest : List ℕ) → ChannelStands self.now octets frames rest
             → result ≡ length (open_ids (received frames).messages) }
         ensures done { IsDone self.now → result ≡ 0 }
     {

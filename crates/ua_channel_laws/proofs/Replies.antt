@@ -21,7 +21,7 @@ use Rattle.ua_channel.specs.ServerPlaces.{agreements_in, agreed_by}
 use Rattle.ua_channel.specs.ServerRefusals.{last_used}
 use Rattle.ua_channel.specs.ServerRules.{server_rules}
 use Rattle.ua_channel.specs.ServerSends.{RepliesGo}
-use Rattle.ua_channel.specs.ServerStands.{limits_of, channel_of, Stands, GoesTelling}
+use Rattle.ua_channel.specs.ServerStands.{limits_of, channel_of, ChannelStands, GoesTelling}
 use Rattle.ua_channel.specs.ServerTold.{Told, request_of, opened_by, told_under, issued, server_tells}
 use Rattle.ua_channel.specs.ServerTold.Told.{Agreed, Opened, Asked, GaveUp, Closed}
 use Rattle.ua_channel.proofs.OneFrameMore.{behind_append, received-push, received-nil}
@@ -108,7 +108,7 @@ used_there limits before c id used octets e =
     (item_token chunk.0.token (given before.messages chunk.0) id used octets (ap (server_tells limits before) (sym chunk.1) ∙ e), refl)
 
 -- where a reply goes right behind a whole message
-pub reply_goes : (x : ServerChannel) (octets : List ℕ) (told : List Told) (id token : ℕ) (message : List ℕ) (frames : List Frame) (rest : List ℕ) (lane : Lane) → GoesTelling x octets told (Asked id token message) → Stands x octets frames rest → RepliesGo (limits_of x) (channel_of x) (received frames) lane
+pub reply_goes : (x : ServerChannel) (octets : List ℕ) (told : List Told) (id token : ℕ) (message : List ℕ) (frames : List Frame) (rest : List ℕ) (lane : Lane) → GoesTelling x octets told (Asked id token message) → ChannelStands x octets frames rest → RepliesGo (limits_of x) (channel_of x) (received frames) lane
     → (a : Agreement) × (agreed_by told ≡ Some a) × (lane ≡ lane_of (channel_of x) token a)
 reply_goes x octets told id token message frames rest lane g s (h, hello_is, lane_is) =
     let same : frames ≡ g.frames ++ g.frame ∷ [] = (stands_once x octets frames (g.frames ++ g.frame ∷ []) rest [] s g.stands).0 in

@@ -20,7 +20,7 @@ ghost use Rattle.ua_channel_laws.specs.ServerMessages.{message_of, messages_in};
 ghost use Rattle.ua_channel.specs.ServerPlaces.{agreed_by};
 ghost use Rattle.ua_channel.specs.ServerRules.{server_rules};
 ghost use Rattle.ua_channel.specs.ServerSends.{RepliesGo};
-ghost use Rattle.ua_channel.specs.ServerStands.{channel_of, limits_of, Goes, GoesTelling, IsDone, IsWithoutToken, Stands};
+ghost use Rattle.ua_channel.specs.ServerStands.{channel_of, limits_of, Goes, GoesTelling, IsDone, IsWithoutToken, ChannelStands};
 ghost use Rattle.ua_channel.specs.ServerTold.{Told, Told as told};
 ghost use Rattle.ua_channel.specs.declared.server.ServerChannel.{ServerChannel};
 
@@ -41,7 +41,7 @@ pub fn server_reads()
 /// A server's channel stands after some octets in one way: with these frames, this rest, and this told.
 pub fn server_stands_once()
     ensures frames { (x : ServerChannel) (octets : List ℕ) (fs gs : List Frame) (rest more : List ℕ) →
-        Stands x octets fs rest → Stands x octets gs more → (fs ≡ gs) × (rest ≡ more) }
+        ChannelStands x octets fs rest → ChannelStands x octets gs more → (fs ≡ gs) × (rest ≡ more) }
     ensures told { (x : ServerChannel) (octets : List ℕ) (told more : List Told) → Goes x octets told → Goes x octets more → told ≡ more }
 {}
 
@@ -53,7 +53,7 @@ pub fn server_goes_on()
 /// Right behind a whole message a reply goes under the token of its last chunk, to what was agreed.
 pub fn server_replies()
     ensures { (x : ServerChannel) (octets : List ℕ) (before : List Told) (id token : ℕ) (message : List ℕ) (frames : List Frame) (rest : List ℕ) (lane : Lane) →
-        GoesTelling x octets before (told.Asked id token message) → Stands x octets frames rest → RepliesGo (limits_of x) (channel_of x) (received frames) lane →
+        GoesTelling x octets before (told.Asked id token message) → ChannelStands x octets frames rest → RepliesGo (limits_of x) (channel_of x) (received frames) lane →
         (a : Agreement) × (agreed_by before ≡ Some a) × (lane ≡ lane_of (channel_of x) token a) }
 {}
 
@@ -67,7 +67,7 @@ pub fn server_agrees_first()
 /// is open.
 pub fn server_is_open()
     ensures stands { (x : ServerChannel) (octets : List ℕ) (frames : List Frame) (rest : List ℕ) →
-        Stands x octets frames rest → IsWithoutToken x ↔ ((received frames).openings ≡ []) }
+        ChannelStands x octets frames rest → IsWithoutToken x ↔ ((received frames).openings ≡ []) }
     ensures done { (x : ServerChannel) → IsDone x → IsWithoutToken x }
     ensures asked { (x : ServerChannel) (octets : List ℕ) (before : List Told) (id token : ℕ) (message : List ℕ) →
         GoesTelling x octets before (told.Asked id token message) → IsWithoutToken x → ⊥ }

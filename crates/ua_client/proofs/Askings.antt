@@ -15,7 +15,7 @@ use Rattle.ua_channel.specs.declared.client.channel.ClientChannel.{ClientChannel
 use Rattle.ua_channel.specs.declared.client.phase.Phase.{Phase}
 use Rattle.ua_channel.specs.declared.client.phase.Phase.TheVariants.{Waiting, Agreed, Open, Done}
 use Rattle.ua_client.proofs.Lanes.{lane-talks}
-use Rattle.ua_client.specs.Site.{lane_behind}
+use Rattle.ua_client.specs.ClientPlace.{lane_behind}
 use Rattle.ua_client.specs.Sent.{calls_octets, numbers_behind, calls_at, asked_octets, AsksGroup, AsksFrom}
 
 -- ---- one call

@@ -4,17 +4,17 @@ use Rattle.std.proofs.Common.{refl, sym, ◌∙◌, ap, subst, append_assoc, app
 use Rattle.std.proofs.Math.Seq.{take-add, take-length}
 use Rattle.std.proofs.lemmas.List.{length-append, length-drop, take-append-drop}
 use Rattle.ua_wire.specs.Format.{Extends}
-use Rattle.ua_channel.specs.Line.{Traffic, HandsOut, Takes, WhereTold}
+use Rattle.ua_channel.specs.Line.{Traffic, HandsOut, WriteTakes, IfTrafficKnown}
 use Rattle.ua_channel.specs.declared.line.LineFault.{LineFault}
 use Rattle.ua_client.specs.Carried.{Carries, IsAtEnd, IsPart, WritesFront}
 
 -- ---- nothing, and one behind another
 
-pub carried-nothing : (t : Option Traffic) → WhereTold (Carries [] []) t t
+pub carried-nothing : (t : Option Traffic) → IfTrafficKnown (Carries [] []) t t
 carried-nothing None = refl
 carried-nothing (Some t) = record { coming = λ rest. refl; written = sym (append-nil t.written) }
 
-pub carried-then : (got sent more out : List ℕ) (a b c : Option Traffic) → WhereTold (Carries got sent) a b → WhereTold (Carries more out) b c → WhereTold (Carries (got ++ more) (sent ++ out)) a c
+pub carried-then : (got sent more out : List ℕ) (a b c : Option Traffic) → IfTrafficKnown (Carries got sent) a b → IfTrafficKnown (Carries more out) b c → IfTrafficKnown (Carries (got ++ more) (sent ++ out)) a c
 carried-then got sent more out (Some a) (Some b) (Some c) h k = record {
   coming = λ rest. ap a.coming (append_assoc sent out rest) ∙ (h.coming (out ++ rest) ∙ (ap (λ (t : List ℕ). got ++ t) (k.coming rest) ∙ sym (append_assoc got more (c.coming rest))));
   written = k.written ∙ (ap (λ (t : List ℕ). t ++ out) h.written ∙ append_assoc a.written sent out);
@@ -25,27 +25,27 @@ carried-then got sent more out None (Some b) c h k = absurd cc
 carried-then got sent more out None None c h k = k
 
 -- the same octets, named in another way
-pub carried-as : (got sent got' sent' : List ℕ) (a b : Option Traffic) → got ≡ got' → sent ≡ sent' → WhereTold (Carries got sent) a b → WhereTold (Carries got' sent') a b
-carried-as got sent got' sent' a b p q h = subst (λ (s : List ℕ). WhereTold (Carries got' s) a b) q (subst (λ (g : List ℕ). WhereTold (Carries g sent) a b) p h)
+pub carried-as : (got sent got' sent' : List ℕ) (a b : Option Traffic) → got ≡ got' → sent ≡ sent' → IfTrafficKnown (Carries got sent) a b → IfTrafficKnown (Carries got' sent') a b
+carried-as got sent got' sent' a b p q h = subst (λ (s : List ℕ). IfTrafficKnown (Carries got' s) a b) q (subst (λ (g : List ℕ). IfTrafficKnown (Carries g sent) a b) p h)
 
 -- ---- calls of a line
 
-pub wrote : (octets : List ℕ) (n : ℕ) (a b : Option Traffic) → WhereTold (Takes (Ok n) octets) a b → WhereTold (Carries [] (take n octets)) a b
+pub wrote : (octets : List ℕ) (n : ℕ) (a b : Option Traffic) → IfTrafficKnown (WriteTakes (Ok n) octets) a b → IfTrafficKnown (Carries [] (take n octets)) a b
 wrote octets n (Some a) (Some b) h = record { coming = λ rest. sym (h.1 rest); written = h.0 }
 wrote octets n (Some a) None h = absurd h
 wrote octets n None b h = h
 
-pub failed-write : (fault : LineFault) (octets : List ℕ) (a b : Option Traffic) → WhereTold (Takes (Err fault) octets) a b → b ≡ a
+pub failed-write : (fault : LineFault) (octets : List ℕ) (a b : Option Traffic) → IfTrafficKnown (WriteTakes (Err fault) octets) a b → b ≡ a
 failed-write fault octets (Some a) (Some b) h = ap (λ (t : Traffic). Some t) h
 failed-write fault octets (Some a) None h = absurd h
 failed-write fault octets None b h = h
 
-pub had-read : (buffer : List ℕ) (n : ℕ) (a b : Option Traffic) → WhereTold (HandsOut (Ok n) buffer) a b → WhereTold (Carries (take n buffer) []) a b
+pub had-read : (buffer : List ℕ) (n : ℕ) (a b : Option Traffic) → IfTrafficKnown (HandsOut (Ok n) buffer) a b → IfTrafficKnown (Carries (take n buffer) []) a b
 had-read buffer n (Some a) (Some b) h = record { coming = h.0; written = h.1 ∙ sym (append-nil a.written) }
 had-read buffer n (Some a) None h = absurd h
 had-read buffer n None b h = h
 
-pub read-end : (buffer : List ℕ) (n : ℕ) (a b : Option Traffic) → WhereTold (HandsOut (Ok n) buffer) a b → 0 < length buffer → n ≡ 0 → IsAtEnd b
+pub read-end : (buffer : List ℕ) (n : ℕ) (a b : Option Traffic) → IfTrafficKnown (HandsOut (Ok n) buffer) a b → 0 < length buffer → n ≡ 0 → IsAtEnd b
 read-end buffer n (Some a) (Some b) h room none =
     let all : a.coming [] ≡ [] = h.2 none room in
     sym (h.0 [] ∙ ap (λ (k : ℕ). take k buffer ++ b.coming []) none) ∙ all
@@ -53,7 +53,7 @@ read-end buffer n (Some a) None h room none = tt
 read-end buffer n None None h room none = tt
 read-end buffer n None (Some b) h room none = absurd cc
 
-pub failed-read : (fault : LineFault) (buffer : List ℕ) (a b : Option Traffic) → WhereTold (HandsOut (Err fault) buffer) a b → b ≡ a
+pub failed-read : (fault : LineFault) (buffer : List ℕ) (a b : Option Traffic) → IfTrafficKnown (HandsOut (Err fault) buffer) a b → b ≡ a
 failed-read fault buffer (Some a) (Some b) h = ap (λ (t : Traffic). Some t) h
 failed-read fault buffer (Some a) None h = absurd h
 failed-read fault buffer None b h = h
@@ -63,7 +63,7 @@ failed-read fault buffer None b h = h
 -- of these octets so many are written
 pub record Written (octets : List ℕ) (at : ℕ) (before after : Option Traffic) : Type 0 where
   pub within : at ≤ length octets
-  pub carried : WhereTold (Carries [] (take at octets)) before after
+  pub carried : IfTrafficKnown (Carries [] (take at octets)) before after
 
 pub written-nothing : (octets : List ℕ) (t : Option Traffic) → Written octets 0 t t
 written-nothing octets t = record { within = omega arith; carried = carried-nothing t }
@@ -75,7 +75,7 @@ pub length-rest : (octets : List ℕ) (at : ℕ) → length (take (length octets
 length-rest octets at = ap length (all-rest octets at) ∙ length-drop at octets
 
 pub written-more : (octets : List ℕ) (at n : ℕ) (a b c : Option Traffic) → Written octets at a b → at < length octets
-    → n ≤ length (take (length octets - at) (drop at octets)) → WhereTold (Takes (Ok n) (take (length octets - at) (drop at octets))) b c → Written octets (at + n) a c
+    → n ≤ length (take (length octets - at) (drop at octets)) → IfTrafficKnown (WriteTakes (Ok n) (take (length octets - at) (drop at octets))) b c → Written octets (at + n) a c
 written-more octets at n a b c w more few h =
     let len = length-rest octets at in
     record {
@@ -85,12 +85,12 @@ written-more octets at n a b c w more few h =
           (carried-then [] (take at octets) [] (take n (take (length octets - at) (drop at octets))) a b c w.carried (wrote (take (length octets - at) (drop at octets)) n b c h));
     }
 
-pub written-all : (octets : List ℕ) (at : ℕ) (a b : Option Traffic) → Written octets at a b → length octets ≤ at → WhereTold (Carries [] octets) a b
+pub written-all : (octets : List ℕ) (at : ℕ) (a b : Option Traffic) → Written octets at a b → length octets ≤ at → IfTrafficKnown (Carries [] octets) a b
 written-all octets at a b w all =
     let whole : at ≡ length octets = omega (arith, w.within, all) in
     carried-as [] (take at octets) [] octets a b refl (ap (λ (k : ℕ). take k octets) whole ∙ take-length octets) w.carried
 
-front-of : (sent octets : List ℕ) (a b : Option Traffic) → Extends sent octets → length sent < length octets → WhereTold (Carries [] sent) a b → WhereTold (WritesFront octets) a b
+front-of : (sent octets : List ℕ) (a b : Option Traffic) → Extends sent octets → length sent < length octets → IfTrafficKnown (Carries [] sent) a b → IfTrafficKnown (WritesFront octets) a b
 front-of sent octets (Some a) (Some b) front fewer h = record { sent = sent; front = front; fewer = fewer; carried = h }
 front-of sent octets (Some a) None front fewer h = h
 front-of sent octets None b front fewer h = h
@@ -98,23 +98,23 @@ front-of sent octets None b front fewer h = h
 length-front : (octets : List ℕ) (at : ℕ) → at < length octets → length (take at octets) < length octets
 length-front octets at more = omega (arith, more, ap length (take-append-drop at octets), length-append (take at octets) (drop at octets), length-drop at octets)
 
-pub written-front : (octets : List ℕ) (at : ℕ) (a b : Option Traffic) → at < length octets → WhereTold (Carries [] (take at octets)) a b → WhereTold (WritesFront octets) a b
+pub written-front : (octets : List ℕ) (at : ℕ) (a b : Option Traffic) → at < length octets → IfTrafficKnown (Carries [] (take at octets)) a b → IfTrafficKnown (WritesFront octets) a b
 written-front octets at a b more h = front-of (take at octets) octets a b (record { more = drop at octets; parts = sym (take-append-drop at octets) }) (length-front octets at more) h
 
 -- a beginning of these octets was written, and where there are some not all of them
-pub sends-front : (octets : List ℕ) (a b : Option Traffic) → WhereTold (WritesFront octets) a b → (sent : List ℕ) × Extends sent octets × WhereTold (Carries [] sent) a b × (0 < length octets → length sent < length octets)
+pub sends-front : (octets : List ℕ) (a b : Option Traffic) → IfTrafficKnown (WritesFront octets) a b → (sent : List ℕ) × Extends sent octets × IfTrafficKnown (Carries [] sent) a b × (0 < length octets → length sent < length octets)
 sends-front octets (Some a) (Some b) h = (h.sent, h.front, h.carried, λ some. h.fewer)
 sends-front octets (Some a) None h = absurd h
 sends-front octets None b h = ([], record { more = octets; parts = refl }, h, λ some. some)
 
 -- a part of octets of which there are some was written
-pub sends-part : (octets : List ℕ) (a b : Option Traffic) → 0 < length octets → WhereTold (WritesFront octets) a b → (sent : List ℕ) × IsPart sent octets × WhereTold (Carries [] sent) a b
+pub sends-part : (octets : List ℕ) (a b : Option Traffic) → 0 < length octets → IfTrafficKnown (WritesFront octets) a b → (sent : List ℕ) × IsPart sent octets × IfTrafficKnown (Carries [] sent) a b
 sends-part octets a b some h = let front = sends-front octets a b h in (front.0, (front.1, front.3 some), front.2)
 
 -- ---- a whole write, part by part
 
 -- the part from one place up to another is written too
-pub part-written : (octets : List ℕ) (at end : ℕ) (a b c : Option Traffic) → Written octets at a b → at ≤ end → end ≤ length octets → WhereTold (Carries [] (take (end - at) (drop at octets))) b c → Written octets end a c
+pub part-written : (octets : List ℕ) (at end : ℕ) (a b c : Option Traffic) → Written octets at a b → at ≤ end → end ≤ length octets → IfTrafficKnown (Carries [] (take (end - at) (drop at octets))) b c → Written octets end a c
 part-written octets at end a b c w on fits h =
     let whole : at + (end - at) ≡ end = omega (arith, on) in
     record {
@@ -125,7 +125,7 @@ part-written octets at end a b c w on fits h =
     }
 
 -- a beginning of that part is written too
-pub part-front : (octets : List ℕ) (at count : ℕ) (a b c : Option Traffic) → Written octets at a b → 0 < length (take count (drop at octets)) → WhereTold (WritesFront (take count (drop at octets))) b c → WhereTold (WritesFront octets) a c
+pub part-front : (octets : List ℕ) (at count : ℕ) (a b c : Option Traffic) → Written octets at a b → 0 < length (take count (drop at octets)) → IfTrafficKnown (WritesFront (take count (drop at octets))) b c → IfTrafficKnown (WritesFront octets) a c
 part-front octets at count a b c w some h =
     let front = sends-front (take count (drop at octets)) b c h in
     front-of (take at octets ++ front.0) octets a c (record { more = front.1.more ++ drop count (drop at octets); parts = parts front.0 front.1 }) (fewer front.0 (front.3 some)) (carried-then [] (take at octets) [] front.0 a b c w.carried front.2)
@@ -143,7 +143,7 @@ part-front octets at count a b c w some h =
 -- ---- writes, one behind the other
 
 -- a beginning of these octets is written behind others, of which the last are not written
-pub joined-front : (before here behind : List ℕ) (a b c : Option Traffic) → WhereTold (Carries [] before) a b → 0 < length here → WhereTold (WritesFront here) b c → WhereTold (WritesFront (before ++ (here ++ behind))) a c
+pub joined-front : (before here behind : List ℕ) (a b c : Option Traffic) → IfTrafficKnown (Carries [] before) a b → 0 < length here → IfTrafficKnown (WritesFront here) b c → IfTrafficKnown (WritesFront (before ++ (here ++ behind))) a c
 joined-front before here behind a b c w some h =
     let front = sends-front here b c h in
     front-of (before ++ front.0) (before ++ (here ++ behind)) a c

@@ -12,7 +12,7 @@ use Rattle.ua_channel.specs.Received.{listed, received}
 use Rattle.ua_channel.specs.declared.client.channel.ClientChannel.{ClientChannel}
 use Rattle.ua_client.specs.Calls.{Answered}
 use Rattle.ua_client.specs.Replies.{AreReplies}
-use Rattle.ua_client.specs.Site.{Site, id_at}
+use Rattle.ua_client.specs.ClientPlace.{ClientPlace, id_at}
 use Rattle.ua_client.specs.Told.{is_told_of, told_of}
 use Rattle.ua_client.specs.declared.reply.Reply.{Reply}
 use Rattle.ua_client.proofs.Hearsay.{PairsNoOther, PairsOnce, TellsDelivered, at-most, told-under}
@@ -43,7 +43,7 @@ read-once tells once no_other x asks octets all at r id t ts e =
     one-only t ts (delivered_under id (received r.frames).messages) (sym e ∙ (ap (told_of id) (sym r.told_is) ∙ told-under tells id (client_limits x) asks r.frames))
     (at-most tells once no_other id (client_limits x) asks r.frames r.run.good)
 
-pub replies-read : TellsDelivered → PairsOnce → PairsNoOther → (requests : List Request) (s t : Site) (taken : List ℕ) (replies : List Reply) (x : ClientChannel) (later : List Placed) (more : List ℕ) (all : List ClientTold) (at : AtClient)
+pub replies-read : TellsDelivered → PairsOnce → PairsNoOther → (requests : List Request) (s t : ClientPlace) (taken : List ℕ) (replies : List Reply) (x : ClientChannel) (later : List Placed) (more : List ℕ) (all : List ClientTold) (at : AtClient)
     → Answered requests s t taken replies → ClientReads (client_limits x) (t.asks ++ later) (t.octets ++ more) all at → (rest : List ClientTold) × (all ≡ t.told ++ rest)
     → AreReplies requests (id_at s) all replies
 replies-read tells once no_other requests s t taken replies x later more all at answered reads begins =

@@ -10,16 +10,16 @@ use Rattle.ua_services.specs.declared.request.Request.{Request}
 use Rattle.ua_channel.specs.Asks.{Placed, asked_in, next_id}
 use Rattle.ua_channel.specs.Client.{ClientGoes, ClientStands, SameClient, ask_refusal, phase_of, client_next}
 use Rattle.ua_channel.specs.ClientTold.{ClientTold}
-use Rattle.ua_channel.specs.Line.{Traffic, WhereTold, one_more}
+use Rattle.ua_channel.specs.Line.{Traffic, IfTrafficKnown, one_more}
 use Rattle.ua_channel.specs.Received.{Received, received}
 use Rattle.ua_channel.specs.declared.client.channel.ClientChannel.{ClientChannel}
 use Rattle.ua_channel.specs.declared.client.fault.AskFault.{AskFault}
 use Rattle.ua_channel.specs.declared.client.fault.AskFault.TheVariants as ask_fault
 use Rattle.ua_channel.specs.declared.client.phase.Phase.{Phase}
-use Rattle.ua_client.specs.Site.{Site, At, id_at, lane_behind}
+use Rattle.ua_client.specs.ClientPlace.{ClientPlace, StandsAt, id_at, lane_behind}
 use Rattle.ua_client.specs.Calls.{asked_at, sent_at, refusal_at, AreUntold, Collects, CollectsAt, BreaksAt, IsSentAt, none_for}
 use Rattle.ua_client.specs.Carried.{Carries, WritesFront}
-use Rattle.ua_client.specs.Hearing.{channel_of, untaken_of, Moves, StopsAt, is_line_fault}
+use Rattle.ua_client.specs.Hearing.{channel_of, untaken_of, MovesConnection, StopsAt, is_line_fault}
 use Rattle.ua_client.specs.Kept.{CallsGroup, IsRefusedFor, KeepsAt, named}
 use Rattle.ua_client.specs.Renewing.{IsIdle}
 use Rattle.ua_client.specs.Replies.{front_of}
@@ -119,7 +119,7 @@ abbrev pub ToldBehind : Type 0
 ToldBehind = (x : ClientChannel) (asks : List Placed) (octets : List ℕ) (told : List ClientTold) (n : ℕ) → ClientGoes x asks octets told → told_of (next_id (asked_in asks) + n) told ≡ []
 
 -- nothing moved
-abbrev pub moves-nothing : (x y : Connection) (t : Option Traffic) → untaken_of y ≡ untaken_of x → Moves x y [] t t
+abbrev pub moves-nothing : (x y : Connection) (t : Option Traffic) → untaken_of y ≡ untaken_of x → MovesConnection x y [] t t
 moves-nothing x y t same = moves-writing x y [] t t same (carried-nothing t)
 
 -- ---- which requests are refused
@@ -143,7 +143,7 @@ group-refused {A} requests few x t reads c replies h place = record {
   stops = stops c.fault h;
 }
   where
-    refused : (y : ClientFault) (n : ℕ) (s : Site) → At (channel_of x) s → IsIdle (channel_of x) s
+    refused : (y : ClientFault) (n : ℕ) (s : ClientPlace) → StandsAt (channel_of x) s → IsIdle (channel_of x) s
         → (group_refusal (phase_of (channel_of x)) 0 (take n requests) ≡ None) × (group_refusal (phase_of (channel_of x)) 0 (take (n + 1) requests) ≡ Some y) → IsRefusedFor requests s y n
     refused y n s at idle k =
         let before = few-taken n requests in
@@ -152,7 +152,7 @@ group-refused {A} requests few x t reads c replies h place = record {
           sym (group-judged (channel_of x) (take (n + 1) requests) (omega (arith, with, few)) s at idle) ∙ k.1,
         )
 
-    breaks : (y : ClientFault) → AnswersBy {A = Unit {0}} (group_refusal (phase_of (channel_of x)) 0 requests) (Err y) → (s : Site) → At (channel_of x) s
+    breaks : (y : ClientFault) → AnswersBy {A = Unit {0}} (group_refusal (phase_of (channel_of x)) 0 requests) (Err y) → (s : ClientPlace) → StandsAt (channel_of x) s
         → group_refusal (phase_of (channel_of x)) 0 requests ≡ refusal_at s requests → BreaksAt requests s x [] [] y
     breaks fault.TooLarge e s at there = (refl, refl, at, sym there ∙ e)
     breaks fault.NotWritable e s at there = (refl, refl, at, sym there ∙ e)
@@ -169,7 +169,7 @@ group-refused {A} requests few x t reads c replies h place = record {
     breaks fault.TooLong e s at there = let no : is_asking_fault fault.TooLong ≡ true = by-group (phase_of (channel_of x)) 0 requests fault.TooLong e in absurd cc
     breaks fault.TooManyTokens e s at there = let no : is_asking_fault fault.TooManyTokens ≡ true = by-group (phase_of (channel_of x)) 0 requests fault.TooManyTokens e in absurd cc
 
-    keeps : (y : ClientFault) (n : ℕ) → AnswersBy {A = Unit {0}} (group_refusal (phase_of (channel_of x)) 0 requests) (Err y) → RefusesBy (phase_of (channel_of x)) requests n y → (s : Site) → At (channel_of x) s → IsIdle (channel_of x) s
+    keeps : (y : ClientFault) (n : ℕ) → AnswersBy {A = Unit {0}} (group_refusal (phase_of (channel_of x)) 0 requests) (Err y) → RefusesBy (phase_of (channel_of x)) requests n y → (s : ClientPlace) → StandsAt (channel_of x) s → IsIdle (channel_of x) s
         → KeepsAt requests s x [] y n []
     keeps fault.TooLarge n e k s at idle = (refused fault.TooLarge n s at idle k, refl)
     keeps fault.NotWritable n e k s at idle = (refused fault.NotWritable n s at idle k, refl)
@@ -241,21 +241,21 @@ group-unasked {A} requests old new t reads had have f none piece same e = subst 
 })
 
 -- nothing was against a group that a channel would ask
-pub none-refused : (requests : List Request) → length requests ≤ 64 → (x : ClientChannel) → group_refusal (phase_of x) 0 requests ≡ None → (s : Site) → At x s → IsIdle x s → refusal_at s requests ≡ None
+pub none-refused : (requests : List Request) → length requests ≤ 64 → (x : ClientChannel) → group_refusal (phase_of x) 0 requests ≡ None → (s : ClientPlace) → StandsAt x s → IsIdle x s → refusal_at s requests ≡ None
 none-refused requests few x none s at idle = sym (group-judged x requests few s at idle) ∙ none
 
 -- these requests were asked: the channel then, the request id of the first, and what is to be sent
 pub record IsAsked (requests : List Request) (old mid : Connection) (first : ℕ) (out : List ℕ) : Type 0 where
   pub bodies : List (List ℕ)
   pub bodies_are : bodies ≡ bodies_of requests
-  pub judged : (s : Site) → At (channel_of old) s → IsIdle (channel_of old) s → refusal_at s requests ≡ None
+  pub judged : (s : ClientPlace) → StandsAt (channel_of old) s → IsIdle (channel_of old) s → refusal_at s requests ≡ None
   pub piece : untaken_of mid ≡ untaken_of old
   pub same : SameClient (channel_of old) (channel_of mid)
   pub some : 0 < length requests
   pub asks : (xs : List Placed) (os : List ℕ) (fs : List Frame) (r : List ℕ) → ClientStands (channel_of old) xs os fs r → AsksFrom bodies (channel_of old) (channel_of mid) xs os fs r (first, out)
 
 module _ (requests : List Request) (old mid : Connection) (first : ℕ) (out : List ℕ) (q : IsAsked requests old mid first out) where
-  module _ (s : Site) (at : At (channel_of old) s) where
+  module _ (s : ClientPlace) (at : StandsAt (channel_of old) s) where
     asked : AsksFrom (bodies_of requests) (channel_of old) (channel_of mid) s.asks s.octets at.goes.frames at.goes.rest (first, out)
     asked = subst (λ (bs : List (List ℕ)). AsksFrom bs (channel_of old) (channel_of mid) s.asks s.octets at.goes.frames at.goes.rest (first, out)) q.bodies_are
         (q.asks s.asks s.octets at.goes.frames at.goes.rest at.goes.stands)
@@ -289,7 +289,7 @@ module _ (requests : List Request) (old mid : Connection) (first : ℕ) (out : L
     untold-asked law = subst (λ (n : ℕ). AreUntold requests n s.told) (sym first-asked) (untold-from requests (id_at s) s.told (λ n. law (channel_of old) s.asks s.octets s.told n at.goes))
 
   -- a write that failed
-  pub group-unwritten : {A : Type 0} (before after : Option Traffic) (reads : ℕ) (had have : List Reply) → have ≡ had → 0 < length out → WhereTold (WritesFront out) before after
+  pub group-unwritten : {A : Type 0} (before after : Option Traffic) (reads : ℕ) (had have : List Reply) → have ≡ had → 0 < length out → IfTrafficKnown (WritesFront out) before after
       → CallsGroup {A = A} requests old mid before after reads reads (Err (first_unkept fault.Write had have)) had have
   group-unwritten before after reads had have none some h =
       let front = sends-front out before after h in
@@ -304,8 +304,8 @@ module _ (requests : List Request) (old mid : Connection) (first : ℕ) (out : L
         stops = tt;
       }
 
-  module _ (law : ToldBehind) (new : Connection) (before written after : Option Traffic) (reads left : ℕ) (w : WhereTold (Carries [] out) before written) where
-    abbrev written-moves : Moves mid new [] written after → Moves old new out before after
+  module _ (law : ToldBehind) (new : Connection) (before written after : Option Traffic) (reads left : ℕ) (w : IfTrafficKnown (Carries [] out) before written) where
+    abbrev written-moves : MovesConnection mid new [] written after → MovesConnection old new out before after
     written-moves m =
         moves-from old mid new out [] before written after after q.piece m (carried-as m.got (out ++ []) m.got out before after refl (append-nil out) (carried-then [] out m.got [] before written after w m.carried))
 
@@ -313,7 +313,7 @@ module _ (requests : List Request) (old mid : Connection) (first : ℕ) (out : L
     same-then k = record { limits = q.same.limits ∙ k.limits; url = q.same.url ∙ k.url }
 
     module _ (slots : List (Option Reply)) (had have : List Reply) (kept : have ≡ had ++ front_of slots) where
-      collected : {A : Type 0} (result : Result A ClientFault) (c : Collects slots requests first mid new written after reads left result) (s : Site) (at : At (channel_of old) s)
+      collected : {A : Type 0} (result : Result A ClientFault) (c : Collects slots requests first mid new written after reads left result) (s : ClientPlace) (at : StandsAt (channel_of old) s)
           → CollectsAt slots requests (id_at s) new after result (asked_at s requests) (s.octets ++ c.moves.taken) s.told
       collected result c s at =
           subst (λ (n : ℕ). CollectsAt slots requests n new after result (asked_at s requests) (s.octets ++ c.moves.taken) s.told) (first-asked s at)
@@ -339,7 +339,7 @@ module _ (requests : List Request) (old mid : Connection) (first : ℕ) (out : L
           count : length have - length had ≡ length (front_of slots)
           count = added-count had have (front_of slots) kept
 
-          breaks : (y : ClientFault) (s : Site) → IsSentAt requests s out → CollectsAt {A = B} slots requests (id_at s) new after (Err y) (asked_at s requests) (s.octets ++ c.moves.taken) s.told → BreaksAt requests s new out c.moves.taken y
+          breaks : (y : ClientFault) (s : ClientPlace) → IsSentAt requests s out → CollectsAt {A = B} slots requests (id_at s) new after (Err y) (asked_at s requests) (s.octets ++ c.moves.taken) s.told → BreaksAt requests s new out c.moves.taken y
           breaks (fault.Peer code) s sent h = (sent, (h.0, h.1, record { slots = slots; slots_are = h.2.0; missing = h.2.1 }))
           breaks (fault.Refused code) s sent h = (sent, (h.0, h.1, record { slots = slots; slots_are = h.2.0; missing = h.2.1 }))
           breaks fault.Ended s sent h = (sent, (h.0, h.1, record { slots = slots; slots_are = h.2.0; missing = h.2.1 }))
@@ -355,7 +355,7 @@ module _ (requests : List Request) (old mid : Connection) (first : ℕ) (out : L
           breaks fault.TooManyTokens s sent h = absurd h
           breaks (fault.Service code) s sent h = absurd h
 
-          keeps : (y : ClientFault) (s : Site) → CollectsAt {A = B} slots requests (id_at s) new after (Err y) (asked_at s requests) (s.octets ++ c.moves.taken) s.told
+          keeps : (y : ClientFault) (s : ClientPlace) → CollectsAt {A = B} slots requests (id_at s) new after (Err y) (asked_at s requests) (s.octets ++ c.moves.taken) s.told
               → KeepsAt requests s new c.moves.taken y (length have - length had) (front_of slots)
           keeps (fault.Peer code) s h = (count, (h.0, h.1, front-untold requests (id_at s) (s.told ++ h.0) slots h.2.0 h.2.1))
           keeps (fault.Refused code) s h = (count, (h.0, h.1, front-untold requests (id_at s) (s.told ++ h.0) slots h.2.0 h.2.1))
@@ -427,7 +427,7 @@ module _ (requests : List Request) (old mid : Connection) (first : ℕ) (out : L
 
 -- no memory for the slots of the replies
 pub group-unslotted : {A : Type 0} (requests : List Request) (old mid : Connection) (first : ℕ) (out : List ℕ) → IsAsked requests old mid first out → ToldBehind → (before after : Option Traffic) (reads : ℕ)
-    → WhereTold (Carries [] out) before after → (f : ClientFault) (had have : List Reply) → have ≡ had → f ≡ fault.OutOfMemory → CallsGroup {A = A} requests old mid before after reads reads (Err (first_unkept f had have)) had have
+    → IfTrafficKnown (Carries [] out) before after → (f : ClientFault) (had have : List Reply) → have ≡ had → f ≡ fault.OutOfMemory → CallsGroup {A = A} requests old mid before after reads reads (Err (first_unkept f had have)) had have
 group-unslotted {A} requests old mid first out q law before after reads w f had have none e =
     subst (λ (x : ClientFault). CallsGroup {A = A} requests old mid before after reads reads (Err (first_unkept x had have)) had have) (sym e)
     (group-broken requests old mid first out q law mid before after after reads reads w (none_for requests) had have (none ∙ (sym (append-nil had) ∙ ap (λ (rs : List Reply). had ++ rs) (sym (no-front requests))))

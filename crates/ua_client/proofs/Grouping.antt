@@ -9,10 +9,10 @@ use Rattle.ua_services.specs.declared.request.Request.{Request}
 use Rattle.ua_channel.specs.Client.{SameClient}
 use Rattle.ua_channel.specs.Line.{Traffic}
 use Rattle.ua_channel.specs.declared.client.channel.ClientChannel.{ClientChannel}
-use Rattle.ua_client.specs.Site.{Site, At}
+use Rattle.ua_client.specs.ClientPlace.{ClientPlace, StandsAt}
 use Rattle.ua_client.specs.Calls.{Rounds, all_of, AreGroups, AnsweredAll}
 use Rattle.ua_client.specs.Calls.Rounds.{NoRound, OneRound}
-use Rattle.ua_client.specs.Hearing.{channel_of, most_reads, Moves, StopsAt}
+use Rattle.ua_client.specs.Hearing.{channel_of, most_reads, MovesConnection, StopsAt}
 use Rattle.ua_client.specs.Kept.{CallsGroup, CallsInto}
 use Rattle.ua_client.specs.Renewing.{IsSettled, StandsSettled}
 use Rattle.ua_client.specs.declared.connection.Connection.{Connection}
@@ -72,7 +72,7 @@ same-behind : (x y z : ClientChannel) → SameClient x y → SameClient y z → 
 same-behind x y z h k = record { limits = h.limits ∙ k.limits; url = h.url ∙ k.url }
 
 -- rounds of a client are rounds of each that has the same limits and URL
-pub rounds-same : (x y : ClientChannel) → SameClient x y → {s t : Site} {groups : List (List Request)} {sent taken : List ℕ} {replies : List Reply} → Rounds x s groups t sent taken replies → Rounds y s groups t sent taken replies
+pub rounds-same : (x y : ClientChannel) → SameClient x y → {s t : ClientPlace} {groups : List (List Request)} {sent taken : List ℕ} {replies : List Reply} → Rounds x s groups t sent taken replies → Rounds y s groups t sent taken replies
 rounds-same x y same NoRound = NoRound
 rounds-same x y same (OneRound group z r b a) = OneRound group z (rounds-same x y same r) (record { same = same-behind z x y b.same same; at = b.at; came = b.came }) a
 
@@ -81,14 +81,14 @@ rounds-same x y same (OneRound group z r b a) = OneRound group z (rounds-same x 
 -- these requests are answered, in groups that are full where there are more
 pub record Called (requests : List Request) (more : Type 0) (old now : Connection) (before at : Option Traffic) (left : ℕ) (had have : List Reply) : Type 0 where
   pub sent : List ℕ
-  pub moves : Moves old now sent before at
+  pub moves : MovesConnection old now sent before at
   pub same : SameClient (channel_of old) (channel_of now)
   -- these replies are added
   pub added : List Reply
   pub have_is : have ≡ had ++ added
   -- it may be called again
   pub settled : StandsSettled (channel_of now)
-  pub answers : (s : Site) → At (channel_of old) s → (a : AnsweredAll requests s (channel_of now) sent moves.taken added) × (more → AreFull a.groups)
+  pub answers : (s : ClientPlace) → StandsAt (channel_of old) s → (a : AnsweredAll requests s (channel_of now) sent moves.taken added) × (more → AreFull a.groups)
   pub spent : most_reads ≤ left + length moves.got
 
 pub called-nothing : (more : Type 0) (x : Connection) (t : Option Traffic) (had : List Reply) → StandsSettled (channel_of x) → Called [] more x x t t most_reads had had
@@ -122,7 +122,7 @@ module _ (requests group : List Request) (old now new : Connection) (before at t
     same = same-then g.same;
     added = c.added ++ g.added;
     have_is = added-then g.added g.have_is;
-    settled = ∥∥₁_map c.settled (λ (w : (s : Site) × At (channel_of now) s × IsSettled s).
+    settled = ∥∥₁_map c.settled (λ (w : (s : ClientPlace) × StandsAt (channel_of now) s × IsSettled s).
         let b = g.answers w.0 w.1 (idle (channel_of now) w.0 c.settled w.1) in
         (b.1.0, b.1.1, answered-settled group w.0 b.1.0 g.moves.taken g.added w.2 b.1.3));
     answers = λ s h.

@@ -14,14 +14,14 @@ use Rattle.ua_channel.specs.ClientAnswers.{ClientAnswers, ClientProgress}
 use Rattle.ua_channel.specs.ClientTable.{client_rules}
 use Rattle.ua_channel.specs.ClientTold.{ClientTold}
 use Rattle.ua_channel.specs.ClientTold.ClientTold.{Agreed, Opened, Answered, GaveUp, Renewed}
-use Rattle.ua_channel.specs.Line.{Traffic, WhereTold}
+use Rattle.ua_channel.specs.Line.{Traffic, IfTrafficKnown}
 use Rattle.ua_channel.specs.declared.client.channel.ClientChannel.{ClientChannel}
 use Rattle.ua_channel.specs.declared.client.event.ClientEvent.{ClientEvent}
 use Rattle.ua_channel.specs.declared.client.event.ClientEvent.TheVariants as event
 use Rattle.ua_channel.specs.declared.client.fault.ClientTakeFault.{ClientTakeFault}
 use Rattle.ua_channel.specs.declared.client.fault.ClientTakeFault.TheVariants as take_fault
 use Rattle.ua_client.specs.Carried.{Carries}
-use Rattle.ua_client.specs.Hearing.{channel_of, untaken_of, most_octets, failure_of, effort, Keeps, TellsEvent, Moves, Starved, Listens, ListensAt, is_channel_fault, of_take_fault, failures_behind, Fills, FillsAt, Hears, HearsAt, is_hearing_fault, StopsAt}
+use Rattle.ua_client.specs.Hearing.{channel_of, untaken_of, most_octets, failure_of, effort, Keeps, TellsEvent, MovesConnection, Starved, Listens, ListensAt, is_channel_fault, of_take_fault, failures_behind, Fills, FillsAt, Hears, HearsAt, is_hearing_fault, StopsAt}
 use Rattle.ua_client.specs.declared.connection.Connection.{Connection}
 use Rattle.ua_client.specs.declared.fault.ClientFault.{ClientFault}
 use Rattle.ua_client.specs.declared.fault.ClientFault.TheVariants as fault
@@ -146,7 +146,7 @@ first-behind u got taken v more part h (inl e) (inr f) = inr (record {
       ∙ ap (λ (t : List ℕ). t ++ f.more) (ap (λ (g : List ℕ). u ++ g) e ∙ append-nil u)));
 })
 
-abbrev pub moves-behind : (a b c : Connection) (sent out : List ℕ) (before at then : Option Traffic) → Moves a b sent before at → Moves b c out at then → Moves a c (sent ++ out) before then
+abbrev pub moves-behind : (a b c : Connection) (sent out : List ℕ) (before at then : Option Traffic) → MovesConnection a b sent before at → MovesConnection b c out at then → MovesConnection a c (sent ++ out) before then
 moves-behind a b c sent out before at then m n = record {
   got = m.got ++ n.got;
   taken = m.taken ++ n.taken;
@@ -157,7 +157,7 @@ moves-behind a b c sent out before at then m n = record {
 }
 
 -- nothing was read and taken
-abbrev pub moves-writing : (x y : Connection) (sent : List ℕ) (a b : Option Traffic) → untaken_of y ≡ untaken_of x → WhereTold (Carries [] sent) a b → Moves x y sent a b
+abbrev pub moves-writing : (x y : Connection) (sent : List ℕ) (a b : Option Traffic) → untaken_of y ≡ untaken_of x → IfTrafficKnown (Carries [] sent) a b → MovesConnection x y sent a b
 moves-writing x y sent a b same carried = record {
   got = [];
   taken = [];
@@ -168,7 +168,7 @@ moves-writing x y sent a b same carried = record {
 }
 
 -- the same octets were untaken before, and more was written
-abbrev pub moves-from : (x mid new : Connection) (sent out : List ℕ) (a b c d : Option Traffic) → untaken_of mid ≡ untaken_of x → (m : Moves mid new out b c) → WhereTold (Carries m.got sent) a d → Moves x new sent a d
+abbrev pub moves-from : (x mid new : Connection) (sent out : List ℕ) (a b c d : Option Traffic) → untaken_of mid ≡ untaken_of x → (m : MovesConnection mid new out b c) → IfTrafficKnown (Carries m.got sent) a d → MovesConnection x new sent a d
 moves-from x mid new sent out a b c d same m carried = record {
   got = m.got;
   taken = m.taken;
@@ -187,7 +187,7 @@ fewer-left : (part rest all : List ℕ) → all ≡ part ++ rest → length all 
 fewer-left part rest all e few = let l = ap length e ∙ length-append part rest in omega (arith, l, few)
 
 -- a read, and what the channel took of it
-abbrev moves-reading : {A : Type 0} (now mid new : Connection) (at then : Option Traffic) (left less : ℕ) (result : Result A ClientFault) (part : List ℕ) → Fills now mid at then left less result → untaken_of mid ≡ part ++ untaken_of new → Moves now new [] at then
+abbrev moves-reading : {A : Type 0} (now mid new : Connection) (at then : Option Traffic) (left less : ℕ) (result : Result A ClientFault) (part : List ℕ) → Fills now mid at then left less result → untaken_of mid ≡ part ++ untaken_of new → MovesConnection now new [] at then
 moves-reading now mid new at then left less result part f l = record {
   got = f.got;
   taken = part;
@@ -211,7 +211,7 @@ keeps-channel a b e = record { same = record { limits = ap client_limits (sym e)
 
 -- so far nothing was told
 pub record Quiet (old now : Connection) (before at : Option Traffic) (reads left : ℕ) : Type 0 where
-  pub moves : Moves old now [] before at
+  pub moves : MovesConnection old now [] before at
   pub keeps : Keeps old now
   pub goes : (asks : List Placed) (octets : List ℕ) (told : List ClientTold) → ClientGoes (channel_of old) asks octets told → ClientGoes (channel_of now) asks (octets ++ moves.taken) told
   pub no_more : effort left now ≤ effort reads old
@@ -231,7 +231,7 @@ less-effort left reads more v w h some none = omega (arith, h, some, none)
 
 module _ (old now mid : Connection) (before at then : Option Traffic) (reads left less : ℕ) (q : Quiet old now before at reads left) where
   -- a read, and what the channel took of it
-  abbrev moves-then : {A : Type 0} (result : Result A ClientFault) (new : Connection) (part : List ℕ) → Fills now mid at then left less result → untaken_of mid ≡ part ++ untaken_of new → Moves old new [] before then
+  abbrev moves-then : {A : Type 0} (result : Result A ClientFault) (new : Connection) (part : List ℕ) → Fills now mid at then left less result → untaken_of mid ≡ part ++ untaken_of new → MovesConnection old new [] before then
   moves-then result new part f l = moves-behind old now new [] [] before at then q.moves (moves-reading now mid new at then left less result part f l)
 
   goes-then : {A : Type 0} (result : Result A ClientFault) → Fills now mid at then left less result → (asks : List Placed) (octets : List ℕ) (told : List ClientTold) → ClientGoes (channel_of old) asks octets told → ClientGoes (channel_of mid) asks (octets ++ q.moves.taken) told

@@ -14,14 +14,14 @@ use Rattle.ua_channel.specs.declared.client.channel.ClientChannel.{ClientChannel
 use Rattle.ua_channel.specs.declared.client.phase.Phase.{Phase}
 use Rattle.ua_channel.specs.declared.client.phase.Phase.TheVariants as phase
 use Rattle.ua_client.specs.Renewing.{IsIdle, IsSettled, StandsSettled}
-use Rattle.ua_client.specs.Site.{Site, At}
+use Rattle.ua_client.specs.ClientPlace.{ClientPlace, StandsAt}
 use Rattle.ua_client.proofs.Hearsay.{TellsDelivered}
 use Rattle.ua_client.proofs.Renewals.{tokens-answer, tokens-told}
 use Rattle.ua_client.proofs.Settled.{is-open, none-pending, phase-there}
 
 -- the law that a channel which stands at a settled place is idle wherever it stands
 abbrev pub IdleStanding : Type 0
-IdleStanding = (x : ClientChannel) (s : Site) → StandsSettled x → At x s → IsIdle x s
+IdleStanding = (x : ClientChannel) (s : ClientPlace) → StandsSettled x → StandsAt x s → IsIdle x s
 
 -- ---- what is pending is the same wherever a channel stands
 
@@ -44,7 +44,7 @@ no-length : (ids : List ℕ) → length ids ≤ 0 → ids ≡ []
 no-length [] h = refl
 no-length (id ∷ ids) h = absurd (omega (arith, h))
 
-none-renewing : (x : ClientChannel) (s : Site) → At x s → IsSettled s → pending_renewals (opened_ids s.before.openings) (asked_in s.asks) ≡ []
+none-renewing : (x : ClientChannel) (s : ClientPlace) → StandsAt x s → IsSettled s → pending_renewals (opened_ids s.before.openings) (asked_in s.asks) ≡ []
 none-renewing x s at settled =
     let few = tokens-answer (client_limits x) s.asks at.goes.frames at.goes.stands.run.good in
     let all : length (renewals (asked_in s.asks)) ≤ tokens-told s.told = settled.renewed in
@@ -54,15 +54,15 @@ none-renewing x s at settled =
 
 -- ---- and wherever it stands
 
-module _ (tells : TellsDelivered) (x : ClientChannel) (t : Site) (stands : StandsSettled x) (there : At x t) where
+module _ (tells : TellsDelivered) (x : ClientChannel) (t : ClientPlace) (stands : StandsSettled x) (there : StandsAt x t) where
   is-open-standing : IsNotOpen (phase_of x) → ⊥
-  is-open-standing n = ∥∥₁_elim stands ⊥_prop (λ (w : (s : Site) × At x s × IsSettled s). is-open x w.0 w.1 w.2 n)
+  is-open-standing n = ∥∥₁_elim stands ⊥_prop (λ (w : (s : ClientPlace) × StandsAt x s × IsSettled s). is-open x w.0 w.1 w.2 n)
 
   pub idle-standing : IsIdle x t
   idle-standing = record {
     opened = is-open-standing;
-    calls_answered = ∥∥₁_elim stands (Coded-set (coded_list coded_ℕ) _ _) (λ (w : (s : Site) × At x s × IsSettled s).
+    calls_answered = ∥∥₁_elim stands (Coded-set (coded_list coded_ℕ) _ _) (λ (w : (s : ClientPlace) × StandsAt x s × IsSettled s).
         same-calls (client_limits x) (phase_of x) w.0.before t.before (asked_in w.0.asks) (asked_in t.asks) is-open-standing (phase-there x w.0 w.1) (phase-there x t there) (none-pending x w.0 w.1 w.2 tells));
-    renewals_answered = ∥∥₁_elim stands (Coded-set (coded_list coded_ℕ) _ _) (λ (w : (s : Site) × At x s × IsSettled s).
+    renewals_answered = ∥∥₁_elim stands (Coded-set (coded_list coded_ℕ) _ _) (λ (w : (s : ClientPlace) × StandsAt x s × IsSettled s).
         same-renewals (client_limits x) (phase_of x) w.0.before t.before (asked_in w.0.asks) (asked_in t.asks) is-open-standing (phase-there x w.0 w.1) (phase-there x t there) (none-renewing x w.0 w.1 w.2));
   }

@@ -15,8 +15,8 @@ use Rattle.ua_channel.specs.Line.{Traffic, one_more}
 use Rattle.ua_channel.specs.declared.client.channel.ClientChannel.{ClientChannel}
 use Rattle.ua_channel.specs.declared.client.event.ClientEvent.{ClientEvent}
 use Rattle.ua_services.specs.declared.request.Request.{Request}
-use Rattle.ua_client.specs.Calls.{AreFrames, AreUntold, Collects, CollectsAt, GoesOn, LastCame, none_for}
-use Rattle.ua_client.specs.Hearing.{channel_of, Keeps, Moves, Says, Hears, HearsAt, StopsAt, is_line_fault}
+use Rattle.ua_client.specs.Calls.{AreFrames, AreUntold, Collects, CollectsAt, ClientGoesOn, LastCame, none_for}
+use Rattle.ua_client.specs.Hearing.{channel_of, Keeps, MovesConnection, Says, Hears, HearsAt, StopsAt, is_line_fault}
 use Rattle.ua_client.specs.Replies.{AreSlots, IsFront, IsUntoldBefore, LacksAnswer, IsMisanswered, FillsSlots, front_of, is_reading_fault}
 use Rattle.ua_client.specs.Told.{IsFirstOf}
 use Rattle.ua_client.specs.declared.connection.Connection.{Connection}
@@ -73,10 +73,10 @@ IsLast requests first now asks octets slots all = (slots ≡ none_for requests) 
 
 -- so far these replies came
 pub record Waiting (requests : List Request) (first : ℕ) (old now : Connection) (before at : Option Traffic) (reads left : ℕ) (slots : List (Option Reply)) : Type 0 where
-  pub moves : Moves old now [] before at
+  pub moves : MovesConnection old now [] before at
   pub keeps : Keeps old now
   pub goes : (asks : List Placed) (octets : List ℕ) (told : List ClientTold) → ClientGoes (channel_of old) asks octets told → AreUntold requests first told
-      → GoesOn (channel_of now) asks (octets ++ moves.taken) told (λ all. AreSlots requests first all slots × IsLast requests first now asks (octets ++ moves.taken) slots all)
+      → ClientGoesOn (channel_of now) asks (octets ++ moves.taken) told (λ all. AreSlots requests first all slots × IsLast requests first now asks (octets ++ moves.taken) slots all)
   pub spent : reads ≤ left + length moves.got
   pub count : length slots ≡ length requests
 
@@ -135,7 +135,7 @@ module _ (requests : List Request) (first : ℕ) (old now new : Connection) (bef
     -- the history behind an event
     behind : (P : List ClientTold → Type 0) (asks : List Placed) (octets : List ℕ) (told : List ClientTold) → ClientGoes (channel_of old) asks octets told → AreUntold requests first told
         → ((all : List ClientTold) (t : ClientTold) → Says moment e t → ClientGoesTelling (channel_of new) asks (octets ++ (w.moves.taken ++ h.moves.taken)) all t → AreSlots requests first all slots → P (all ++ t ∷ []))
-        → GoesOn (channel_of new) asks (octets ++ (w.moves.taken ++ h.moves.taken)) told P
+        → ClientGoesOn (channel_of new) asks (octets ++ (w.moves.taken ++ h.moves.taken)) told P
     behind P asks octets told g none filled =
         let on = w.goes asks octets told g none in
         let heard : List ClientTold = on.0 in
@@ -207,7 +207,7 @@ module _ (requests : List Request) (first : ℕ) (old now new : Connection) (bef
       → CollectsAt {A = A} slots requests first new then (Err x) asks (octets ++ (w.moves.taken ++ h.moves.taken)) told
   heard-fault A x h missing asks octets told g none = by x (subst (λ (o : List ℕ). HearsAt moment (Err x) (channel_of new) asks o (told ++ on.0)) (append_assoc octets w.moves.taken h.moves.taken) (h.answers asks (octets ++ w.moves.taken) (told ++ on.0) on.1))
     where
-      on : GoesOn (channel_of now) asks (octets ++ w.moves.taken) told (λ all. AreSlots requests first all slots × IsLast requests first now asks (octets ++ w.moves.taken) slots all)
+      on : ClientGoesOn (channel_of now) asks (octets ++ w.moves.taken) told (λ all. AreSlots requests first all slots × IsLast requests first now asks (octets ++ w.moves.taken) slots all)
       on = w.goes asks octets told g none
 
       some : AreSlots requests first (told ++ on.0) slots × (list_any is_none slots ≡ true)

@@ -22,7 +22,7 @@ use Rattle.ua_channel.specs.declared.client.talking.Talking.{Talking}
 use Rattle.ua_client.specs.Calls.{refusal_at}
 use Rattle.ua_client.specs.Renewing.{IsIdle}
 use Rattle.ua_client.specs.Sent.{of_ask, refusal_by, request_refusal, group_refusal, request_reasons, group_reasons, AnswersBy, RefusesBy, bodies_of, place_by}
-use Rattle.ua_client.specs.Site.{Site, At, id_at}
+use Rattle.ua_client.specs.ClientPlace.{ClientPlace, StandsAt, id_at}
 use Rattle.ua_client.specs.declared.fault.ClientFault.{ClientFault}
 use Rattle.ua_client.specs.declared.fault.ClientFault.TheVariants as fault
 use Rattle.ua_client.proofs.Settled.{phase-there}
@@ -81,7 +81,7 @@ judged-in limits (phase.Open t) before asked h some none requests more few = by 
         ∙ sym (first_reason-append (request_reasons before.ack (next_id asked + n) m) (group_reasons before.ack ((next_id asked + n) + 1) ms)))
 
 -- a channel refuses a group just for the first reason that holds where the client stands
-pub group-judged : (x : ClientChannel) (requests : List Request) → length requests ≤ 64 → (s : Site) → At x s → IsIdle x s → group_refusal (phase_of x) 0 requests ≡ refusal_at s requests
+pub group-judged : (x : ClientChannel) (requests : List Request) → length requests ≤ 64 → (s : ClientPlace) → StandsAt x s → IsIdle x s → group_refusal (phase_of x) 0 requests ≡ refusal_at s requests
 group-judged x requests few s at idle =
     judged-in (client_limits x) (phase_of x) s.before (asked_in s.asks) (phase-there x s at) idle.opened idle.calls_answered requests 0 (omega (arith, few))
     ∙ ap (λ (id : ℕ). first_reason (group_reasons s.before.ack id requests)) (add-zero (id_at s))
@@ -103,7 +103,7 @@ are-reasons : (ack : Option Ack) (id : ℕ) (requests : List Request) → AllByR
 are-reasons ack id [] = tt
 are-reasons ack id (m ∷ ms) = (refl, (refl, (refl, are-reasons ack (id + 1) ms)))
 
-pub refused-for : (s : Site) (requests : List Request) (x : ClientFault) → refusal_at s requests ≡ Some x → is_reason x ≡ true
+pub refused-for : (s : ClientPlace) (requests : List Request) (x : ClientFault) → refusal_at s requests ≡ Some x → is_reason x ≡ true
 refused-for s requests x e = among is_reason (group_reasons s.before.ack (id_at s) requests) x (are-reasons s.before.ack (id_at s) requests) e
 
 -- ---- for which request

@@ -8,7 +8,7 @@ use Rattle.ua_channel.specs.ClientAsks.{Talks, call_lane}
 use Rattle.ua_channel.specs.ClientTokens.{responses, channel_in, held_tokens}
 use Rattle.ua_channel.specs.Received.{Received, latest}
 use Rattle.ua_channel.specs.declared.client.talking.Talking.{Talking}
-use Rattle.ua_client.specs.Site.{lane_by, lane_behind}
+use Rattle.ua_client.specs.ClientPlace.{lane_by, lane_behind}
 
 pub lane-talks : (limits : Limits) (t : Talking) (before : Received) (asked : List Asking) → Talks limits t before asked → lane_behind before ≡ Some (call_lane t.agreed.ack t.channel t.newest)
 lane-talks limits t before asked h =

@@ -10,12 +10,12 @@ use Rattle.ua_channel.specs.Asks.{Placed}
 use Rattle.ua_channel.specs.Client.{ClientGoes, ClientGoesTelling, ClientEnded, ClientStands, client_limits, url_of}
 use Rattle.ua_channel.specs.ClientTold.{ClientTold, Why, ours, peers}
 use Rattle.ua_channel.specs.ClientTold.ClientTold.{Agreed, Opened, Answered, GaveUp, Renewed}
-use Rattle.ua_channel.specs.Line.{Traffic, WhereTold}
+use Rattle.ua_channel.specs.Line.{Traffic, IfTrafficKnown}
 use Rattle.ua_channel.specs.declared.client.channel.ClientChannel.{ClientChannel}
 use Rattle.ua_channel.specs.declared.client.event.ClientEvent.{ClientEvent}
 use Rattle.ua_channel.specs.declared.client.event.ClientEvent.TheVariants as event
 use Rattle.ua_client.specs.Carried.{Carries, IsPart, WritesFront}
-use Rattle.ua_client.specs.Hearing.{channel_of, BreaksOff, Keeps, Moves, Says, Starved, Hears, HearsAt, StopsAt, most_reads}
+use Rattle.ua_client.specs.Hearing.{channel_of, BreaksOff, Keeps, MovesConnection, Says, Starved, Hears, HearsAt, StopsAt, most_reads}
 use Rattle.ua_client.specs.Opening.{is_agreed, is_opened, EndsWithout, GoesWithout, GoesUntil, StarvesWithout, WaitsAt, Waits, any_done, hello_octets, open_octets, BreaksOpening, IsOpened, Opens}
 use Rattle.ua_client.specs.declared.connection.Connection.{Connection}
 use Rattle.ua_client.specs.declared.fault.ClientFault.{ClientFault}
@@ -105,7 +105,7 @@ any-left wanted (y ∷ us) vs i = or-more (wanted y) (list_any wanted us) (list_
 
 -- so far nothing was told that is waited for
 pub record Lacks (wanted : ClientTold → Bool) (old now : Connection) (before at : Option Traffic) (reads left : ℕ) : Type 0 where
-  pub moves : Moves old now [] before at
+  pub moves : MovesConnection old now [] before at
   pub keeps : Keeps old now
   pub goes : (asks : List Placed) (octets : List ℕ) (told : List ClientTold) → ClientGoes (channel_of old) asks octets told → GoesWithout wanted (channel_of now) asks (octets ++ moves.taken) told
   pub spent : reads ≤ left + length moves.got
@@ -316,7 +316,7 @@ opens-nothing moment x t = record {
 }
 
 -- the HEL was not written whole
-pub opens-unwritten : {A : Type 0} (moment : DateTime) (x : Connection) (hello : List ℕ) (before after : Option Traffic) → hello ≡ hello_octets (client_limits (channel_of x)) (url_of (channel_of x)) → 0 < length hello → WhereTold (WritesFront hello) before after
+pub opens-unwritten : {A : Type 0} (moment : DateTime) (x : Connection) (hello : List ℕ) (before after : Option Traffic) → hello ≡ hello_octets (client_limits (channel_of x)) (url_of (channel_of x)) → 0 < length hello → IfTrafficKnown (WritesFront hello) before after
     → Opens {A = A} moment x x before after (Err fault.Write)
 opens-unwritten moment x hello before after is some h =
     let front = sends-part hello before after some h in
@@ -328,11 +328,11 @@ opens-unwritten moment x hello before after is some h =
       stops = tt;
     }
 
-abbrev pub sent-first : (x mid : Connection) (hello : List ℕ) (a b c : Option Traffic) → WhereTold (Carries [] hello) a b → Moves x mid [] b c → Moves x mid hello a c
+abbrev pub sent-first : (x mid : Connection) (hello : List ℕ) (a b c : Option Traffic) → IfTrafficKnown (Carries [] hello) a b → MovesConnection x mid [] b c → MovesConnection x mid hello a c
 sent-first x mid hello a b c w m =
     moves-from x x mid hello [] a b c c refl m (carried-as m.got (hello ++ []) m.got hello a c refl (append-nil hello) (carried-then [] hello m.got [] a b c w m.carried))
 
-module _ (moment : DateTime) (x mid : Connection) (hello : List ℕ) (a b c : Option Traffic) (left : ℕ) (is : hello ≡ hello_octets (client_limits (channel_of x)) (url_of (channel_of x))) (w : WhereTold (Carries [] hello) a b) where
+module _ (moment : DateTime) (x mid : Connection) (hello : List ℕ) (a b c : Option Traffic) (left : ℕ) (is : hello ≡ hello_octets (client_limits (channel_of x)) (url_of (channel_of x))) (w : IfTrafficKnown (Carries [] hello) a b) where
   -- no ACK came
   pub opens-unagreed : {A B : Type 0} (P : B → Type 0) (f : ClientFault) → Waits is_agreed P x mid b c most_reads left (Err f) → Opens {A = A} moment x mid a c (Err f)
   opens-unagreed {A} {B} P f h = record {
@@ -391,10 +391,10 @@ module _ (moment : DateTime) (x mid : Connection) (hello : List ℕ) (a b c : Op
     both-sent g = ap (λ (o : List ℕ). o ++ opening) is ∙ ap (λ (o : List ℕ). hello_octets (client_limits (channel_of x)) (url_of (channel_of x)) ++ o) (opening-is g)
 
     -- the OPN was not written whole
-    pub opens-unasked : {A : Type 0} → GoesOnBehind → (d : Option Traffic) → 0 < length opening → WhereTold (WritesFront opening) c d → Opens {A = A} moment x mid a d (Err fault.Write)
+    pub opens-unasked : {A : Type 0} → GoesOnBehind → (d : Option Traffic) → 0 < length opening → IfTrafficKnown (WritesFront opening) c d → Opens {A = A} moment x mid a d (Err fault.Write)
     opens-unasked goes_on d some k =
         let front = sends-part opening c d some k in
-        let m : Moves x mid (hello ++ front.0) a d = moves-behind x mid mid hello front.0 a c d (sent-first x mid hello a b c w h.moves)
+        let m : MovesConnection x mid (hello ++ front.0) a d = moves-behind x mid mid hello front.0 a c d (sent-first x mid hello a b c w h.moves)
         (moves-writing mid mid front.0 c d refl front.2) in
         record {
           sent = hello ++ front.0;
@@ -411,8 +411,8 @@ module _ (moment : DateTime) (x mid : Connection) (hello : List ℕ) (a b c : Op
           stops = tt;
         }
 
-    module _ (goes_on : GoesOnBehind) (d e : Option Traffic) (new : Connection) (less : ℕ) (v : WhereTold (Carries [] opening) c d) where
-      abbrev both-moves : Moves mid new [] d e → Moves x new (hello ++ opening) a e
+    module _ (goes_on : GoesOnBehind) (d e : Option Traffic) (new : Connection) (less : ℕ) (v : IfTrafficKnown (Carries [] opening) c d) where
+      abbrev both-moves : MovesConnection mid new [] d e → MovesConnection x new (hello ++ opening) a e
       both-moves m = moves-behind x mid new hello opening a c e (sent-first x mid hello a b c w h.moves) (sent-first mid new opening c d e v m)
 
       spent-most : (got : List ℕ) (n : ℕ) → left ≤ n + length got → most_reads ≤ n + length (h.moves.got ++ got)

@@ -19,7 +19,7 @@ use Rattle.ua_channel.specs.ClientSends.{renewal_frame}
 use Rattle.ua_channel.specs.ClientTokens.{held_tokens, opened_ids}
 use Rattle.ua_channel.specs.ClientTold.{ClientTold}
 use Rattle.ua_channel.specs.ClientTold.ClientTold.{Agreed, Opened, Answered, GaveUp, Renewed}
-use Rattle.ua_channel.specs.Line.{Traffic, WhereTold}
+use Rattle.ua_channel.specs.Line.{Traffic, IfTrafficKnown}
 use Rattle.ua_channel_laws.specs.Outgoing.{renewal_by}
 use Rattle.ua_channel.specs.Received.{Received, latest, listed, received}
 use Rattle.ua_channel.specs.declared.client.channel.ClientChannel.{ClientChannel}
@@ -32,10 +32,10 @@ use Rattle.ua_channel.specs.declared.client.phase.Phase.TheVariants as phase
 use Rattle.ua_channel.proofs.Askings.{asked_in-push, renewals-push}
 use Rattle.ua_channel_laws.proofs.ClientReadings.{stands_once}
 use Rattle.ua_client.specs.Carried.{Carries, IsPart, WritesFront}
-use Rattle.ua_client.specs.Hearing.{channel_of, is_hearing_fault, untaken_of, most_reads, Keeps, Moves, StopsAt}
+use Rattle.ua_client.specs.Hearing.{channel_of, is_hearing_fault, untaken_of, most_reads, Keeps, MovesConnection, StopsAt}
 use Rattle.ua_client.specs.Opening.{is_opened, any_done, GoesUntil, IsOpened, WaitsAt, Waits}
 use Rattle.ua_client.specs.Renewing.{is_renewed, IsIdle, IsSettled, IsRefusal, StandsSettled, renewal_refusal, refused_by, of_renew_fault, renewal_at, asks_renewed, IsRenewed, RenewsAt, Renews}
-use Rattle.ua_client.specs.Site.{Site, At, id_at, lane_behind}
+use Rattle.ua_client.specs.ClientPlace.{ClientPlace, StandsAt, id_at, lane_behind}
 use Rattle.ua_client.specs.declared.connection.Connection.{Connection}
 use Rattle.ua_client.specs.declared.fault.ClientFault.{ClientFault}
 use Rattle.ua_client.specs.declared.fault.ClientFault.TheVariants as fault
@@ -108,7 +108,7 @@ judging-in limits (phase.Open t) before asked h some none =
 judging-in limits phase.Done before asked h some none = absurd (some tt)
 
 -- why the channel refuses, by where the client stands
-channel-refuses : (x : ClientChannel) (s : Site) → At x s → IsIdle x s → renewal_refused x ≡ asked-reasons (nat_le most_tokens (length (held_tokens s.before))) (nat_le no_id (id_at s))
+channel-refuses : (x : ClientChannel) (s : ClientPlace) → StandsAt x s → IsIdle x s → renewal_refused x ≡ asked-reasons (nat_le most_tokens (length (held_tokens s.before))) (nat_le no_id (id_at s))
 channel-refuses x s at idle = judging-in (client_limits x) (phase_of x) s.before (asked_in s.asks) (phase-there x s at) idle.opened idle.renewals_answered
 
 newest-in : (limits : Limits) (p : Phase) (before : Received) (asked : List Asking) → InPhase limits p before asked → (IsNotOpen p → ⊥) → (k : ℕ) × (latest (held_tokens before) ≡ Some k)
@@ -118,7 +118,7 @@ newest-in limits (phase.Open t) before asked h some = (t.newest, h.newest_is)
 newest-in limits phase.Done before asked h some = absurd (some tt)
 
 -- a further token that was told last is the newest
-newest-at : (x : ClientChannel) (s : Site) (at : At x s) → (HasNoChannel x → ⊥) → (told : List ClientTold) (token : ℕ) → ClientGoesTelling x s.asks s.octets told (Renewed token) → latest (held_tokens s.before) ≡ Some token
+newest-at : (x : ClientChannel) (s : ClientPlace) (at : StandsAt x s) → (HasNoChannel x → ⊥) → (told : List ClientTold) (token : ℕ) → ClientGoesTelling x s.asks s.octets told (Renewed token) → latest (held_tokens s.before) ≡ Some token
 newest-at x s at opened told token g =
     let found = newest-in (client_limits x) (phase_of x) (received at.goes.frames) (asked_in s.asks) at.goes.stands.phase_is opened in
     let frames : at.goes.frames ≡ g.frames ++ g.frame ∷ [] = (stands_once x s.asks s.octets at.goes.frames (g.frames ++ g.frame ∷ []) at.goes.rest [] at.goes.stands g.stands).0 in
@@ -145,7 +145,7 @@ either-for ask_fault.OutOfMemory reason h = inr (refl, h)
 same-fault : (f g : AskFault) → ◌≡◌ {A = Option AskFault} (Some f) (Some g) → f ≡ g
 same-fault f g e = cc
 
-module _ (A : Type 0) (s : Site) (moment : DateTime) (new : ClientChannel) where
+module _ (A : Type 0) (s : ClientPlace) (moment : DateTime) (new : ClientChannel) where
   abbrev Refuses : Option ClientFault → AskFault → Type 0
   Refuses reason f = (refused_by {A = A} (Err (of_renew_fault f)) ≡ reason) × RenewsAt {A = A} s moment new [] [] (Err (of_renew_fault f))
 
@@ -157,7 +157,7 @@ module _ (A : Type 0) (s : Site) (moment : DateTime) (new : ClientChannel) where
   refuses-by false true f (inr e) = absurd cc
   refuses-by false false f (inr e) = subst (λ (g : AskFault). Refuses None g) (sym e.0) (refl, inl (refl, refl))
 
-  refuses-at : (x : ClientChannel) → At x s → IsIdle x s → (f : AskFault) → IsFor (renewal_refused x) f → Refuses (renewal_refusal s) f
+  refuses-at : (x : ClientChannel) → StandsAt x s → IsIdle x s → (f : AskFault) → IsFor (renewal_refused x) f → Refuses (renewal_refusal s) f
   refuses-at x at idle f h =
       refuses-by (nat_le most_tokens (length (held_tokens s.before))) (nat_le no_id (id_at s)) f
       (either-for f (asked-reasons (nat_le most_tokens (length (held_tokens s.before))) (nat_le no_id (id_at s))) (subst (λ (r : Option AskFault). IsFor r f) (channel-refuses x s at idle) h))
@@ -174,7 +174,7 @@ refusal-stops A ask_fault.OutOfMemory x t = tt
 
 -- it was not asked
 pub renews-refused : {A : Type 0} (moment : DateTime) (x y : Connection) (t : Option Traffic) (f : AskFault) → y ≡ x → IsFor (renewal_refused (channel_of x)) f
-    → ((s : Site) → At (channel_of x) s → IsIdle (channel_of x) s) → Renews {A = A} moment x y t t (Err (of_renew_fault f))
+    → ((s : ClientPlace) → StandsAt (channel_of x) s → IsIdle (channel_of x) s) → Renews {A = A} moment x y t t (Err (of_renew_fault f))
 renews-refused {A} moment x y t f same h idle = record {
   sent = [];
   moves = moves-writing x y [] t t (ap untaken_of same) (carried-nothing t);
@@ -210,7 +210,7 @@ asking-in limits (phase.Open t) before asked number moment id out next h c = (
 )
 asking-in limits phase.Done before asked number moment id out next h c = absurd c
 
-module _ (moment : DateTime) (x y : ClientChannel) (id : ℕ) (out : List ℕ) (asked : Asks moment x y id out) (s : Site) (at : At x s) where
+module _ (moment : DateTime) (x y : ClientChannel) (id : ℕ) (out : List ℕ) (asked : Asks moment x y id out) (s : ClientPlace) (at : StandsAt x s) where
   abbrev asking : (id ≡ id_at s) × (out ≡ renewal_by (lane_behind (received at.goes.frames)) (client_next x) (id_at s) moment) × (client_next y ≡ next_number (client_next x))
   asking = asking-in (client_limits x) (phase_of x) (received at.goes.frames) (asked_in s.asks) (client_next x) moment id out (client_next y) at.goes.stands.phase_is asked.sends
 
@@ -237,7 +237,7 @@ module _ (moment : DateTime) (x y : ClientChannel) (id : ℕ) (out : List ℕ) (
 
 -- ---- one more renewal, and one more token
 
-settled-more : (s : Site) (heard : List ClientTold) (token : ℕ) (before : Received) (octets : List ℕ) (number : ℕ) → IsSettled s
+settled-more : (s : ClientPlace) (heard : List ClientTold) (token : ℕ) (before : Received) (octets : List ℕ) (number : ℕ) → IsSettled s
     → IsSettled (record { asks = asks_renewed s; octets = octets; before = before; told = s.told ++ (heard ++ Renewed token ∷ []); number = number })
 settled-more s heard token before octets number h =
     let asked : length (renewals (asked_in (asks_renewed s))) ≡ length (renewals (asked_in s.asks)) + 1 =
@@ -255,9 +255,9 @@ settled-more s heard token before octets number h =
 -- ---- what comes of it
 
 module _ (moment : DateTime) (x mid new : Connection) (id : ℕ) (out : List ℕ) (asked : Asks moment (channel_of x) (channel_of mid) id out) (untaken : untaken_of mid ≡ untaken_of x) (a b c : Option Traffic)
-    (stands : StandsSettled (channel_of x)) (idle : (s : Site) → At (channel_of x) s → IsIdle (channel_of x) s) where
+    (stands : StandsSettled (channel_of x)) (idle : (s : ClientPlace) → StandsAt (channel_of x) s → IsIdle (channel_of x) s) where
   -- the OPN was not written whole
-  pub renews-unwritten : {A : Type 0} → new ≡ mid → 0 < length out → WhereTold (WritesFront out) a c → Renews {A = A} moment x new a c (Err fault.Write)
+  pub renews-unwritten : {A : Type 0} → new ≡ mid → 0 < length out → IfTrafficKnown (WritesFront out) a c → Renews {A = A} moment x new a c (Err fault.Write)
   renews-unwritten same some h =
       let front = sends-part out a c some h in
       record {
@@ -269,15 +269,15 @@ module _ (moment : DateTime) (x mid new : Connection) (id : ℕ) (out : List ℕ
         stops = tt;
       }
 
-  module _ (goes_on : GoesOnBehind) (left : ℕ) (w : WhereTold (Carries [] out) a b) where
-    abbrev sent-from : Moves mid new [] b c → Moves x new out a c
-    sent-from m = let n : Moves mid new out a c = sent-first mid new out a b c w m in moves-from x mid new out out a a c c untaken n n.carried
+  module _ (goes_on : GoesOnBehind) (left : ℕ) (w : IfTrafficKnown (Carries [] out) a b) where
+    abbrev sent-from : MovesConnection mid new [] b c → MovesConnection x new out a c
+    sent-from m = let n : MovesConnection mid new out a c = sent-first mid new out a b c w m in moves-from x mid new out out a a c c untaken n n.carried
 
     same-behind : Keeps mid new → SameClient (channel_of x) (channel_of new)
     same-behind k = record { limits = asked.same.limits ∙ k.same.limits; url = asked.same.url ∙ k.same.url }
 
     -- where a further token came
-    module _ (taken : List ℕ) (k : Keeps mid new) (s : Site) (at : At (channel_of x) s) (u : GoesUntil is_renewed (channel_of new) (asks_renewed s) (s.octets ++ taken) s.told) where
+    module _ (taken : List ℕ) (k : Keeps mid new) (s : ClientPlace) (at : StandsAt (channel_of x) s) (u : GoesUntil is_renewed (channel_of new) (asks_renewed s) (s.octets ++ taken) s.told) where
       token-told : (token : ℕ) × (u.last ≡ Renewed token)
       token-told = the-token u.last u.is_wanted
 
@@ -289,10 +289,10 @@ module _ (moment : DateTime) (x mid new : Connection) (id : ℕ) (out : List ℕ
           subst (λ (all : List ClientTold). ClientGoes (channel_of new) (asks_renewed s) (s.octets ++ taken) all) (append_assoc s.told u.heard (Renewed token-told.0 ∷ []))
           (goes_on (channel_of new) (asks_renewed s) (s.octets ++ taken) (s.told ++ u.heard) (Renewed token-told.0) tells-token)
 
-      abbrev behind : Site
+      abbrev behind : ClientPlace
       behind = record { asks = asks_renewed s; octets = s.octets ++ taken; before = received goes-behind.frames; told = s.told ++ (u.heard ++ Renewed token-told.0 ∷ []); number = next_number s.number }
 
-      at-behind : At (channel_of new) behind
+      at-behind : StandsAt (channel_of new) behind
       at-behind = record { goes = goes-behind; before_is = refl; number_is = k.next ∙ next-is moment (channel_of x) (channel_of mid) id out asked s at }
 
       settled-behind : IsSettled s → IsSettled behind
@@ -326,11 +326,11 @@ module _ (moment : DateTime) (x mid new : Connection) (id : ℕ) (out : List ℕ
       stops = omega arith;
     }
       where
-        until : (s : Site) → At (channel_of x) s → GoesUntil is_renewed (channel_of new) (asks_renewed s) (s.octets ++ h.moves.taken) s.told
+        until : (s : ClientPlace) → StandsAt (channel_of x) s → GoesUntil is_renewed (channel_of new) (asks_renewed s) (s.octets ++ h.moves.taken) s.told
         until s at = (h.answers (asks_renewed s) s.octets s.told (goes-asked moment (channel_of x) (channel_of mid) id out asked s at)).0
 
         opened : HasNoChannel (channel_of new) → ⊥
-        opened n = ∥∥₁_elim stands ⊥_prop (λ (w : (s : Site) × At (channel_of x) s × IsSettled s).
+        opened n = ∥∥₁_elim stands ⊥_prop (λ (w : (s : ClientPlace) × StandsAt (channel_of x) s × IsSettled s).
             is-open (channel_of new) (behind h.moves.taken h.keeps w.0 w.1 (until w.0 w.1)) (at-behind h.moves.taken h.keeps w.0 w.1 (until w.0 w.1)) (settled-behind h.moves.taken h.keeps w.0 w.1 (until w.0 w.1) w.2) n)
     renews-last (Err f) h = record {
       sent = out;
@@ -345,7 +345,7 @@ module _ (moment : DateTime) (x mid new : Connection) (id : ℕ) (out : List ℕ
       stops = stops f h.stops;
     }
       where
-        unrefused : (y : ClientFault) (s : Site) (taken : List ℕ) → WaitsAt is_renewed any_done (Err y) (channel_of new) (asks_renewed s) (s.octets ++ taken) s.told → refused_by {A = Unit {0}} (Err y) ≡ None
+        unrefused : (y : ClientFault) (s : ClientPlace) (taken : List ℕ) → WaitsAt is_renewed any_done (Err y) (channel_of new) (asks_renewed s) (s.octets ++ taken) s.told → refused_by {A = Unit {0}} (Err y) ≡ None
         unrefused fault.Read s taken k = refl
         unrefused fault.Ended s taken k = refl
         unrefused fault.TooLong s taken k = refl
@@ -361,7 +361,7 @@ module _ (moment : DateTime) (x mid new : Connection) (id : ℕ) (out : List ℕ
         unrefused fault.TooManyTokens s taken k = absurd k
         unrefused fault.Closed s taken k = refl
 
-        by : (y : ClientFault) (s : Site) (taken : List ℕ) → out ≡ renewal_at s moment → WaitsAt is_renewed any_done (Err y) (channel_of new) (asks_renewed s) (s.octets ++ taken) s.told
+        by : (y : ClientFault) (s : ClientPlace) (taken : List ℕ) → out ≡ renewal_at s moment → WaitsAt is_renewed any_done (Err y) (channel_of new) (asks_renewed s) (s.octets ++ taken) s.told
             → RenewsAt {A = Unit {0}} s moment (channel_of new) out taken (Err y)
         by fault.Read s taken e k = (e, k)
         by fault.Ended s taken e k = (e, k)
@@ -422,7 +422,7 @@ none-called : (told : List ClientTold) → AreTold told (calls (asked_in []))
 unfolding calls asked_in
 none-called told = tt
 
-pub opened-settled : GoesOnBehind → (x : ClientChannel) (octets : List ℕ) → IsOpened x octets → (s : Site) × (s.octets ≡ octets) × (s.asks ≡ []) × At x s × IsSettled s
+pub opened-settled : GoesOnBehind → (x : ClientChannel) (octets : List ℕ) → IsOpened x octets → (s : ClientPlace) × (s.octets ≡ octets) × (s.asks ≡ []) × StandsAt x s × IsSettled s
 opened-settled goes_on x octets h =
     let goes = goes_on x [] octets (Agreed h.ack ∷ []) (Opened h.channel h.token) h.tells in (
       record { asks = []; octets = octets; before = received goes.frames; told = Agreed h.ack ∷ Opened h.channel h.token ∷ []; number = client_next x },

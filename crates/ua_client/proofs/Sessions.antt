@@ -27,7 +27,7 @@ use Rattle.ua_client.specs.Kept.{CallsGroup, GroupAt}
 use Rattle.ua_client.specs.Hearing.{channel_of, most_reads, StopsAt}
 use Rattle.ua_client.specs.Session.{ActivatesBehind, BeginsAt, BeginsSessionAs, CallsOneAt, DoesIdle, FailsAt, IsFailure, IsReplied, LacksToken, MakesRequest, Replies, ServesAt, TriesSession, activating_at, brings_any, brings_token, creating_at, is_reply, reply_failure, session_alone, token_in}
 use Rattle.ua_client.specs.Renewing.{IsIdle, IsSettled, StandsSettled}
-use Rattle.ua_client.specs.Site.{Site, At, id_at}
+use Rattle.ua_client.specs.ClientPlace.{ClientPlace, StandsAt, id_at}
 use Rattle.ua_client.specs.declared.connection.Connection.{Connection}
 use Rattle.ua_client.specs.declared.fault.CallsFault.{CallsFault}
 use Rattle.ua_client.specs.declared.fault.ClientFault.{ClientFault}
@@ -77,7 +77,7 @@ one-replied request requests old new before after reads left had have reply e no
   stops = g.stops;
 }
   where
-    replied : (s : Site) → GroupAt {A = Unit {0}} (request ∷ []) s new g.sent g.moves.taken (Ok tt) g.added → Replies request s (channel_of new) g.sent g.moves.taken (is_reply reply)
+    replied : (s : ClientPlace) → GroupAt {A = Unit {0}} (request ∷ []) s new g.sent g.moves.taken (Ok tt) g.added → Replies request s (channel_of new) g.sent g.moves.taken (is_reply reply)
     replied s a =
         let alone : g.added ≡ reply ∷ [] = sym (sym one ∙ (g.have_is ∙ ap (λ (rs : List Reply). rs ++ g.added) none)) in
         record {
@@ -103,7 +103,7 @@ one-broken request requests old new before after reads left had have c e g = rec
 -- ---- a service
 
 -- a fault of the call
-broken : {A : Type 0} (request : Request) (brings : A → Reply → Type 0) (s : Site) (new : Connection) (sent taken : List ℕ) (f : ClientFault)
+broken : {A : Type 0} (request : Request) (brings : A → Reply → Type 0) (s : ClientPlace) (new : Connection) (sent taken : List ℕ) (f : ClientFault)
     → BreaksAt (request ∷ []) s new sent taken f → ServesAt {A = A} request brings s new sent taken (Err f)
 broken request brings s new sent taken fault.Read h = h
 broken request brings s new sent taken fault.Write h = h
@@ -121,7 +121,7 @@ broken request brings s new sent taken fault.TooLong h = h
 broken request brings s new sent taken fault.TooManyTokens h = h
 
 -- a fault is the same whatever a reply would have brought
-faulted : {A B : Type 0} (request : Request) (brings : A → Reply → Type 0) (other : B → Reply → Type 0) (s : Site) (new : Connection) (sent taken : List ℕ) (f : ClientFault)
+faulted : {A B : Type 0} (request : Request) (brings : A → Reply → Type 0) (other : B → Reply → Type 0) (s : ClientPlace) (new : Connection) (sent taken : List ℕ) (f : ClientFault)
     → ServesAt {A = A} request brings s new sent taken (Err f) → ServesAt {A = B} request other s new sent taken (Err f)
 faulted request brings other s new sent taken fault.Read h = h
 faulted request brings other s new sent taken fault.Write h = h
@@ -174,7 +174,7 @@ module _ (request : Request) (old new : Connection) (before after : Option Traff
       })
 
   -- a request that is made where the client stands
-  module _ (made : Site → Request) (is : (s : Site) → At (channel_of old) s → request ≡ made s) where
+  module _ (made : ClientPlace → Request) (is : (s : ClientPlace) → StandsAt (channel_of old) s → request ≡ made s) where
     -- the fault of its service
     pub made-broken : {A : Type 0} (brings : A → Reply → Type 0) (f : ClientFault)
         → DoesIdle {A = Reply} (λ s sent taken. ServesAt request is_reply s new sent taken (Err f)) old new before after reads left (Err f)
@@ -204,7 +204,7 @@ module _ (request : Request) (old new : Connection) (before after : Option Traff
     }
 
 -- no memory to ask
-pub made-unasked : {A : Type 0} (made : Site → Request) (brings : A → Reply → Type 0) (x : Connection) (t : Option Traffic) (reads : ℕ)
+pub made-unasked : {A : Type 0} (made : ClientPlace → Request) (brings : A → Reply → Type 0) (x : Connection) (t : Option Traffic) (reads : ℕ)
     → DoesIdle {A = A} (λ s sent taken. ServesAt (made s) brings s x sent taken (Err fault.OutOfMemory)) x x t t reads reads (Err fault.OutOfMemory)
 made-unasked made brings x t reads = record {
   sent = [];
@@ -215,8 +215,8 @@ made-unasked made brings x t reads = record {
 }
 
 -- a request that cannot be encoded
-made-unwritable : {A : Type 0} (made : Site → Request) (brings : A → Reply → Type 0) (x : Connection) (t : Option Traffic) (reads : ℕ)
-    → ((s : Site) → At (channel_of x) s → IsFalse (message.encodable (made s)))
+made-unwritable : {A : Type 0} (made : ClientPlace → Request) (brings : A → Reply → Type 0) (x : Connection) (t : Option Traffic) (reads : ℕ)
+    → ((s : ClientPlace) → StandsAt (channel_of x) s → IsFalse (message.encodable (made s)))
     → DoesIdle {A = A} (λ s sent taken. ServesAt (made s) brings s x sent taken (Err fault.NotWritable)) x x t t reads reads (Err fault.NotWritable)
 made-unwritable made brings x t reads unfit = record {
   sent = [];
@@ -231,11 +231,11 @@ made-unwritable made brings x t reads unfit = record {
     first-reason false reason more h = refl
 
     -- the reasons against a request that can be encoded
-    reasons-behind : Request → Site → List (ClientFault × Bool)
+    reasons-behind : Request → ClientPlace → List (ClientFault × Bool)
     reasons-behind m s = (fault.Exhausted, nat_le no_id (id_at s)) ∷ (fault.TooLarge, of_ack (λ (a : Ack). is_too_large a (message.canonical m)) s.before.ack) ∷ []
 
 -- a request that was not made
-pub made-not : {A : Type 0} (made : Site → Request) (brings : A → Reply → Type 0) (x : Connection) (t : Option Traffic) (reads : ℕ) (f : ClientFault) → MakesRequest made (channel_of x) (Err f)
+pub made-not : {A : Type 0} (made : ClientPlace → Request) (brings : A → Reply → Type 0) (x : Connection) (t : Option Traffic) (reads : ℕ) (f : ClientFault) → MakesRequest made (channel_of x) (Err f)
     → DoesIdle {A = A} (λ s sent taken. ServesAt (made s) brings s x sent taken (Err f)) x x t t reads reads (Err f)
 made-not made brings x t reads fault.NotWritable h = made-unwritable made brings x t reads h
 made-not made brings x t reads fault.OutOfMemory h = made-unasked made brings x t reads
@@ -271,13 +271,13 @@ brings-of k s (inr e) = subst (λ (t : ResponseKind). (s : Structure t) → Brin
 has-token : (m : Response) → Answers (kind_of m) request_kind.CreateSession → Brings m
 has-token m a = subst Brings (sym (are_responses.back m)) (brings-of (kind_of m) (response_parts m).1 a)
 
-brings-some : (x : ClientChannel) (url : Option (List ℕ)) (moment : DateTime) (s t : Site) (sent taken : List ℕ) (reply : Reply) → IsReplied x (creating_at url moment s) s t sent taken reply
+brings-some : (x : ClientChannel) (url : Option (List ℕ)) (moment : DateTime) (s t : ClientPlace) (sent taken : List ℕ) (reply : Reply) → IsReplied x (creating_at url moment s) s t sent taken reply
     → reply_failure reply ≡ None → token_in reply ≡ None → ⊥
 brings-some x url moment s t sent taken (Aborted code) h good none = absurd cc
 brings-some x url moment s t sent taken (Responds m) h good none = has-token m h.answered.replies_are.0.2.2.1 good none
 
 module _ (url : Option (List ℕ)) (moment : DateTime) (request : Request) (old new : Connection) (before after : Option Traffic) (reads left : ℕ)
-    (is : (s : Site) → At (channel_of old) s → request ≡ creating_at url moment s) (reply : Reply)
+    (is : (s : ClientPlace) → StandsAt (channel_of old) s → request ≡ creating_at url moment s) (reply : Reply)
     (d : DoesIdle {A = Reply} (λ s sent taken. ServesAt request is_reply s new sent taken (Ok reply)) old new before after reads left (Ok reply)) where
   -- what becomes of it by the reply
   pub created : (result : Result NodeId ClientFault) → IfOk result (λ token. brings_token token reply) → IfErr result (λ f. LacksToken reply f)
@@ -300,7 +300,7 @@ module _ (url : Option (List ℕ)) (moment : DateTime) (request : Request) (old 
 -- CreateSession failed
 pub begins-first : (policy_id : Option (List ℕ)) (moment : DateTime) (old new : Connection) (before after : Option Traffic) (left : ℕ) (f : ClientFault)
     → DoesIdle {A = NodeId} (λ s sent taken. ServesAt (creating_at (url_of (channel_of old)) moment s) brings_token s new sent taken (Err f)) old new before after most_reads left (Err f)
-    → ((s : Site) → At (channel_of old) s → IsIdle (channel_of old) s) → TriesSession policy_id moment old new before after (Err (record { token = None; fault = f }))
+    → ((s : ClientPlace) → StandsAt (channel_of old) s → IsIdle (channel_of old) s) → TriesSession policy_id moment old new before after (Err (record { token = None; fault = f }))
 begins-first policy_id moment old new before after left f d idle = record {
   sent = d.sent;
   moves = d.moves;
@@ -324,14 +324,14 @@ module _ (policy_id : Option (List ℕ)) (moment : DateTime) (old mid new : Conn
     (stands : StandsSettled (channel_of old)) (idle : IdleStanding) where
   -- behind CreateSession it may be called again
   stands-between : StandsSettled (channel_of mid)
-  stands-between = ∥∥₁_map stands (λ (w : (s : Site) × At (channel_of old) s × IsSettled s).
+  stands-between = ∥∥₁_map stands (λ (w : (s : ClientPlace) × StandsAt (channel_of old) s × IsSettled s).
       let a = d.answers w.0 w.1 (idle (channel_of old) w.0 stands w.1) in
       (a.behind, a.at, a.settled w.2))
 
   -- what becomes of ActivateSession
   second : (result : Result (Unit {0}) ClientFault) (P : NodeId → Type 0) → P token
       → (e : DoesIdle {A = Unit {0}} (λ s sent taken. ServesAt (activating_at policy_id token moment s) brings_any s new sent taken result) mid new between after left less result)
-      → (s : Site) → At (channel_of old) s → ActivatesBehind (url_of (channel_of old)) policy_id moment s new (d.sent ++ e.sent) (d.moves.taken ++ e.moves.taken) P result
+      → (s : ClientPlace) → StandsAt (channel_of old) s → ActivatesBehind (url_of (channel_of old)) policy_id moment s new (d.sent ++ e.sent) (d.moves.taken ++ e.moves.taken) P result
   second result P p e s at =
       let a = d.answers s at (idle (channel_of old) s stands at) in
       record {
@@ -382,7 +382,7 @@ module _ (policy_id : Option (List ℕ)) (moment : DateTime) (old mid new : Conn
 -- ---- without the token
 
 -- whatever the token is
-behind-any : (url policy_id : Option (List ℕ)) (moment : DateTime) (s : Site) (new : Connection) (sent taken : List ℕ) (P : NodeId → Type 0) (result : Result (Unit {0}) ClientFault)
+behind-any : (url policy_id : Option (List ℕ)) (moment : DateTime) (s : ClientPlace) (new : Connection) (sent taken : List ℕ) (P : NodeId → Type 0) (result : Result (Unit {0}) ClientFault)
     → ActivatesBehind url policy_id moment s new sent taken P result → ActivatesBehind url policy_id moment s new sent taken (λ given. Unit {0}) result
 behind-any url policy_id moment s new sent taken P result a = record {
   token = a.token;
@@ -404,7 +404,7 @@ behind-any url policy_id moment s new sent taken P result a = record {
   further = (tt, a.further.1);
 }
 
-failed-there : (url policy_id : Option (List ℕ)) (moment : DateTime) (s : Site) (new : Connection) (sent taken : List ℕ) (token : Option NodeId) (f : ClientFault)
+failed-there : (url policy_id : Option (List ℕ)) (moment : DateTime) (s : ClientPlace) (new : Connection) (sent taken : List ℕ) (token : Option NodeId) (f : ClientFault)
     → FailsAt url policy_id moment s new sent taken token f → BeginsAt url policy_id moment s new sent taken (Err f)
 failed-there url policy_id moment s new sent taken None f h = inl h
 failed-there url policy_id moment s new sent taken (Some token) f a = inr (behind-any url policy_id moment s new sent taken (λ given. given ≡ token) (Err f) a)

@@ -37,7 +37,7 @@ use Rattle.ua_client.specs.Opening.{is_opened}
 use Rattle.ua_client.specs.Renewing.{IsSettled}
 use Rattle.ua_client.specs.Replies.{AreReplies}
 use Rattle.ua_client.specs.Sent.{bodies_of, calls_at}
-use Rattle.ua_client.specs.Site.{Site, At, id_at, lane_behind}
+use Rattle.ua_client.specs.ClientPlace.{ClientPlace, StandsAt, id_at, lane_behind}
 use Rattle.ua_client.specs.Told.{is_told_of, told_of}
 use Rattle.ua_client.specs.declared.reply.Reply.{Reply}
 use Rattle.ua_client.proofs.Hearsay.{TellsDelivered, told-under}
@@ -94,21 +94,21 @@ renewals-behind ((p, Renewal j) ∷ asks) more none = let e = renewals-behind as
 
 -- ---- it may be called again
 
-settled-from : (s t : Site) (more : List ClientTold) → IsSettled s → t.told ≡ s.told ++ more → length (renewals (asked_in t.asks)) ≡ length (renewals (asked_in s.asks)) → AreTold t.told (calls (asked_in t.asks)) → IsSettled t
+settled-from : (s t : ClientPlace) (more : List ClientTold) → IsSettled s → t.told ≡ s.told ++ more → length (renewals (asked_in t.asks)) ≡ length (renewals (asked_in s.asks)) → AreTold t.told (calls (asked_in t.asks)) → IsSettled t
 settled-from s t more h told renewed answered =
     let all : tokens-told t.told ≡ tokens-told s.told + tokens-told more = ap tokens-told told ∙ tokens-append s.told more in
     let few : length (renewals (asked_in s.asks)) ≤ tokens-told s.told = h.renewed in
     record { opened = ap (list_any is_opened) told ∙ any-left is_opened s.told more h.opened; answered = answered; renewed = omega (arith, few, renewed, all) }
 
-still-told : (s t : Site) (more : List ClientTold) → IsSettled s → t.told ≡ s.told ++ more → AreTold t.told (calls (asked_in s.asks))
+still-told : (s t : ClientPlace) (more : List ClientTold) → IsSettled s → t.told ≡ s.told ++ more → AreTold t.told (calls (asked_in s.asks))
 still-told s t more h told = subst (λ (ts : List ClientTold). AreTold ts (calls (asked_in s.asks))) (sym told) (told-longer s.told more (calls (asked_in s.asks)) h.answered)
 
-pub later-settled : (s t : Site) (more : List ClientTold) → IsSettled s → t.asks ≡ s.asks → t.told ≡ s.told ++ more → IsSettled t
+pub later-settled : (s t : ClientPlace) (more : List ClientTold) → IsSettled s → t.asks ≡ s.asks → t.told ≡ s.told ++ more → IsSettled t
 later-settled s t more h asks told =
     settled-from s t more h told (ap (λ (asks : List Placed). length (renewals (asked_in asks))) asks)
     (subst (λ (asks : List Placed). AreTold t.told (calls (asked_in asks))) (sym asks) (still-told s t more h told))
 
-pub answered-settled : (requests : List Request) (s t : Site) (taken : List ℕ) (replies : List Reply) → IsSettled s → Answered requests s t taken replies → IsSettled t
+pub answered-settled : (requests : List Request) (s t : ClientPlace) (taken : List ℕ) (replies : List Reply) → IsSettled s → Answered requests s t taken replies → IsSettled t
 answered-settled requests s t taken replies h a =
     let asked : List Placed = calls_at (length s.octets) (id_at s) (bodies_of requests) in
     settled-from s t a.heard h a.told
@@ -152,12 +152,12 @@ none-left told cs (id ∷ ids) finished h =
 
 -- the law of which calls are pending
 abbrev pub NonePending : Type 0
-NonePending = (x : ClientChannel) (s : Site) → At x s → IsSettled s → pending_calls s.before.messages (asked_in s.asks) ≡ []
+NonePending = (x : ClientChannel) (s : ClientPlace) → StandsAt x s → IsSettled s → pending_calls s.before.messages (asked_in s.asks) ≡ []
 
-pub phase-there : (x : ClientChannel) (s : Site) → At x s → InPhase (client_limits x) (phase_of x) s.before (asked_in s.asks)
+pub phase-there : (x : ClientChannel) (s : ClientPlace) → StandsAt x s → InPhase (client_limits x) (phase_of x) s.before (asked_in s.asks)
 phase-there x s at = subst (λ (b : Received). InPhase (client_limits x) (phase_of x) b (asked_in s.asks)) at.before_is at.goes.stands.phase_is
 
-module _ (x : ClientChannel) (s : Site) (at : At x s) (settled : IsSettled s) where
+module _ (x : ClientChannel) (s : ClientPlace) (at : StandsAt x s) (settled : IsSettled s) where
   pub is-open : IsNotOpen (phase_of x) → ⊥
   is-open n =
       told-opened (client_limits x) s.asks at.goes.frames (ap (list_any is_opened) at.goes.told_is ∙ settled.opened)
@@ -188,5 +188,5 @@ lane-in limits (phase.Open t) before asked h some = (call_lane t.agreed.ack t.ch
 lane-in limits phase.Done before asked h some = absurd (some tt)
 
 -- there is a lane
-pub settled-lane : (x : ClientChannel) (s : Site) → At x s → IsSettled s → (lane : Lane) × (lane_behind s.before ≡ Some lane)
+pub settled-lane : (x : ClientChannel) (s : ClientPlace) → StandsAt x s → IsSettled s → (lane : Lane) × (lane_behind s.before ≡ Some lane)
 settled-lane x s at settled = lane-in (client_limits x) (phase_of x) s.before (asked_in s.asks) (phase-there x s at) (is-open x s at settled)

@@ -15,7 +15,7 @@ use Rattle.ua_client.specs.Kept.{CallsInto}
 use Rattle.ua_client.specs.Opening.{IsOpened, Opens}
 use Rattle.ua_client.specs.Renewing.{IsRefusal, IsSettled, Renews, RenewsAt, StandsSettled}
 use Rattle.ua_client.specs.Session.{FailsAt, ServesAt, TriesSession, activating_at, brings_any, brings_token, creating_at}
-use Rattle.ua_client.specs.Site.{Site, At}
+use Rattle.ua_client.specs.ClientPlace.{ClientPlace, StandsAt}
 use Rattle.ua_client.specs.declared.connection.Connection.{Connection}
 use Rattle.ua_client.specs.declared.fault.CallsFault.{CallsFault}
 use Rattle.ua_client.specs.declared.fault.ClientFault.{ClientFault}
@@ -25,11 +25,11 @@ use Rattle.ua_client.specs.declared.reply.Reply.{Reply}
 
 -- a settled place at which a channel stands
 abbrev Settled : ClientChannel → Type 0
-Settled x = (s : Site) × At x s × IsSettled s
+Settled x = (s : ClientPlace) × StandsAt x s × IsSettled s
 
 -- ---- opening
 
-pub stands-opened : ((x : ClientChannel) (octets : List ℕ) → IsOpened x octets → (s : Site) × (s.octets ≡ octets) × (s.asks ≡ []) × At x s × IsSettled s)
+pub stands-opened : ((x : ClientChannel) (octets : List ℕ) → IsOpened x octets → (s : ClientPlace) × (s.octets ≡ octets) × (s.asks ≡ []) × StandsAt x s × IsSettled s)
     → (moment : DateTime) (old new : Connection) (before after : Option Traffic) (done : Unit {0}) → ClientGoes (channel_of old) [] [] [] → Opens moment old new before after (Ok done) → StandsSettled (channel_of new)
 stands-opened law moment old new before after done goes o =
     let there = law (channel_of new) o.moves.taken (o.answers goes).1 in
@@ -38,7 +38,7 @@ stands-opened law moment old new before after done goes o =
 -- ---- calls
 
 -- a group that was not asked left the channel where it stood
-group-standing : (requests : List Request) (s : Site) (new : Connection) (sent taken : List ℕ) (f : ClientFault) → ends f ≡ false → BreaksAt requests s new sent taken f → At (channel_of new) s
+group-standing : (requests : List Request) (s : ClientPlace) (new : Connection) (sent taken : List ℕ) (f : ClientFault) → ends f ≡ false → BreaksAt requests s new sent taken f → StandsAt (channel_of new) s
 group-standing requests s new sent taken (fault.Service code) e h = absurd h
 group-standing requests s new sent taken fault.TooLarge e h = h.2
 group-standing requests s new sent taken fault.NotWritable e h = h.2
@@ -66,7 +66,7 @@ module _ (requests : List Request) (old new : Connection) (before after : Option
 -- ---- a session
 
 -- behind a service whose fault does not end the client
-service-standing : {A : Type 0} (request : Request) (brings : A → Reply → Type 0) (s : Site) (new : Connection) (sent taken : List ℕ) (f : ClientFault) → ends f ≡ false → IsSettled s
+service-standing : {A : Type 0} (request : Request) (brings : A → Reply → Type 0) (s : ClientPlace) (new : Connection) (sent taken : List ℕ) (f : ClientFault) → ends f ≡ false → IsSettled s
     → ServesAt {A = A} request brings s new sent taken (Err f) → Settled (channel_of new)
 service-standing request brings s new sent taken (fault.Service code) e settled h = (h.behind, h.at, h.settled settled)
 service-standing request brings s new sent taken fault.TooLarge e settled h = (s, h.2, settled)
@@ -93,7 +93,7 @@ module _ (policy_id : Option (List ℕ)) (moment : DateTime) (old new : Connecti
   pub stands-unbegun : (failed : SessionFault) → ends failed.fault ≡ false → TriesSession policy_id moment old new before after (Err failed) → StandsSettled (channel_of new)
   stands-unbegun failed e c = ∥∥₁_map stands (λ (w : Settled (channel_of old)). by w.0 w.2 failed.token (c.answers w.0 w.1))
     where
-      by : (s : Site) → IsSettled s → (token : Option NodeId) → FailsAt (url_of (channel_of old)) policy_id moment s new c.sent c.moves.taken token failed.fault → Settled (channel_of new)
+      by : (s : ClientPlace) → IsSettled s → (token : Option NodeId) → FailsAt (url_of (channel_of old)) policy_id moment s new c.sent c.moves.taken token failed.fault → Settled (channel_of new)
       by s settled None h = service-standing (creating_at (url_of (channel_of old)) moment s) brings_token s new c.sent c.moves.taken failed.fault e settled h
       by s settled (Some token) a = service-standing (activating_at policy_id a.token moment a.between) brings_any a.between new a.sent_then a.taken_then failed.fault e (a.settled settled) a.further.1
 

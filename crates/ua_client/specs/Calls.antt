@@ -11,9 +11,9 @@ use Rattle.ua_channel.specs.ClientTold.{ClientTold, Why, ours, peers}
 use Rattle.ua_channel.specs.Line.{Traffic}
 use Rattle.ua_channel.specs.declared.client.channel.ClientChannel.{ClientChannel}
 use Rattle.ua_services.specs.declared.request.Request.{Request}
-use Rattle.ua_client.specs.Hearing.{channel_of, most_reads, Keeps, Moves, Starved, StopsAt}
+use Rattle.ua_client.specs.Hearing.{channel_of, most_reads, Keeps, MovesConnection, Starved, StopsAt}
 use Rattle.ua_client.specs.Renewing.{IsSettled}
-use Rattle.ua_client.specs.Site.{Site, At, id_at, lane_behind}
+use Rattle.ua_client.specs.ClientPlace.{ClientPlace, StandsAt, id_at, lane_behind}
 use Rattle.ua_client.specs.Told.{told_of}
 use Rattle.ua_client.specs.Replies.{AreAwaited, AreReplies, AreSlots, IsFront, IsUntoldBefore, LacksAnswer, IsMisanswered, front_of}
 use Rattle.ua_client.specs.Sent.{calls_octets, numbers_behind, calls_at, bodies_of, group_reasons}
@@ -25,26 +25,26 @@ use Rattle.ua_client.specs.declared.reply.Reply.{Reply}
 -- ---- what is asked
 
 -- what is asked once these requests are asked there
-abbrev pub asked_at : Site → List Request → List Placed
+abbrev pub asked_at : ClientPlace → List Request → List Placed
 asked_at s requests = s.asks ++ calls_at (length s.octets) (id_at s) (bodies_of requests)
 
 -- the chunks of the bodies of requests that are asked there
-abbrev pub sent_at : Site → List Request → List ℕ
+abbrev pub sent_at : ClientPlace → List Request → List ℕ
 sent_at s requests = calls_octets (lane_behind s.before) s.number (id_at s) (bodies_of requests)
 
 -- why a group of requests is not asked there, if it is not: the first reason against the first of them that has one
-abbrev pub refusal_at : Site → List Request → Option ClientFault
+abbrev pub refusal_at : ClientPlace → List Request → Option ClientFault
 refusal_at s requests = first_reason (group_reasons s.before.ack (id_at s) requests)
 
 -- a group of requests was asked there, as nothing was against it, and its chunks were sent
-abbrev pub IsSentAt : List Request → Site → List ℕ → Type 0
+abbrev pub IsSentAt : List Request → ClientPlace → List ℕ → Type 0
 IsSentAt requests s sent = (refusal_at s requests ≡ None) × (sent ≡ sent_at s requests)
 
 -- ---- waiting for replies
 
 -- behind these octets a client that asked so goes on, and more was told
-abbrev pub GoesOn : ClientChannel → List Placed → List ℕ → List ClientTold → (List ClientTold → Type 0) → Type 0
-GoesOn x asks octets told P = (heard : List ClientTold) × ClientGoes x asks octets (told ++ heard) × P (told ++ heard)
+abbrev pub ClientGoesOn : ClientChannel → List Placed → List ℕ → List ClientTold → (List ClientTold → Type 0) → Type 0
+ClientGoesOn x asks octets told P = (heard : List ClientTold) × ClientGoes x asks octets (told ++ heard) × P (told ++ heard)
 
 -- behind these octets the connection of a client that asked so ended, for this reason, and more was told before
 abbrev pub EndsOn : ClientChannel → List Placed → List ℕ → List ClientTold → Why → (List ClientTold → Type 0) → Type 0
@@ -69,14 +69,14 @@ pub record LastCame (x : ClientChannel) (requests : List Request) (id : ℕ) (as
 -- what became of the replies to calls of these requests, whose request ids are counted from the first: all came, or a front of them
 abbrev pub CollectsAt : {A : Type 0} → List (Option Reply) → List Request → ℕ → Connection → Option Traffic → Result A ClientFault → List Placed → List ℕ → List ClientTold → Type 0
 CollectsAt slots requests first new after (Ok found) asks octets told =
-    GoesOn (channel_of new) asks octets told (λ all. AreSlots requests first all slots × (list_any is_none slots ≡ false) × LastCame (channel_of new) requests first asks octets all)
+    ClientGoesOn (channel_of new) asks octets told (λ all. AreSlots requests first all slots × (list_any is_none slots ≡ false) × LastCame (channel_of new) requests first asks octets all)
 CollectsAt slots requests first new after (Err (fault.Peer code)) asks octets told = EndsOn (channel_of new) asks octets told (peers code.code) (λ all. AreSlots requests first all slots × (list_any is_none slots ≡ true))
 CollectsAt slots requests first new after (Err (fault.Refused code)) asks octets told = EndsOn (channel_of new) asks octets told (ours code.code) (λ all. AreSlots requests first all slots × (list_any is_none slots ≡ true))
-CollectsAt slots requests first new after (Err fault.Ended) asks octets told = GoesOn (channel_of new) asks octets told (λ all. AreSlots requests first all slots × (list_any is_none slots ≡ true))
-CollectsAt slots requests first new after (Err fault.Read) asks octets told = GoesOn (channel_of new) asks octets told (λ all. AreSlots requests first all slots × (list_any is_none slots ≡ true))
-CollectsAt slots requests first new after (Err fault.TooLong) asks octets told = GoesOn (channel_of new) asks octets told (λ all. AreSlots requests first all slots × (list_any is_none slots ≡ true))
+CollectsAt slots requests first new after (Err fault.Ended) asks octets told = ClientGoesOn (channel_of new) asks octets told (λ all. AreSlots requests first all slots × (list_any is_none slots ≡ true))
+CollectsAt slots requests first new after (Err fault.Read) asks octets told = ClientGoesOn (channel_of new) asks octets told (λ all. AreSlots requests first all slots × (list_any is_none slots ≡ true))
+CollectsAt slots requests first new after (Err fault.TooLong) asks octets told = ClientGoesOn (channel_of new) asks octets told (λ all. AreSlots requests first all slots × (list_any is_none slots ≡ true))
 CollectsAt slots requests first new after (Err fault.UnknownResponse) asks octets told =
-    GoesOn (channel_of new) asks octets told (λ all. IsMisanswered requests first all × IsFront LacksAnswer (front_of slots) requests first all)
+    ClientGoesOn (channel_of new) asks octets told (λ all. IsMisanswered requests first all × IsFront LacksAnswer (front_of slots) requests first all)
 CollectsAt slots requests first new after (Err fault.OutOfMemory) asks octets told = (heard : List ClientTold) × LacksMemory (channel_of new) asks octets (told ++ heard) × IsFront IsUntoldBefore (front_of slots) requests first (told ++ heard)
 CollectsAt slots requests first new after (Err other) asks octets told = ⊥
 
@@ -91,7 +91,7 @@ AreUntold (request ∷ requests) id told = (told_of id told ≡ []) × AreUntold
 
 -- the octets up to the last reply that was waited for, or up to a fault
 pub record Collects {A : Type 0} (slots : List (Option Reply)) (requests : List Request) (first : ℕ) (old new : Connection) (before after : Option Traffic) (reads left : ℕ) (result : Result A ClientFault) : Type 0 where
-  pub moves : Moves old new [] before after
+  pub moves : MovesConnection old new [] before after
   pub keeps : Keeps old new
   pub answers : (asks : List Placed) (octets : List ℕ) (told : List ClientTold) → ClientGoes (channel_of old) asks octets told → AreUntold requests first told
       → CollectsAt slots requests first new after result asks (octets ++ moves.taken) told
@@ -101,7 +101,7 @@ pub record Collects {A : Type 0} (slots : List (Option Reply)) (requests : List 
 
 -- a group of calls is answered, against which there was nothing: behind these octets a client that stood here stands there, and these are
 -- the replies
-pub record Answered (requests : List Request) (s t : Site) (taken : List ℕ) (replies : List Reply) : Type 0 where
+pub record Answered (requests : List Request) (s t : ClientPlace) (taken : List ℕ) (replies : List Reply) : Type 0 where
   pub judged : refusal_at s requests ≡ None
   pub asks : t.asks ≡ asked_at s requests
   pub octets : t.octets ≡ s.octets ++ taken
@@ -113,35 +113,35 @@ pub record Answered (requests : List Request) (s t : Site) (taken : List ℕ) (r
   pub replies_are : AreReplies requests (id_at s) t.told replies
 
 -- a group of calls is not asked here, or is not answered
-abbrev pub BreaksAt : List Request → Site → Connection → List ℕ → List ℕ → ClientFault → Type 0
+abbrev pub BreaksAt : List Request → ClientPlace → Connection → List ℕ → List ℕ → ClientFault → Type 0
 BreaksAt requests s new sent taken (fault.Peer code) = IsSentAt requests s sent × EndsOn (channel_of new) (asked_at s requests) (s.octets ++ taken) s.told (peers code.code) (AreAwaited requests (id_at s))
 BreaksAt requests s new sent taken (fault.Refused code) = IsSentAt requests s sent × EndsOn (channel_of new) (asked_at s requests) (s.octets ++ taken) s.told (ours code.code) (AreAwaited requests (id_at s))
-BreaksAt requests s new sent taken fault.Ended = IsSentAt requests s sent × GoesOn (channel_of new) (asked_at s requests) (s.octets ++ taken) s.told (AreAwaited requests (id_at s))
-BreaksAt requests s new sent taken fault.Read = IsSentAt requests s sent × GoesOn (channel_of new) (asked_at s requests) (s.octets ++ taken) s.told (AreAwaited requests (id_at s))
-BreaksAt requests s new sent taken fault.TooLong = IsSentAt requests s sent × GoesOn (channel_of new) (asked_at s requests) (s.octets ++ taken) s.told (AreAwaited requests (id_at s))
-BreaksAt requests s new sent taken fault.UnknownResponse = IsSentAt requests s sent × GoesOn (channel_of new) (asked_at s requests) (s.octets ++ taken) s.told (IsMisanswered requests (id_at s))
+BreaksAt requests s new sent taken fault.Ended = IsSentAt requests s sent × ClientGoesOn (channel_of new) (asked_at s requests) (s.octets ++ taken) s.told (AreAwaited requests (id_at s))
+BreaksAt requests s new sent taken fault.Read = IsSentAt requests s sent × ClientGoesOn (channel_of new) (asked_at s requests) (s.octets ++ taken) s.told (AreAwaited requests (id_at s))
+BreaksAt requests s new sent taken fault.TooLong = IsSentAt requests s sent × ClientGoesOn (channel_of new) (asked_at s requests) (s.octets ++ taken) s.told (AreAwaited requests (id_at s))
+BreaksAt requests s new sent taken fault.UnknownResponse = IsSentAt requests s sent × ClientGoesOn (channel_of new) (asked_at s requests) (s.octets ++ taken) s.told (IsMisanswered requests (id_at s))
 BreaksAt requests s new sent taken fault.Write = (refusal_at s requests ≡ None) × Extends sent (sent_at s requests) × (taken ≡ []) × (length sent < length (sent_at s requests))
 BreaksAt requests s new sent taken fault.OutOfMemory =
     ((sent ≡ []) × (taken ≡ []))
     ⊎ (IsSentAt requests s sent × ((heard : List ClientTold) × LacksMemory (channel_of new) (asked_at s requests) (s.octets ++ taken) (s.told ++ heard)))
-BreaksAt requests s new sent taken fault.TooLarge = (sent ≡ []) × (taken ≡ []) × At (channel_of new) s × (refusal_at s requests ≡ Some fault.TooLarge)
-BreaksAt requests s new sent taken fault.NotWritable = (sent ≡ []) × (taken ≡ []) × At (channel_of new) s × (refusal_at s requests ≡ Some fault.NotWritable)
-BreaksAt requests s new sent taken fault.Exhausted = (sent ≡ []) × (taken ≡ []) × At (channel_of new) s × (refusal_at s requests ≡ Some fault.Exhausted)
+BreaksAt requests s new sent taken fault.TooLarge = (sent ≡ []) × (taken ≡ []) × StandsAt (channel_of new) s × (refusal_at s requests ≡ Some fault.TooLarge)
+BreaksAt requests s new sent taken fault.NotWritable = (sent ≡ []) × (taken ≡ []) × StandsAt (channel_of new) s × (refusal_at s requests ≡ Some fault.NotWritable)
+BreaksAt requests s new sent taken fault.Exhausted = (sent ≡ []) × (taken ≡ []) × StandsAt (channel_of new) s × (refusal_at s requests ≡ Some fault.Exhausted)
 BreaksAt requests s new sent taken other = ⊥
 
 -- ---- groups of calls, one behind another
 
 -- behind a group of calls that was asked here a channel of this client stands there, where the last reply came
-pub record StandsBehind (client x : ClientChannel) (requests : List Request) (s t : Site) : Type 0 where
+pub record StandsBehind (client x : ClientChannel) (requests : List Request) (s t : ClientPlace) : Type 0 where
   pub same : SameClient x client
-  pub at : At x t
+  pub at : StandsAt x t
   pub came : LastCame x requests (id_at s) t.asks t.octets t.told
 
 -- groups of calls of a client are answered, each asked where those before it left the client, so that a channel of it stands behind each: what
 -- was sent and taken, and the replies
-pub data Rounds (client : ClientChannel) (s : Site) : List (List Request) → Site → List ℕ → List ℕ → List Reply → Type 0 where
+pub data Rounds (client : ClientChannel) (s : ClientPlace) : List (List Request) → ClientPlace → List ℕ → List ℕ → List Reply → Type 0 where
   NoRound : Rounds client s [] s [] [] []
-  OneRound : {groups : List (List Request)} {m t : Site} {sent taken part : List ℕ} {replies added : List Reply} (group : List Request) (x : ClientChannel)
+  OneRound : {groups : List (List Request)} {m t : ClientPlace} {sent taken part : List ℕ} {replies added : List Reply} (group : List Request) (x : ClientChannel)
       → Rounds client s groups m sent taken replies → StandsBehind client x group m t → Answered group m t part added
       → Rounds client s (groups ++ group ∷ []) t (sent ++ sent_at m group) (taken ++ part) (replies ++ added)
 
@@ -158,18 +158,18 @@ AreGroups [] = Unit {0}
 AreGroups (group ∷ groups) = (0 < length group) × (length group ≤ 64) × (0 < length groups → length group ≡ 64) × AreGroups groups
 
 -- requests are answered in groups
-pub record AnsweredAll (requests : List Request) (s : Site) (x : ClientChannel) (sent taken : List ℕ) (replies : List Reply) : Type 0 where
+pub record AnsweredAll (requests : List Request) (s : ClientPlace) (x : ClientChannel) (sent taken : List ℕ) (replies : List Reply) : Type 0 where
   pub groups : List (List Request)
   pub parts : requests ≡ all_of groups
   pub sized : AreGroups groups
-  pub behind : Site
-  pub at : At x behind
+  pub behind : ClientPlace
+  pub at : StandsAt x behind
   -- a settled place stays so
   pub settled : IsSettled s → IsSettled behind
   pub rounds : Rounds x s groups behind sent taken replies
 
 -- behind groups that are answered, the next one is not
-pub record BrokenAll (requests : List Request) (s : Site) (new : Connection) (sent taken : List ℕ) (f : ClientFault) : Type 0 where
+pub record BrokenAll (requests : List Request) (s : ClientPlace) (new : Connection) (sent taken : List ℕ) (f : ClientFault) : Type 0 where
   pub groups : List (List Request)
   pub group : List Request
   pub others : List Request
@@ -177,7 +177,7 @@ pub record BrokenAll (requests : List Request) (s : Site) (new : Connection) (se
   pub sized : AreGroups (groups ++ group ∷ [])
   -- where more requests stand behind it, it has just 64
   pub full : 0 < length others → length group ≡ 64
-  pub behind : Site
+  pub behind : ClientPlace
   pub settled : IsSettled s → IsSettled behind
   pub sent_before : List ℕ
   pub sent_then : List ℕ
@@ -190,14 +190,14 @@ pub record BrokenAll (requests : List Request) (s : Site) (new : Connection) (se
   pub breaks : BreaksAt group behind new sent_then taken_then f
 
 -- what becomes of requests that are called there
-abbrev pub AllAt : {A : Type 0} → (A → List Reply) → List Request → Site → Connection → List ℕ → List ℕ → Result A ClientFault → Type 0
+abbrev pub AllAt : {A : Type 0} → (A → List Reply) → List Request → ClientPlace → Connection → List ℕ → List ℕ → Result A ClientFault → Type 0
 AllAt view requests s new sent taken (Ok found) = AnsweredAll requests s (channel_of new) sent taken (view found)
 AllAt view requests s new sent taken (Err f) = BrokenAll requests s new sent taken f
 
 -- requests that are called in groups
 pub record CallsAll {A : Type 0} (view : A → List Reply) (requests : List Request) (old new : Connection) (before after : Option Traffic) (result : Result A ClientFault) : Type 0 where
   pub sent : List ℕ
-  pub moves : Moves old new sent before after
+  pub moves : MovesConnection old new sent before after
   pub same : SameClient (channel_of old) (channel_of new)
-  pub answers : (s : Site) → At (channel_of old) s → AllAt view requests s new sent moves.taken result
+  pub answers : (s : ClientPlace) → StandsAt (channel_of old) s → AllAt view requests s new sent moves.taken result
   pub stops : StopsAt most_reads most_reads moves.got new after result

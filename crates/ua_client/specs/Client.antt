@@ -6,9 +6,9 @@ use Rattle.ua_frame.specs.declared.limits.Limits.{Limits}
 use Rattle.ua_chunk.specs.declared.lane.Lane.{Lane}
 use Rattle.ua_channel.specs.Client.{ClientGoes, client_limits, url_of, client_next}
 use Rattle.ua_channel.specs.ClientSends.{close_frame}
-use Rattle.ua_channel.specs.Line.{Traffic, WhereTold}
+use Rattle.ua_channel.specs.Line.{Traffic, IfTrafficKnown}
 use Rattle.ua_channel.specs.declared.client.channel.ClientChannel.{ClientChannel}
-use Rattle.ua_client.specs.Site.{Site, At, id_at, lane_behind}
+use Rattle.ua_client.specs.ClientPlace.{ClientPlace, StandsAt, id_at, lane_behind}
 use Rattle.ua_client.specs.Carried.{Carries, IsPart}
 use Rattle.ua_client.specs.Hearing.{channel_of, untaken_of}
 use Rattle.ua_client.specs.Opening.{Opens}
@@ -84,11 +84,11 @@ closing_by None number id moment = []
 closing_by (Some lane) number id moment = frame_octets (close_frame lane.channel lane.token number id moment)
 
 -- the CLO of a client that stands there
-abbrev pub closing_at : Site → DateTime → List ℕ
+abbrev pub closing_at : ClientPlace → DateTime → List ℕ
 closing_at s moment = closing_by (lane_behind s.before) s.number (id_at s) moment
 
 -- what a close writes: the CLO, or behind a fault a part of it, or none of it
-abbrev pub ClosesAt : {A : Type 0} → Site → DateTime → List ℕ → Result A ClientFault → Type 0
+abbrev pub ClosesAt : {A : Type 0} → ClientPlace → DateTime → List ℕ → Result A ClientFault → Type 0
 ClosesAt s moment sent (Ok done) = sent ≡ closing_at s moment
 ClosesAt s moment sent (Err fault.Write) = IsPart sent (closing_at s moment)
 ClosesAt s moment sent (Err fault.OutOfMemory) = sent ≡ []
@@ -97,5 +97,5 @@ ClosesAt s moment sent (Err other) = ⊥
 -- a close: nothing is read
 pub record Closes {A : Type 0} (moment : DateTime) (old : ClientChannel) (before after : Option Traffic) (result : Result A ClientFault) : Type 0 where
   pub sent : List ℕ
-  pub carried : WhereTold (Carries [] sent) before after
-  pub answers : (s : Site) → At old s → ClosesAt s moment sent result
+  pub carried : IfTrafficKnown (Carries [] sent) before after
+  pub answers : (s : ClientPlace) → StandsAt old s → ClosesAt s moment sent result

@@ -9,7 +9,7 @@ use Rattle.ua_channel.specs.Client.{ClientGoes, ClientGoesTelling, ClientEnded, 
 use Rattle.ua_channel.specs.ClientSends.{first_open}
 use Rattle.ua_channel.specs.ClientTold.{ClientTold, ours, peers}
 use Rattle.ua_channel.specs.ClientTold.ClientTold.{Agreed, Opened, Answered, GaveUp, Renewed}
-use Rattle.ua_channel.specs.Line.{Traffic, WhereTold, one_more}
+use Rattle.ua_channel.specs.Line.{Traffic, IfTrafficKnown, one_more}
 use Rattle.ua_channel.specs.declared.client.channel.ClientChannel.{ClientChannel}
 use Rattle.ua_channel.specs.declared.client.event.ClientEvent.{ClientEvent}
 use Rattle.ua_channel.specs.declared.client.event.ClientEvent.TheVariants as event
@@ -79,13 +79,13 @@ IsWithinPiece x = length (untaken_of x) ≤ most_octets
 
 -- between two moments these octets were taken, of those that were untaken and those that were read; what was untaken was taken before
 -- anything was read
-pub record Moves (old new : Connection) (sent : List ℕ) (before after : Option Traffic) : Type 0 where
+pub record MovesConnection (old new : Connection) (sent : List ℕ) (before after : Option Traffic) : Type 0 where
   pub got : List ℕ
   pub taken : List ℕ
   pub parts : untaken_of old ++ got ≡ taken ++ untaken_of new
   pub first : (got ≡ []) ⊎ Extends (untaken_of old) taken
   pub few : IsWithinPiece old → IsWithinPiece new
-  pub carried : WhereTold (Carries got sent) before after
+  pub carried : IfTrafficKnown (Carries got sent) before after
 
 -- ---- what is told
 
@@ -185,7 +185,7 @@ pub record Fills {A : Type 0} (old new : Connection) (before after : Option Traf
   pub channel : channel_of new ≡ channel_of old
   pub next : (got ≡ []) ⊎ (untaken_of old ≡ [])
   pub few : IsWithinPiece old → IsWithinPiece new
-  pub carried : WhereTold (Carries got []) before after
+  pub carried : IfTrafficKnown (Carries got []) before after
   pub no_more : effort left new ≤ effort reads old
   pub found : FillsAt reads left got new after result
 
@@ -218,7 +218,7 @@ StopsAt reads left got new after (Err other) = Unit {0}
 
 -- the octets up to an event, or up to a fault
 pub record Hears (old new : Connection) (moment : DateTime) (before after : Option Traffic) (reads left : ℕ) (result : Result ClientEvent ClientFault) : Type 0 where
-  pub moves : Moves old new [] before after
+  pub moves : MovesConnection old new [] before after
   pub keeps : Keeps old new
   pub answers : (asks : List Placed) (octets : List ℕ) (told : List ClientTold) → ClientGoes (channel_of old) asks octets told
       → HearsAt moment result (channel_of new) asks (octets ++ moves.taken) told

@@ -4,11 +4,11 @@ use Rattle.ua_channel.specs.Client.{SameClient}
 use Rattle.ua_channel.specs.ClientTold.{ClientTold, ours, peers}
 use Rattle.ua_channel.specs.Line.{Traffic}
 use Rattle.ua_services.specs.declared.request.Request.{Request}
-use Rattle.ua_client.specs.Calls.{Answered, AnsweredAll, BreaksAt, BrokenAll, EndsOn, GoesOn, LacksMemory, LastCame, all_of, asked_at, refusal_at, sent_at}
-use Rattle.ua_client.specs.Hearing.{channel_of, fault_alone, most_reads, Moves, StopsAt}
+use Rattle.ua_client.specs.Calls.{Answered, AnsweredAll, BreaksAt, BrokenAll, EndsOn, ClientGoesOn, LacksMemory, LastCame, all_of, asked_at, refusal_at, sent_at}
+use Rattle.ua_client.specs.Hearing.{channel_of, fault_alone, most_reads, MovesConnection, StopsAt}
 use Rattle.ua_client.specs.Renewing.{IsIdle}
 use Rattle.ua_client.specs.Replies.{IsFront, IsUntold, IsUntoldBefore, LacksAnswer}
-use Rattle.ua_client.specs.Site.{Site, At, id_at}
+use Rattle.ua_client.specs.ClientPlace.{ClientPlace, StandsAt, id_at}
 use Rattle.ua_client.specs.declared.connection.Connection.{Connection}
 use Rattle.ua_client.specs.declared.fault.CallsFault.{CallsFault}
 use Rattle.ua_client.specs.declared.fault.ClientFault.{ClientFault}
@@ -27,20 +27,20 @@ named n (Ok found) = Ok found
 named n (Err f) = Err (record { request = n; fault = f })
 
 -- a group is refused there for its request at this place: there is no reason against those before it, and this is the first against it
-abbrev pub IsRefusedFor : List Request → Site → ClientFault → ℕ → Type 0
+abbrev pub IsRefusedFor : List Request → ClientPlace → ClientFault → ℕ → Type 0
 IsRefusedFor requests s f n = (refusal_at s (take n requests) ≡ None) × (refusal_at s (take (n + 1) requests) ≡ Some f)
 
 -- ---- a group of calls
 
 -- which replies are kept of a group that is not answered, and which of its requests is named: those that came up to the first that is
 -- missing, which is named; none of a group that is not asked or not written, and named is the request for which it is refused, else the first
-abbrev pub KeepsAt : List Request → Site → Connection → List ℕ → ClientFault → ℕ → List Reply → Type 0
+abbrev pub KeepsAt : List Request → ClientPlace → Connection → List ℕ → ClientFault → ℕ → List Reply → Type 0
 KeepsAt requests s new taken (fault.Peer code) n kept = (n ≡ length kept) × EndsOn (channel_of new) (asked_at s requests) (s.octets ++ taken) s.told (peers code.code) (IsFront IsUntold kept requests (id_at s))
 KeepsAt requests s new taken (fault.Refused code) n kept = (n ≡ length kept) × EndsOn (channel_of new) (asked_at s requests) (s.octets ++ taken) s.told (ours code.code) (IsFront IsUntold kept requests (id_at s))
-KeepsAt requests s new taken fault.Ended n kept = (n ≡ length kept) × GoesOn (channel_of new) (asked_at s requests) (s.octets ++ taken) s.told (IsFront IsUntold kept requests (id_at s))
-KeepsAt requests s new taken fault.Read n kept = (n ≡ length kept) × GoesOn (channel_of new) (asked_at s requests) (s.octets ++ taken) s.told (IsFront IsUntold kept requests (id_at s))
-KeepsAt requests s new taken fault.TooLong n kept = (n ≡ length kept) × GoesOn (channel_of new) (asked_at s requests) (s.octets ++ taken) s.told (IsFront IsUntold kept requests (id_at s))
-KeepsAt requests s new taken fault.UnknownResponse n kept = (n ≡ length kept) × GoesOn (channel_of new) (asked_at s requests) (s.octets ++ taken) s.told (IsFront LacksAnswer kept requests (id_at s))
+KeepsAt requests s new taken fault.Ended n kept = (n ≡ length kept) × ClientGoesOn (channel_of new) (asked_at s requests) (s.octets ++ taken) s.told (IsFront IsUntold kept requests (id_at s))
+KeepsAt requests s new taken fault.Read n kept = (n ≡ length kept) × ClientGoesOn (channel_of new) (asked_at s requests) (s.octets ++ taken) s.told (IsFront IsUntold kept requests (id_at s))
+KeepsAt requests s new taken fault.TooLong n kept = (n ≡ length kept) × ClientGoesOn (channel_of new) (asked_at s requests) (s.octets ++ taken) s.told (IsFront IsUntold kept requests (id_at s))
+KeepsAt requests s new taken fault.UnknownResponse n kept = (n ≡ length kept) × ClientGoesOn (channel_of new) (asked_at s requests) (s.octets ++ taken) s.told (IsFront LacksAnswer kept requests (id_at s))
 KeepsAt requests s new taken fault.OutOfMemory n kept = (n ≡ length kept) ×
     (((taken ≡ []) × (kept ≡ []))
     ⊎ ((heard : List ClientTold) × LacksMemory (channel_of new) (asked_at s requests) (s.octets ++ taken) (s.told ++ heard) × IsFront IsUntoldBefore kept requests (id_at s) (s.told ++ heard)))
@@ -51,24 +51,24 @@ KeepsAt requests s new taken fault.Exhausted n kept = IsRefusedFor requests s fa
 KeepsAt requests s new taken other n kept = ⊥
 
 -- what becomes of a group of calls that is asked here, with the replies that are added
-abbrev pub GroupAt : {A : Type 0} → List Request → Site → Connection → List ℕ → List ℕ → Result A CallsFault → List Reply → Type 0
-GroupAt requests s new sent taken (Ok done) added = (sent ≡ sent_at s requests) × ((t : Site) × At (channel_of new) t × LastCame (channel_of new) requests (id_at s) t.asks t.octets t.told × Answered requests s t taken added)
+abbrev pub GroupAt : {A : Type 0} → List Request → ClientPlace → Connection → List ℕ → List ℕ → Result A CallsFault → List Reply → Type 0
+GroupAt requests s new sent taken (Ok done) added = (sent ≡ sent_at s requests) × ((t : ClientPlace) × StandsAt (channel_of new) t × LastCame (channel_of new) requests (id_at s) t.asks t.octets t.told × Answered requests s t taken added)
 GroupAt requests s new sent taken (Err c) added = BreaksAt requests s new sent taken c.fault × KeepsAt requests s new taken c.fault c.request added
 
 -- a group of calls, whose replies are added to those that were there, of a channel that is idle
 pub record CallsGroup {A : Type 0} (requests : List Request) (old new : Connection) (before after : Option Traffic) (reads left : ℕ) (result : Result A CallsFault) (had have : List Reply) : Type 0 where
   pub sent : List ℕ
-  pub moves : Moves old new sent before after
+  pub moves : MovesConnection old new sent before after
   pub same : SameClient (channel_of old) (channel_of new)
   pub added : List Reply
   pub have_is : have ≡ had ++ added
-  pub answers : (s : Site) → At (channel_of old) s → IsIdle (channel_of old) s → GroupAt requests s new sent moves.taken result added
+  pub answers : (s : ClientPlace) → StandsAt (channel_of old) s → IsIdle (channel_of old) s → GroupAt requests s new sent moves.taken result added
   pub stops : StopsAt reads left moves.got new after (fault_alone result)
 
 -- ---- all calls
 
 -- behind groups that are answered, the next one is not: these replies are added, and the fault names this request
-pub record BrokenInto (requests : List Request) (s : Site) (new : Connection) (sent taken : List ℕ) (c : CallsFault) (added : List Reply) : Type 0 where
+pub record BrokenInto (requests : List Request) (s : ClientPlace) (new : Connection) (sent taken : List ℕ) (c : CallsFault) (added : List Reply) : Type 0 where
   pub broken : BrokenAll requests s new sent taken c.fault
   -- of the group that is not answered these are kept, and this request of it is named
   pub kept : List Reply
@@ -79,16 +79,16 @@ pub record BrokenInto (requests : List Request) (s : Site) (new : Connection) (s
   pub request_is : c.request ≡ length (all_of broken.groups) + place
 
 -- what becomes of requests that are called there, with the replies that are added
-abbrev pub IntoAt : {A : Type 0} → List Request → Site → Connection → List ℕ → List ℕ → Result A CallsFault → List Reply → Type 0
+abbrev pub IntoAt : {A : Type 0} → List Request → ClientPlace → Connection → List ℕ → List ℕ → Result A CallsFault → List Reply → Type 0
 IntoAt requests s new sent taken (Ok done) added = AnsweredAll requests s (channel_of new) sent taken added
 IntoAt requests s new sent taken (Err c) added = BrokenInto requests s new sent taken c added
 
 -- requests that are called in groups, whose replies are added to those that were there
 pub record CallsInto {A : Type 0} (requests : List Request) (old new : Connection) (before after : Option Traffic) (result : Result A CallsFault) (had have : List Reply) : Type 0 where
   pub sent : List ℕ
-  pub moves : Moves old new sent before after
+  pub moves : MovesConnection old new sent before after
   pub same : SameClient (channel_of old) (channel_of new)
   pub added : List Reply
   pub have_is : have ≡ had ++ added
-  pub answers : (s : Site) → At (channel_of old) s → IntoAt requests s new sent moves.taken result added
+  pub answers : (s : ClientPlace) → StandsAt (channel_of old) s → IntoAt requests s new sent moves.taken result added
   pub stops : StopsAt most_reads most_reads moves.got new after (fault_alone result)

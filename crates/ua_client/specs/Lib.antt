@@ -3,7 +3,7 @@
 pub mod Carried
 pub mod Told
 pub mod Hearing
-pub mod Site
+pub mod ClientPlace
 pub mod Opening
 pub mod Client
 pub mod Renewing

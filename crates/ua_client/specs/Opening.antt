@@ -14,7 +14,7 @@ use Rattle.ua_channel.specs.ClientTold.ClientTold.{Agreed, Opened, Answered, Gav
 use Rattle.ua_channel.specs.Line.{Traffic}
 use Rattle.ua_channel.specs.declared.client.channel.ClientChannel.{ClientChannel}
 use Rattle.ua_client.specs.Carried.{IsPart}
-use Rattle.ua_client.specs.Hearing.{channel_of, is_hearing_fault, most_reads, BreaksOff, Keeps, Moves, Starved, StopsAt}
+use Rattle.ua_client.specs.Hearing.{channel_of, is_hearing_fault, most_reads, BreaksOff, Keeps, MovesConnection, Starved, StopsAt}
 use Rattle.ua_client.specs.declared.connection.Connection.{Connection}
 use Rattle.ua_client.specs.declared.fault.ClientFault.{ClientFault}
 use Rattle.ua_client.specs.declared.fault.ClientFault.TheVariants as fault
@@ -76,7 +76,7 @@ WaitsAt wanted P (Err other) new asks octets told = ⊥
 
 -- the octets up to what is waited for, or up to a fault
 pub record Waits {A : Type 0} (wanted : ClientTold → Bool) (P : A → Type 0) (old new : Connection) (before after : Option Traffic) (reads left : ℕ) (result : Result A ClientFault) : Type 0 where
-  pub moves : Moves old new [] before after
+  pub moves : MovesConnection old new [] before after
   pub keeps : Keeps old new
   pub answers : (asks : List Placed) (octets : List ℕ) (told : List ClientTold) → ClientGoes (channel_of old) asks octets told → WaitsAt wanted P result (channel_of new) asks (octets ++ moves.taken) told
   pub faults : IfErr result (λ f. is_hearing_fault f ≡ true)
@@ -137,7 +137,7 @@ OpensAt hello opening new sent taken (Err f) = BreaksOpening hello opening new s
 -- a connection of which nothing was sent and nothing came is opened
 pub record Opens {A : Type 0} (moment : DateTime) (old new : Connection) (before after : Option Traffic) (result : Result A ClientFault) : Type 0 where
   pub sent : List ℕ
-  pub moves : Moves old new sent before after
+  pub moves : MovesConnection old new sent before after
   pub keeps : Keeps old new
   pub answers : ClientGoes (channel_of old) [] [] [] → OpensAt (hello_octets (client_limits (channel_of old)) (url_of (channel_of old))) (open_octets moment) (channel_of new) sent moves.taken result
   pub stops : StopsAt most_reads most_reads moves.got new after result

@@ -19,10 +19,10 @@ use Rattle.ua_channel.specs.declared.client.channel.ClientChannel.{ClientChannel
 use Rattle.ua_channel.specs.declared.client.fault.AskFault.{AskFault}
 use Rattle.ua_channel.specs.declared.client.fault.AskFault.TheVariants as ask_fault
 use Rattle.ua_client.specs.Carried.{IsPart}
-use Rattle.ua_client.specs.Hearing.{channel_of, most_reads, Moves, StopsAt}
+use Rattle.ua_client.specs.Hearing.{channel_of, most_reads, MovesConnection, StopsAt}
 use Rattle.ua_client.specs.Opening.{is_opened, any_done, WaitsAt}
 use Rattle.ua_client.specs.Sent.{by_channel}
-use Rattle.ua_client.specs.Site.{Site, At, id_at, lane_behind}
+use Rattle.ua_client.specs.ClientPlace.{ClientPlace, StandsAt, id_at, lane_behind}
 use Rattle.ua_client.specs.Told.{told_of}
 use Rattle.ua_client.specs.declared.connection.Connection.{Connection}
 use Rattle.ua_client.specs.declared.fault.ClientFault.{ClientFault}
@@ -40,17 +40,17 @@ is_renewed (Renewed token) = true
 
 -- a place is settled: the channel is open there, and all that was asked is answered: something was told of each call, and no fewer further
 -- tokens came than were asked for
-pub record IsSettled (s : Site) : Type 0 where
+pub record IsSettled (s : ClientPlace) : Type 0 where
   pub opened : list_any is_opened s.told ≡ true
   pub answered : AllByRecursion (λ (id : ℕ). 0 < length (told_of id s.told)) (calls (asked_in s.asks))
   pub renewed : length (renewals (asked_in s.asks)) ≤ length (filter is_renewed s.told)
 
 -- a channel stands somewhere, and its place is settled: which place that is no channel keeps
 abbrev pub StandsSettled : ClientChannel → Type 0
-StandsSettled x = ∥ ((s : Site) × At x s × IsSettled s) ∥₁
+StandsSettled x = ∥ ((s : ClientPlace) × StandsAt x s × IsSettled s) ∥₁
 
 -- a channel is open, and nothing that it asked is pending where it stands
-pub record IsIdle (x : ClientChannel) (s : Site) : Type 0 where
+pub record IsIdle (x : ClientChannel) (s : ClientPlace) : Type 0 where
   pub opened : HasNoChannel x → ⊥
   pub calls_answered : pending_calls s.before.messages (asked_in s.asks) ≡ []
   pub renewals_answered : pending_renewals (opened_ids s.before.openings) (asked_in s.asks) ≡ []
@@ -59,11 +59,11 @@ pub record IsIdle (x : ClientChannel) (s : Site) : Type 0 where
 
 -- why a renewal is not asked there, in the order in which it is judged: the client holds 16 tokens, from the last one that the server
 -- used to the newest; or all request ids were used
-abbrev pub renewal_reasons : Site → List (ClientFault × Bool)
+abbrev pub renewal_reasons : ClientPlace → List (ClientFault × Bool)
 renewal_reasons s = map (renamed_reason by_channel) (reasons_of_token (length (held_tokens s.before)) (id_at s))
 
 -- why it is not asked there, if it is not
-abbrev pub renewal_refusal : Site → Option ClientFault
+abbrev pub renewal_refusal : ClientPlace → Option ClientFault
 renewal_refusal s = first_reason (renewal_reasons s)
 
 -- for which of these reasons a renewal was not asked, if for one
@@ -90,18 +90,18 @@ of_renew_fault other = fault.Closed
 -- ---- what is asked
 
 -- the OPN of a client that stands there
-abbrev pub renewal_at : Site → DateTime → List ℕ
+abbrev pub renewal_at : ClientPlace → DateTime → List ℕ
 renewal_at s moment = renewal_by (lane_behind s.before) s.number (id_at s) moment
 
 -- what is asked once a renewal is asked there, under the next request id
-abbrev pub asks_renewed : Site → List Placed
+abbrev pub asks_renewed : ClientPlace → List Placed
 asks_renewed s = s.asks ++ (length s.octets, Renewal (id_at s)) ∷ []
 
 -- ---- what becomes of it
 
 -- a renewal is answered: behind these octets, the last of which is the last of the frame that brought the token, the client stands there
-pub record IsRenewed (new : ClientChannel) (s t : Site) (taken : List ℕ) : Type 0 where
-  pub at : At new t
+pub record IsRenewed (new : ClientChannel) (s t : ClientPlace) (taken : List ℕ) : Type 0 where
+  pub at : StandsAt new t
   pub asks : t.asks ≡ asks_renewed s
   pub octets : t.octets ≡ s.octets ++ taken
   pub number : t.number ≡ next_number s.number
@@ -116,12 +116,12 @@ pub record IsRenewed (new : ClientChannel) (s t : Site) (taken : List ℕ) : Typ
   pub settled : IsSettled s → IsSettled t
 
 -- a renewal that was asked there is not answered
-abbrev pub BreaksRenewing : Site → DateTime → ClientChannel → List ℕ → List ℕ → ClientFault → Type 0
+abbrev pub BreaksRenewing : ClientPlace → DateTime → ClientChannel → List ℕ → List ℕ → ClientFault → Type 0
 BreaksRenewing s moment new sent taken f = (sent ≡ renewal_at s moment) × WaitsAt is_renewed any_done (Err f) new (asks_renewed s) (s.octets ++ taken) s.told
 
 -- what becomes of a renewal there: what was sent and taken, and where the channel then stands
-abbrev pub RenewsAt : {A : Type 0} → Site → DateTime → ClientChannel → List ℕ → List ℕ → Result A ClientFault → Type 0
-RenewsAt s moment new sent taken (Ok done) = (sent ≡ renewal_at s moment) × ((t : Site) × IsRenewed new s t taken)
+abbrev pub RenewsAt : {A : Type 0} → ClientPlace → DateTime → ClientChannel → List ℕ → List ℕ → Result A ClientFault → Type 0
+RenewsAt s moment new sent taken (Ok done) = (sent ≡ renewal_at s moment) × ((t : ClientPlace) × IsRenewed new s t taken)
 RenewsAt s moment new sent taken (Err fault.Write) = IsPart sent (renewal_at s moment) × (taken ≡ [])
 RenewsAt s moment new sent taken (Err fault.OutOfMemory) = ((sent ≡ []) × (taken ≡ [])) ⊎ BreaksRenewing s moment new sent taken fault.OutOfMemory
 RenewsAt s moment new sent taken (Err fault.TooManyTokens) = (sent ≡ []) × (taken ≡ [])
@@ -136,11 +136,11 @@ RenewsAt s moment new sent taken (Err other) = ⊥
 -- a renewal of the token, at this moment, over a line
 pub record Renews {A : Type 0} (moment : DateTime) (old new : Connection) (before after : Option Traffic) (result : Result A ClientFault) : Type 0 where
   pub sent : List ℕ
-  pub moves : Moves old new sent before after
+  pub moves : MovesConnection old new sent before after
   pub same : SameClient (channel_of old) (channel_of new)
   -- it is refused just for the first reason that holds where the client stands
-  pub judged : (s : Site) → At (channel_of old) s → refused_by result ≡ renewal_refusal s
-  pub answers : (s : Site) → At (channel_of old) s → RenewsAt s moment (channel_of new) sent moves.taken result
+  pub judged : (s : ClientPlace) → StandsAt (channel_of old) s → refused_by result ≡ renewal_refusal s
+  pub answers : (s : ClientPlace) → StandsAt (channel_of old) s → RenewsAt s moment (channel_of new) sent moves.taken result
   pub stops : StopsAt most_reads most_reads moves.got new after result
 
 -- ---- the client behind it

@@ -19,7 +19,7 @@ use Rattle.ua_frame.specs.declared.frame.Frame.{Frame}
 use Rattle.ua_channel.specs.declared.client.fault.AskFault.{AskFault}
 use Rattle.ua_channel.specs.declared.client.fault.AskFault.TheVariants as ask_fault
 use Rattle.ua_channel.specs.declared.client.phase.Phase.{Phase}
-use Rattle.ua_client.specs.Site.{lane_behind}
+use Rattle.ua_client.specs.ClientPlace.{lane_behind}
 use Rattle.ua_client.specs.declared.fault.ClientFault.{ClientFault}
 use Rattle.ua_client.specs.declared.fault.ClientFault.TheVariants as fault
 

@@ -16,9 +16,9 @@ use Rattle.ua_channel.specs.Client.{SameClient, url_of}
 use Rattle.ua_channel.specs.Line.{Traffic}
 use Rattle.ua_channel.specs.declared.client.channel.ClientChannel.{ClientChannel}
 use Rattle.ua_client.specs.Calls.{Answered, BreaksAt, LastCame, sent_at}
-use Rattle.ua_client.specs.Hearing.{channel_of, most_reads, Moves, StopsAt}
+use Rattle.ua_client.specs.Hearing.{channel_of, most_reads, MovesConnection, StopsAt}
 use Rattle.ua_client.specs.Renewing.{IsIdle, IsSettled}
-use Rattle.ua_client.specs.Site.{Site, At, id_at}
+use Rattle.ua_client.specs.ClientPlace.{ClientPlace, StandsAt, id_at}
 use Rattle.ua_client.specs.declared.connection.Connection.{Connection}
 use Rattle.ua_client.specs.declared.fault.ClientFault.{ClientFault}
 use Rattle.ua_client.specs.declared.fault.SessionFault.{SessionFault}
@@ -29,18 +29,18 @@ use Rattle.ua_client.specs.declared.reply.Reply.TheVariants.{Response as Respond
 -- ---- what is asked
 
 -- CreateSession, asked there at this moment of the server of this URL: its RequestHandle is its request id
-abbrev pub creating_at : Option (List ℕ) → DateTime → Site → Request
+abbrev pub creating_at : Option (List ℕ) → DateTime → ClientPlace → Request
 creating_at url moment s = create_session url moment (id_at s)
 
 -- ActivateSession, asked there at this moment under the token of the session, by the token policy with this PolicyId: its RequestHandle is
 -- its request id
-abbrev pub activating_at : Option (List ℕ) → NodeId → DateTime → Site → Request
+abbrev pub activating_at : Option (List ℕ) → NodeId → DateTime → ClientPlace → Request
 activating_at policy_id token moment s = activate_session_as policy_id token moment (id_at s)
 
 -- a request that was made is the one to ask where the channel stands; one that was not cannot be encoded, or memory was refused
-abbrev pub MakesRequest : (Site → Request) → ClientChannel → Result Request ClientFault → Type 0
-MakesRequest wanted x (Ok made) = (s : Site) → At x s → made ≡ wanted s
-MakesRequest wanted x (Err fault.NotWritable) = (s : Site) → At x s → IsFalse (request.encodable (wanted s))
+abbrev pub MakesRequest : (ClientPlace → Request) → ClientChannel → Result Request ClientFault → Type 0
+MakesRequest wanted x (Ok made) = (s : ClientPlace) → StandsAt x s → made ≡ wanted s
+MakesRequest wanted x (Err fault.NotWritable) = (s : ClientPlace) → StandsAt x s → IsFalse (request.encodable (wanted s))
 MakesRequest wanted x (Err fault.OutOfMemory) = Unit {0}
 MakesRequest wanted x (Err other) = ⊥
 
@@ -92,28 +92,28 @@ LacksToken reply f = (f ≡ fault.UnknownResponse) × (token_in reply ≡ None)
 -- ---- a service
 
 -- a request that was called there by itself is answered: what was sent and taken, where the channel of the client then stands, and the reply
-pub record IsReplied (x : ClientChannel) (request : Request) (s t : Site) (sent taken : List ℕ) (reply : Reply) : Type 0 where
+pub record IsReplied (x : ClientChannel) (request : Request) (s t : ClientPlace) (sent taken : List ℕ) (reply : Reply) : Type 0 where
   pub sent_is : sent ≡ sent_at s (request ∷ [])
   pub came : LastCame x (request ∷ []) (id_at s) t.asks t.octets t.told
   pub answered : Answered (request ∷ []) s t taken (reply ∷ [])
 
 -- the same, where the channel stands behind it, and the reply is such a one; a settled place stays so
-pub record Replies (request : Request) (s : Site) (x : ClientChannel) (sent taken : List ℕ) (P : Reply → Type 0) : Type 0 where
-  pub behind : Site
-  pub at : At x behind
+pub record Replies (request : Request) (s : ClientPlace) (x : ClientChannel) (sent taken : List ℕ) (P : Reply → Type 0) : Type 0 where
+  pub behind : ClientPlace
+  pub at : StandsAt x behind
   pub settled : IsSettled s → IsSettled behind
   pub reply : Reply
   pub replied : IsReplied x request s behind sent taken reply
   pub says : P reply
 
 -- what becomes of a request that is called there by itself: the reply, or a fault of the call
-abbrev pub CallsOneAt : Request → Site → Connection → List ℕ → List ℕ → Result Reply ClientFault → Type 0
+abbrev pub CallsOneAt : Request → ClientPlace → Connection → List ℕ → List ℕ → Result Reply ClientFault → Type 0
 CallsOneAt request s new sent taken (Ok found) = Replies request s (channel_of new) sent taken (is_reply found)
 CallsOneAt request s new sent taken (Err f) = BreaksAt (request ∷ []) s new sent taken f
 
 -- what becomes of a service whose request is called there by itself: a reply by which it did not fail, and what that brings; the code
 -- of one by which it failed; or a fault of the call
-abbrev pub ServesAt : {A : Type 0} → Request → (A → Reply → Type 0) → Site → Connection → List ℕ → List ℕ → Result A ClientFault → Type 0
+abbrev pub ServesAt : {A : Type 0} → Request → (A → Reply → Type 0) → ClientPlace → Connection → List ℕ → List ℕ → Result A ClientFault → Type 0
 ServesAt request brings s new sent taken (Ok found) = Replies request s (channel_of new) sent taken (λ reply. (reply_failure reply ≡ None) × brings found reply)
 ServesAt request brings s new sent taken (Err (fault.Service code)) = Replies request s (channel_of new) sent taken (λ reply. reply_failure reply ≡ Some code)
 ServesAt request brings s new sent taken (Err f) = BreaksAt (request ∷ []) s new sent taken f
@@ -121,12 +121,12 @@ ServesAt request brings s new sent taken (Err f) = BreaksAt (request ∷ []) s n
 -- ---- both services
 
 -- CreateSession, asked there, brought a token; of what was sent and taken behind that, where a channel of this client then stood, this holds
-pub record BehindCreating (client : ClientChannel) (url : Option (List ℕ)) (moment : DateTime) (s : Site) (sent taken : List ℕ) (P : NodeId → Site → List ℕ → List ℕ → Type 0) : Type 0 where
+pub record BehindCreating (client : ClientChannel) (url : Option (List ℕ)) (moment : DateTime) (s : ClientPlace) (sent taken : List ℕ) (P : NodeId → ClientPlace → List ℕ → List ℕ → Type 0) : Type 0 where
   pub token : NodeId
-  pub between : Site
+  pub between : ClientPlace
   pub channel : ClientChannel
   pub same : SameClient channel client
-  pub at : At channel between
+  pub at : StandsAt channel between
   pub settled : IsSettled s → IsSettled between
   pub reply : Reply
   pub sent_before : List ℕ
@@ -141,13 +141,13 @@ pub record BehindCreating (client : ClientChannel) (url : Option (List ℕ)) (mo
   pub further : P token between sent_then taken_then
 
 -- what becomes of ActivateSession by the token policy with this PolicyId, behind CreateSession, asked there
-abbrev pub ActivatesBehind : Option (List ℕ) → Option (List ℕ) → DateTime → Site → Connection → List ℕ → List ℕ → (NodeId → Type 0) → Result (Unit {0}) ClientFault → Type 0
+abbrev pub ActivatesBehind : Option (List ℕ) → Option (List ℕ) → DateTime → ClientPlace → Connection → List ℕ → List ℕ → (NodeId → Type 0) → Result (Unit {0}) ClientFault → Type 0
 ActivatesBehind url policy_id moment s new sent taken P result =
     BehindCreating (channel_of new) url moment s sent taken (λ token t sent_then taken_then. P token × ServesAt (activating_at policy_id token moment t) brings_any t new sent_then taken_then result)
 
 -- what becomes of a session that is begun there: both services are done, and the first brought this token; or one of them was not, by
 -- this fault, and it was the first, or the second behind the first
-abbrev pub BeginsAt : Option (List ℕ) → Option (List ℕ) → DateTime → Site → Connection → List ℕ → List ℕ → Result NodeId ClientFault → Type 0
+abbrev pub BeginsAt : Option (List ℕ) → Option (List ℕ) → DateTime → ClientPlace → Connection → List ℕ → List ℕ → Result NodeId ClientFault → Type 0
 BeginsAt url policy_id moment s new sent taken (Ok token) = ActivatesBehind url policy_id moment s new sent taken (λ given. given ≡ token) (Ok tt)
 BeginsAt url policy_id moment s new sent taken (Err f) =
     ServesAt (creating_at url moment s) brings_token s new sent taken (Err f) ⊎ ActivatesBehind url policy_id moment s new sent taken (λ given. Unit {0}) (Err f)
@@ -163,25 +163,25 @@ session_closed = record { token = None; fault = fault.Closed }
 
 -- a session that was to be begun there was not, by this fault: with no token it is the fault of CreateSession, with one that of
 -- ActivateSession, behind CreateSession, which brought just this token
-abbrev pub FailsAt : Option (List ℕ) → Option (List ℕ) → DateTime → Site → Connection → List ℕ → List ℕ → Option NodeId → ClientFault → Type 0
+abbrev pub FailsAt : Option (List ℕ) → Option (List ℕ) → DateTime → ClientPlace → Connection → List ℕ → List ℕ → Option NodeId → ClientFault → Type 0
 FailsAt url policy_id moment s new sent taken None f = ServesAt (creating_at url moment s) brings_token s new sent taken (Err f)
 FailsAt url policy_id moment s new sent taken (Some token) f = ActivatesBehind url policy_id moment s new sent taken (λ given. given ≡ token) (Err f)
 
 -- the same of a session that is begun there, with the token of one that was created and not activated
-abbrev pub TriesAt : Option (List ℕ) → Option (List ℕ) → DateTime → Site → Connection → List ℕ → List ℕ → Result NodeId SessionFault → Type 0
+abbrev pub TriesAt : Option (List ℕ) → Option (List ℕ) → DateTime → ClientPlace → Connection → List ℕ → List ℕ → Result NodeId SessionFault → Type 0
 TriesAt url policy_id moment s new sent taken (Ok token) = ActivatesBehind url policy_id moment s new sent taken (λ given. given ≡ token) (Ok tt)
 TriesAt url policy_id moment s new sent taken (Err c) = FailsAt url policy_id moment s new sent taken c.token c.fault
 
 -- what was done over a line, by what that is to come to where the client stands, with so many reads left before and after
-pub record Does {A : Type 0} (P : Site → List ℕ → List ℕ → Type 0) (old new : Connection) (before after : Option Traffic) (reads left : ℕ) (result : Result A ClientFault) : Type 0 where
+pub record Does {A : Type 0} (P : ClientPlace → List ℕ → List ℕ → Type 0) (old new : Connection) (before after : Option Traffic) (reads left : ℕ) (result : Result A ClientFault) : Type 0 where
   pub sent : List ℕ
-  pub moves : Moves old new sent before after
+  pub moves : MovesConnection old new sent before after
   pub same : SameClient (channel_of old) (channel_of new)
-  pub answers : (s : Site) → At (channel_of old) s → P s sent moves.taken
+  pub answers : (s : ClientPlace) → StandsAt (channel_of old) s → P s sent moves.taken
   pub stops : StopsAt reads left moves.got new after result
 
 -- the same, of a channel that is idle
-abbrev pub DoesIdle : {A : Type 0} → (Site → List ℕ → List ℕ → Type 0) → Connection → Connection → Option Traffic → Option Traffic → ℕ → ℕ → Result A ClientFault → Type 0
+abbrev pub DoesIdle : {A : Type 0} → (ClientPlace → List ℕ → List ℕ → Type 0) → Connection → Connection → Option Traffic → Option Traffic → ℕ → ℕ → Result A ClientFault → Type 0
 DoesIdle P old new before after reads left result = Does (λ s sent taken. IsIdle (channel_of old) s → P s sent taken) old new before after reads left result
 
 -- a session is begun at this moment over a line, by the token policy with this PolicyId

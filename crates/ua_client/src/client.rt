@@ -41,7 +41,7 @@ impl Client {
     ghost use Rattle.ua_client.specs.Kept.{CallsInto, closed_at};
     ghost use Rattle.ua_client.specs.Renewing.{Renews, IsRefusal};
     ghost use Rattle.ua_client.specs.Session.{BeginsSession, BeginsSessionAs, TriesSession, session_alone, session_closed};
-    ghost use Rattle.ua_client.specs.Site.{Site, At, id_at, usable_id};
+    ghost use Rattle.ua_client.specs.ClientPlace.{ClientPlace, StandsAt, id_at, usable_id};
     ghost use Rattle.ua_client.specs.declared.fault.ClientFault.TheVariants.{Closed};
 
     /// Opens a connection over a line, and a channel on it, to the server of this URL: the HEL is
@@ -245,7 +245,7 @@ impl Client {
 
     /// The request id of the next call; none where all were used, or the client is done.
     pub fn next_id(&self) -> Option<u32>
-        ensures ready { IsReady self.now → (s : Site) → At (client_channel self.now) s → result ≡ usable_id (id_at s) }
+        ensures ready { IsReady self.now → (s : ClientPlace) → StandsAt (client_channel self.now) s → result ≡ usable_id (id_at s) }
         ensures done { IsDone self.now → result ≡ None }
     {
         if self.is_done {

@@ -18,7 +18,7 @@ ghost use Rattle.ua_client.specs.Hearing.{channel_of};
 ghost use Rattle.ua_client.specs.Opening.{IsOpened};
 ghost use Rattle.ua_client.specs.Renewing.{IsIdle, IsSettled, StandsSettled};
 ghost use Rattle.ua_client.specs.Replies.{AreReplies};
-ghost use Rattle.ua_client.specs.Site.{Site, At, id_at, lane_behind};
+ghost use Rattle.ua_client.specs.ClientPlace.{ClientPlace, StandsAt, id_at, lane_behind};
 ghost use Rattle.ua_client.specs.Told.{told_of, IsFirstOf};
 ghost use Rattle.ua_client.specs.declared.connection.Connection.{Connection};
 ghost use Rattle.ua_client.specs.declared.fault.ClientFault.TheVariants.{Peer, Refused};
@@ -49,12 +49,12 @@ pub fn calls_are_told_behind()
 /// pending, and there is a lane for the next ones. A channel that stands at a settled place is idle
 /// wherever it stands.
 pub fn clients_are_settled()
-    ensures opened { (x : ClientChannel) (octets : List ℕ) → IsOpened x octets → (s : Site) × (s.octets ≡ octets) × (s.asks ≡ []) × At x s × IsSettled s }
-    ensures answered { (requests : List Request) (s t : Site) (taken : List ℕ) (replies : List Reply) → IsSettled s → Answered requests s t taken replies → IsSettled t }
-    ensures later { (s t : Site) (more : List ClientTold) → IsSettled s → t.asks ≡ s.asks → t.told ≡ s.told ++ more → IsSettled t }
-    ensures none_pending { (x : ClientChannel) (s : Site) → At x s → IsSettled s → pending_calls s.before.messages (asked_in s.asks) ≡ [] }
-    ensures lane { (x : ClientChannel) (s : Site) → At x s → IsSettled s → (lane : Lane) × (lane_behind s.before ≡ Some lane) }
-    ensures idle { (x : ClientChannel) (s : Site) → StandsSettled x → At x s → IsIdle x s }
+    ensures opened { (x : ClientChannel) (octets : List ℕ) → IsOpened x octets → (s : ClientPlace) × (s.octets ≡ octets) × (s.asks ≡ []) × StandsAt x s × IsSettled s }
+    ensures answered { (requests : List Request) (s t : ClientPlace) (taken : List ℕ) (replies : List Reply) → IsSettled s → Answered requests s t taken replies → IsSettled t }
+    ensures later { (s t : ClientPlace) (more : List ClientTold) → IsSettled s → t.asks ≡ s.asks → t.told ≡ s.told ++ more → IsSettled t }
+    ensures none_pending { (x : ClientChannel) (s : ClientPlace) → StandsAt x s → IsSettled s → pending_calls s.before.messages (asked_in s.asks) ≡ [] }
+    ensures lane { (x : ClientChannel) (s : ClientPlace) → StandsAt x s → IsSettled s → (lane : Lane) × (lane_behind s.before ≡ Some lane) }
+    ensures idle { (x : ClientChannel) (s : ClientPlace) → StandsSettled x → StandsAt x s → IsIdle x s }
 {
     client_goes_on();
     client_tells_delivered();
@@ -66,17 +66,17 @@ pub fn clients_are_settled()
 /// a group of calls that is answered are those that they all tell. A group does not break off behind such a
 /// beginning for a refusal, of the peer or its own.
 pub fn clients_follow_asking()
-    ensures told { (x : ClientChannel) (s : Site) (later : List Placed) (more : List ℕ) (all : List ClientTold) (at : AtClient) → At x s →
+    ensures told { (x : ClientChannel) (s : ClientPlace) (later : List Placed) (more : List ℕ) (all : List ClientTold) (at : AtClient) → StandsAt x s →
         AllByRecursion (λ (a : Placed). length s.octets ≤ a.0) later → ClientReads (client_limits x) (s.asks ++ later) (s.octets ++ more) all at →
         (rest : List ClientTold) × (all ≡ s.told ++ rest) }
-    ensures replies { (requests : List Request) (s t : Site) (taken : List ℕ) (replies : List Reply) (x : ClientChannel) (later : List Placed) (more : List ℕ) (all : List ClientTold) (at : AtClient) →
-        Answered requests s t taken replies → At x t →
+    ensures replies { (requests : List Request) (s t : ClientPlace) (taken : List ℕ) (replies : List Reply) (x : ClientChannel) (later : List Placed) (more : List ℕ) (all : List ClientTold) (at : AtClient) →
+        Answered requests s t taken replies → StandsAt x t →
         AllByRecursion (λ (a : Placed). length t.octets ≤ a.0) later → ClientReads (client_limits x) (t.asks ++ later) (t.octets ++ more) all at →
         AreReplies requests (id_at s) all replies }
-    ensures not_peer { (requests : List Request) (s : Site) (new : Connection) (sent taken : List ℕ) (code : StatusCode) (later : List Placed) (more : List ℕ) (all : List ClientTold) (at : AtClient) →
+    ensures not_peer { (requests : List Request) (s : ClientPlace) (new : Connection) (sent taken : List ℕ) (code : StatusCode) (later : List Placed) (more : List ℕ) (all : List ClientTold) (at : AtClient) →
         BreaksAt requests s new sent taken (Peer code) → AllByRecursion (λ (a : Placed). length (s.octets ++ taken) ≤ a.0) later →
         ClientReads (client_limits (channel_of new)) (asked_at s requests ++ later) ((s.octets ++ taken) ++ more) all at → ⊥ }
-    ensures not_refused { (requests : List Request) (s : Site) (new : Connection) (sent taken : List ℕ) (code : StatusCode) (later : List Placed) (more : List ℕ) (all : List ClientTold) (at : AtClient) →
+    ensures not_refused { (requests : List Request) (s : ClientPlace) (new : Connection) (sent taken : List ℕ) (code : StatusCode) (later : List Placed) (more : List ℕ) (all : List ClientTold) (at : AtClient) →
         BreaksAt requests s new sent taken (Refused code) → AllByRecursion (λ (a : Placed). length (s.octets ++ taken) ≤ a.0) later →
         ClientReads (client_limits (channel_of new)) (asked_at s requests ++ later) ((s.octets ++ taken) ++ more) all at → ⊥ }
 {

@@ -1,7 +1,7 @@
 //! What was read from a line and is not taken yet.
 
 ghost use Rattle.std.specs.Prelude.{◌≡◌, ◌≤◌, ◌-◌, ◌↔◌, ℕ, List, [], length, take, drop, IsTrue, OnOk, OnErr, Ok, Err};
-ghost use Rattle.ua_channel.specs.Line.{WhereTold, failures_after};
+ghost use Rattle.ua_channel.specs.Line.{IfTrafficKnown, failures_after};
 ghost use Rattle.ua_client.specs.Carried.{Carries, IsAtEnd};
 
 use std::alloc::{AllocError, Global};
@@ -73,7 +73,7 @@ impl Piece {
     /// Reads the next piece of a line, of at most 4096 octets, in place of this one. Nothing is the end
     /// of the input.
     pub fn read<L: Line>(&mut self, line: &mut L) -> Result<(), LineFault>
-        ensures read { OnOk result (WhereTold (Carries self.new []) (L.traffic line.old) (L.traffic line.new)) }
+        ensures read { OnOk result (IfTrafficKnown (Carries self.new []) (L.traffic line.old) (L.traffic line.new)) }
         ensures end { OnOk result (self.new ≡ [] → IsAtEnd (L.traffic line.new)) }
         ensures none { OnErr result ((self.new ≡ []) × (L.traffic line.new ≡ L.traffic line.old)) }
         ensures few { length self.new ≤ 4096 }

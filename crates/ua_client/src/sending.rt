@@ -1,7 +1,7 @@
 //! Octets that go to a line whole.
 
 ghost use Rattle.std.specs.Prelude.{◌≡◌, ◌<◌, ◌≤◌, length, OnErr};
-ghost use Rattle.ua_channel.specs.Line.{WhereTold, failures_after};
+ghost use Rattle.ua_channel.specs.Line.{IfTrafficKnown, failures_after};
 ghost use Rattle.ua_client.specs.Carried.{Writes};
 ghost use Rattle.ua_client.specs.Sent.{asked_octets};
 
@@ -10,7 +10,7 @@ use ua_channel::{AskedCall, Line, LineFault};
 /// Writes octets whole: by one write where the line takes them so, and where it takes fewer, on from
 /// where it stopped.
 pub fn write_whole<L: Line>(line: &mut L, octets: &[u8]) -> Result<(), LineFault>
-    ensures written { WhereTold (Writes result octets.now) (L.traffic line.old) (L.traffic line.new) }
+    ensures written { IfTrafficKnown (Writes result octets.now) (L.traffic line.old) (L.traffic line.new) }
     ensures some { OnErr result (0 < length octets.now) }
     ensures failed { L.failures line.new ≡ failures_after (L.failures line.old) result }
 {
@@ -42,7 +42,7 @@ fn frame_end(at: usize, frame_len: usize, len: usize) -> usize
 /// octets.
 fn write_frames<L: Line>(line: &mut L, octets: &[u8], frame_len: usize) -> Result<(), LineFault>
     requires { 0 < frame_len }
-    ensures written { WhereTold (Writes result octets.now) (L.traffic line.old) (L.traffic line.new) }
+    ensures written { IfTrafficKnown (Writes result octets.now) (L.traffic line.old) (L.traffic line.new) }
     ensures some { OnErr result (0 < length octets.now) }
     ensures failed { L.failures line.new ≡ failures_after (L.failures line.old) result }
 {
@@ -59,7 +59,7 @@ fn write_frames<L: Line>(line: &mut L, octets: &[u8], frame_len: usize) -> Resul
 
 /// Writes the frames of calls whole, each by one write where the line takes it so.
 pub fn write_calls<L: Line>(line: &mut L, calls: &[AskedCall]) -> Result<(), LineFault>
-    ensures written { WhereTold (Writes result (asked_octets calls.now)) (L.traffic line.old) (L.traffic line.new) }
+    ensures written { IfTrafficKnown (Writes result (asked_octets calls.now)) (L.traffic line.old) (L.traffic line.new) }
     ensures some { OnErr result (0 < length (asked_octets calls.now)) }
     ensures failed { L.failures line.new ≡ failures_after (L.failures line.old) result }
 {

@@ -5,7 +5,7 @@ ghost use Rattle.ua_channel.specs.Client.{url_of};
 ghost use Rattle.ua_client.specs.Hearing.{channel_of, failures_behind};
 ghost use Rattle.ua_client.specs.Session.{CallsOneAt, DoesIdle, IsFailure, LacksToken, MakesRequest, ServesAt, TriesSession, activating_at, brings_any, brings_token, creating_at, is_reply, reply_failure, response_failure, session_alone};
 ghost use Rattle.ua_client.specs.Renewing.{StandsSettled};
-ghost use Rattle.ua_client.specs.Site.{Site, At};
+ghost use Rattle.ua_client.specs.ClientPlace.{ClientPlace, StandsAt};
 
 use crate::connection::Connection;
 use crate::fault::{ClientFault, SessionFault};
@@ -111,7 +111,7 @@ impl Connection {
 
     /// The CreateSession that would be asked next.
     fn creating(&self, alloc: Global, moment: DateTime) -> Result<Request, AllocError>
-        ensures { (s : Site) → At (channel_of self.now) s → IfOk result (λ r. r ≡ creating_at (url_of (channel_of self.now)) moment s) }
+        ensures { (s : ClientPlace) → StandsAt (channel_of self.now) s → IfOk result (λ r. r ≡ creating_at (url_of (channel_of self.now)) moment s) }
     {
         let url = self.channel.url().try_clone()?;
         create_session_request(alloc, url, moment, self.channel.next_id())

@@ -9,13 +9,13 @@ use Rattle.ua_channel_laws.specs.ServerReads.{ServerCloses}
 use Rattle.ua_channel.specs.ServerTold.{Told}
 use Rattle.ua_channel.specs.declared.client.fault.AskFault.TheVariants.{TooManyTokens}
 use Rattle.ua_server.specs.Endpoint.{Fits}
-use Rattle.ua_server.specs.Said.{said}
+use Rattle.ua_server.specs.Said.{output_of}
 use Rattle.ua_server.specs.State.{State}
 use Rattle.ua_server.specs.declared.endpoint.Endpoint.{Endpoint}
 use Rattle.ua_client.specs.declared.fault.ClientFault.{ClientFault}
 use Rattle.ua_client.specs.declared.reply.Reply.{Reply}
 use Rattle.ua_loopback.specs.Accepted as judged
-use Rattle.ua_loopback.specs.Says.{spent}
+use Rattle.ua_loopback.specs.Says.{times_of_answers}
 use Rattle.ua_loopback.specs.declared.conversation.Transcript.{Transcript}
 use Rattle.ua_loopback.proofs.Conversing.{conversation_read}
 use Rattle.ua_loopback.proofs.Saying.{said_by_run}
@@ -71,7 +71,7 @@ module _ (first : State) (moment : DateTime) (turns : List Turn) (t : Transcript
   pub down-all : t.down.items ≡ all_said first moment turns
   down-all =
       k.down
-      ∙ (said_by_run (beginning first moment) t.up.items handed-all.frames [] Over handed-all.run ∙ ap (λ (ts : List Told). said channel first ts Over (spent ts moment)) handed-all.told_is)
+      ∙ (said_by_run (beginning first moment) t.up.items handed-all.frames [] Over handed-all.run ∙ ap (λ (ts : List Told). output_of channel first ts Over (times_of_answers ts moment)) handed-all.told_is)
 
   pub replies-all : map (λ (r : Reply). Some r) t.replies.items ≡ turns_replies first moment turns
   unfolding turns_replies

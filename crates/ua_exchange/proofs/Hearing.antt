@@ -31,7 +31,7 @@ use Rattle.ua_loopback.proofs.Reaching.{none_parts}
 use Rattle.ua_loopback.proofs.Renewed.{none_past}
 use Rattle.ua_exchange.specs.Accepted.{IsAccepted, tokens_counted}
 use Rattle.ua_exchange.specs.Programs.{acknowledged, beginning, channel, program_limits, url}
-use Rattle.ua_exchange.specs.Reading.{EndsAtRenewal, all_heard, asked_behind, heard_behind, said_to, turns_heard}
+use Rattle.ua_exchange.specs.Reading.{EndsAtRenewal, all_heard, asked_behind, heard_behind, output_behind_turns, turns_heard}
 use Rattle.ua_exchange.specs.Replies.{lane_back, response_behind}
 use Rattle.ua_exchange.specs.Turns.{id_behind, token_behind}
 use Rattle.ua_exchange.specs.declared.turn.Turn.{Turn}
@@ -69,7 +69,7 @@ module _ (first : State) (moment : DateTime) (fits : IsTrue (date_time.encodable
   -- it reads what the server says of the turns that are answered, where it asked these, and the others wait
   pub record Hearing (asks : List Placed) (answered waiting : List Turn) : Type 0 where
     pub at : AtClient
-    pub reads : ClientReads program_limits asks (said_to first moment answered) (all_heard first moment answered) at
+    pub reads : ClientReads program_limits asks (output_behind_turns first moment answered) (all_heard first moment answered) at
     pub asked_is : length (asked_in asks) ≡ length answered + length waiting
     pub ack_is : at.ack ≡ acknowledged
     pub channel_is : at.channel ≡ channel
@@ -83,15 +83,15 @@ module _ (first : State) (moment : DateTime) (fits : IsTrue (date_time.encodable
     next_is_id : next_id (asked_in asks) ≡ id_behind answered + length waiting
     next_is_id = let ids = id-is answered in omega (arith, h.asked_is, ids)
 
-    asks_more : (a : Asking) (t : Turn) → length (asked_in (asks ++ (length (said_to first moment answered), a) ∷ [])) ≡ length answered + length (waiting ++ t ∷ [])
+    asks_more : (a : Asking) (t : Turn) → length (asked_in (asks ++ (length (output_behind_turns first moment answered), a) ∷ [])) ≡ length answered + length (waiting ++ t ∷ [])
     asks_more a t =
-        omega (arith, ap length (asked_in-push asks (length (said_to first moment answered), a)), length-append (asked_in asks) (a ∷ []), length-append waiting (t ∷ []), h.asked_is)
+        omega (arith, ap length (asked_in-push asks (length (output_behind_turns first moment answered), a)), length-append (asked_in asks) (a ∷ []), length-append waiting (t ∷ []), h.asked_is)
 
     -- a request is asked
-    hearing-call : (m : Request) → Hearing (asks ++ (length (said_to first moment answered), Call (next_id (asked_in asks))) ∷ []) answered (waiting ++ Ask m ∷ [])
+    hearing-call : (m : Request) → Hearing (asks ++ (length (output_behind_turns first moment answered), Call (next_id (asked_in asks))) ∷ []) answered (waiting ++ Ask m ∷ [])
     hearing-call m = record {
       at = with_call h.at (next_id (asked_in asks));
-      reads = reads_call program_limits asks (said_to first moment answered) (all_heard first moment answered) h.at h.reads;
+      reads = reads_call program_limits asks (output_behind_turns first moment answered) (all_heard first moment answered) h.at h.reads;
       asked_is = asks_more (Call (next_id (asked_in asks))) (Ask m);
       ack_is = h.ack_is;
       channel_is = h.channel_is;
@@ -105,10 +105,10 @@ module _ (first : State) (moment : DateTime) (fits : IsTrue (date_time.encodable
     }
 
     -- a renewal is asked
-    hearing-renewal : Hearing (asks ++ (length (said_to first moment answered), Renewal (next_id (asked_in asks))) ∷ []) answered (waiting ++ Renew ∷ [])
+    hearing-renewal : Hearing (asks ++ (length (output_behind_turns first moment answered), Renewal (next_id (asked_in asks))) ∷ []) answered (waiting ++ Renew ∷ [])
     hearing-renewal = record {
       at = with_renewal h.at (next_id (asked_in asks));
-      reads = reads_renewal program_limits asks (said_to first moment answered) (all_heard first moment answered) h.at h.reads;
+      reads = reads_renewal program_limits asks (output_behind_turns first moment answered) (all_heard first moment answered) h.at h.reads;
       asked_is = asks_more (Renewal (next_id (asked_in asks))) Renew;
       ack_is = h.ack_is;
       channel_is = h.channel_is;
@@ -126,8 +126,8 @@ module _ (first : State) (moment : DateTime) (fits : IsTrue (date_time.encodable
     id_here = let ids = id-is (answered ++ waiting) in omega (arith, h.asked_is, length-append answered waiting, ids)
 
     pub hearing-asked : (t : Turn) → Hearing (asks ++ asked_behind first moment answered waiting t ∷ []) answered (waiting ++ t ∷ [])
-    hearing-asked (Ask m) = subst (λ (id : ℕ). Hearing (asks ++ (length (said_to first moment answered), Call id) ∷ []) answered (waiting ++ Ask m ∷ [])) id_here (hearing-call m)
-    hearing-asked Renew = subst (λ (id : ℕ). Hearing (asks ++ (length (said_to first moment answered), Renewal id) ∷ []) answered (waiting ++ Renew ∷ [])) id_here hearing-renewal
+    hearing-asked (Ask m) = subst (λ (id : ℕ). Hearing (asks ++ (length (output_behind_turns first moment answered), Call id) ∷ []) answered (waiting ++ Ask m ∷ [])) id_here (hearing-call m)
+    hearing-asked Renew = subst (λ (id : ℕ). Hearing (asks ++ (length (output_behind_turns first moment answered), Renewal id) ∷ []) answered (waiting ++ Renew ∷ [])) id_here hearing-renewal
 
     -- where replies go
     lane_here : id_behind answered < no_id → IsLaneBack program_limits h.at (lane_back answered)
@@ -155,14 +155,14 @@ module _ (first : State) (moment : DateTime) (fits : IsTrue (date_time.encodable
       let lane = lane_back answered in
       let awaited : is_in id h.at.pending ≡ true = ap (is_in id) h.pending_are ∙ first-waits id (calls_from (id + 1) waiting) in
       let more =
-      reads_replied program_limits asks (said_to first moment answered) (all_heard first moment answered) h.at lane id h.reads (lane_here asks answered (Ask m ∷ waiting) h few) awaited (omega (arith, few)) body (response_takes_some (response_behind first moment answered m)) in
+      reads_replied program_limits asks (output_behind_turns first moment answered) (all_heard first moment answered) h.at lane id h.reads (lane_here asks answered (Ask m ∷ waiting) h few) awaited (omega (arith, few)) body (response_takes_some (response_behind first moment answered m)) in
       let now = with_reply h.at lane.token id (replied lane body h.at.next id).1 in
       let said = said-call first moment answered h.at.next h.next_is m written in
       record {
         at = now;
         reads =
             subst (λ (o : List ℕ). ClientReads program_limits asks o (all_heard first moment (answered ++ Ask m ∷ [])) now) (sym said)
-            (subst (λ (ts : List Heard). ClientReads program_limits asks (said_to first moment answered ++ (replied lane body h.at.next id).0) ts now) (sym (heard-push answered (Ask m))) more);
+            (subst (λ (ts : List Heard). ClientReads program_limits asks (output_behind_turns first moment answered ++ (replied lane body h.at.next id).0) ts now) (sym (heard-push answered (Ask m))) more);
         asked_is = omega (arith, h.asked_is, length-append answered (Ask m ∷ []));
         ack_is = h.ack_is;
         channel_is = h.channel_is;
@@ -191,16 +191,16 @@ module _ (first : State) (moment : DateTime) (fits : IsTrue (date_time.encodable
         lifetime_small = omega arith;
         moment_fits = fits;
       } in
-      let more = reads_renewed program_limits asks (said_to first moment answered) (all_heard first moment answered) h.at id 0 token token_lifetime moment h.reads is one (none_past (token_behind answered) h.at.tokens h.issued) in
-      let said : said_to first moment answered ++ frame_octets (opened_frame h.at.channel h.at.next id 0 token token_lifetime moment) ≡ said_to first moment (answered ++ Renew ∷ []) =
-      ap (λ (c : ℕ). said_to first moment answered ++ frame_octets (opened_frame c h.at.next id 0 token token_lifetime moment)) h.channel_is ∙ sym (said-renewal first moment answered h.at.next h.next_is) in
+      let more = reads_renewed program_limits asks (output_behind_turns first moment answered) (all_heard first moment answered) h.at id 0 token token_lifetime moment h.reads is one (none_past (token_behind answered) h.at.tokens h.issued) in
+      let said : output_behind_turns first moment answered ++ frame_octets (opened_frame h.at.channel h.at.next id 0 token token_lifetime moment) ≡ output_behind_turns first moment (answered ++ Renew ∷ []) =
+      ap (λ (c : ℕ). output_behind_turns first moment answered ++ frame_octets (opened_frame c h.at.next id 0 token token_lifetime moment)) h.channel_is ∙ sym (said-renewal first moment answered h.at.next h.next_is) in
       let tokens : AllByRecursion (λ (k : ℕ). k ≤ token) now.tokens =
       all-push (λ (k : ℕ). k ≤ token) h.at.tokens token (all-weaken (λ (k : ℕ). k ≤ token_behind answered) (λ (k : ℕ). k ≤ token) h.at.tokens (λ k le. omega (arith, le)) h.issued) (omega arith) in
       record {
         at = now;
         reads =
             subst (λ (o : List ℕ). ClientReads program_limits asks o (all_heard first moment (answered ++ Renew ∷ [])) now) said
-            (subst (λ (ts : List Heard). ClientReads program_limits asks (said_to first moment answered ++ frame_octets (opened_frame h.at.channel h.at.next id 0 token token_lifetime moment)) ts now) (sym (heard-push answered Renew)) more);
+            (subst (λ (ts : List Heard). ClientReads program_limits asks (output_behind_turns first moment answered ++ frame_octets (opened_frame h.at.channel h.at.next id 0 token token_lifetime moment)) ts now) (sym (heard-push answered Renew)) more);
         asked_is = omega (arith, h.asked_is, length-append answered (Renew ∷ []));
         ack_is = h.ack_is;
         channel_is = h.channel_is;

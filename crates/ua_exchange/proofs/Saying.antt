@@ -12,14 +12,14 @@ use Rattle.ua_services.specs.Request.{request}
 use Rattle.ua_services.specs.Response.{response}
 use Rattle.ua_services.specs.declared.request.Request.{Request}
 use Rattle.ua_server.specs.Reply.{answered}
-use Rattle.ua_server.specs.Said.{Course, left, left_by, reply_with, said, said_of, with_more}
+use Rattle.ua_server.specs.Said.{Course, state_after, course_after, reply_with, output_of, said_of, with_more}
 use Rattle.ua_server.specs.State.{State}
-use Rattle.ua_loopback.specs.Says.{spent}
+use Rattle.ua_loopback.specs.Says.{times_of_answers}
 use Rattle.ua_loopback.proofs.Replying.{answered_is}
 use Rattle.ua_loopback.proofs.Saying.{left_on, said_on, said_over}
 use Rattle.ua_exchange.specs.Exchanged.{all_said}
 use Rattle.ua_exchange.specs.Programs.{acknowledged, agreement, beginning, channel}
-use Rattle.ua_exchange.specs.Reading.{said_to}
+use Rattle.ua_exchange.specs.Reading.{output_behind_turns}
 use Rattle.ua_exchange.specs.Replies.{lane_back, response_behind, state_behind}
 use Rattle.ua_exchange.specs.Turns.{all_told, asking_told, id_behind, token_behind}
 use Rattle.ua_exchange.specs.declared.turn.Turn.{Turn}
@@ -32,45 +32,45 @@ course_behind first moment turns number moments = record { state = state_behind 
 
 -- the number of its next chunk
 abbrev pub NumberIs : State → DateTime → List Turn → ℕ → Type 0
-NumberIs first moment turns number = left channel first (asking_told turns) (spent (asking_told turns) moment) ≡ course_behind first moment turns number []
+NumberIs first moment turns number = state_after channel first (asking_told turns) (times_of_answers (asking_told turns) moment) ≡ course_behind first moment turns number []
 
 module _ (first : State) (moment : DateTime) where
   -- before any turn
-  pub said-none : said_to first moment [] ≡ frame_octets (ack_frame acknowledged) ++ frame_octets (opened_frame channel 1 1 0 1 token_lifetime moment)
-  unfolding said
+  pub said-none : output_behind_turns first moment [] ≡ frame_octets (ack_frame acknowledged) ++ frame_octets (opened_frame channel 1 1 0 1 token_lifetime moment)
+  unfolding output_of
   said-none =
       append-nil (frame_octets (ack_frame acknowledged) ++ (frame_octets (opened_frame channel 1 1 0 1 token_lifetime moment) ++ []))
       ∙ ap (λ (o : List ℕ). frame_octets (ack_frame acknowledged) ++ o) (append-nil (frame_octets (opened_frame channel 1 1 0 1 token_lifetime moment)))
 
   pub number-none : NumberIs first moment [] 2
-  unfolding left
+  unfolding state_after
   number-none = refl
 
   module _ (turns : List Turn) (number : ℕ) (is : NumberIs first moment turns number) where
     -- where it says the answer to a turn more
     abbrev here : Turn → Course
-    here t = course_behind first moment turns number (spent (told_behind turns t) moment)
+    here t = course_behind first moment turns number (times_of_answers (told_behind turns t) moment)
 
-    left-push : (t : Turn) → left channel first (asking_told (turns ++ t ∷ [])) (spent (asking_told (turns ++ t ∷ [])) moment) ≡ left_by channel (here t) (told_behind turns t)
+    left-push : (t : Turn) → state_after channel first (asking_told (turns ++ t ∷ [])) (times_of_answers (asking_told (turns ++ t ∷ [])) moment) ≡ course_after channel (here t) (told_behind turns t)
     left-push t =
-        ap (λ (ts : List Told). left channel first ts (spent ts moment)) (told-push turns t)
-        ∙ (left_on (beginning first moment) (asking_told turns) (told_behind turns t) ∙ ap (λ (k : Course). left_by channel (with_more k (spent (told_behind turns t) moment)) (told_behind turns t)) is)
+        ap (λ (ts : List Told). state_after channel first ts (times_of_answers ts moment)) (told-push turns t)
+        ∙ (left_on (beginning first moment) (asking_told turns) (told_behind turns t) ∙ ap (λ (k : Course). course_after channel (with_more k (times_of_answers (told_behind turns t) moment)) (told_behind turns t)) is)
 
-    said-push : (t : Turn) → said_to first moment (turns ++ t ∷ []) ≡ said_to first moment turns ++ said_of channel (here t) (told_behind turns t)
+    said-push : (t : Turn) → output_behind_turns first moment (turns ++ t ∷ []) ≡ output_behind_turns first moment turns ++ said_of channel (here t) (told_behind turns t)
     said-push t =
-        ap (λ (ts : List Told). said channel first ts Going (spent ts moment)) (told-push turns t)
+        ap (λ (ts : List Told). output_of channel first ts Going (times_of_answers ts moment)) (told-push turns t)
         ∙ (said_on (beginning first moment) (asking_told turns) (told_behind turns t)
-        ∙ ap (λ (k : Course). said_to first moment turns ++ said_of channel (with_more k (spent (told_behind turns t) moment)) (told_behind turns t)) is)
+        ∙ ap (λ (k : Course). output_behind_turns first moment turns ++ said_of channel (with_more k (times_of_answers (told_behind turns t) moment)) (told_behind turns t)) is)
 
     -- the reply to a request
     module _ (m : Request) (fits : IsTrue (request.encodable m)) where
       abbrev out : List ℕ × ℕ
       out = replied (lane_back turns) (response.canonical (response_behind first moment turns m)) number (id_behind turns)
 
-      pub said-call : said_to first moment (turns ++ Ask m ∷ []) ≡ said_to first moment turns ++ out.0
+      pub said-call : output_behind_turns first moment (turns ++ Ask m ∷ []) ≡ output_behind_turns first moment turns ++ out.0
       said-call =
           said-push (Ask m)
-          ∙ ap (λ (o : List ℕ). said_to first moment turns ++ o)
+          ∙ ap (λ (o : List ℕ). output_behind_turns first moment turns ++ o)
           (append-nil (reply_with channel (token_behind turns) (id_behind turns) (here (Ask m)) (answered (state_behind first moment turns) moment (request.canonical m))).0
           ∙ ap (λ (g : State × _). (reply_with channel (token_behind turns) (id_behind turns) (here (Ask m)) g).0) (answered_is (state_behind first moment turns) moment m fits))
 
@@ -81,10 +81,10 @@ module _ (first : State) (moment : DateTime) where
           ∙ ap (λ (s : State). record { state = s; number = out.1; moments = []; agreement = Some agreement }) (sym (state-push first moment turns (Ask m))))
 
     -- the answer to a renewal
-    pub said-renewal : said_to first moment (turns ++ Renew ∷ []) ≡ said_to first moment turns ++ frame_octets (opened_frame channel number (id_behind turns) 0 (token_behind turns + 1) token_lifetime moment)
+    pub said-renewal : output_behind_turns first moment (turns ++ Renew ∷ []) ≡ output_behind_turns first moment turns ++ frame_octets (opened_frame channel number (id_behind turns) 0 (token_behind turns + 1) token_lifetime moment)
     said-renewal =
         said-push Renew
-        ∙ ap (λ (o : List ℕ). said_to first moment turns ++ o) (append-nil (frame_octets (opened_frame channel number (id_behind turns) 0 (token_behind turns + 1) token_lifetime moment)))
+        ∙ ap (λ (o : List ℕ). output_behind_turns first moment turns ++ o) (append-nil (frame_octets (opened_frame channel number (id_behind turns) 0 (token_behind turns + 1) token_lifetime moment)))
 
     pub number-renewal : NumberIs first moment (turns ++ Renew ∷ []) (next_number number)
     number-renewal =
@@ -92,6 +92,6 @@ module _ (first : State) (moment : DateTime) where
         ∙ ap (λ (s : State). record { state = s; number = next_number number; moments = []; agreement = Some agreement }) (sym (state-push first moment turns Renew))
 
   -- the CLO adds nothing to what is said
-  pub said-closed : (turns : List Turn) → all_said first moment turns ≡ said_to first moment turns
+  pub said-closed : (turns : List Turn) → all_said first moment turns ≡ output_behind_turns first moment turns
   unfolding all_told
   said-closed turns = said_over (beginning first moment) (asking_told turns)

@@ -3,9 +3,9 @@ use Rattle.std.specs.Prelude.{ℕ, List}
 use Rattle.ua_builtin.specs.declared.date_time.DateTime.{DateTime}
 use Rattle.ua_frame.specs.Run.{Over}
 use Rattle.ua_nodes.specs.Table.{Nodes}
-use Rattle.ua_server.specs.Said.{said}
+use Rattle.ua_server.specs.Said.{output_of}
 use Rattle.ua_server.specs.State.{State}
-use Rattle.ua_loopback.specs.Says.{spent}
+use Rattle.ua_loopback.specs.Says.{times_of_answers}
 use Rattle.ua_exchange.specs.Accepted.{FirstRefused}
 use Rattle.ua_exchange.specs.Programs.{begun_over, channel}
 use Rattle.ua_exchange.specs.Turns.{all_told}
@@ -15,7 +15,7 @@ use Rattle.ua_exchange.specs.declared.turn.Turn.{Turn}
 
 -- all that a server in this state says to a client that has these turns, with this moment for each answer
 abbrev pub all_said : State → DateTime → List Turn → List ℕ
-all_said first moment turns = said channel first (all_told turns) Over (spent (all_told turns) moment)
+all_said first moment turns = output_of channel first (all_told turns) Over (times_of_answers (all_told turns) moment)
 
 -- the same of a server over these nodes, as the connection begins
 abbrev pub down_octets : Nodes → DateTime → List Turn → List ℕ

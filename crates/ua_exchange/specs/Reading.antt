@@ -12,9 +12,9 @@ use Rattle.ua_channel_laws.specs.ClientReads.{told_reply}
 use Rattle.ua_channel.specs.ClientTable.{client_rules}
 use Rattle.ua_channel.specs.ClientTold.{ClientTold as Heard, ClientTold as heard}
 use Rattle.ua_services.specs.Response.{response}
-use Rattle.ua_server.specs.Said.{said}
+use Rattle.ua_server.specs.Said.{output_of}
 use Rattle.ua_server.specs.State.{State}
-use Rattle.ua_loopback.specs.Says.{spent}
+use Rattle.ua_loopback.specs.Says.{times_of_answers}
 use Rattle.ua_exchange.specs.Programs.{acknowledged, channel}
 use Rattle.ua_exchange.specs.Replies.{lane_back, response_behind}
 use Rattle.ua_exchange.specs.Turns.{asking_told, id_behind, token_behind}
@@ -24,8 +24,8 @@ use Rattle.ua_exchange.specs.declared.turn.Turn.TheVariants.{Ask, Renew}
 -- ---- what the server says
 
 -- up to and with the answers to these turns
-abbrev pub said_to : State → DateTime → List Turn → List ℕ
-said_to first moment turns = said channel first (asking_told turns) Going (spent (asking_told turns) moment)
+abbrev pub output_behind_turns : State → DateTime → List Turn → List ℕ
+output_behind_turns first moment turns = output_of channel first (asking_told turns) Going (times_of_answers (asking_told turns) moment)
 
 -- ---- what the client is told
 
@@ -58,7 +58,7 @@ asking_under id Renew = Renewal id
 
 -- the same of the turn behind those that wait, with its place: where the answers end to those that are answered
 abbrev pub asked_behind : State → DateTime → List Turn → List Turn → Turn → Placed
-asked_behind first moment answered waiting t = (length (said_to first moment answered), asking_under (id_behind (answered ++ waiting)) t)
+asked_behind first moment answered waiting t = (length (output_behind_turns first moment answered), asking_under (id_behind (answered ++ waiting)) t)
 
 -- the turns of groups, one group behind the other
 abbrev pub in_order : List (List Turn) → List Turn

@@ -11,7 +11,7 @@ ghost use Rattle.ua_channel.specs.Asks.{Placed};
 ghost use Rattle.ua_channel.specs.Client.{ClientStands, client_bound_behind, held_octets, client_limits};
 ghost use Rattle.ua_channel.specs.Received.{received};
 ghost use Rattle.ua_channel_laws.specs.ServerReads.{ServerCloses};
-ghost use Rattle.ua_channel.specs.ServerStands.{Stands as ServerStands, bound_after, held_after, limits_of as server_limits};
+ghost use Rattle.ua_channel.specs.ServerStands.{ChannelStands as ServerStands, bound_after, held_after, limits_of as server_limits};
 ghost use Rattle.ua_server.specs.Served.{channel_in};
 ghost use Rattle.ua_server.specs.State.{State};
 ghost use Rattle.ua_exchange.specs.Accepted.{AreAccepted};

@@ -26,7 +26,7 @@ use Rattle.ua_services.proofs.NoneEmpty.{response_takes_some}
 use Rattle.ua_services.specs.Response.{response}
 use Rattle.ua_services.specs.declared.response.Response.{Response}
 use Rattle.ua_server.specs.Reply.{answered}
-use Rattle.ua_server.specs.Said.{Course, behind_first, first_of, left_by, said_of}
+use Rattle.ua_server.specs.Said.{Course, behind_first, first_of, course_after, said_of}
 use Rattle.ua_server.specs.State.{State}
 use Rattle.ua_server.proofs.SaidInParts.{course}
 use Rattle.ua_client.specs.Sent.{calls_at}
@@ -216,7 +216,7 @@ module _ (server client : Limits) (url : Option (List ℕ)) (channel : ℕ) (on 
   pub replies_read : (asks : List Placed) (octets : List ℕ) (told : List Heard) (c : AtClient) (state : State) (n : ℕ) (moments : List DateTime) (id : ℕ) (bodies : List (List ℕ))
       → ClientReads client asks octets told c → AreInStep server client url channel s c → n ≡ c.next → ((k : ℕ) → id ≤ k → k < id + length bodies → is_in k c.pending ≡ true) → id + length bodies ≤ 4294967295 → AllByRecursion (λ (token : ℕ). token ≤ s.issued) c.tokens → c.newest ≡ lane.token
       → AreHeard server client url channel s (length bodies) (length c.tokens) c.newest asks (octets ++ said_of channel (course state n moments (Some g)) (calls_told lane.token id bodies)) (told ++ answers_told back state moments id bodies)
-      (left_by channel (course state n moments (Some g)) (calls_told lane.token id bodies)).number (left_by channel (course state n moments (Some g)) (calls_told lane.token id bodies)).agreement
+      (course_after channel (course state n moments (Some g)) (calls_told lane.token id bodies)).number (course_after channel (course state n moments (Some g)) (calls_told lane.token id bodies)).agreement
   replies_read asks octets told c state n moments id [] r h next waiting few issued newest =
       record { at = c; reads = subst (λ (o : List ℕ). ClientReads client asks o (told ++ []) c) (sym (append-nil octets)) (subst (λ (t : List Heard). ClientReads client asks octets t c) (sym (append-nil told)) r); in_step = h; number_is = next; agreed = refl; issued = issued; newest = refl; held = refl; ends = λ some. absurd (omega (arith, some)) }
   replies_read asks octets told c state n moments id (body ∷ bodies) r h next waiting few issued newest =

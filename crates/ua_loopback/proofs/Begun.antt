@@ -22,7 +22,7 @@ use Rattle.ua_channel_laws.specs.ClientReads.{ClientAgrees, ClientReads, opened_
 use Rattle.ua_channel.specs.ClientSends.{hello_to}
 use Rattle.ua_channel.specs.ClientTable.{client_rules}
 use Rattle.ua_channel.specs.ClientTold.{ClientTold as Heard, ClientTold as heard}
-use Rattle.ua_channel.specs.Line.{Traffic, WhereTold}
+use Rattle.ua_channel.specs.Line.{Traffic, IfTrafficKnown}
 use Rattle.ua_channel_laws.specs.ServerReads.{greeted_at, with_token}
 use Rattle.ua_channel.specs.ServerSends.{opened_frame}
 use Rattle.ua_channel.specs.ServerTold.{Told}
@@ -36,7 +36,7 @@ use Rattle.ua_client.specs.Client.{IsReady, OpensClient, connection_of}
 use Rattle.ua_client.specs.Hearing.{channel_of, untaken_of}
 use Rattle.ua_client.specs.Opening.{IsOpened, OpensAt, hello_octets, open_octets}
 use Rattle.ua_client.specs.Renewing.{IsSettled}
-use Rattle.ua_client.specs.Site.{Site, At, id_at}
+use Rattle.ua_client.specs.ClientPlace.{ClientPlace, StandsAt, id_at}
 use Rattle.ua_client.specs.declared.client.Client.{Client}
 use Rattle.ua_client.specs.declared.connection.Connection.{Connection}
 use Rattle.ua_client.proofs.Carrying.{carried-as}
@@ -44,7 +44,7 @@ use Rattle.ua_loopback.specs.Accepted.{IsAccepted, acknowledged}
 use Rattle.ua_loopback.specs.Beginning.{Beginning}
 use Rattle.ua_loopback.specs.Course.Course.{Begun}
 use Rattle.ua_loopback.specs.Course.{opening_octets}
-use Rattle.ua_loopback.specs.Says.{said_to, state_told}
+use Rattle.ua_loopback.specs.Says.{server_output, state_told}
 use Rattle.ua_loopback.specs.Talking.{AreTalking, IsLineTo, TalksAt, opening}
 use Rattle.ua_loopback.specs.inside.Talking.{CanOpen, StaysTalking, Went}
 use Rattle.ua_loopback.specs.Together.{AreServing, opening_answer}
@@ -57,7 +57,7 @@ use Rattle.ua_loopback.proofs.Talks.{fronts, line_on, talking_as}
 
 -- that a client which opened is settled
 abbrev pub SettlesOpened : Type 0
-SettlesOpened = (x : ClientChannel) (octets : List ℕ) → IsOpened x octets → (s : Site) × (s.octets ≡ octets) × (s.asks ≡ []) × At x s × IsSettled s
+SettlesOpened = (x : ClientChannel) (octets : List ℕ) → IsOpened x octets → (s : ClientPlace) × (s.octets ≡ octets) × (s.asks ≡ []) × StandsAt x s × IsSettled s
 
 no_asks : asked_in [] ≡ []
 unfolding asked_in
@@ -127,7 +127,7 @@ module _ (b : Beginning) (limits : Limits) (url : Option (List ℕ)) (moment : D
   at = o.opens.answers o.fresh.goes
 
   -- where it stands
-  pub settled_there : (s : Site) × (s.octets ≡ o.opens.moves.taken) × (s.asks ≡ []) × At (channel_of o.last) s × IsSettled s
+  pub settled_there : (s : ClientPlace) × (s.octets ≡ o.opens.moves.taken) × (s.asks ≡ []) × StandsAt (channel_of o.last) s × IsSettled s
   settled_there = law (channel_of o.last) o.opens.moves.taken at.1
 
   opens_there : IsOpened (channel_of o.last) settled_there.0.octets
@@ -148,7 +148,7 @@ module _ (b : Beginning) (limits : Limits) (url : Option (List ℕ)) (moment : D
   got_is : o.opens.moves.got ≡ settled_there.0.octets ++ untaken_of o.last
   got_is = ap (λ (t : List ℕ). t ++ o.opens.moves.got) (sym o.fresh.untaken) ∙ (o.opens.moves.parts ∙ ap (λ (t : List ℕ). t ++ untaken_of o.last) (sym settled_there.1))
 
-  carried_so : (sent : List ℕ) → o.opens.sent ≡ sent → WhereTold (Carries o.opens.moves.got sent) first after
+  carried_so : (sent : List ℕ) → o.opens.sent ≡ sent → IfTrafficKnown (Carries o.opens.moves.got sent) first after
   carried_so sent is = carried-as o.opens.moves.got o.opens.sent o.opens.moves.got sent first after refl is o.opens.moves.carried
 
   sent_by : o.opens.sent ≡ opening_octets l url moment
@@ -157,16 +157,16 @@ module _ (b : Beginning) (limits : Limits) (url : Option (List ℕ)) (moment : D
   line_then : IsLineTo b (opening_octets l url moment) o.opens.moves.got after
   line_then = line_on b [] [] (opening_octets l url moment) o.opens.moves.got first after line (carried_so (opening_octets l url moment) sent_by)
 
-  front_is : Extends settled_there.0.octets (said_to b (opening_octets l url moment))
+  front_is : Extends settled_there.0.octets (server_output b (opening_octets l url moment))
   front_is = fronts b after (opening_octets l url moment) o.opens.moves.got settled_there.0.octets (untaken_of o.last) line_then got_is
 
   short : url_length url ≤ 4095
   short = short_url b l url moment (channel_of o.last) settled_there.0.octets can.hello_fits can.url_fits opens_there front_is
 
-  said_is : said_to b (opening_octets l url moment) ≡ opening_answer b l url
+  said_is : server_output b (opening_octets l url moment) ≡ opening_answer b l url
   said_is = opening_said b l url moment can.hello_fits short can.dated
 
-  octets_are : settled_there.0.octets ≡ said_to b (opening_octets l url moment)
+  octets_are : settled_there.0.octets ≡ server_output b (opening_octets l url moment)
   octets_are = opening_taken b url (channel_of o.last) settled_there.0.octets moment opens_there can (subst (Extends settled_there.0.octets) said_is front_is) ∙ sym said_is
 
   serves : AreServing b url (opening_octets l url moment) (opening_told b.limits l url) (with_token (greeted_at (hello_to l url))) (channel_of o.last) settled_there.0 (opened_at (ack_to (hello_to l url) b.limits) b.channel 1 (next_number 1))

@@ -4,7 +4,7 @@ use Rattle.ua_builtin.specs.DateTime.{date_time}
 use Rattle.ua_builtin.specs.declared.date_time.DateTime.{DateTime}
 use Rattle.ua_frame.specs.declared.limits.Limits.{Limits}
 use Rattle.ua_channel.specs.Client.{SameClient}
-use Rattle.ua_channel.specs.Line.{Traffic, WhereTold}
+use Rattle.ua_channel.specs.Line.{Traffic, IfTrafficKnown}
 use Rattle.ua_channel_laws.specs.ServerReads.{ServerCloses}
 use Rattle.ua_channel.specs.ServerTold.{Closed}
 use Rattle.ua_services.specs.declared.request.Request.{Request}
@@ -12,10 +12,10 @@ use Rattle.ua_server.specs.State.{State}
 use Rattle.ua_client.specs.Carried.{Carries}
 use Rattle.ua_client.specs.Calls.{AnsweredAll, BrokenAll, CallsAll, all_of}
 use Rattle.ua_client.specs.Client.{Closes, IsLeft, IsReady, OpensClient, OpensNothing, client_channel, connection_of}
-use Rattle.ua_client.specs.Hearing.{Moves, StopsAt, most_reads}
+use Rattle.ua_client.specs.Hearing.{MovesConnection, StopsAt, most_reads}
 use Rattle.ua_client.specs.Kept.{CallsInto}
 use Rattle.ua_client.specs.Renewing.{Renews}
-use Rattle.ua_client.specs.Site.{At}
+use Rattle.ua_client.specs.ClientPlace.{StandsAt}
 use Rattle.ua_client.specs.declared.client.Client.{Client}
 use Rattle.ua_client.specs.declared.fault.CallsFault.{CallsFault}
 use Rattle.ua_client.specs.declared.fault.ClientFault.{ClientFault}
@@ -27,7 +27,7 @@ use Rattle.ua_loopback.specs.Accepted.{IsTurnFault, tokens_held, turn_refusal}
 use Rattle.ua_loopback.specs.Beginning.{Beginning}
 use Rattle.ua_loopback.specs.Faults.{FailsBehind, IsOutside}
 use Rattle.ua_loopback.specs.Replies.{HaveMisanswer, lane_back, requests_replies, turn_state}
-use Rattle.ua_loopback.specs.Says.{left_by, said_to}
+use Rattle.ua_loopback.specs.Says.{services_after, server_output}
 use Rattle.ua_loopback.specs.Sends.{closing_behind}
 use Rattle.ua_loopback.specs.Talking.{IsBehindFirst, IsLineTo, IsSentOver, IsTalking, Reads, SoFar, acked_in, closed_octets, id_in, newest_in, octets_of, opening, state_in, told_in, with_turn}
 use Rattle.ua_loopback.specs.Turns.{turn_told}
@@ -51,7 +51,7 @@ opens_talk limits url moment before after client law (inr o) b able line = recor
 
 -- ---- what is sent
 
-pub sent_over : (got sent octets : List ℕ) (before after : Option Traffic) → sent ≡ octets → WhereTold (Carries got sent) before after → IsSentOver octets before after
+pub sent_over : (got sent octets : List ℕ) (before after : Option Traffic) → sent ≡ octets → IfTrafficKnown (Carries got sent) before after → IsSentOver octets before after
 sent_over got sent octets None after is carried = carried
 sent_over got sent octets (Some f) None is carried = absurd carried
 sent_over got sent octets (Some f) (Some g) is carried = carried.written ∙ ap (λ (o : List ℕ). f.written ++ o) is
@@ -62,7 +62,7 @@ module _ (t : SoFar) (moment : DateTime) (turn : Option (List Request)) (y : Cli
   pub reads_turn : Reads t.server (with_turn t moment turn).octets (told_in t ++ turn_told (newest_in t) (id_in t) turn)
   reads_turn = turn_read t moment turn k.site (connection_of y) after k.talks
 
-  pub leaves_turn : left_by t.server (with_turn t moment turn).octets ≡ turn_state (state_in t) t.server.moment turn
+  pub leaves_turn : services_after t.server (with_turn t moment turn).octets ≡ turn_state (state_in t) t.server.moment turn
   leaves_turn = turn_left t moment turn k.site (connection_of y) after k.talks
 
 -- a client may be called behind a fault that is a reason against a turn
@@ -84,12 +84,12 @@ goes_on y fault.Closed is left = absurd is
 
 module _ (t : SoFar) (x : Client) (before : Option Traffic) (k : IsTalking t x before) where
   -- where it stands
-  pub stands_there : At (client_channel x) k.site
+  pub stands_there : StandsAt (client_channel x) k.site
   stands_there = k.talks.talking.served.serving.together.stands
 
   -- ---- it calls
 
-  module _ (y : Client) (after : Option Traffic) (law : NonePending) (moment : DateTime) (requests : List Request) (sent : List ℕ) (moves : Moves (connection_of x) (connection_of y) sent before after) (same : SameClient (client_channel x) (client_channel y)) where
+  module _ (y : Client) (after : Option Traffic) (law : NonePending) (moment : DateTime) (requests : List Request) (sent : List ℕ) (moves : MovesConnection (connection_of x) (connection_of y) sent before after) (same : SameClient (client_channel x) (client_channel y)) where
     module _ (replies : List Reply) (q : AnsweredAll requests k.site (client_channel y) sent moves.taken replies) where
       pub asks_on : IsReady y → IsTalking (with_turn t moment (Some requests)) y after
       asks_on ready = record {
@@ -174,10 +174,10 @@ module _ (t : SoFar) (x : Client) (before : Option Traffic) (k : IsTalking t x b
         sent_over [] c.sent (closing_behind (acked_in t) t.server.channel moment t.turns) before after
         (c.answers k.site stands_there ∙ closing_is t k.site (connection_of x) before k.talks moment) c.carried
 
-    pub silent_there : said_to t.server (closed_octets t moment) ≡ said_to t.server t.octets
+    pub silent_there : server_output t.server (closed_octets t moment) ≡ server_output t.server t.octets
     silent_there = closes_silent t k.site (connection_of x) before k.talks moment
 
-    pub left_there : left_by t.server (closed_octets t moment) ≡ state_in t
+    pub left_there : services_after t.server (closed_octets t moment) ≡ state_in t
     left_there = closes_left t k.site (connection_of x) before k.talks moment
 
     pub closes_fails : (after : Option Traffic) (f : ClientFault) → Closes {A = Unit {0}} moment (client_channel x) before after (Err f) → IsOutside f

@@ -7,7 +7,7 @@ use Rattle.ua_builtin.specs.declared.date_time.DateTime.{DateTime}
 use Rattle.ua_frame.specs.Agreement.{url_length}
 use Rattle.ua_frame.specs.Run.{End, Going, Over, Stopped}
 use Rattle.ua_frame.specs.declared.limits.Limits.{Limits}
-use Rattle.ua_channel.specs.Line.{Traffic, WhereTold}
+use Rattle.ua_channel.specs.Line.{Traffic, IfTrafficKnown}
 use Rattle.ua_channel_laws.specs.ServerReads.{ServerCloses}
 use Rattle.ua_channel.specs.ServerTold.{Told}
 use Rattle.ua_channel.specs.declared.client.channel.ClientChannel.{ClientChannel}
@@ -20,7 +20,7 @@ use Rattle.ua_client.specs.Hearing.{channel_of, untaken_of}
 use Rattle.ua_client.specs.Calls.{AreGroups, all_of}
 use Rattle.ua_client.specs.Kept.{CallsInto, KeepsAt}
 use Rattle.ua_client.specs.Renewing.{IsRefusal, IsRenewed, Renews, RenewsAt, renewal_at}
-use Rattle.ua_client.specs.Site.{Site}
+use Rattle.ua_client.specs.ClientPlace.{ClientPlace}
 use Rattle.ua_client.specs.declared.client.Client.{Client}
 use Rattle.ua_client.specs.declared.connection.Connection.{Connection}
 use Rattle.ua_client.specs.declared.fault.ClientFault.{ClientFault}
@@ -39,7 +39,7 @@ use Rattle.ua_loopback.specs.Kept.{EndsAt, LeavesAt, Served, traffic_of}
 use Rattle.ua_loopback.specs.Faults.{BehindRefused, FailsBehind}
 use Rattle.ua_loopback.specs.Replies.{HasMisanswer, HaveMisanswers, lane_back, turn_replies, turns_replies, turns_state}
 use Rattle.ua_loopback.specs.Sends.{closing_behind, conversation_octets, turns_octets}
-use Rattle.ua_loopback.specs.Says.{end_by, left_by, said_to, state_told}
+use Rattle.ua_loopback.specs.Says.{end_by, services_after, server_output, state_told}
 use Rattle.ua_loopback.specs.Talking.{IsLineTo, IsTalking, SoFar, TalksAt, acked_in, closed_octets, octets_of, state_in, newest_in, with_turn}
 use Rattle.ua_loopback.specs.inside.Talking.{CanOpen, StaysBefore, StaysBehind, StaysTalking, Talked, Went, WentBefore}
 use Rattle.ua_loopback.specs.Turns.{conversation_told, opening_told, turns_told}
@@ -56,7 +56,7 @@ use Rattle.ua_loopback.proofs.Talks.{breaks_refused, got_on, rounds_octets}
 -- ---- a turn that is refused
 
 -- none of a group's replies is kept
-none_kept : (requests : List Request) (s : Site) (new : Connection) (taken : List ℕ) (f : ClientFault) (n : ℕ) (kept : List Reply) → IsTurnFault f → KeepsAt requests s new taken f n kept → kept ≡ []
+none_kept : (requests : List Request) (s : ClientPlace) (new : Connection) (taken : List ℕ) (f : ClientFault) (n : ℕ) (kept : List Reply) → IsTurnFault f → KeepsAt requests s new taken f n kept → kept ≡ []
 none_kept requests s new taken fault.NotWritable n kept reason h = h.1
 none_kept requests s new taken fault.Exhausted n kept reason h = h.1
 none_kept requests s new taken fault.TooLarge n kept reason h = h.1
@@ -73,7 +73,7 @@ none_kept requests s new taken fault.OutOfMemory n kept reason h = absurd reason
 none_kept requests s new taken fault.Closed n kept reason h = absurd reason
 
 -- a renewal that is refused is not asked
-is_refusal : (s : Site) (moment : DateTime) (new : ClientChannel) (sent taken : List ℕ) (f : ClientFault) → IsTurnFault f → RenewsAt {A = Unit {0}} s moment new sent taken (Err f) → IsRefusal {A = Unit {0}} (Err f)
+is_refusal : (s : ClientPlace) (moment : DateTime) (new : ClientChannel) (sent taken : List ℕ) (f : ClientFault) → IsTurnFault f → RenewsAt {A = Unit {0}} s moment new sent taken (Err f) → IsRefusal {A = Unit {0}} (Err f)
 is_refusal s moment new sent taken fault.NotWritable reason h = absurd h
 is_refusal s moment new sent taken fault.Exhausted reason h = tt
 is_refusal s moment new sent taken fault.TooLarge reason h = absurd h
@@ -96,7 +96,7 @@ groups_front (g ∷ groups) group h = (h.0, h.1, λ some. h.2 (omega (arith, som
 
 -- ---- a turn
 
-module _ (b : Beginning) (limits : Limits) (url : Option (List ℕ)) (moment : DateTime) (opened : Site) (turns : List (Option (List Request))) (x y : Connection) (first now after : Option Traffic) (had have : List Reply) (s : StaysTalking b limits url moment opened turns x first now had) where
+module _ (b : Beginning) (limits : Limits) (url : Option (List ℕ)) (moment : DateTime) (opened : ClientPlace) (turns : List (Option (List Request))) (x y : Connection) (first now after : Option Traffic) (had have : List Reply) (s : StaysTalking b limits url moment opened turns x first now had) where
   abbrev opening : List ℕ
   opening = opening_octets limits url moment
 
@@ -122,13 +122,13 @@ module _ (b : Beginning) (limits : Limits) (url : Option (List ℕ)) (moment : D
       ∙ (ap (λ (os : List (Option Reply)). turns_replies b limits url b.first 1 turns ++ os) replied ∙ sym (replies_push b limits url b.first 1 turns turn))))
 
   -- where both ends are behind it
-  talks_on : (turn : Option (List Request)) (u : Site) (sent : List ℕ) → sent ≡ octets_of talk moment turn → TalksAt (with_turn talk moment turn) u y after
+  talks_on : (turn : Option (List Request)) (u : ClientPlace) (sent : List ℕ) → sent ≡ octets_of talk moment turn → TalksAt (with_turn talk moment turn) u y after
       → TalksAt (record { server = b; limits = limits; url = url; turns = turns ++ turn ∷ []; octets = opening ++ (was.sent ++ sent) }) u y after
   talks_on turn u sent is talks =
       subst (λ (o : List ℕ). TalksAt (record { server = b; limits = limits; url = url; turns = turns ++ turn ∷ []; octets = o }) u y after)
       (ap (λ (o : List ℕ). (opening ++ was.sent) ++ o) (sym is) ∙ append_assoc opening was.sent sent) talks
 
-  carried_on : (got sent : List ℕ) → WhereTold (Carries got sent) now after → WhereTold (Carries (was.got ++ got) (opening ++ (was.sent ++ sent))) first after
+  carried_on : (got sent : List ℕ) → IfTrafficKnown (Carries got sent) now after → IfTrafficKnown (Carries (was.got ++ got) (opening ++ (was.sent ++ sent))) first after
   carried_on got sent carried =
       carried-as (was.got ++ got) ((opening ++ was.sent) ++ sent) (was.got ++ got) (opening ++ (was.sent ++ sent)) first after refl (append_assoc opening was.sent sent)
       (carried-then was.got (opening ++ was.sent) got sent first now after was.carried carried)
@@ -158,7 +158,7 @@ module _ (b : Beginning) (limits : Limits) (url : Option (List ℕ)) (moment : D
   renewed_on : IsTrue (date_time.encodable moment) → (done : Unit {0}) → Renews {A = Unit {0}} moment x y now after (Ok done) → have ≡ had → StaysTalking b limits url moment opened (turns ++ None ∷ []) y first after have
   renewed_on dated done c same =
       let a = c.answers was.site was.at in
-      let u : Site = a.1.0 in
+      let u : ClientPlace = a.1.0 in
       let renewed : IsRenewed (channel_of y) was.site u c.moves.taken = a.1.1 in
       let sent_is : c.sent ≡ octets_of talk moment None = renewing_sent talk was.site x now s.talks y after moment dated done c was.at in
       record {
@@ -244,7 +244,7 @@ module _ (b : Beginning) (limits : Limits) (url : Option (List ℕ)) (moment : D
       })
 
 -- why it fails that a client talks to a server and takes this turn
-pub asked_fails : (b : Beginning) (limits : Limits) (url : Option (List ℕ)) (moment : DateTime) (opened : Site) (turns : List (Option (List Request))) (x : Client) (first now : Option Traffic) (had : List Reply) → StaysTalking b limits url moment opened turns (connection_of x) first now had
+pub asked_fails : (b : Beginning) (limits : Limits) (url : Option (List ℕ)) (moment : DateTime) (opened : ClientPlace) (turns : List (Option (List Request))) (x : Client) (first now : Option Traffic) (had : List Reply) → StaysTalking b limits url moment opened turns (connection_of x) first now had
     → IsReady x → (t asked : Option (List Request)) → t ≡ asked → (f : ClientFault) → ((talk : SoFar) → IsTalking talk x now → FailsBehind (HasMisanswer (state_in talk) talk.server.moment asked) f)
     → FailsBehind (HasMisanswer (turns_state b.first b.moment turns) b.moment t) f
 asked_fails b limits url moment opened turns x first now had s ready t asked is f fails =
@@ -283,13 +283,13 @@ talked_all b limits url moment turns x first now after replies w y later done s 
       up_is =
           ap (λ (o : List ℕ). opening ++ (o ++ closing_at was.site moment)) s.sent_is
           ∙ ap (λ (o : List ℕ). opening ++ (turns_octets (acked_in talk) b.channel moment 1 2 2 turns ++ o)) closing;
-      took = s.talks.talking.served.serving.taken ∙ (sym (closes_silent talk was.site y later s.talks moment) ∙ ap (said_to b) (sym all));
+      took = s.talks.talking.served.serving.taken ∙ (sym (closes_silent talk was.site y later s.talks moment) ∙ ap (server_output b) (sym all));
       closes = subst (λ (o : List ℕ). ServerCloses b.limits b.channel o (conversation_told b.limits limits url turns)) (sym all) (closes_read talk was.site y later s.talks moment);
     }
 
 -- over a line to a server
 pub conversed : (b : Beginning) (limits : Limits) (url : Option (List ℕ)) (moment : DateTime) (turns : List (Option (List Request))) (old new : Served) (replies : List Reply) → old.up ≡ []
-    → Talked b limits url moment turns (Some (traffic_of b old)) (Some (traffic_of b new)) replies → Converses limits url moment turns new.up (said_to b new.up) replies
+    → Talked b limits url moment turns (Some (traffic_of b old)) (Some (traffic_of b new)) replies → Converses limits url moment turns new.up (server_output b new.up) replies
 conversed b limits url moment turns old new replies none t =
     let sent : List ℕ = opening_octets limits url moment ++ (t.sent ++ closing_at t.last moment) in
     let up_is : new.up ≡ sent = t.carried.written ∙ ap (λ (o : List ℕ). o ++ sent) none in
@@ -302,7 +302,7 @@ conversed b limits url moment turns old new replies none t =
       sent = t.sent;
       course = t.course;
       up_is = up_is;
-      took = t.took ∙ ap (said_to b) (sym up_is);
+      took = t.took ∙ ap (server_output b) (sym up_is);
     }
 
 -- and the server was told just this
@@ -314,7 +314,7 @@ closed_by b limits url moment turns old new replies none t =
 
 -- the line as it begins
 pub line_begins : (b : Beginning) (old : Served) → old.up ≡ [] → old.read ≡ 0 → IsLineTo b [] [] (Some (traffic_of b old))
-line_begins b old none nothing_read = λ more. sym (ap (λ (n : ℕ). drop n (said_to b (old.up ++ more))) nothing_read ∙ ap (λ (u : List ℕ). said_to b (u ++ more)) none)
+line_begins b old none nothing_read = λ more. sym (ap (λ (n : ℕ). drop n (server_output b (old.up ++ more))) nothing_read ∙ ap (λ (u : List ℕ). server_output b (u ++ more)) none)
 
 -- ---- turns, one behind the other
 
@@ -322,7 +322,7 @@ line_begins b old none nothing_read = λ more. sym (ap (λ (n : ℕ). drop n (sa
 module _ {A : Type 0} (turn_of : A → Option (List Request)) where
   -- so many turns were taken
   pub record TakenSoFar (moment : DateTime) (turns : List A) (index : ℕ) (x y : Client) (before now : Option Traffic) (had have : List Reply) : Type 0 where
-    pub stays : (b : Beginning) (limits : Limits) (url : Option (List ℕ)) (opened : Site) (first : Option Traffic) → StaysTalking b limits url moment opened [] (connection_of x) first before had
+    pub stays : (b : Beginning) (limits : Limits) (url : Option (List ℕ)) (opened : ClientPlace) (first : Option Traffic) → StaysTalking b limits url moment opened [] (connection_of x) first before had
         → StaysTalking b limits url moment opened (map turn_of (take index turns)) (connection_of y) first now have
     pub ready : IsReady y
 
@@ -336,7 +336,7 @@ module _ {A : Type 0} (turn_of : A → Option (List Request)) where
 
   pub taken_more : (moment : DateTime) (turns : List A) (index : ℕ) (x y z : Client) (before now after : Option Traffic) (had have later : List Reply) (t : A) → TakenSoFar moment turns index x y before now had have
       → index < length turns → t ≡ get_or turns index t
-      → ((b : Beginning) (limits : Limits) (url : Option (List ℕ)) (opened : Site) (done : List (Option (List Request))) (first : Option Traffic) → StaysTalking b limits url moment opened done (connection_of y) first now have
+      → ((b : Beginning) (limits : Limits) (url : Option (List ℕ)) (opened : ClientPlace) (done : List (Option (List Request))) (first : Option Traffic) → StaysTalking b limits url moment opened done (connection_of y) first now have
       → StaysTalking b limits url moment opened (done ++ turn_of t ∷ []) (connection_of z) first after later)
       → IsReady z → TakenSoFar moment turns (index + 1) x z before after had later
   taken_more moment turns index x y z before now after had have later t so less is turn ready = record {
@@ -349,9 +349,9 @@ module _ {A : Type 0} (turn_of : A → Option (List Request)) where
   -- the next one is not taken
   pub refused_next : (moment : DateTime) (turns : List A) (index : ℕ) (x y : Client) (before now : Option Traffic) (had have : List Reply) (t : A) (f : ClientFault) → TakenSoFar moment turns index x y before now had have
       → index < length turns → t ≡ get_or turns index t
-      → ((b : Beginning) (limits : Limits) (url : Option (List ℕ)) (opened : Site) (done : List (Option (List Request))) (first : Option Traffic) → StaysTalking b limits url moment opened done (connection_of y) first now have
+      → ((b : Beginning) (limits : Limits) (url : Option (List ℕ)) (opened : ClientPlace) (done : List (Option (List Request))) (first : Option Traffic) → StaysTalking b limits url moment opened done (connection_of y) first now have
       → turn_refusal (acknowledged b.limits limits url) done (turn_of t) ≡ Some f)
-      → (b : Beginning) (limits : Limits) (url : Option (List ℕ)) (opened : Site) (first : Option Traffic) → StaysTalking b limits url moment opened [] (connection_of x) first before had
+      → (b : Beginning) (limits : Limits) (url : Option (List ℕ)) (opened : ClientPlace) (first : Option Traffic) → StaysTalking b limits url moment opened [] (connection_of x) first before had
       → FirstRefused (acknowledged b.limits limits url) (map turn_of turns) index f
   refused_next moment turns index x y before now had have t f so less is refused b limits url opened first s =
       let done = so.stays b limits url opened first s in
@@ -372,9 +372,9 @@ module _ {A : Type 0} (turn_of : A → Option (List Request)) where
   -- what stands before it was done
   pub before_next : (moment : DateTime) (turns : List A) (index : ℕ) (x y z : Client) (before now after : Option Traffic) (had have later : List Reply) (t : A) → TakenSoFar moment turns index x y before now had have
       → index < length turns → t ≡ get_or turns index t
-      → ((b : Beginning) (limits : Limits) (url : Option (List ℕ)) (opened : Site) (done : List (Option (List Request))) (first : Option Traffic) → StaysTalking b limits url moment opened done (connection_of y) first now have
+      → ((b : Beginning) (limits : Limits) (url : Option (List ℕ)) (opened : ClientPlace) (done : List (Option (List Request))) (first : Option Traffic) → StaysTalking b limits url moment opened done (connection_of y) first now have
       → StaysBehind b limits url moment opened done (turn_of t) (connection_of z) first after later)
-      → (b : Beginning) (limits : Limits) (url : Option (List ℕ)) (opened : Site) (first : Option Traffic) → StaysTalking b limits url moment opened [] (connection_of x) first before had
+      → (b : Beginning) (limits : Limits) (url : Option (List ℕ)) (opened : ClientPlace) (first : Option Traffic) → StaysTalking b limits url moment opened [] (connection_of x) first before had
       → StaysBefore b limits url moment opened (map turn_of turns) index (connection_of z) first after later
   before_next moment turns index x y z before now after had have later t so less is refused b limits url opened first s =
       let behind = refused b limits url opened (map turn_of (take index turns)) first (so.stays b limits url opened first s) in
@@ -398,9 +398,9 @@ module _ {A : Type 0} (turn_of : A → Option (List Request)) where
   -- or fails
   pub fails_next : (moment : DateTime) (turns : List A) (index : ℕ) (x y : Client) (before now : Option Traffic) (had have : List Reply) (t : A) (f : ClientFault) → TakenSoFar moment turns index x y before now had have
       → index < length turns → t ≡ get_or turns index t
-      → ((b : Beginning) (limits : Limits) (url : Option (List ℕ)) (opened : Site) (done : List (Option (List Request))) (first : Option Traffic) → StaysTalking b limits url moment opened done (connection_of y) first now have
+      → ((b : Beginning) (limits : Limits) (url : Option (List ℕ)) (opened : ClientPlace) (done : List (Option (List Request))) (first : Option Traffic) → StaysTalking b limits url moment opened done (connection_of y) first now have
       → FailsBehind (HasMisanswer (turns_state b.first b.moment done) b.moment (turn_of t)) f)
-      → (b : Beginning) (limits : Limits) (url : Option (List ℕ)) (opened : Site) (first : Option Traffic) → StaysTalking b limits url moment opened [] (connection_of x) first before had
+      → (b : Beginning) (limits : Limits) (url : Option (List ℕ)) (opened : ClientPlace) (first : Option Traffic) → StaysTalking b limits url moment opened [] (connection_of x) first before had
       → FailsBehind (HaveMisanswers b.first b.moment (map turn_of turns)) f
   fails_next moment turns index x y before now had have t f so less is fails b limits url opened first s =
       let done : List (Option (List Request)) = map turn_of (take index turns) in
@@ -414,7 +414,7 @@ module _ {A : Type 0} (turn_of : A → Option (List Request)) where
       (fails b limits url opened done first (so.stays b limits url opened first s))
 
   pub taken_all : (moment : DateTime) (turns : List A) (index : ℕ) (x y : Client) (before now : Option Traffic) (had have : List Reply) → TakenSoFar moment turns index x y before now had have → length turns ≤ index
-      → (b : Beginning) (limits : Limits) (url : Option (List ℕ)) (opened : Site) (first : Option Traffic) → StaysTalking b limits url moment opened [] (connection_of x) first before had
+      → (b : Beginning) (limits : Limits) (url : Option (List ℕ)) (opened : ClientPlace) (first : Option Traffic) → StaysTalking b limits url moment opened [] (connection_of x) first before had
       → StaysTalking b limits url moment opened (map turn_of turns) (connection_of y) first now have
   taken_all moment turns index x y before now had have so enough b limits url opened first s =
       subst (λ (ts : List A). StaysTalking b limits url moment opened (map turn_of ts) (connection_of y) first now have) (take_all index turns enough) (so.stays b limits url opened first s)
@@ -460,7 +460,7 @@ opens_by limits url moment before after f is (inr o) = by _ _ _ _ _ f is (o.open
     by _ _ _ _ _ fault.OutOfMemory reason k = reason
     by _ _ _ _ _ fault.Closed reason k = reason
 
-pub closes_by : (s : Site) (moment : DateTime) (sent : List ℕ) (f : ClientFault) → IsTurnFault f → ClosesAt {A = Unit {0}} s moment sent (Err f) → ⊥
+pub closes_by : (s : ClientPlace) (moment : DateTime) (sent : List ℕ) (f : ClientFault) → IsTurnFault f → ClosesAt {A = Unit {0}} s moment sent (Err f) → ⊥
 closes_by s moment sent fault.NotWritable is k = k
 closes_by s moment sent fault.Exhausted is k = k
 closes_by s moment sent fault.TooLarge is k = k
@@ -495,7 +495,7 @@ closed_well (Ok done) b limits channel first moment s up told is e q =
     ends_closed b s up e (end_is b up here.frames [] Over here.run)
 
 -- and the services are what it left
-pub left_well : (r : Result (Unit {0}) ClientFault) (b : Beginning) (s : Stage) (up : List ℕ) (now : State) → LeavesAt s b up now → OnOk r (s ≡ stage.Ended ending.Closed) → OnOk r (now ≡ left_by b up)
+pub left_well : (r : Result (Unit {0}) ClientFault) (b : Beginning) (s : Stage) (up : List ℕ) (now : State) → LeavesAt s b up now → OnOk r (s ≡ stage.Ended ending.Closed) → OnOk r (now ≡ services_after b up)
 left_well (Err f) b s up now leaves closed = tt
 left_well (Ok done) b s up now leaves closed = subst (λ (t : Stage). LeavesAt t b up now) closed leaves
 
@@ -507,7 +507,7 @@ module _ (b : Beginning) (limits : Limits) (channel : ℕ) (services : State) (u
   talked : Talked b limits url moment turns (Some (traffic_of b old)) (Some (traffic_of b new)) replies
   talked = t b (subst (λ (d : Beginning). CanOpen d limits url moment) (sym is) able) (line_begins b old none nothing_read)
 
-  all_conversed : (up down : List ℕ) → up ≡ new.up → down ≡ said_to b new.up → Converses limits url moment turns up down replies
+  all_conversed : (up down : List ℕ) → up ≡ new.up → down ≡ server_output b new.up → Converses limits url moment turns up down replies
   all_conversed up down p q =
       subst (λ (u : List ℕ). Converses limits url moment turns u down replies) (sym p)
       (subst (λ (d : List ℕ). Converses limits url moment turns new.up d replies) (sym q) (conversed b limits url moment turns old new replies none talked))
@@ -526,7 +526,7 @@ module _ (b : Beginning) (limits : Limits) (channel : ℕ) (services : State) (u
   all_replied = talked.replied ∙ ap (λ (d : Beginning). turns_replies d limits url d.first 1 turns) is
 
   -- the state that all of it leaves
-  all_left : (up : List ℕ) → up ≡ new.up → left_by b up ≡ turns_state services moment turns
+  all_left : (up : List ℕ) → up ≡ new.up → services_after b up ≡ turns_state services moment turns
   all_left up p =
       let q = all_closed_there up p in
       left_by_run b up q.frames [] Over q.run
@@ -544,7 +544,7 @@ module _ (b : Beginning) (limits : Limits) (channel : ℕ) (services : State) (u
 pub conversed_on : (r : Result (Unit {0}) ClientFault) (b : Beginning) (limits : Limits) (channel : ℕ) (services : State) (url : Option (List ℕ)) (moment : DateTime) (turns : List (Option (List Request))) (old new : Served) (replies : List Reply) (up down : List ℕ)
     → b ≡ record { limits = limits; channel = channel; first = services; moment = moment } → CanOpen (record { limits = limits; channel = channel; first = services; moment = moment }) limits url moment → old.up ≡ [] → old.read ≡ 0
     → OnOk r ((b' : Beginning) → CanOpen b' limits url moment → IsLineTo b' [] [] (Some (traffic_of b old)) → Talked b' limits url moment turns (Some (traffic_of b old)) (Some (traffic_of b new)) replies)
-    → up ≡ new.up → down ≡ said_to b new.up → OnOk r (Converses limits url moment turns up down replies)
+    → up ≡ new.up → down ≡ server_output b new.up → OnOk r (Converses limits url moment turns up down replies)
 conversed_on (Err f) b limits channel services url moment turns old new replies up down is able none nothing_read t p q = tt
 conversed_on (Ok found) b limits channel services url moment turns old new replies up down is able none nothing_read t p q =
     all_conversed b limits channel services url moment turns old new replies is able none nothing_read t up down p q
@@ -588,7 +588,7 @@ behind_refused b limits url moment turns place old new replies none w =
       done_is = w.stays.done_is;
       sent = up_is ∙ ap (λ (o : List ℕ). opening ++ o) s.sent_is;
       replied = s.replied;
-      state = ap (left_by b) up_is ∙ talk_left talk s.stays.site w.connection (Some (traffic_of b new)) s.talks;
+      state = ap (services_after b) up_is ∙ talk_left talk s.stays.site w.connection (Some (traffic_of b new)) s.talks;
     }
 
 pub before_on : (r : Result (Unit {0}) ClientFault) (b : Beginning) (limits : Limits) (channel : ℕ) (services : State) (url : Option (List ℕ)) (moment : DateTime) (turns : List (Option (List Request))) (old new : Served) (place : ℕ) (replies : List Reply) (up : List ℕ)
@@ -630,6 +630,6 @@ replied_on (Ok found) b limits channel services url moment turns old new replies
 pub state_on : (r : Result (Unit {0}) ClientFault) (b : Beginning) (limits : Limits) (channel : ℕ) (services : State) (url : Option (List ℕ)) (moment : DateTime) (turns : List (Option (List Request))) (old new : Served) (replies : List Reply) (up : List ℕ) (now : State)
     → b ≡ record { limits = limits; channel = channel; first = services; moment = moment } → CanOpen (record { limits = limits; channel = channel; first = services; moment = moment }) limits url moment → old.up ≡ [] → old.read ≡ 0
     → OnOk r ((b' : Beginning) → CanOpen b' limits url moment → IsLineTo b' [] [] (Some (traffic_of b old)) → Talked b' limits url moment turns (Some (traffic_of b old)) (Some (traffic_of b new)) replies)
-    → up ≡ new.up → OnOk r (now ≡ left_by b up) → OnOk r (now ≡ turns_state services moment turns)
+    → up ≡ new.up → OnOk r (now ≡ services_after b up) → OnOk r (now ≡ turns_state services moment turns)
 state_on (Err f) b limits channel services url moment turns old new replies up now is able none nothing_read t p q = tt
 state_on (Ok found) b limits channel services url moment turns old new replies up now is able none nothing_read t p q = q ∙ all_left b limits channel services url moment turns old new replies is able none nothing_read t up p

@@ -26,17 +26,17 @@ use Rattle.ua_channel_laws.proofs.Following.{client_not_failed, client_told}
 use Rattle.ua_channel_laws.proofs.ReadOn.{same_told}
 use Rattle.ua_channel_laws.proofs.ServerReading.{reads_hello}
 use Rattle.ua_services.specs.declared.request.Request.{Request}
-use Rattle.ua_server.specs.Said.{said}
+use Rattle.ua_server.specs.Said.{output_of}
 use Rattle.ua_server.specs.State.{State}
-use Rattle.ua_client.specs.Calls.{BreaksAt, BrokenAll, GoesOn, Rounds, all_of, asked_at, refusal_at, sent_at}
+use Rattle.ua_client.specs.Calls.{BreaksAt, BrokenAll, ClientGoesOn, Rounds, all_of, asked_at, refusal_at, sent_at}
 use Rattle.ua_client.specs.Carried.{IsAtEnd}
 use Rattle.ua_client.specs.Client.{ClosesAt, OpensClient, OpensNothing}
-use Rattle.ua_client.specs.Hearing.{Moves, StopsAt, channel_of, most_reads, untaken_of}
+use Rattle.ua_client.specs.Hearing.{MovesConnection, StopsAt, channel_of, most_reads, untaken_of}
 use Rattle.ua_client.specs.Opening.{BreaksOpening, GoesWithout, hello_octets, open_octets}
 use Rattle.ua_client.specs.Renewing.{RenewsAt, asks_renewed, is_renewed, refused_by, renewal_at, renewal_refusal}
 use Rattle.ua_client.specs.Replies.{AreAwaited, IsMisanswered}
 use Rattle.ua_client.specs.Sent.{bodies_of}
-use Rattle.ua_client.specs.Site.{Site, id_at}
+use Rattle.ua_client.specs.ClientPlace.{ClientPlace, id_at}
 use Rattle.ua_client.specs.declared.client.Client.{Client}
 use Rattle.ua_client.specs.declared.connection.Connection.{Connection}
 use Rattle.ua_client.specs.declared.fault.ClientFault.{ClientFault}
@@ -47,7 +47,7 @@ use Rattle.ua_loopback.specs.Accepted.{acknowledged, held_behind_calls}
 use Rattle.ua_loopback.specs.Beginning.{Beginning}
 use Rattle.ua_loopback.specs.Faults.{FailsBehind, IsOutside}
 use Rattle.ua_loopback.specs.Replies.{HasMisanswer, HaveMisanswer, HaveMisanswers, turn_state, turns_state}
-use Rattle.ua_loopback.specs.Says.{said_to, spent, state_told}
+use Rattle.ua_loopback.specs.Says.{server_output, times_of_answers, state_told}
 use Rattle.ua_loopback.specs.Talking.{AreTalking, IsLineTo}
 use Rattle.ua_loopback.specs.Together.{opening_answer}
 use Rattle.ua_loopback.specs.Turns.{calls_told}
@@ -102,17 +102,17 @@ front_of_front : (octets more all : List ℕ) → Extends (octets ++ more) all �
 front_of_front octets more all e = record { more = more ++ e.more; parts = e.parts ∙ append_assoc octets more e.more }
 
 -- where all that came is taken and nothing is to come, that is all that the server says
-took_said : (b : Beginning) (now : Option Traffic) (sent got taken untaken : List ℕ) → IsLineTo b sent got now → got ≡ taken ++ untaken → untaken ≡ [] → IsAtEnd now → taken ≡ said_to b sent
+took_said : (b : Beginning) (now : Option Traffic) (sent got taken untaken : List ℕ) → IsLineTo b sent got now → got ≡ taken ++ untaken → untaken ≡ [] → IsAtEnd now → taken ≡ server_output b sent
 took_said b None sent got taken untaken line is none end = absurd line
 took_said b (Some g) sent got taken untaken line is none end =
-    let said_is : said_to b sent ≡ got ++ g.coming [] = ap (said_to b) (sym (append-nil sent)) ∙ line [] in
+    let said_is : server_output b sent ≡ got ++ g.coming [] = ap (server_output b) (sym (append-nil sent)) ∙ line [] in
     let got_is : got ≡ taken = is ∙ (ap (λ (o : List ℕ). taken ++ o) none ∙ append-nil taken) in
     sym (said_is ∙ (ap (λ (o : List ℕ). got ++ o) end ∙ (append-nil got ∙ got_is)))
 
 -- ---- behind a talk
 
-module _ (b : Beginning) (limits : Limits) (url : Option (List ℕ)) (octets : List ℕ) (told : List Told) (token id held : ℕ) (site : Site) (x : Connection) (before : Option Traffic) (t : AreTalking b limits url octets told token id held site x before)
-    (y : Connection) (after : Option Traffic) (sent : List ℕ) (moves : Moves x y sent before after) (same : SameClient (channel_of x) (channel_of y)) where
+module _ (b : Beginning) (limits : Limits) (url : Option (List ℕ)) (octets : List ℕ) (told : List Told) (token id held : ℕ) (site : ClientPlace) (x : Connection) (before : Option Traffic) (t : AreTalking b limits url octets told token id held site x before)
+    (y : Connection) (after : Option Traffic) (sent : List ℕ) (moves : MovesConnection x y sent before after) (same : SameClient (channel_of x) (channel_of y)) where
   limits_then : client_limits (channel_of y) ≡ limits
   limits_then = sym same.limits ∙ t.served.limits_are
 
@@ -122,15 +122,15 @@ module _ (b : Beginning) (limits : Limits) (url : Option (List ℕ)) (octets : L
   got_then : t.got ++ moves.got ≡ (site.octets ++ moves.taken) ++ untaken_of y
   got_then = got_on t.got moves.got site.octets (untaken_of x) moves.taken (untaken_of y) t.got_is moves.parts
 
-  front_then : Extends (site.octets ++ moves.taken) (said_to b (octets ++ sent))
+  front_then : Extends (site.octets ++ moves.taken) (server_output b (octets ++ sent))
   front_then = fronts b after (octets ++ sent) (t.got ++ moves.got) (site.octets ++ moves.taken) (untaken_of y) line_then got_then
 
-  all_then : untaken_of y ≡ [] → IsAtEnd after → site.octets ++ moves.taken ≡ said_to b (octets ++ sent)
+  all_then : untaken_of y ≡ [] → IsAtEnd after → site.octets ++ moves.taken ≡ server_output b (octets ++ sent)
   all_then none end = took_said b after (octets ++ sent) (t.got ++ moves.got) (site.octets ++ moves.taken) (untaken_of y) line_then got_then none end
 
   -- ---- requests, of which a group is not answered
 
-  module _ (law : NonePending) (never_before : ToldBehind) (groups : List (List Request)) (group : List Request) (behind : Site) (sent_before sent_then taken_before taken_then : List ℕ) (replies : List Reply)
+  module _ (law : NonePending) (never_before : ToldBehind) (groups : List (List Request)) (group : List Request) (behind : ClientPlace) (sent_before sent_then taken_before taken_then : List ℕ) (replies : List Reply)
       (rounds : Rounds (channel_of y) site groups behind sent_before taken_before replies) (some : AreSome (groups ++ group ∷ [])) (sent_parts : sent ≡ sent_before ++ sent_then) (taken_parts : moves.taken ≡ taken_before ++ taken_then) where
     abbrev all : List Request
     all = all_of groups
@@ -143,21 +143,21 @@ module _ (b : Beginning) (limits : Limits) (url : Option (List ℕ)) (octets : L
     all_sent : octets ++ sent ≡ (octets ++ sent_before) ++ sent_then
     all_sent = ap (λ (o : List ℕ). octets ++ o) sent_parts ∙ sym (append_assoc octets sent_before sent_then)
 
-    front_here : Extends (behind.octets ++ taken_then) (said_to b ((octets ++ sent_before) ++ sent_then))
+    front_here : Extends (behind.octets ++ taken_then) (server_output b ((octets ++ sent_before) ++ sent_then))
     front_here =
-        subst (λ (o : List ℕ). Extends (behind.octets ++ taken_then) (said_to b o)) all_sent
-        (subst (λ (o : List ℕ). Extends o (said_to b (octets ++ sent))) here_is front_then)
+        subst (λ (o : List ℕ). Extends (behind.octets ++ taken_then) (server_output b o)) all_sent
+        (subst (λ (o : List ℕ). Extends o (server_output b (octets ++ sent))) here_is front_then)
 
-    all_here : untaken_of y ≡ [] → IsAtEnd after → behind.octets ++ taken_then ≡ said_to b ((octets ++ sent_before) ++ sent_then)
-    all_here none end = sym here_is ∙ (all_then none end ∙ ap (said_to b) all_sent)
+    all_here : untaken_of y ≡ [] → IsAtEnd after → behind.octets ++ taken_then ≡ server_output b ((octets ++ sent_before) ++ sent_then)
+    all_here none end = sym here_is ∙ (all_then none end ∙ ap (server_output b) all_sent)
 
     -- where both are in front of the group
     first : Behind b limits url octets told token id held site.number sent_before replies all behind
     first =
         let later = said_further b (octets ++ sent_before) sent_then in
         rounds_served b limits url octets told token id held law (channel_of x) t.served limits_then rounds
-        (all_front (λ (g : List Request). 0 < length g) groups group some) (said_to b ((octets ++ sent_before) ++ sent_then))
-        (front_of_front behind.octets taken_then (said_to b ((octets ++ sent_before) ++ sent_then)) front_here) (record { more = later.further; parts = later.parts })
+        (all_front (λ (g : List Request). 0 < length g) groups group some) (server_output b ((octets ++ sent_before) ++ sent_then))
+        (front_of_front behind.octets taken_then (server_output b ((octets ++ sent_before) ++ sent_then)) front_here) (record { more = later.further; parts = later.parts })
 
     some_here : 0 < length group
     some_here = all_last (λ (g : List Request). 0 < length g) groups group some
@@ -169,25 +169,25 @@ module _ (b : Beginning) (limits : Limits) (url : Option (List ℕ)) (octets : L
     same_here = limits_then ∙ sym first.served.limits_are
 
     module _ (judged : refusal_at behind group ≡ None) (sent_is : sent_then ≡ sent_at behind group) where
-      front_asked : Extends (behind.octets ++ taken_then) (said_to b ((octets ++ sent_before) ++ sent_at behind group))
-      front_asked = subst (λ (o : List ℕ). Extends (behind.octets ++ taken_then) (said_to b ((octets ++ sent_before) ++ o))) sent_is front_here
+      front_asked : Extends (behind.octets ++ taken_then) (server_output b ((octets ++ sent_before) ++ sent_at behind group))
+      front_asked = subst (λ (o : List ℕ). Extends (behind.octets ++ taken_then) (server_output b ((octets ++ sent_before) ++ o))) sent_is front_here
 
       fails_not : (heard : List Heard) (why : Why) → ClientEnded (channel_of y) (asked_at behind group) (behind.octets ++ taken_then) heard why → ⊥
       fails_not heard why ended =
           asked_fails_not b url (octets ++ sent_before) told_here first.served.at_server first.channel behind first.served.at_client group first.served.on first.served.serving some_here judged
           (channel_of y) same_here (behind.octets ++ taken_then) heard why ended front_asked
 
-      misses_not : GoesOn (channel_of y) (asked_at behind group) (behind.octets ++ taken_then) behind.told (AreAwaited group (id_at behind)) → untaken_of y ≡ [] → IsAtEnd after → ⊥
+      misses_not : ClientGoesOn (channel_of y) (asked_at behind group) (behind.octets ++ taken_then) behind.told (AreAwaited group (id_at behind)) → untaken_of y ≡ [] → IsAtEnd after → ⊥
       misses_not h none end =
           asked_misses_not b url (octets ++ sent_before) told_here first.served.at_server first.channel behind first.served.at_client group first.served.on first.served.serving some_here judged
-          (channel_of y) same_here (behind.octets ++ taken_then) h (all_here none end ∙ ap (λ (o : List ℕ). said_to b ((octets ++ sent_before) ++ o)) sent_is)
+          (channel_of y) same_here (behind.octets ++ taken_then) h (all_here none end ∙ ap (λ (o : List ℕ). server_output b ((octets ++ sent_before) ++ o)) sent_is)
 
       fits : AreWritable group
       fits =
           writable (acknowledged b.limits limits url) (id + length all) group
           (sym (refused_there b limits url (octets ++ sent_before) told_here token (id + length all) (held_behind_calls held (length all)) behind first.channel first.served group) ∙ judged)
 
-      misanswers : GoesOn (channel_of y) (asked_at behind group) (behind.octets ++ taken_then) behind.told (IsMisanswered group (id_at behind)) → HaveMisanswer (state_told b told) b.moment (all ++ group)
+      misanswers : ClientGoesOn (channel_of y) (asked_at behind group) (behind.octets ++ taken_then) behind.told (IsMisanswered group (id_at behind)) → HaveMisanswer (state_told b told) b.moment (all ++ group)
       misanswers h =
           let there = asked_misanswered b url (octets ++ sent_before) told_here first.served.at_server first.channel behind first.served.at_client group first.served.on first.served.serving some_here judged
           (channel_of y) same_here (behind.octets ++ taken_then) never_before first.served.serving.together.stands h front_asked fits in
@@ -234,10 +234,10 @@ module _ (b : Beginning) (limits : Limits) (url : Option (List ℕ)) (octets : L
     abbrev now : AtClient
     now = with_answer (with_renewal c (id_at site)) (s.issued + 1) (next_number c.next)
 
-    reads_renewal : renewal_refusal site ≡ None → sent ≡ renewal_at site moment → ClientReads (client_limits (channel_of y)) (asks_renewed site) (said_to b (octets ++ sent)) renewed now
+    reads_renewal : renewal_refusal site ≡ None → sent ≡ renewal_at site moment → ClientReads (client_limits (channel_of y)) (asks_renewed site) (server_output b (octets ++ sent)) renewed now
     reads_renewal judged sent_is =
-        subst (λ (l : Limits). ClientReads l (asks_renewed site) (said_to b (octets ++ sent)) renewed now) (t.served.limits_are ∙ sym limits_then)
-        (subst (λ (o : List ℕ). ClientReads (client_limits (channel_of x)) (asks_renewed site) (said_to b (octets ++ o)) renewed now) (sym sent_is)
+        subst (λ (l : Limits). ClientReads l (asks_renewed site) (server_output b (octets ++ sent)) renewed now) (t.served.limits_are ∙ sym limits_then)
+        (subst (λ (o : List ℕ). ClientReads (client_limits (channel_of x)) (asks_renewed site) (server_output b (octets ++ o)) renewed now) (sym sent_is)
         (renewal_heard b url octets told s (channel_of x) site c moment t.served.on t.served.serving judged dated t.served.settled answered))
 
     renewing_fails_not : renewal_refusal site ≡ None → sent ≡ renewal_at site moment → (heard : List Heard) (why : Why) → ClientEnded (channel_of y) (asks_renewed site) (site.octets ++ moves.taken) heard why → ⊥
@@ -278,8 +278,8 @@ module _ (b : Beginning) (limits : Limits) (url : Option (List ℕ)) (octets : L
 -- ---- the opening
 
 -- what a server says of the HEL alone
-said_first : (b : Beginning) (g : Agreement) → said b.channel b.first (Agreed g ∷ []) Going (spent (Agreed g ∷ []) b.moment) ≡ frame_octets (ack_frame g.ack)
-unfolding said
+said_first : (b : Beginning) (g : Agreement) → output_of b.channel b.first (Agreed g ∷ []) Going (times_of_answers (Agreed g ∷ []) b.moment) ≡ frame_octets (ack_frame g.ack)
+unfolding output_of
 said_first b g = append-nil (frame_octets (ack_frame g.ack) ++ []) ∙ append-nil (frame_octets (ack_frame g.ack))
 
 module _ (b : Beginning) (limits : Limits) (url : Option (List ℕ)) (moment : DateTime) (first after : Option Traffic) (why_not : ClientFault) (o : OpensClient limits url moment first after (Err why_not)) (able : CanOpen b limits url moment) (short : url_length url ≤ 4095) (line : IsLineTo b [] [] first) where
@@ -316,20 +316,20 @@ module _ (b : Beginning) (limits : Limits) (url : Option (List ℕ)) (moment : D
   line_open : IsLineTo b sent o.opens.moves.got after
   line_open = line_on b [] [] sent o.opens.moves.got first after line o.opens.moves.carried
 
-  front_is : Extends taken (said_to b sent)
+  front_is : Extends taken (server_output b sent)
   front_is = fronts b after sent o.opens.moves.got taken (untaken_of o.last) line_open got_is
 
-  all_is : untaken_of o.last ≡ [] → IsAtEnd after → taken ≡ said_to b sent
+  all_is : untaken_of o.last ≡ [] → IsAtEnd after → taken ≡ server_output b sent
   all_is none end = took_said b after sent o.opens.moves.got taken (untaken_of o.last) line_open got_is none end
 
-  said_all : said_to b (hello ++ opening) ≡ opening_answer b limits url
+  said_all : server_output b (hello ++ opening) ≡ opening_answer b limits url
   said_all = opening_said b limits url moment able.hello_fits short able.dated
 
-  said_hello : said_to b hello ≡ frame_octets (ack_frame acked)
+  said_hello : server_output b hello ≡ frame_octets (ack_frame acked)
   said_hello =
       let r = reads_hello b.limits b.channel limits url able.hello_fits short in
       said_by_run b hello r.frames [] Going r.run
-      ∙ (ap (λ (t : List Told). said b.channel b.first t Going (spent t b.moment)) r.told_is ∙ said_first b (agreement_of b.limits (hello_to limits url)))
+      ∙ (ap (λ (t : List Told). output_of b.channel b.first t Going (times_of_answers t b.moment)) r.told_is ∙ said_first b (agreement_of b.limits (hello_to limits url)))
 
   reads_all : ClientReads (client_limits x) [] (opening_answer b limits url) all_heard now_open
   reads_all = subst (λ (l : Limits). ClientReads l [] (opening_answer b limits url) all_heard now_open) (sym limits_are) (answer_read b limits url able.ack_fits able.on able.answered)
@@ -338,12 +338,12 @@ module _ (b : Beginning) (limits : Limits) (url : Option (List ℕ)) (moment : D
   front_all : ((sent ≡ hello) ⊎ (sent ≡ hello ++ opening)) → Extends taken (opening_answer b limits url)
   front_all (inl is) =
       let later = said_further b hello opening in
-      let front : Extends taken (said_to b hello) = subst (λ (u : List ℕ). Extends taken (said_to b u)) is front_is in
+      let front : Extends taken (server_output b hello) = subst (λ (u : List ℕ). Extends taken (server_output b u)) is front_is in
       record {
         more = front.more ++ later.further;
         parts = sym said_all ∙ (later.parts ∙ (ap (λ (u : List ℕ). u ++ later.further) front.parts ∙ append_assoc taken front.more later.further));
       }
-  front_all (inr is) = subst (λ (u : List ℕ). Extends taken u) said_all (subst (λ (u : List ℕ). Extends taken (said_to b u)) is front_is)
+  front_all (inr is) = subst (λ (u : List ℕ). Extends taken u) said_all (subst (λ (u : List ℕ). Extends taken (server_output b u)) is front_is)
 
   opening_fails_not : ((sent ≡ hello) ⊎ (sent ≡ hello ++ opening)) → (told : List Heard) (why : Why) → ClientEnded x [] taken told why → ⊥
   opening_fails_not is told why ended =
@@ -353,7 +353,7 @@ module _ (b : Beginning) (limits : Limits) (url : Option (List ℕ)) (moment : D
   -- behind the ACK it was told so
   agrees_then : sent ≡ hello → ClientGoes x [] taken [] → untaken_of o.last ≡ [] → IsAtEnd after → ⊥
   agrees_then is goes none end =
-      let whole : taken ≡ frame_octets (ack_frame acked) = all_is none end ∙ (ap (said_to b) is ∙ said_hello) in
+      let whole : taken ≡ frame_octets (ack_frame acked) = all_is none end ∙ (ap (server_output b) is ∙ said_hello) in
       let agrees : ClientAgrees (client_limits x) taken (heard.Agreed acked ∷ []) acked =
       subst (λ (u : List ℕ). ClientAgrees (client_limits x) u (heard.Agreed acked ∷ []) acked) (sym whole)
       (subst (λ (l : Limits). ClientAgrees l (frame_octets (ack_frame acked)) (heard.Agreed acked ∷ []) acked) (sym limits_are) (reads_ack limits b.limits url able.ack_fits)) in
@@ -363,7 +363,7 @@ module _ (b : Beginning) (limits : Limits) (url : Option (List ℕ)) (moment : D
   -- behind the whole answer it was told that the channel is open
   opens_then : sent ≡ hello ++ opening → (told : Heard) → ClientGoes x [] taken (told ∷ []) → untaken_of o.last ≡ [] → IsAtEnd after → ⊥
   opens_then is told goes none end =
-      let whole : taken ≡ opening_answer b limits url = all_is none end ∙ (ap (said_to b) is ∙ said_all) in
+      let whole : taken ≡ opening_answer b limits url = all_is none end ∙ (ap (server_output b) is ∙ said_all) in
       let told_is : told ∷ [] ≡ all_heard = client_told x [] taken (told ∷ []) all_heard now_open goes (subst (λ (u : List ℕ). ClientReads (client_limits x) [] u all_heard now_open) (sym whole) reads_all) in
       omega (arith, ap length told_is)
 
@@ -404,7 +404,7 @@ open_fails b limits url moment first after f (inr o) able short line = opening_f
 
 -- ---- the close
 
-pub close_fails : (A : Type 0) (s : Site) (moment : DateTime) (sent : List ℕ) (f : ClientFault) → ClosesAt {A = A} s moment sent (Err f) → IsOutside f
+pub close_fails : (A : Type 0) (s : ClientPlace) (moment : DateTime) (sent : List ℕ) (f : ClientFault) → ClosesAt {A = A} s moment sent (Err f) → IsOutside f
 close_fails A s moment out fault.Write h = tt
 close_fails A s moment out fault.OutOfMemory h = tt
 close_fails A s moment out fault.Read h = tt

@@ -12,13 +12,13 @@ use Rattle.ua_channel.specs.Line.{Traffic}
 use Rattle.ua_channel_laws.specs.ServerReads.{ServerCloses}
 use Rattle.ua_channel.specs.ServerTold.{Told, Closed}
 use Rattle.ua_services.specs.declared.request.Request.{Request}
-use Rattle.ua_server.specs.Said.{said}
+use Rattle.ua_server.specs.Said.{output_of}
 use Rattle.ua_server.specs.State.{State}
 use Rattle.ua_client.specs.Calls.{AnsweredAll, BrokenAll, all_of}
 use Rattle.ua_client.specs.Client.{closing_at, closing_by}
-use Rattle.ua_client.specs.Hearing.{Moves, channel_of}
+use Rattle.ua_client.specs.Hearing.{MovesConnection, channel_of}
 use Rattle.ua_client.specs.Renewing.{Renews}
-use Rattle.ua_client.specs.Site.{Site, At, id_at}
+use Rattle.ua_client.specs.ClientPlace.{ClientPlace, StandsAt, id_at}
 use Rattle.ua_client.specs.declared.connection.Connection.{Connection}
 use Rattle.ua_client.specs.declared.fault.ClientFault.{ClientFault}
 use Rattle.ua_client.specs.declared.reply.Reply.{Reply}
@@ -26,7 +26,7 @@ use Rattle.ua_client.proofs.Settled.{NonePending}
 use Rattle.ua_loopback.specs.Accepted.{IsAccepted, IsTurnFault, held_behind, tokens_held, turn_reasons, turn_refusal}
 use Rattle.ua_loopback.specs.Beginning.{Beginning}
 use Rattle.ua_loopback.specs.Replies.{lane_back, requests_replies, turn_state}
-use Rattle.ua_loopback.specs.Says.{left_by, said_to, spent, state_told}
+use Rattle.ua_loopback.specs.Says.{services_after, server_output, times_of_answers, state_told}
 use Rattle.ua_loopback.specs.Sends.{closing_behind, turn_number, turn_octets}
 use Rattle.ua_loopback.specs.Talking.{AreTalking, Reads, SoFar, TalksAt, acked_in, closed_octets, id_in, octets_of, state_in, newest_in, told_in, with_turn}
 use Rattle.ua_loopback.specs.Turns.{id_behind, opening_told, token_behind, turn_told, turns_told}
@@ -47,27 +47,27 @@ told_more t moment turn =
     ap (λ (ts : List Told). first ++ ts) (told_push 1 2 t.turns turn) ∙ sym (append_assoc first (turns_told 1 2 t.turns) (turn_told (newest_in t) (id_in t) turn))
 
 -- the server reads all that was sent
-pub talk_read : (t : SoFar) (site : Site) (x : Connection) (now : Option Traffic) → TalksAt t site x now → Reads t.server t.octets (told_in t)
+pub talk_read : (t : SoFar) (site : ClientPlace) (x : Connection) (now : Option Traffic) → TalksAt t site x now → Reads t.server t.octets (told_in t)
 talk_read t site x now s = (s.talking.served.at_server, s.talking.served.serving.together.server_reads)
 
 -- and its services are as the turns leave them
-pub talk_left : (t : SoFar) (site : Site) (x : Connection) (now : Option Traffic) → TalksAt t site x now → left_by t.server t.octets ≡ state_in t
+pub talk_left : (t : SoFar) (site : ClientPlace) (x : Connection) (now : Option Traffic) → TalksAt t site x now → services_after t.server t.octets ≡ state_in t
 talk_left t site x now s =
     let r = s.talking.served.serving.together.server_reads in
     left_by_run t.server t.octets r.frames [] Going r.run ∙ (ap (λ (ts : List Told). state_told t.server ts) r.told_is ∙ s.state_is)
 
 -- ---- the same behind a turn
 
-module _ (t : SoFar) (moment : DateTime) (turn : Option (List Request)) (site : Site) (y : Connection) (after : Option Traffic) (s : TalksAt (with_turn t moment turn) site y after) where
+module _ (t : SoFar) (moment : DateTime) (turn : Option (List Request)) (site : ClientPlace) (y : Connection) (after : Option Traffic) (s : TalksAt (with_turn t moment turn) site y after) where
   pub turn_read : Reads t.server (with_turn t moment turn).octets (told_in t ++ turn_told (newest_in t) (id_in t) turn)
   turn_read = subst (λ (ts : List Told). Reads t.server (with_turn t moment turn).octets ts) (told_more t moment turn) (talk_read (with_turn t moment turn) site y after s)
 
-  pub turn_left : left_by t.server (with_turn t moment turn).octets ≡ turn_state (state_in t) t.server.moment turn
+  pub turn_left : services_after t.server (with_turn t moment turn).octets ≡ turn_state (state_in t) t.server.moment turn
   turn_left = talk_left (with_turn t moment turn) site y after s ∙ state_push t.server.first t.server.moment t.turns turn
 
 -- ---- one turn more
 
-module _ (t : SoFar) (site : Site) (x : Connection) (before : Option Traffic) (s : TalksAt t site x before) (y : Connection) (after : Option Traffic) (sent : List ℕ) where
+module _ (t : SoFar) (site : ClientPlace) (x : Connection) (before : Option Traffic) (s : TalksAt t site x before) (y : Connection) (after : Option Traffic) (sent : List ℕ) where
   abbrev b : Beginning
   b = t.server
 
@@ -80,7 +80,7 @@ module _ (t : SoFar) (site : Site) (x : Connection) (before : Option Traffic) (s
   more_sent : (moment : DateTime) (turn : Option (List Request)) → sent ≡ turn_octets lane site.number (id_in t) moment turn → sent ≡ octets_of t moment turn
   more_sent moment turn is = is ∙ ap (λ (n : ℕ). turn_octets lane n (id_in t) moment turn) s.number_is
 
-  more_talking : SameClient (channel_of x) (channel_of y) → (moment : DateTime) (turn : Option (List Request)) (u : Site) → sent ≡ octets_of t moment turn
+  more_talking : SameClient (channel_of x) (channel_of y) → (moment : DateTime) (turn : Option (List Request)) (u : ClientPlace) → sent ≡ octets_of t moment turn
       → AreTalking b t.limits t.url (t.octets ++ sent) (told_in t ++ turn_told (newest_in t) (id_in t) turn) (token_behind (newest_in t) turn) (id_behind (id_in t) turn) (held_behind held turn) u y after
       → u.number ≡ turn_number lane site.number turn → first_reason (turn_reasons (acked_in t) held (id_in t) turn) ≡ None
       → state_told b (told_in t ++ turn_told (newest_in t) (id_in t) turn) ≡ turn_state (state_told b (told_in t)) b.moment turn → TalksAt (with_turn t moment turn) u y after
@@ -98,9 +98,9 @@ module _ (t : SoFar) (site : Site) (x : Connection) (before : Option Traffic) (s
         (ap (λ (o : List ℕ). t.octets ++ o) sent_is) (sym (told_more t moment turn)) (sym (tokens_push 1 t.turns turn)) (sym (ids_push 2 t.turns turn)) (sym (held_push 1 t.turns turn)) talking;
   }
 
-  module _ (moves : Moves x y sent before after) (same : SameClient (channel_of x) (channel_of y)) where
+  module _ (moves : MovesConnection x y sent before after) (same : SameClient (channel_of x) (channel_of y)) where
     -- requests are answered
-    module _ (moment : DateTime) (requests : List Request) (replies : List Reply) (u : Site) (at : At (channel_of y) u) (octets_are : u.octets ≡ site.octets ++ moves.taken)
+    module _ (moment : DateTime) (requests : List Request) (replies : List Reply) (u : ClientPlace) (at : StandsAt (channel_of y) u) (octets_are : u.octets ≡ site.octets ++ moves.taken)
         (there : Behind b t.limits t.url t.octets (told_in t) (newest_in t) (id_in t) held site.number sent replies requests u) where
       pub asked_sent : sent ≡ octets_of t moment (Some requests)
       asked_sent = more_sent moment (Some requests) there.sent_is
@@ -136,7 +136,7 @@ module _ (t : SoFar) (site : Site) (x : Connection) (before : Option Traffic) (s
       first_there : Behind b t.limits t.url t.octets (told_in t) (newest_in t) (id_in t) held site.number sent q.replies (all_of q.groups) q.behind
       first_there = first_behind b t.limits t.url t.octets (told_in t) (newest_in t) (id_in t) held site x before s.talking y after sent moves same law requests f is q
 
-      pub first_at : At (channel_of y) q.behind
+      pub first_at : StandsAt (channel_of y) q.behind
       first_at = refused_at b t.limits t.url t.octets (told_in t) (newest_in t) (id_in t) held site x before s.talking y after sent moves same law requests f is q
 
       pub first_octets : q.behind.octets ≡ site.octets ++ moves.taken
@@ -152,8 +152,8 @@ module _ (t : SoFar) (site : Site) (x : Connection) (before : Option Traffic) (s
       first_talk = asked_more moment (all_of q.groups) q.replies q.behind first_at first_octets first_there
 
 -- the token is renewed
-module _ (t : SoFar) (site : Site) (x : Connection) (before : Option Traffic) (s : TalksAt t site x before) (y : Connection) (after : Option Traffic) (moment : DateTime) where
-  module _ (dated : IsTrue (date_time.encodable moment)) (done : Unit {0}) (c : Renews {A = Unit {0}} moment x y before after (Ok done)) (at : At (channel_of x) site) where
+module _ (t : SoFar) (site : ClientPlace) (x : Connection) (before : Option Traffic) (s : TalksAt t site x before) (y : Connection) (after : Option Traffic) (moment : DateTime) where
+  module _ (dated : IsTrue (date_time.encodable moment)) (done : Unit {0}) (c : Renews {A = Unit {0}} moment x y before after (Ok done)) (at : StandsAt (channel_of x) site) where
     judged : turn_refusal (acked_in t) t.turns None ≡ None
     judged = renewed_judged t.server t.limits t.url t.octets (told_in t) (newest_in t) (id_in t) (tokens_held 1 t.turns) site x before s.talking y after c.sent c.moves c.same moment (sym (c.judged site at))
 
@@ -170,20 +170,20 @@ module _ (t : SoFar) (site : Site) (x : Connection) (before : Option Traffic) (s
         a.1.1.number judged (state_renewal t.server (told_in t) (id_in t) 0 (newest_in t + 1) 3600000)
 
   -- or not
-  pub renewing_not : (f : ClientFault) → IsTurnFault f → Renews {A = Unit {0}} moment x y before after (Err f) → At (channel_of x) site → turn_refusal (acked_in t) t.turns None ≡ Some f
+  pub renewing_not : (f : ClientFault) → IsTurnFault f → Renews {A = Unit {0}} moment x y before after (Err f) → StandsAt (channel_of x) site → turn_refusal (acked_in t) t.turns None ≡ Some f
   renewing_not f reason c at =
       renewing_refused t.server t.limits t.url t.octets (told_in t) (newest_in t) (id_in t) (tokens_held 1 t.turns) site x before s.talking y after c.sent c.moves c.same moment f reason (c.answers site at) (c.judged site at)
 
 -- ---- the CLO
 
-module _ (b : Beginning) (octets more : List ℕ) (told : List Told) (q : ServerCloses b.limits b.channel more (told ++ Closed ∷ [])) (here : said_to b octets ≡ said b.channel b.first told Going (spent told b.moment)) where
+module _ (b : Beginning) (octets more : List ℕ) (told : List Told) (q : ServerCloses b.limits b.channel more (told ++ Closed ∷ [])) (here : server_output b octets ≡ output_of b.channel b.first told Going (times_of_answers told b.moment)) where
   -- a CLO is not answered
-  closing_said : said_to b more ≡ said_to b octets
+  closing_said : server_output b more ≡ server_output b octets
   closing_said =
       said_by_run b more q.frames [] Over q.run
-      ∙ (ap (λ (k : List Told). said b.channel b.first k Over (spent k b.moment)) q.told_is ∙ (said_over b told ∙ sym here))
+      ∙ (ap (λ (k : List Told). output_of b.channel b.first k Over (times_of_answers k b.moment)) q.told_is ∙ (said_over b told ∙ sym here))
 
-module _ (t : SoFar) (site : Site) (x : Connection) (now : Option Traffic) (s : TalksAt t site x now) (moment : DateTime) where
+module _ (t : SoFar) (site : ClientPlace) (x : Connection) (now : Option Traffic) (s : TalksAt t site x now) (moment : DateTime) where
   pub closing_is : closing_at site moment ≡ closing_behind (acked_in t) t.server.channel moment t.turns
   closing_is =
       closing_there t.server t.limits t.url t.octets (told_in t) (newest_in t) (id_in t) (tokens_held 1 t.turns) site (channel_of x) s.talking.served moment
@@ -196,12 +196,12 @@ module _ (t : SoFar) (site : Site) (x : Connection) (now : Option Traffic) (s : 
       subst (λ (o : List ℕ). ServerCloses t.server.limits t.server.channel (t.octets ++ o) (told_in t ++ Closed ∷ [])) closing_is
       (closing_read t.server.limits t.url t.server.channel t.octets (told_in t) r.at_server (channel_of x) site r.at_client r.on r.serving.together moment used)
 
-  pub closes_silent : said_to t.server (closed_octets t moment) ≡ said_to t.server t.octets
+  pub closes_silent : server_output t.server (closed_octets t moment) ≡ server_output t.server t.octets
   closes_silent =
       closing_said t.server t.octets (closed_octets t moment) (told_in t) closes_read
       (said_there t.server t.octets (told_in t) s.talking.served.at_server s.talking.served.serving.together.server_reads)
 
-  pub closes_left : left_by t.server (closed_octets t moment) ≡ state_in t
+  pub closes_left : services_after t.server (closed_octets t moment) ≡ state_in t
   closes_left =
       left_by_run t.server (closed_octets t moment) closes_read.frames [] Over closes_read.run
       ∙ (ap (λ (ts : List Told). state_told t.server ts) closes_read.told_is ∙ (state_closed t.server (told_in t) ∙ s.state_is))

@@ -21,19 +21,19 @@ use Rattle.ua_channel.specs.declared.client.channel.ClientChannel.{ClientChannel
 use Rattle.ua_channel_laws.proofs.ClientReading.{reads_ack, reads_opened}
 use Rattle.ua_channel_laws.proofs.Following.{client_told}
 use Rattle.ua_channel_laws.proofs.InStep.{in_step_opened}
-use Rattle.ua_server.specs.Said.{left, said}
-use Rattle.ua_client.specs.Site.{Site, At}
+use Rattle.ua_server.specs.Said.{state_after, output_of}
+use Rattle.ua_client.specs.ClientPlace.{ClientPlace, StandsAt}
 use Rattle.ua_loopback.specs.Beginning.{Beginning}
 use Rattle.ua_loopback.specs.Course.{opening_octets}
-use Rattle.ua_loopback.specs.Says.{said_to, spent, state_told}
+use Rattle.ua_loopback.specs.Says.{server_output, times_of_answers, state_told}
 use Rattle.ua_loopback.specs.Together.{AreServing, opening_answer}
 use Rattle.ua_loopback.proofs.Reaching.{opening_read}
 use Rattle.ua_loopback.proofs.Saying.{said_by_run}
 
 -- what a server says of an agreement and the first token
-said_first_two : (b : Beginning) (g : Agreement) → said b.channel b.first (Agreed g ∷ (Opened 1 0 1 3600000 ∷ [])) Going (spent (Agreed g ∷ (Opened 1 0 1 3600000 ∷ [])) b.moment)
+said_first_two : (b : Beginning) (g : Agreement) → output_of b.channel b.first (Agreed g ∷ (Opened 1 0 1 3600000 ∷ [])) Going (times_of_answers (Agreed g ∷ (Opened 1 0 1 3600000 ∷ [])) b.moment)
     ≡ frame_octets (ack_frame g.ack) ++ frame_octets (opened_frame b.channel 1 1 0 1 3600000 b.moment)
-unfolding said
+unfolding output_of
 said_first_two b g =
     let acked = frame_octets (ack_frame g.ack) in
     let opened = frame_octets (opened_frame b.channel 1 1 0 1 3600000 b.moment) in
@@ -43,22 +43,22 @@ module _ (b : Beginning) (client : Limits) (url : Option (List ℕ)) (moment : D
   abbrev told : List Told
   told = Agreed (agreement_of b.limits (hello_to client url)) ∷ (Opened 1 0 1 3600000 ∷ [])
 
-  pub opening_said : said_to b (opening_octets client url moment) ≡ opening_answer b client url
+  pub opening_said : server_output b (opening_octets client url moment) ≡ opening_answer b client url
   opening_said =
       let r = opening_read b.limits b.channel client url moment fits short dated in
       said_by_run b (opening_octets client url moment) r.frames [] Going r.run
-      ∙ (ap (λ (t : List Told). said b.channel b.first t Going (spent t b.moment)) r.told_is ∙ said_first_two b (agreement_of b.limits (hello_to client url)))
+      ∙ (ap (λ (t : List Told). output_of b.channel b.first t Going (times_of_answers t b.moment)) r.told_is ∙ said_first_two b (agreement_of b.limits (hello_to client url)))
 
 -- what is left behind them
 left_first_two : (b : Beginning) (g : Agreement)
-    → ((left b.channel b.first (Agreed g ∷ (Opened 1 0 1 3600000 ∷ [])) (spent (Agreed g ∷ (Opened 1 0 1 3600000 ∷ [])) b.moment)).agreement ≡ Some g)
-    × ((left b.channel b.first (Agreed g ∷ (Opened 1 0 1 3600000 ∷ [])) (spent (Agreed g ∷ (Opened 1 0 1 3600000 ∷ [])) b.moment)).number ≡ next_number 1)
-unfolding left
+    → ((state_after b.channel b.first (Agreed g ∷ (Opened 1 0 1 3600000 ∷ [])) (times_of_answers (Agreed g ∷ (Opened 1 0 1 3600000 ∷ [])) b.moment)).agreement ≡ Some g)
+    × ((state_after b.channel b.first (Agreed g ∷ (Opened 1 0 1 3600000 ∷ [])) (times_of_answers (Agreed g ∷ (Opened 1 0 1 3600000 ∷ [])) b.moment)).number ≡ next_number 1)
+unfolding state_after
 left_first_two b g = (refl, refl)
 
 -- they leave the services as they were
 pub state_first_two : (b : Beginning) (g : Agreement) → state_told b (Agreed g ∷ (Opened 1 0 1 3600000 ∷ [])) ≡ b.first
-unfolding left
+unfolding state_after
 state_first_two b g = refl
 
 -- a client reads that
@@ -70,9 +70,9 @@ answer_read b client url fits on dated =
     (record { channel_small = on; number_small = omega arith; id_small = omega arith; handle_small = omega arith; token_small = omega arith; lifetime_small = omega arith; moment_fits = dated })
 
 -- both are together
-pub begin_together : (b : Beginning) (url : Option (List ℕ)) (moment : DateTime) (x : ClientChannel) (site : Site)
+pub begin_together : (b : Beginning) (url : Option (List ℕ)) (moment : DateTime) (x : ClientChannel) (site : ClientPlace)
     → IsTrue (hello.encodable (hello_to (client_limits x) url)) → url_length url ≤ 4095 → IsTrue (date_time.encodable moment) → IsTrue (ack.encodable (ack_to (hello_to (client_limits x) url) b.limits)) → b.channel < 2 ^ 32 → IsTrue (date_time.encodable b.moment)
-    → At x site → site.asks ≡ [] → site.octets ≡ said_to b (opening_octets (client_limits x) url moment) → client_next x ≡ 2
+    → StandsAt x site → site.asks ≡ [] → site.octets ≡ server_output b (opening_octets (client_limits x) url moment) → client_next x ≡ 2
     → AreServing b url (opening_octets (client_limits x) url moment) (Agreed (agreement_of b.limits (hello_to (client_limits x) url)) ∷ (Opened 1 0 1 3600000 ∷ [])) (with_token (greeted_at (hello_to (client_limits x) url))) x site
     (opened_at (ack_to (hello_to (client_limits x) url) b.limits) b.channel 1 (next_number 1))
 begin_together b url moment x site fits short dated acked on answered at none octets_are next_is =

@@ -36,14 +36,14 @@ use Rattle.ua_client.specs.Calls.{refusal_at, sent_at}
 use Rattle.ua_client.specs.Client.{closing_at, closing_by}
 use Rattle.ua_client.specs.Renewing.{renewal_at, renewal_refusal}
 use Rattle.ua_client.specs.Sent.{bodies_of, calls_octets, group_reasons, numbers_behind}
-use Rattle.ua_client.specs.Site.{Site, At, id_at, lane_behind, lane_by}
+use Rattle.ua_client.specs.ClientPlace.{ClientPlace, StandsAt, id_at, lane_behind, lane_by}
 use Rattle.ua_loopback.specs.Course.{opening_octets}
 use Rattle.ua_loopback.specs.Together.{AreTogether, behind_calls}
 use Rattle.ua_loopback.specs.Turns.{calls_told}
 
 -- ---- where a client stands
 
-module _ (x : ClientChannel) (s : Site) (c : AtClient) (at : At x s) (r : ClientReads (client_limits x) s.asks s.octets s.told c) where
+module _ (x : ClientChannel) (s : ClientPlace) (c : AtClient) (at : StandsAt x s) (r : ClientReads (client_limits x) s.asks s.octets s.told c) where
   before_is : s.before ≡ received r.frames
   before_is = sym at.before_is ∙ ap received (unique (client_rules_of x s.asks) s.octets at.goes.frames r.frames at.goes.rest [] Going Going at.goes.stands.run r.run).frames
 
@@ -100,7 +100,7 @@ few_ids a id [] h some = absurd (omega (arith, some))
 few_ids a id (m ∷ []) h some = omega (arith, h.0)
 few_ids a id (m ∷ (n ∷ ms)) h some = let rest = few_ids a (id + 1) (n ∷ ms) h.2 (omega arith) in omega (arith, rest)
 
-pub not_exhausted : (s : Site) → renewal_refusal s ≡ None → id_at s < no_id
+pub not_exhausted : (s : ClientPlace) → renewal_refusal s ≡ None → id_at s < no_id
 not_exhausted s h =
     let one = none_parts (leb most_tokens (length (held_tokens s.before))) _ _ h in
     let two = none_parts (leb no_id (id_at s)) _ _ one.1 in
@@ -130,7 +130,7 @@ opening_read limits channel client url moment fits short dated =
     reads_first limits channel (frame_octets (hello_frame (hello_to client url))) (Agreed (agreement_of limits (hello_to client url)) ∷ []) (greeted_at (hello_to client url)) moment
     (reads_hello limits channel client url fits short) refl refl dated
 
-module _ (limits : Limits) (url : Option (List ℕ)) (channel : ℕ) (octets : List ℕ) (told : List Told) (s : AtServer) (x : ClientChannel) (site : Site) (c : AtClient) (on : channel < 2 ^ 32) (t : AreTogether limits url channel octets told s x site c) where
+module _ (limits : Limits) (url : Option (List ℕ)) (channel : ℕ) (octets : List ℕ) (told : List Told) (s : AtServer) (x : ClientChannel) (site : ClientPlace) (c : AtClient) (on : channel < 2 ^ 32) (t : AreTogether limits url channel octets told s x site c) where
   -- requests
   pub requests_asked : (requests : List Request) → refusal_at site requests ≡ None → AreAsked c.ack (id_at site) requests
   requests_asked requests judged =

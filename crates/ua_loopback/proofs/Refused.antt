@@ -38,23 +38,23 @@ use Rattle.ua_channel.proofs.Carried.{content_hel}
 use Rattle.ua_channel.proofs.ClientFrames.{hello_length, url_short}
 use Rattle.ua_channel.proofs.OneFrameMore.{received-nil}
 use Rattle.ua_channel_laws.proofs.ReadOn.{no_events}
-use Rattle.ua_server.specs.Said.{said}
+use Rattle.ua_server.specs.Said.{output_of}
 use Rattle.ua_client.specs.Opening.{IsOpened, open_octets}
 use Rattle.ua_loopback.specs.Beginning.{Beginning}
 use Rattle.ua_loopback.specs.Course.{opening_octets}
-use Rattle.ua_loopback.specs.Says.{said_to, spent}
+use Rattle.ua_loopback.specs.Says.{server_output, times_of_answers}
 use Rattle.ua_loopback.proofs.Saying.{said_by_run}
 
 -- ---- what a server says of a stream that it refuses from the first frame on
 
-said_none : (b : Beginning) (code : ℕ) → said b.channel b.first [] (Stopped code) (spent [] b.moment) ≡ frame_octets (err_frame (of_code code))
-unfolding said
+said_none : (b : Beginning) (code : ℕ) → output_of b.channel b.first [] (Stopped code) (times_of_answers [] b.moment) ≡ frame_octets (err_frame (of_code code))
+unfolding output_of
 said_none b code = refl
 
-said_refused : (b : Beginning) (octets : List ℕ) (code : ℕ) → Run (server_rules b.limits b.channel) octets [] octets (Stopped code) → said_to b octets ≡ frame_octets (err_frame (of_code code))
+said_refused : (b : Beginning) (octets : List ℕ) (code : ℕ) → Run (server_rules b.limits b.channel) octets [] octets (Stopped code) → server_output b octets ≡ frame_octets (err_frame (of_code code))
 said_refused b octets code run =
     said_by_run b octets [] octets (Stopped code) run
-    ∙ (ap (λ (t : List Told). said b.channel b.first t (Stopped code) (spent t b.moment)) (no_events (server_rules b.limits b.channel)) ∙ said_none b code)
+    ∙ (ap (λ (t : List Told). output_of b.channel b.first t (Stopped code) (times_of_answers t b.moment)) (no_events (server_rules b.limits b.channel)) ∙ said_none b code)
 
 err_sized : (code : ℕ) → IsSized (err_frame (of_code code))
 unfolding error status_code text counted
@@ -125,10 +125,10 @@ module _ (limits : Limits) (channel : ℕ) (client : Limits) (url : Option (List
 
 -- a server says nothing of it but the ERR
 long_said : (b : Beginning) (client : Limits) (url : Option (List ℕ)) (moment : DateTime) → IsTrue (hello.encodable (hello_to client url)) → IsTrue (text.encodable url) → 4095 < url_length url
-    → (code : ℕ) × (said_to b (opening_octets client url moment) ≡ frame_octets (err_frame (of_code code)))
+    → (code : ℕ) × (server_output b (opening_octets client url moment) ≡ frame_octets (err_frame (of_code code)))
 long_said b client url moment fits writable long = by (cases_lt 8192 (frame_size (hello_frame (hello_to client url))))
   where
-    by : ((8192 < frame_size (hello_frame (hello_to client url))) ⊎ (frame_size (hello_frame (hello_to client url)) ≤ 8192)) → (code : ℕ) × (said_to b (opening_octets client url moment) ≡ frame_octets (err_frame (of_code code)))
+    by : ((8192 < frame_size (hello_frame (hello_to client url))) ⊎ (frame_size (hello_frame (hello_to client url)) ≤ 8192)) → (code : ℕ) × (server_output b (opening_octets client url moment) ≡ frame_octets (err_frame (of_code code)))
     by (inl big) = (0x8080_0000, said_refused b (opening_octets client url moment) 0x8080_0000 (refused_large b.limits b.channel client url moment fits writable long big))
     by (inr few) = (0x8083_0000, said_refused b (opening_octets client url moment) 0x8083_0000 (refused_long b.limits b.channel client url moment fits writable long few))
 
@@ -162,11 +162,11 @@ never_opened x octets o e sized front = never_by x octets o e front.more sized (
 
 -- where a client opened, its URL is one that the server takes
 pub short_url : (b : Beginning) (client : Limits) (url : Option (List ℕ)) (moment : DateTime) (x : ClientChannel) (octets : List ℕ) → IsTrue (hello.encodable (hello_to client url)) → IsTrue (text.encodable url) → IsOpened x octets
-    → Extends octets (said_to b (opening_octets client url moment)) → url_length url ≤ 4095
+    → Extends octets (server_output b (opening_octets client url moment)) → url_length url ≤ 4095
 short_url b client url moment x octets fits writable o front = by (cases_lt 4095 (url_length url))
   where
     by : ((4095 < url_length url) ⊎ (url_length url ≤ 4095)) → url_length url ≤ 4095
     by (inl long) =
-        let said = long_said b client url moment fits writable long in
-        absurd (never_opened x octets o (err_frame (of_code said.0)) (err_sized said.0) (subst (Extends octets) said.1 front))
+        let output_of = long_said b client url moment fits writable long in
+        absurd (never_opened x octets o (err_frame (of_code output_of.0)) (err_sized output_of.0) (subst (Extends octets) output_of.1 front))
     by (inr short) = short

@@ -33,13 +33,13 @@ use Rattle.ua_channel_laws.proofs.ClientReading.{reads_renewal, reads_renewed}
 use Rattle.ua_channel_laws.proofs.Following.{client_told}
 use Rattle.ua_channel_laws.proofs.InStep.{in_step_answer, in_step_renewal}
 use Rattle.ua_channel.proofs.OpeningFrames.{opening_size}
-use Rattle.ua_server.specs.Said.{Course, left, left_by, said_of}
+use Rattle.ua_server.specs.Said.{Course, state_after, course_after, said_of}
 use Rattle.ua_server.proofs.SaidInParts.{course}
 use Rattle.ua_client.specs.Renewing.{IsRenewed, IsSettled, asks_renewed, is_renewed, renewal_at, renewal_refusal}
-use Rattle.ua_client.specs.Site.{Site, id_at}
+use Rattle.ua_client.specs.ClientPlace.{ClientPlace, id_at}
 use Rattle.ua_client.proofs.Renewals.{tokens-answer, tokens-told}
 use Rattle.ua_loopback.specs.Beginning.{Beginning}
-use Rattle.ua_loopback.specs.Says.{said_to, spent}
+use Rattle.ua_loopback.specs.Says.{server_output, times_of_answers}
 use Rattle.ua_loopback.specs.Together.{AreServing, renewal_answer}
 use Rattle.ua_loopback.proofs.Reaching.{not_exhausted, renewal_read}
 use Rattle.ua_loopback.proofs.RenewedTaken.{TellsLast, just_answer}
@@ -59,7 +59,7 @@ none_past most (token ∷ tokens) h = neither (eqb token (most + 1)) (is_in (mos
 
 -- ---- what a server says of it
 
-module _ (b : Beginning) (url : Option (List ℕ)) (octets : List ℕ) (told : List Told) (s : AtServer) (x : ClientChannel) (site : Site) (c : AtClient) (moment : DateTime)
+module _ (b : Beginning) (url : Option (List ℕ)) (octets : List ℕ) (told : List Told) (s : AtServer) (x : ClientChannel) (site : ClientPlace) (c : AtClient) (moment : DateTime)
     (on : b.channel < 2 ^ 32) (t : AreServing b url octets told s x site c) (judged : renewal_refusal site ≡ None) (dated : IsTrue (date_time.encodable moment)) where
   abbrev id : ℕ
   id = id_at site
@@ -71,7 +71,7 @@ module _ (b : Beginning) (url : Option (List ℕ)) (octets : List ℕ) (told : L
   opens = Opened id 0 token 3600000 ∷ []
 
   abbrev before : Course
-  before = left b.channel b.first told (spent told b.moment)
+  before = state_after b.channel b.first told (times_of_answers told b.moment)
 
   -- a token is left
   few : s.issued < 4294967295
@@ -82,18 +82,18 @@ module _ (b : Beginning) (url : Option (List ℕ)) (octets : List ℕ) (told : L
 
   course_is : behind_told b octets told s t.together.server_reads opens ≡ course before.state c.next (b.moment ∷ []) before.agreement
   course_is =
-      ap (λ (ms : List DateTime). course before.state before.number (ms ++ spent opens b.moment) before.agreement) (none_left b.channel b.first told b.moment)
+      ap (λ (ms : List DateTime). course before.state before.number (ms ++ times_of_answers opens b.moment) before.agreement) (none_left b.channel b.first told b.moment)
       ∙ ap (λ (n : ℕ). course before.state n (b.moment ∷ []) before.agreement) t.says_next
 
   -- its OPN response, with the next token
-  pub renewal_said : said_to b (octets ++ renewal_at site moment) ≡ said_to b octets ++ renewal_answer b c.next id token
+  pub renewal_said : server_output b (octets ++ renewal_at site moment) ≡ server_output b octets ++ renewal_answer b c.next id token
   renewal_said =
       said_more b octets told s t.together.server_reads (octets ++ renewal_at site moment) opens (with_token s) server_renewed
-      ∙ (ap (λ (k : Course). said_to b octets ++ said_of b.channel k opens) course_is
-      ∙ ap (λ (o : List ℕ). said_to b octets ++ o) (append-nil (renewal_answer b c.next id token)))
+      ∙ (ap (λ (k : Course). server_output b octets ++ said_of b.channel k opens) course_is
+      ∙ ap (λ (o : List ℕ). server_output b octets ++ o) (append-nil (renewal_answer b c.next id token)))
 
-  left_renewed : left b.channel b.first (told ++ opens) (spent (told ++ opens) b.moment) ≡ left_by b.channel (course before.state c.next (b.moment ∷ []) before.agreement) opens
-  left_renewed = left_on b told opens ∙ ap (λ (k : Course). left_by b.channel k opens) course_is
+  left_renewed : state_after b.channel b.first (told ++ opens) (times_of_answers (told ++ opens) b.moment) ≡ course_after b.channel (course before.state c.next (b.moment ∷ []) before.agreement) opens
+  left_renewed = left_on b told opens ∙ ap (λ (k : Course). course_after b.channel k opens) course_is
 
   -- ---- what the client reads of that
 
@@ -134,13 +134,13 @@ module _ (b : Beginning) (url : Option (List ℕ)) (octets : List ℕ) (told : L
         reads_renewed (client_limits x) (asks_renewed site) site.octets site.told waiting id 0 token 3600000 b.moment asked can_be_read
         (ap (λ (ids : List ℕ). ids ++ id ∷ []) none_waits) (none_past s.issued c.tokens t.issued)
 
-    answer_is : site.octets ++ frame_octets answer ≡ said_to b (octets ++ renewal_at site moment)
+    answer_is : site.octets ++ frame_octets answer ≡ server_output b (octets ++ renewal_at site moment)
     answer_is =
         ap (λ (k : ℕ). site.octets ++ frame_octets (opened_frame k c.next id 0 token 3600000 b.moment)) t.together.in_step.channel_is
         ∙ (ap (λ (o : List ℕ). o ++ renewal_answer b c.next id token) t.taken ∙ sym renewal_said)
 
     -- the client reads it
-    pub renewal_heard : ClientReads (client_limits x) (asks_renewed site) (said_to b (octets ++ renewal_at site moment)) (site.told ++ heard.Renewed token ∷ []) now
+    pub renewal_heard : ClientReads (client_limits x) (asks_renewed site) (server_output b (octets ++ renewal_at site moment)) (site.told ++ heard.Renewed token ∷ []) now
     renewal_heard = subst (λ (o : List ℕ). ClientReads (client_limits x) (asks_renewed site) o (site.told ++ heard.Renewed token ∷ []) now) answer_is reads_it
 
     in_step_now : AreInStep b.limits (client_limits x) url b.channel (with_token s) now
@@ -151,7 +151,7 @@ module _ (b : Beginning) (url : Option (List ℕ)) (octets : List ℕ) (told : L
     tokens_now =
         all-push (λ (k : ℕ). k ≤ token) c.tokens token (all-weaken (λ (k : ℕ). k ≤ s.issued) (λ (k : ℕ). k ≤ token) c.tokens (λ k le. omega (arith, le)) t.issued) (omega arith)
 
-    module _ (y : ClientChannel) (behind : Site) (taken : List ℕ) (r : IsRenewed y site behind taken) (same : client_limits y ≡ client_limits x) where
+    module _ (y : ClientChannel) (behind : ClientPlace) (taken : List ℕ) (r : IsRenewed y site behind taken) (same : client_limits y ≡ client_limits x) where
       -- ---- what it took
 
       sized : IsSized answer
@@ -167,7 +167,7 @@ module _ (b : Beginning) (url : Option (List ℕ)) (octets : List ℕ) (told : L
           (subst (λ (o : List ℕ). TellsLast (client_rules_of y behind.asks) o (site.told ++ r.heard) (heard.Renewed r.token)) r.octets
           (record { frames = r.tells.frames; frame = r.tells.frame; run = r.tells.stands.run; told_is = r.tells.told_is; tells = r.tells.tells })))
 
-      same_begin : (down : List ℕ) → Extends behind.octets down → (said : Extends (said_to b (octets ++ renewal_at site moment)) down) → (a : List ℕ) × (taken ++ a ≡ frame_octets answer ++ said.more)
+      same_begin : (down : List ℕ) → Extends behind.octets down → (said : Extends (server_output b (octets ++ renewal_at site moment)) down) → (a : List ℕ) × (taken ++ a ≡ frame_octets answer ++ said.more)
       same_begin down got said = (
         got.more,
         append_cancel_left site.octets (taken ++ got.more) (frame_octets answer ++ said.more)
@@ -178,7 +178,7 @@ module _ (b : Beginning) (url : Option (List ℕ)) (octets : List ℕ) (told : L
       )
 
       -- where octets begin with what it took, and with what the server says, it took just that
-      pub renewal_taken : (down : List ℕ) → Extends behind.octets down → Extends (said_to b (octets ++ renewal_at site moment)) down → behind.octets ≡ said_to b (octets ++ renewal_at site moment)
+      pub renewal_taken : (down : List ℕ) → Extends behind.octets down → Extends (server_output b (octets ++ renewal_at site moment)) down → behind.octets ≡ server_output b (octets ++ renewal_at site moment)
       renewal_taken down got said =
           let parts = same_begin down got said in
           r.octets
@@ -188,7 +188,7 @@ module _ (b : Beginning) (url : Option (List ℕ)) (octets : List ℕ) (told : L
 
       -- ---- where both are then
 
-      module _ (took : behind.octets ≡ said_to b (octets ++ renewal_at site moment)) where
+      module _ (took : behind.octets ≡ server_output b (octets ++ renewal_at site moment)) where
         here : ClientReads (client_limits y) behind.asks behind.octets (site.told ++ heard.Renewed token ∷ []) now
         here =
             subst (λ (l : Limits). ClientReads l behind.asks behind.octets (site.told ++ heard.Renewed token ∷ []) now) (sym same)

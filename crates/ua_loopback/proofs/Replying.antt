@@ -26,7 +26,7 @@ use Rattle.ua_services.specs.declared.request.RequestKind.{RequestKind}
 use Rattle.ua_services.specs.declared.response.Response.{Response}
 use Rattle.ua_server.specs.Answer.{answer}
 use Rattle.ua_server.specs.Reply.{answered, answered_by}
-use Rattle.ua_server.specs.Said.{Course, behind_first, first_of, left, left_by, say, start, used_in, with_more}
+use Rattle.ua_server.specs.Said.{Course, behind_first, first_of, state_after, course_after, say, start, used_in, with_more}
 use Rattle.ua_server.specs.State.{State}
 use Rattle.ua_client.specs.Replies.{AreReplies, IsAt, IsMisanswer, IsNoAnswer, IsReplyBy}
 use Rattle.ua_client.specs.Sent.{bodies_of}
@@ -35,7 +35,7 @@ use Rattle.ua_client.specs.declared.reply.Reply.{Reply}
 use Rattle.ua_client.specs.declared.reply.Reply.TheVariants as reply
 use Rattle.ua_loopback.specs.Beginning.{Beginning}
 use Rattle.ua_loopback.specs.Replies.{HaveMisanswer, reply_read, reply_unless, requests_replies, state_behind}
-use Rattle.ua_loopback.specs.Says.{spent, state_told}
+use Rattle.ua_loopback.specs.Says.{times_of_answers, state_told}
 use Rattle.ua_loopback.specs.Turns.{calls_told}
 use Rattle.ua_loopback.proofs.Answering.{answer_told, answers_told}
 use Rattle.ua_loopback.proofs.Saying.{left_on}
@@ -60,7 +60,7 @@ one_used : (n : ℕ) → 1 + n ≡ suc n
 one_used n = omega arith
 
 -- where there is a moment for each answer, these are left
-moments_left : (channel : ℕ) (c : Course) (told : List Told) (m : DateTime) (rest : List DateTime) → c.moments ≡ replicate (used_in told) m ++ rest → (left_by channel c told).moments ≡ rest
+moments_left : (channel : ℕ) (c : Course) (told : List Told) (m : DateTime) (rest : List DateTime) → c.moments ≡ replicate (used_in told) m ++ rest → (course_after channel c told).moments ≡ rest
 moments_left channel c [] m rest e = e
 moments_left channel c (Agreed g ∷ told) m rest e = moments_left channel (say channel c (Agreed g)).1 told m rest (subst (λ (n : ℕ). c.moments ≡ replicate n m ++ rest) (none_used (used_in told)) e)
 moments_left channel c (Opened id handle token lifetime ∷ told) m rest e =
@@ -70,9 +70,9 @@ moments_left channel c (Asked id token octets ∷ told) m rest e =
 moments_left channel c (GaveUp id ∷ told) m rest e = moments_left channel (say channel c (GaveUp id)).1 told m rest (subst (λ (n : ℕ). c.moments ≡ replicate n m ++ rest) (none_used (used_in told)) e)
 moments_left channel c (Closed ∷ told) m rest e = moments_left channel (say channel c Closed).1 told m rest (subst (λ (n : ℕ). c.moments ≡ replicate n m ++ rest) (none_used (used_in told)) e)
 
-pub none_left : (channel : ℕ) (first : State) (told : List Told) (moment : DateTime) → (left channel first told (spent told moment)).moments ≡ []
-unfolding left
-none_left channel first told moment = moments_left channel (start first (spent told moment)) told moment [] (sym (append-nil (spent told moment)))
+pub none_left : (channel : ℕ) (first : State) (told : List Told) (moment : DateTime) → (state_after channel first told (times_of_answers told moment)).moments ≡ []
+unfolding state_after
+none_left channel first told moment = moments_left channel (start first (times_of_answers told moment)) told moment [] (sym (append-nil (times_of_answers told moment)))
 
 pub calls_used : (token id : ℕ) (bodies : List (List ℕ)) → used_in (calls_told token id bodies) ≡ length bodies
 calls_used token id [] = refl
@@ -81,7 +81,7 @@ calls_used token id (body ∷ bodies) = let more = calls_used token (id + 1) bod
 -- ---- states
 
 calls_state : (channel : ℕ) (c : Course) (token id : ℕ) (ms : List Request) (m : DateTime) (rest : List DateTime) → AreWritable ms → c.moments ≡ replicate (length ms) m ++ rest
-    → (left_by channel c (calls_told token id (bodies_of ms))).state ≡ state_behind c.state m ms
+    → (course_after channel c (calls_told token id (bodies_of ms))).state ≡ state_behind c.state m ms
 calls_state channel c token id [] m rest fits e = refl
 calls_state channel c token id (msg ∷ ms) m rest fits e =
     let next : Course = (say channel c (Asked id token (request.canonical msg))).1 in
@@ -90,15 +90,15 @@ calls_state channel c token id (msg ∷ ms) m rest fits e =
 
 -- the moments that are there behind what was told, with those for these calls
 pub moments_there : (b : Beginning) (told : List Told) (token id : ℕ) (bodies : List (List ℕ))
-    → (left b.channel b.first told (spent told b.moment)).moments ++ spent (calls_told token id bodies) b.moment ≡ replicate (length bodies) b.moment ++ []
+    → (state_after b.channel b.first told (times_of_answers told b.moment)).moments ++ times_of_answers (calls_told token id bodies) b.moment ≡ replicate (length bodies) b.moment ++ []
 moments_there b told token id bodies =
-    ap (λ (ms : List DateTime). ms ++ spent (calls_told token id bodies) b.moment) (none_left b.channel b.first told b.moment)
+    ap (λ (ms : List DateTime). ms ++ times_of_answers (calls_told token id bodies) b.moment) (none_left b.channel b.first told b.moment)
     ∙ (ap (λ (n : ℕ). replicate n b.moment) (calls_used token id bodies) ∙ sym (append-nil (replicate (length bodies) b.moment)))
 
 pub state_calls : (b : Beginning) (told : List Told) (token id : ℕ) (ms : List Request) → AreWritable ms → state_told b (told ++ calls_told token id (bodies_of ms)) ≡ state_behind (state_told b told) b.moment ms
 state_calls b told token id ms fits =
     ap (λ (k : Course). k.state) (left_on b told (calls_told token id (bodies_of ms)))
-    ∙ calls_state b.channel (with_more (left b.channel b.first told (spent told b.moment)) (spent (calls_told token id (bodies_of ms)) b.moment)) token id ms b.moment [] fits
+    ∙ calls_state b.channel (with_more (state_after b.channel b.first told (times_of_answers told b.moment)) (times_of_answers (calls_told token id (bodies_of ms)) b.moment)) token id ms b.moment [] fits
     (moments_there b told token id (bodies_of ms) ∙ ap (λ (n : ℕ). replicate n b.moment ++ []) (length-map ms request.canonical))
 
 pub state_renewal : (b : Beginning) (told : List Told) (id handle token lifetime : ℕ) → state_told b (told ++ Opened id handle token lifetime ∷ []) ≡ state_told b told

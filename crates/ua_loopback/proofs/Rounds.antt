@@ -27,7 +27,7 @@ use Rattle.ua_channel.specs.ServerTold.{Told, Asked, Opened}
 use Rattle.ua_channel.specs.declared.client.channel.ClientChannel.{ClientChannel}
 use Rattle.ua_channel.proofs.Askings.{asked_in-push}
 use Rattle.ua_services.specs.Request.{request}
-use Rattle.ua_server.specs.Said.{left}
+use Rattle.ua_server.specs.Said.{state_after}
 use Rattle.ua_server.specs.State.{State}
 use Rattle.ua_services.specs.declared.request.Request.{Request}
 use Rattle.ua_client.specs.Calls.{Answered, AreGroups, LastCame, Rounds, all_of, refusal_at, sent_at}
@@ -35,7 +35,7 @@ use Rattle.ua_client.specs.Calls.Rounds.{NoRound, OneRound}
 use Rattle.ua_client.specs.Client.{closing_at, closing_by}
 use Rattle.ua_client.specs.Renewing.{IsRenewed, IsSettled, asks_renewed, renewal_at, renewal_refusal}
 use Rattle.ua_client.specs.Sent.{bodies_of, calls_octets, group_reasons, numbers_behind, request_reasons}
-use Rattle.ua_client.specs.Site.{Site, At, id_at, lane_behind}
+use Rattle.ua_client.specs.ClientPlace.{ClientPlace, StandsAt, id_at, lane_behind}
 use Rattle.ua_client.specs.declared.fault.ClientFault.{ClientFault}
 use Rattle.ua_client.specs.declared.reply.Reply.{Reply}
 use Rattle.ua_client.proofs.Askings.{next-calls}
@@ -44,7 +44,7 @@ use Rattle.ua_client.proofs.Settled.{NonePending, answered-settled}
 use Rattle.ua_loopback.specs.Accepted.{acknowledged, held_behind_calls, turn_reasons}
 use Rattle.ua_loopback.specs.Beginning.{Beginning}
 use Rattle.ua_loopback.specs.Replies.{lane_back, requests_replies}
-use Rattle.ua_loopback.specs.Says.{said_to, spent, state_told}
+use Rattle.ua_loopback.specs.Says.{server_output, times_of_answers, state_told}
 use Rattle.ua_loopback.specs.Together.{AreServing, behind_calls}
 use Rattle.ua_loopback.specs.Turns.{calls_told}
 use Rattle.ua_loopback.specs.Talking.{IsServed}
@@ -83,7 +83,7 @@ some_in (g ∷ groups) h = (h.0, some_in groups h.3)
 -- ---- the same, by other names
 
 module _ (b : Beginning) (limits : Limits) (url : Option (List ℕ)) where
-  pub served_as : (octets others : List ℕ) (told more : List Told) (token id n held h : ℕ) (site : Site) (x : ClientChannel) → octets ≡ others → told ≡ more → id ≡ n → held ≡ h → IsServed b limits url octets told token id held site x
+  pub served_as : (octets others : List ℕ) (told more : List Told) (token id n held h : ℕ) (site : ClientPlace) (x : ClientChannel) → octets ≡ others → told ≡ more → id ≡ n → held ≡ h → IsServed b limits url octets told token id held site x
       → IsServed b limits url others more token n h site x
   served_as octets others told more token id n held h site x p q r e t =
       subst (λ (o : List ℕ). IsServed b limits url o more token n h site x) p
@@ -91,7 +91,7 @@ module _ (b : Beginning) (limits : Limits) (url : Option (List ℕ)) where
       (subst (λ (m : ℕ). IsServed b limits url octets told token m h site x) r (subst (λ (k : ℕ). IsServed b limits url octets told token id k site x) e t)))
 
   -- by another channel that stands there
-  pub served_by : (octets : List ℕ) (told : List Told) (token id held : ℕ) (site : Site) (x y : ClientChannel) → At y site → client_limits y ≡ limits → IsServed b limits url octets told token id held site x
+  pub served_by : (octets : List ℕ) (told : List Told) (token id held : ℕ) (site : ClientPlace) (x y : ClientChannel) → StandsAt y site → client_limits y ≡ limits → IsServed b limits url octets told token id held site x
       → IsServed b limits url octets told token id held site y
   served_by octets told token id held site x y at same t =
       let s = t.serving in
@@ -125,7 +125,7 @@ module _ (b : Beginning) (limits : Limits) (url : Option (List ℕ)) where
 
   -- ---- what is refused there
 
-  pub refused_there : (octets : List ℕ) (told : List Told) (token id held : ℕ) (site : Site) (x : ClientChannel) → IsServed b limits url octets told token id held site x
+  pub refused_there : (octets : List ℕ) (told : List Told) (token id held : ℕ) (site : ClientPlace) (x : ClientChannel) → IsServed b limits url octets told token id held site x
       → (requests : List Request) → refusal_at site requests ≡ first_reason (group_reasons (Some (acknowledged b.limits limits url)) id requests)
   refused_there octets told token id held site x t requests =
       let together = t.serving.together in
@@ -137,7 +137,7 @@ module _ (b : Beginning) (limits : Limits) (url : Option (List ℕ)) where
 
   -- ---- where its calls go from there
 
-  pub lane_there : (octets : List ℕ) (told : List Told) (token id held : ℕ) (site : Site) (x : ClientChannel) → IsServed b limits url octets told token id held site x
+  pub lane_there : (octets : List ℕ) (told : List Told) (token id held : ℕ) (site : ClientPlace) (x : ClientChannel) → IsServed b limits url octets told token id held site x
       → lane_behind site.before ≡ Some (call_lane (acknowledged b.limits limits url) b.channel token)
   lane_there octets told token id held site x t =
       let together = t.serving.together in
@@ -148,13 +148,13 @@ module _ (b : Beginning) (limits : Limits) (url : Option (List ℕ)) where
       ∙ ap (λ (k : ℕ). Some (call_lane (acknowledged b.limits limits url) b.channel k)) t.newest_is))
 
   -- the CLO of a client there
-  pub closing_there : (octets : List ℕ) (told : List Told) (token id held : ℕ) (site : Site) (x : ClientChannel) → IsServed b limits url octets told token id held site x → (moment : DateTime)
+  pub closing_there : (octets : List ℕ) (told : List Told) (token id held : ℕ) (site : ClientPlace) (x : ClientChannel) → IsServed b limits url octets told token id held site x → (moment : DateTime)
       → closing_at site moment ≡ closing_by (Some (call_lane (acknowledged b.limits limits url) b.channel token)) site.number id moment
   closing_there octets told token id held site x t moment =
       let lane : Lane = call_lane (acknowledged b.limits limits url) b.channel token in
       ap (λ (l : Option Lane). closing_by l site.number (id_at site) moment) (lane_there octets told token id held site x t) ∙ ap (λ (n : ℕ). closing_by (Some lane) site.number n moment) t.id_is
 
-  pub renewal_refused_there : (octets : List ℕ) (told : List Told) (token id held : ℕ) (site : Site) (x : ClientChannel) → IsServed b limits url octets told token id held site x
+  pub renewal_refused_there : (octets : List ℕ) (told : List Told) (token id held : ℕ) (site : ClientPlace) (x : ClientChannel) → IsServed b limits url octets told token id held site x
       → renewal_refusal site ≡ first_reason (turn_reasons (acknowledged b.limits limits url) held id None)
   renewal_refused_there octets told token id held site x t =
       let a : Ack = acknowledged b.limits limits url in
@@ -163,8 +163,8 @@ module _ (b : Beginning) (limits : Limits) (url : Option (List ℕ)) where
 
 -- ---- one turn
 
-module _ (b : Beginning) (limits : Limits) (url : Option (List ℕ)) (octets : List ℕ) (told : List Told) (token id held : ℕ) (site : Site) (x : ClientChannel) (t : IsServed b limits url octets told token id held site x)
-    (y : ClientChannel) (behind : Site) (taken : List ℕ) (same : client_limits y ≡ limits) (down : List ℕ) (front : Extends behind.octets down) where
+module _ (b : Beginning) (limits : Limits) (url : Option (List ℕ)) (octets : List ℕ) (told : List Told) (token id held : ℕ) (site : ClientPlace) (x : ClientChannel) (t : IsServed b limits url octets told token id held site x)
+    (y : ClientChannel) (behind : ClientPlace) (taken : List ℕ) (same : client_limits y ≡ limits) (down : List ℕ) (front : Extends behind.octets down) where
   abbrev s : AtServer
   s = t.at_server
 
@@ -175,12 +175,12 @@ module _ (b : Beginning) (limits : Limits) (url : Option (List ℕ)) (octets : L
   same_limits = same ∙ sym t.limits_are
 
   -- a group of calls is answered
-  module _ (law : NonePending) (requests : List Request) (replies : List Reply) (some : 0 < length requests) (at : At y behind) (came : LastCame y requests (id_at site) behind.asks behind.octets behind.told)
-      (a : Answered requests site behind taken replies) (said : Extends (said_to b (octets ++ sent_at site requests)) down) where
+  module _ (law : NonePending) (requests : List Request) (replies : List Reply) (some : 0 < length requests) (at : StandsAt y behind) (came : LastCame y requests (id_at site) behind.asks behind.octets behind.told)
+      (a : Answered requests site behind taken replies) (said : Extends (server_output b (octets ++ sent_at site requests)) down) where
     settled_then : IsSettled behind
     settled_then = answered-settled requests site behind taken replies t.settled a
 
-    took_group : behind.octets ≡ said_to b (octets ++ sent_at site requests)
+    took_group : behind.octets ≡ server_output b (octets ++ sent_at site requests)
     took_group = answered_taken b url octets told s x site c requests t.on t.serving some a.judged behind taken replies a y at same_limits law settled_then came down front said
 
     ids_then : id_at behind ≡ id + length requests
@@ -216,15 +216,15 @@ module _ (b : Beginning) (limits : Limits) (url : Option (List ℕ)) (octets : L
         let all = told_together b url octets told s x site c requests t.on t.serving some a.judged behind taken replies a y at same_limits took_group in
         let moments = moments_there b told c.newest (id_at site) (bodies_of requests) ∙ ap (λ (n : ℕ). replicate n b.moment ++ []) (length-map requests request.canonical) in
         replies_are (lane_of b.channel c.newest (agreement_of b.limits s.hello)) (state_told b told)
-        ((left b.channel b.first told (spent told b.moment)).moments ++ spent (calls_told c.newest (id_at site) (bodies_of requests)) b.moment) (id_at site) requests b.moment [] site.told behind.told replies
+        ((state_after b.channel b.first told (times_of_answers told b.moment)).moments ++ times_of_answers (calls_told c.newest (id_at site) (bodies_of requests)) b.moment) (id_at site) requests b.moment [] site.told behind.told replies
         fits moments all a.replies_are
         ∙ (ap (λ (k : ℕ). requests_replies (lane_of b.channel k (agreement_of b.limits s.hello)) (state_told b told) b.moment requests) t.newest_is
         ∙ ap (λ (h : Hello). requests_replies (lane_of b.channel token (agreement_of b.limits h)) (state_told b told) b.moment requests) hello_is)
 
   -- the token is renewed
   module _ (moment : DateTime) (dated : IsTrue (date_time.encodable moment)) (answered : IsTrue (date_time.encodable b.moment)) (judged : renewal_refusal site ≡ None) (r : IsRenewed y site behind taken)
-      (said : Extends (said_to b (octets ++ renewal_at site moment)) down) where
-    took_renewal : behind.octets ≡ said_to b (octets ++ renewal_at site moment)
+      (said : Extends (server_output b (octets ++ renewal_at site moment)) down) where
+    took_renewal : behind.octets ≡ server_output b (octets ++ renewal_at site moment)
     took_renewal = renewal_taken b url octets told s x site c moment t.on t.serving judged dated t.settled answered y behind taken r same_limits down front said
 
     id_then : id_at behind ≡ id + 1
@@ -303,7 +303,7 @@ held_twice : (held m n : ℕ) → 0 < n → held_behind_calls (held_behind_calls
 held_twice held m n some = held_some (held_behind_calls held m) n some ∙ sym (held_some held (m + n) (omega (arith, some)))
 
 -- where a channel of the client stands behind requests of which none was refused, and both are in step; this was sent of them, from this number on, and these are the replies
-pub record Behind (b : Beginning) (limits : Limits) (url : Option (List ℕ)) (octets : List ℕ) (told : List Told) (token id held number : ℕ) (sent : List ℕ) (replies : List Reply) (requests : List Request) (site : Site) : Type 0 where
+pub record Behind (b : Beginning) (limits : Limits) (url : Option (List ℕ)) (octets : List ℕ) (told : List Told) (token id held number : ℕ) (sent : List ℕ) (replies : List Reply) (requests : List Request) (site : ClientPlace) : Type 0 where
   pub channel : ClientChannel
   pub replies_are : map (λ (r : Reply). Some r) replies ≡ requests_replies (lane_back b limits url token) (state_told b told) b.moment requests
   pub sent_is : sent ≡ calls_octets (Some (call_lane (acknowledged b.limits limits url) b.channel token)) number id (bodies_of requests)
@@ -315,8 +315,8 @@ module _ (b : Beginning) (limits : Limits) (url : Option (List ℕ)) (octets : L
   abbrev a : Option Ack
   a = Some (acknowledged b.limits limits url)
 
-  pub rounds_served : {c : ClientChannel} {s t : Site} {groups : List (List Request)} {sent taken : List ℕ} {replies : List Reply} (x : ClientChannel) → IsServed b limits url octets told token id held s x → client_limits c ≡ limits
-      → Rounds c s groups t sent taken replies → AreSome groups → (down : List ℕ) → Extends t.octets down → Extends (said_to b (octets ++ sent)) down → Behind b limits url octets told token id held s.number sent replies (all_of groups) t
+  pub rounds_served : {c : ClientChannel} {s t : ClientPlace} {groups : List (List Request)} {sent taken : List ℕ} {replies : List Reply} (x : ClientChannel) → IsServed b limits url octets told token id held s x → client_limits c ≡ limits
+      → Rounds c s groups t sent taken replies → AreSome groups → (down : List ℕ) → Extends t.octets down → Extends (server_output b (octets ++ sent)) down → Behind b limits url octets told token id held s.number sent replies (all_of groups) t
   rounds_served {s = s} x served same NoRound some down front said = record {
     channel = x;
     replies_are = refl;
@@ -330,11 +330,11 @@ module _ (b : Beginning) (limits : Limits) (url : Option (List ℕ)) (octets : L
       let more : List ℕ = sent_at m group in
       let further = said_further b (octets ++ sent) more in
       let whole : (octets ++ sent) ++ more ≡ octets ++ (sent ++ more) = append_assoc octets sent more in
-      let said_here : Extends (said_to b ((octets ++ sent) ++ more)) down = subst (λ (o : List ℕ). Extends (said_to b o) down) (sym whole) said in
+      let said_here : Extends (server_output b ((octets ++ sent) ++ more)) down = subst (λ (o : List ℕ). Extends (server_output b o) down) (sym whole) said in
       let before : Behind b limits url octets told token id held s.number sent replies all m =
       rounds_served x served same r (all_front (λ (g : List Request). 0 < length g) groups group some) down
       (record { more = part ++ front.more; parts = front.parts ∙ (ap (λ (o : List ℕ). o ++ front.more) answered.octets ∙ append_assoc m.octets part front.more) })
-      (record { more = further.further ++ said_here.more; parts = said_here.parts ∙ (ap (λ (o : List ℕ). o ++ said_here.more) further.parts ∙ append_assoc (said_to b (octets ++ sent)) further.further said_here.more) }) in
+      (record { more = further.further ++ said_here.more; parts = said_here.parts ∙ (ap (λ (o : List ℕ). o ++ said_here.more) further.parts ∙ append_assoc (server_output b (octets ++ sent)) further.further said_here.more) }) in
       let told_before : List Told = told ++ calls_told token id (bodies_of all) in
       let some_here : 0 < length group = all_last (λ (g : List Request). 0 < length g) groups group some in
       let one =

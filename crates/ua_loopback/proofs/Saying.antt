@@ -11,10 +11,10 @@ use Rattle.ua_frame.proofs.Unique.{unique}
 use Rattle.ua_channel_laws.proofs.ReadOn.{events_on}
 use Rattle.ua_channel.specs.ServerRules.{server_rules}
 use Rattle.ua_channel.specs.ServerTold.{Told, Closed}
-use Rattle.ua_server.specs.Said.{Course, last_words, left, left_by as course_by, said, said_of, used_in, with_more}
+use Rattle.ua_server.specs.Said.{Course, last_words, state_after, course_after as course_by, output_of, said_of, used_in, with_more}
 use Rattle.ua_server.proofs.SaidInParts.{left-append, left-more, said-append, said-more, used_in-append}
 use Rattle.ua_loopback.specs.Beginning.{Beginning}
-use Rattle.ua_loopback.specs.Says.{end_by, left_by, read_by, said_to, spent, told_by}
+use Rattle.ua_loopback.specs.Says.{end_by, services_after, reading_at_server, server_output, times_of_answers, events_at_server}
 use Rattle.ua_loopback.proofs.Further.{behind, run_further}
 
 -- ---- by a reading
@@ -23,83 +23,83 @@ abbrev pub rules_by : Beginning → Rules Told ℕ
 rules_by b = server_rules b.limits b.channel
 
 module _ (b : Beginning) (octets : List ℕ) (fs : List Frame) (rest : List ℕ) (end : End ℕ) (run : Run (rules_by b) octets fs rest end) where
-  told_is : told_by b octets ≡ events (rules_by b) fs
-  told_is = ap (events (rules_by b)) (unique (rules_by b) octets (read_by b octets).frames fs (read_by b octets).rest rest (read_by b octets).end end (read_by b octets).run run).frames
+  told_is : events_at_server b octets ≡ events (rules_by b) fs
+  told_is = ap (events (rules_by b)) (unique (rules_by b) octets (reading_at_server b octets).frames fs (reading_at_server b octets).rest rest (reading_at_server b octets).end end (reading_at_server b octets).run run).frames
 
   pub end_is : end_by b octets ≡ end
-  end_is = (unique (rules_by b) octets (read_by b octets).frames fs (read_by b octets).rest rest (read_by b octets).end end (read_by b octets).run run).ends
+  end_is = (unique (rules_by b) octets (reading_at_server b octets).frames fs (reading_at_server b octets).rest rest (reading_at_server b octets).end end (reading_at_server b octets).run run).ends
 
-  pub said_by_run : said_to b octets ≡ said b.channel b.first (events (rules_by b) fs) end (spent (events (rules_by b) fs) b.moment)
-  unfolding said_to
+  pub said_by_run : server_output b octets ≡ output_of b.channel b.first (events (rules_by b) fs) end (times_of_answers (events (rules_by b) fs) b.moment)
+  unfolding server_output
   said_by_run =
-      ap (λ (t : List Told). said b.channel b.first t (end_by b octets) (spent t b.moment)) told_is
-      ∙ ap (λ (e : End ℕ). said b.channel b.first (events (rules_by b) fs) e (spent (events (rules_by b) fs) b.moment)) end_is
+      ap (λ (t : List Told). output_of b.channel b.first t (end_by b octets) (times_of_answers t b.moment)) told_is
+      ∙ ap (λ (e : End ℕ). output_of b.channel b.first (events (rules_by b) fs) e (times_of_answers (events (rules_by b) fs) b.moment)) end_is
 
-  pub left_by_run : left_by b octets ≡ (left b.channel b.first (events (rules_by b) fs) (spent (events (rules_by b) fs) b.moment)).state
-  unfolding left_by
-  left_by_run = ap (λ (t : List Told). (left b.channel b.first t (spent t b.moment)).state) told_is
+  pub left_by_run : services_after b octets ≡ (state_after b.channel b.first (events (rules_by b) fs) (times_of_answers (events (rules_by b) fs) b.moment)).state
+  unfolding services_after
+  left_by_run = ap (λ (t : List Told). (state_after b.channel b.first t (times_of_answers t b.moment)).state) told_is
 
 -- ---- more octets
 
 -- what is said of octets is a beginning of this
 pub record SaidFirst (b : Beginning) (octets all : List ℕ) : Type 0 where
   pub further : List ℕ
-  pub parts : all ≡ said_to b octets ++ further
+  pub parts : all ≡ server_output b octets ++ further
 
-pub spent-append : (a c : List Told) (moment : DateTime) → spent (a ++ c) moment ≡ spent a moment ++ spent c moment
+pub spent-append : (a c : List Told) (moment : DateTime) → times_of_answers (a ++ c) moment ≡ times_of_answers a moment ++ times_of_answers c moment
 spent-append a c moment = ap (λ (n : ℕ). replicate n moment) (used_in-append a c) ∙ sym (replicate-append-replicate (used_in a) (used_in c) moment)
 
-pub spent-enough : (a : List Told) (moment : DateTime) → used_in a ≤ length (spent a moment)
+pub spent-enough : (a : List Told) (moment : DateTime) → used_in a ≤ length (times_of_answers a moment)
 spent-enough a moment = let len = length-replicate (used_in a) moment in omega (arith, len)
 
 -- how far a server is behind more that is told, where each answer has its moment
-pub left_on : (b : Beginning) (told more : List Told) → left b.channel b.first (told ++ more) (spent (told ++ more) b.moment) ≡ course_by b.channel (with_more (left b.channel b.first told (spent told b.moment)) (spent more b.moment)) more
+pub left_on : (b : Beginning) (told more : List Told) → state_after b.channel b.first (told ++ more) (times_of_answers (told ++ more) b.moment) ≡ course_by b.channel (with_more (state_after b.channel b.first told (times_of_answers told b.moment)) (times_of_answers more b.moment)) more
 left_on b told more =
-    ap (λ (ms : List DateTime). left b.channel b.first (told ++ more) ms) (spent-append told more b.moment)
-    ∙ (left-append b.channel b.first told more (spent told b.moment ++ spent more b.moment)
-    ∙ ap (λ (k : Course). course_by b.channel k more) (left-more b.channel b.first told (spent told b.moment) (spent more b.moment) (spent-enough told b.moment)))
+    ap (λ (ms : List DateTime). state_after b.channel b.first (told ++ more) ms) (spent-append told more b.moment)
+    ∙ (left-append b.channel b.first told more (times_of_answers told b.moment ++ times_of_answers more b.moment)
+    ∙ ap (λ (k : Course). course_by b.channel k more) (left-more b.channel b.first told (times_of_answers told b.moment) (times_of_answers more b.moment) (spent-enough told b.moment)))
 
 -- and what it says of that
-pub said_on : (b : Beginning) (told more : List Told) → said b.channel b.first (told ++ more) Going (spent (told ++ more) b.moment)
-    ≡ said b.channel b.first told Going (spent told b.moment) ++ said_of b.channel (with_more (left b.channel b.first told (spent told b.moment)) (spent more b.moment)) more
+pub said_on : (b : Beginning) (told more : List Told) → output_of b.channel b.first (told ++ more) Going (times_of_answers (told ++ more) b.moment)
+    ≡ output_of b.channel b.first told Going (times_of_answers told b.moment) ++ said_of b.channel (with_more (state_after b.channel b.first told (times_of_answers told b.moment)) (times_of_answers more b.moment)) more
 said_on b told more =
-    let ms : List DateTime = spent told b.moment ++ spent more b.moment in
-    ap (λ (m : List DateTime). said b.channel b.first (told ++ more) Going m) (spent-append told more b.moment)
+    let ms : List DateTime = times_of_answers told b.moment ++ times_of_answers more b.moment in
+    ap (λ (m : List DateTime). output_of b.channel b.first (told ++ more) Going m) (spent-append told more b.moment)
     ∙ (said-append b.channel b.first told more Going ms
-    ∙ (ap (λ (o : List ℕ). o ++ (said_of b.channel (left b.channel b.first told ms) more ++ [])) (said-more b.channel b.first told Going (spent told b.moment) (spent more b.moment) (spent-enough told b.moment))
-    ∙ (ap (λ (o : List ℕ). said b.channel b.first told Going (spent told b.moment) ++ o) (append-nil (said_of b.channel (left b.channel b.first told ms) more))
-    ∙ ap (λ (k : Course). said b.channel b.first told Going (spent told b.moment) ++ said_of b.channel k more)
-    (left-more b.channel b.first told (spent told b.moment) (spent more b.moment) (spent-enough told b.moment)))))
+    ∙ (ap (λ (o : List ℕ). o ++ (said_of b.channel (state_after b.channel b.first told ms) more ++ [])) (said-more b.channel b.first told Going (times_of_answers told b.moment) (times_of_answers more b.moment) (spent-enough told b.moment))
+    ∙ (ap (λ (o : List ℕ). output_of b.channel b.first told Going (times_of_answers told b.moment) ++ o) (append-nil (said_of b.channel (state_after b.channel b.first told ms) more))
+    ∙ ap (λ (k : Course). output_of b.channel b.first told Going (times_of_answers told b.moment) ++ said_of b.channel k more)
+    (left-more b.channel b.first told (times_of_answers told b.moment) (times_of_answers more b.moment) (spent-enough told b.moment)))))
 
 -- nothing more is said of a CLO
-pub said_over : (b : Beginning) (told : List Told) → said b.channel b.first (told ++ Closed ∷ []) Over (spent (told ++ Closed ∷ []) b.moment) ≡ said b.channel b.first told Going (spent told b.moment)
+pub said_over : (b : Beginning) (told : List Told) → output_of b.channel b.first (told ++ Closed ∷ []) Over (times_of_answers (told ++ Closed ∷ []) b.moment) ≡ output_of b.channel b.first told Going (times_of_answers told b.moment)
 said_over b told =
-    let ms : List DateTime = spent told b.moment ++ spent (Closed ∷ []) b.moment in
-    ap (λ (m : List DateTime). said b.channel b.first (told ++ Closed ∷ []) Over m) (spent-append told (Closed ∷ []) b.moment)
+    let ms : List DateTime = times_of_answers told b.moment ++ times_of_answers (Closed ∷ []) b.moment in
+    ap (λ (m : List DateTime). output_of b.channel b.first (told ++ Closed ∷ []) Over m) (spent-append told (Closed ∷ []) b.moment)
     ∙ (said-append b.channel b.first told (Closed ∷ []) Over ms
-    ∙ (append-nil (said b.channel b.first told Going ms) ∙ said-more b.channel b.first told Going (spent told b.moment) (spent (Closed ∷ []) b.moment) (spent-enough told b.moment)))
+    ∙ (append-nil (output_of b.channel b.first told Going ms) ∙ said-more b.channel b.first told Going (times_of_answers told b.moment) (times_of_answers (Closed ∷ []) b.moment) (spent-enough told b.moment)))
 
 -- what is said of more that is told, in one piece
 said_first : (b : Beginning) (a c : List Told) (end : End ℕ) → (further : List ℕ) ×
-    (said b.channel b.first (a ++ c) end (spent (a ++ c) b.moment) ≡ said b.channel b.first a Going (spent a b.moment) ++ further)
+    (output_of b.channel b.first (a ++ c) end (times_of_answers (a ++ c) b.moment) ≡ output_of b.channel b.first a Going (times_of_answers a b.moment) ++ further)
 said_first b a c end =
-    let moments = spent a b.moment ++ spent c b.moment in (
-      said_of b.channel (left b.channel b.first a moments) c ++ last_words end,
-      ap (λ (ms : List DateTime). said b.channel b.first (a ++ c) end ms) (spent-append a c b.moment)
+    let moments = times_of_answers a b.moment ++ times_of_answers c b.moment in (
+      said_of b.channel (state_after b.channel b.first a moments) c ++ last_words end,
+      ap (λ (ms : List DateTime). output_of b.channel b.first (a ++ c) end ms) (spent-append a c b.moment)
           ∙ (said-append b.channel b.first a c end moments
-          ∙ ap (λ (o : List ℕ). o ++ (said_of b.channel (left b.channel b.first a moments) c ++ last_words end))
-          (said-more b.channel b.first a Going (spent a b.moment) (spent c b.moment) (spent-enough a b.moment))),
+          ∙ ap (λ (o : List ℕ). o ++ (said_of b.channel (state_after b.channel b.first a moments) c ++ last_words end))
+          (said-more b.channel b.first a Going (times_of_answers a b.moment) (times_of_answers c b.moment) (spent-enough a b.moment))),
     )
 
-stays_said : (b : Beginning) (octets more : List ℕ) (fs : List Frame) (rest : List ℕ) (end : End ℕ) → (end ≡ Going → ⊥) → Run (rules_by b) octets fs rest end → SaidFirst b octets (said_to b (octets ++ more))
+stays_said : (b : Beginning) (octets more : List ℕ) (fs : List Frame) (rest : List ℕ) (end : End ℕ) → (end ≡ Going → ⊥) → Run (rules_by b) octets fs rest end → SaidFirst b octets (server_output b (octets ++ more))
 stays_said b octets more fs rest end over r = record {
   further = [];
   parts =
       said_by_run b (octets ++ more) fs (rest ++ more) end (ends_stay (rules_by b) octets more fs rest end over r)
-      ∙ (sym (said_by_run b octets fs rest end r) ∙ sym (append-nil (said_to b octets)));
+      ∙ (sym (said_by_run b octets fs rest end r) ∙ sym (append-nil (server_output b octets)));
 }
 
-goes_said : (b : Beginning) (octets more : List ℕ) (fs : List Frame) (rest : List ℕ) → Run (rules_by b) octets fs rest Going → SaidFirst b octets (said_to b (octets ++ more))
+goes_said : (b : Beginning) (octets more : List ℕ) (fs : List Frame) (rest : List ℕ) → Run (rules_by b) octets fs rest Going → SaidFirst b octets (server_output b (octets ++ more))
 goes_said b octets more fs rest r =
     let R = rules_by b in
     let s = reading (behind R fs) (rest ++ more) in
@@ -110,15 +110,15 @@ goes_said b octets more fs rest r =
       further = first.0;
       parts =
           said_by_run b (octets ++ more) (fs ++ s.frames) s.rest s.end run
-          ∙ (ap (λ (t : List Told). said b.channel b.first t s.end (spent t b.moment)) (events_on R fs s.frames)
+          ∙ (ap (λ (t : List Told). output_of b.channel b.first t s.end (times_of_answers t b.moment)) (events_on R fs s.frames)
           ∙ (first.1 ∙ ap (λ (o : List ℕ). o ++ first.0) (sym (said_by_run b octets fs rest Going r))));
     }
 
-by_end : (b : Beginning) (octets more : List ℕ) (fs : List Frame) (rest : List ℕ) (end : End ℕ) → Run (rules_by b) octets fs rest end → SaidFirst b octets (said_to b (octets ++ more))
+by_end : (b : Beginning) (octets more : List ℕ) (fs : List Frame) (rest : List ℕ) (end : End ℕ) → Run (rules_by b) octets fs rest end → SaidFirst b octets (server_output b (octets ++ more))
 by_end b octets more fs rest Going r = goes_said b octets more fs rest r
 by_end b octets more fs rest (Stopped why) r = stays_said b octets more fs rest (Stopped why) (λ e. cc) r
 by_end b octets more fs rest Over r = stays_said b octets more fs rest Over (λ e. cc) r
 
 -- what is said of octets is said first of more of them
-pub said_further : (b : Beginning) (octets more : List ℕ) → SaidFirst b octets (said_to b (octets ++ more))
-said_further b octets more = by_end b octets more (read_by b octets).frames (read_by b octets).rest (read_by b octets).end (read_by b octets).run
+pub said_further : (b : Beginning) (octets more : List ℕ) → SaidFirst b octets (server_output b (octets ++ more))
+said_further b octets more = by_end b octets more (reading_at_server b octets).frames (reading_at_server b octets).rest (reading_at_server b octets).end (reading_at_server b octets).run

@@ -15,7 +15,7 @@ use Rattle.ua_client.specs.Client.{IsReady, connection_of}
 use Rattle.ua_client.specs.Hearing.{channel_of}
 use Rattle.ua_client.specs.Sent.{bodies_of}
 use Rattle.ua_client.specs.Session.{ActivatesBehind, BeginsSessionAs, Replies, ServesAt, activating_at, brings_any, brings_token, creating_at, reply_failure}
-use Rattle.ua_client.specs.Site.{Site, id_at}
+use Rattle.ua_client.specs.ClientPlace.{ClientPlace, id_at}
 use Rattle.ua_client.specs.declared.client.Client.{Client}
 use Rattle.ua_client.specs.declared.connection.Connection.{Connection}
 use Rattle.ua_client.specs.declared.fault.ClientFault.{ClientFault}
@@ -105,7 +105,7 @@ module _ (t : SoFar) (x : Client) (before : Option Traffic) (k : IsTalking t x b
 -- ---- a session that is not begun
 
 -- a service whose request is called by itself failed, or the call did
-served_or_broken : (A : Type 0) (request : Request) (brings : A → Reply → Type 0) (s : Site) (new : Connection) (sent taken : List ℕ) (f : ClientFault) → ServesAt {A = A} request brings s new sent taken (Err f)
+served_or_broken : (A : Type 0) (request : Request) (brings : A → Reply → Type 0) (s : ClientPlace) (new : Connection) (sent taken : List ℕ) (f : ClientFault) → ServesAt {A = A} request brings s new sent taken (Err f)
     → ((code : StatusCode) × (f ≡ fault.Service code) × Replies request s (channel_of new) sent taken (λ (reply : Reply). reply_failure reply ≡ Some code)) ⊎ BreaksAt (request ∷ []) s new sent taken f
 served_or_broken A request brings s new sent taken (fault.Service code) h = inl (code, refl, h)
 served_or_broken A request brings s new sent taken fault.Read h = inr h

@@ -21,13 +21,13 @@ use Rattle.ua_channel.specs.declared.client.channel.ClientChannel.{ClientChannel
 use Rattle.ua_channel_laws.proofs.Following.{client_begins, client_not_failed, client_told}
 use Rattle.ua_services.specs.Request.{request}
 use Rattle.ua_services.specs.declared.request.Request.{Request}
-use Rattle.ua_server.specs.Said.{Course, left, left_by, said, said_of, with_more}
+use Rattle.ua_server.specs.Said.{Course, state_after, course_after, output_of, said_of, with_more}
 use Rattle.ua_server.proofs.SaidInParts.{course}
-use Rattle.ua_client.specs.Calls.{Answered, GoesOn, LastCame, asked_at, refusal_at, sent_at}
+use Rattle.ua_client.specs.Calls.{Answered, ClientGoesOn, LastCame, asked_at, refusal_at, sent_at}
 use Rattle.ua_client.specs.Renewing.{IsSettled}
 use Rattle.ua_client.specs.Replies.{AreAwaited, IsMisanswered}
 use Rattle.ua_client.specs.Sent.{bodies_of}
-use Rattle.ua_client.specs.Site.{Site, At, id_at}
+use Rattle.ua_client.specs.ClientPlace.{ClientPlace, StandsAt, id_at}
 use Rattle.ua_client.specs.Told.{is_told_of, told_of}
 use Rattle.ua_client.specs.declared.reply.Reply.{Reply}
 use Rattle.ua_client.proofs.Askings.{next-calls}
@@ -35,7 +35,7 @@ use Rattle.ua_client.proofs.Settled.{NonePending}
 use Rattle.ua_loopback.specs.Accepted.{held_behind_calls}
 use Rattle.ua_loopback.specs.Beginning.{Beginning}
 use Rattle.ua_loopback.specs.Replies.{HaveMisanswer}
-use Rattle.ua_loopback.specs.Says.{said_to, spent}
+use Rattle.ua_loopback.specs.Says.{server_output, times_of_answers}
 use Rattle.ua_loopback.specs.Together.{AreServing, behind_calls}
 use Rattle.ua_loopback.specs.Turns.{calls_told}
 use Rattle.ua_loopback.proofs.Answering.{AreHeard, answers_told, calls_asked, calls_in_step, hello_stays, issued_stays, newest_stays, replies_read, told_each, tokens_stay, used_last, waits, with_calls}
@@ -53,17 +53,17 @@ ToldBehind = (x : ClientChannel) (asks : List Placed) (octets : List ℕ) (told 
 -- ---- what a server says of more
 
 module _ (b : Beginning) (octets : List ℕ) (told : List Told) (s : AtServer) (r : ServerReads b.limits b.channel octets told s) where
-  pub said_there : said_to b octets ≡ said b.channel b.first told Going (spent told b.moment)
-  said_there = said_by_run b octets r.frames [] Going r.run ∙ ap (λ (t : List Told). said b.channel b.first t Going (spent t b.moment)) r.told_is
+  pub said_there : server_output b octets ≡ output_of b.channel b.first told Going (times_of_answers told b.moment)
+  said_there = said_by_run b octets r.frames [] Going r.run ∙ ap (λ (t : List Told). output_of b.channel b.first t Going (times_of_answers t b.moment)) r.told_is
 
   -- how far the server is behind these
   abbrev pub behind_told : List Told → Course
-  behind_told more = with_more (left b.channel b.first told (spent told b.moment)) (spent more b.moment)
+  behind_told more = with_more (state_after b.channel b.first told (times_of_answers told b.moment)) (times_of_answers more b.moment)
 
-  pub said_more : (later : List ℕ) (more : List Told) (t : AtServer) → ServerReads b.limits b.channel later (told ++ more) t → said_to b later ≡ said_to b octets ++ said_of b.channel (behind_told more) more
+  pub said_more : (later : List ℕ) (more : List Told) (t : AtServer) → ServerReads b.limits b.channel later (told ++ more) t → server_output b later ≡ server_output b octets ++ said_of b.channel (behind_told more) more
   said_more later more t q =
       said_by_run b later q.frames [] Going q.run
-      ∙ (ap (λ (k : List Told). said b.channel b.first k Going (spent k b.moment)) q.told_is
+      ∙ (ap (λ (k : List Told). output_of b.channel b.first k Going (times_of_answers k b.moment)) q.told_is
       ∙ (said_on b told more ∙ ap (λ (o : List ℕ). o ++ said_of b.channel (behind_told more) more) (sym said_there)))
 
 some_bodies : (requests : List Request) → 0 < length requests → 0 < length (bodies_of requests)
@@ -72,7 +72,7 @@ some_bodies requests some = omega (arith, some, length-map requests request.cano
 -- ---- a turn
 
 -- requests are asked, against which there is nothing
-module _ (b : Beginning) (url : Option (List ℕ)) (octets : List ℕ) (told : List Told) (s : AtServer) (x : ClientChannel) (site : Site) (c : AtClient) (requests : List Request)
+module _ (b : Beginning) (url : Option (List ℕ)) (octets : List ℕ) (told : List Told) (s : AtServer) (x : ClientChannel) (site : ClientPlace) (c : AtClient) (requests : List Request)
     (on : b.channel < 2 ^ 32) (t : AreServing b url octets told s x site c) (some : 0 < length requests) (judged : refusal_at site requests ≡ None) where
   abbrev lane : Lane
   lane = lane_from c
@@ -90,10 +90,10 @@ module _ (b : Beginning) (url : Option (List ℕ)) (octets : List ℕ) (told : L
   g = agreement_of b.limits then_at.hello
 
   abbrev before : Course
-  before = left b.channel b.first told (spent told b.moment)
+  before = state_after b.channel b.first told (times_of_answers told b.moment)
 
   abbrev moments : List DateTime
-  moments = before.moments ++ spent calls b.moment
+  moments = before.moments ++ times_of_answers calls b.moment
 
   server_then : ServerReads b.limits b.channel (octets ++ sent_at site requests) (told ++ calls) then_at
   server_then = requests_read b.limits url b.channel octets told s x site c on t.together requests judged
@@ -119,7 +119,7 @@ module _ (b : Beginning) (url : Option (List ℕ)) (octets : List ℕ) (told : L
   told_then = site.told ++ answers_told (lane_of b.channel lane.token g) before.state moments (id_at site) bodies
 
   heard_then : AreHeard b.limits (client_limits x) url b.channel then_at (length bodies) (length (with_calls c (id_at site) bodies).tokens) (with_calls c (id_at site) bodies).newest (asked_at site requests) (site.octets ++ said_of b.channel (course before.state before.number moments (Some g)) calls) told_then
-      (left_by b.channel (course before.state before.number moments (Some g)) calls).number (left_by b.channel (course before.state before.number moments (Some g)) calls).agreement
+      (course_after b.channel (course before.state before.number moments (Some g)) calls).number (course_after b.channel (course before.state before.number moments (Some g)) calls).agreement
   heard_then =
       replies_read b.limits (client_limits x) url b.channel on then_at few_used lane (used_last s lane bodies (some_bodies requests some))
       (asked_at site requests) site.octets site.told (with_calls c (id_at site) bodies) before.state before.number moments (id_at site) bodies
@@ -130,14 +130,14 @@ module _ (b : Beginning) (url : Option (List ℕ)) (octets : List ℕ) (told : L
       next_stays d id [] = refl
       next_stays d id (body ∷ bs) = next_stays (record d { pending = d.pending ++ id ∷ [] }) (id + 1) bs
 
-  said_then : said_to b (octets ++ sent_at site requests) ≡ site.octets ++ said_of b.channel (course before.state before.number moments (Some g)) calls
+  said_then : server_output b (octets ++ sent_at site requests) ≡ site.octets ++ said_of b.channel (course before.state before.number moments (Some g)) calls
   said_then =
       said_more b octets told s t.together.server_reads (octets ++ sent_at site requests) calls then_at server_then
       ∙ (ap (λ (o : List ℕ). o ++ said_of b.channel (behind_told b octets told s t.together.server_reads calls) calls) (sym t.taken)
       ∙ ap (λ (k : Course). site.octets ++ said_of b.channel k calls) course_is)
 
-  left_then_is : left b.channel b.first (told ++ calls) (spent (told ++ calls) b.moment) ≡ left_by b.channel (course before.state before.number moments (Some g)) calls
-  left_then_is = left_on b told calls ∙ ap (λ (k : Course). left_by b.channel k calls) course_is
+  left_then_is : state_after b.channel b.first (told ++ calls) (times_of_answers (told ++ calls) b.moment) ≡ course_after b.channel (course before.state before.number moments (Some g)) calls
+  left_then_is = left_on b told calls ∙ ap (λ (k : Course). course_after b.channel k calls) course_is
 
   newest_then : heard_then.at.newest ≡ c.newest
   newest_then = heard_then.newest ∙ newest_stays c (id_at site) bodies
@@ -148,9 +148,9 @@ module _ (b : Beginning) (url : Option (List ℕ)) (octets : List ℕ) (told : L
       ∙ (ap (λ (ks : List ℕ). held_behind_calls (length ks) (length bodies)) (tokens_stay c (id_at site) bodies) ∙ ap (λ (n : ℕ). held_behind_calls (length c.tokens) n) (length-map requests request.canonical))
 
   -- the client reads what the server says of them
-  reads_asked : (limits : Limits) → limits ≡ client_limits x → ClientReads limits (asked_at site requests) (said_to b (octets ++ sent_at site requests)) told_then heard_then.at
+  reads_asked : (limits : Limits) → limits ≡ client_limits x → ClientReads limits (asked_at site requests) (server_output b (octets ++ sent_at site requests)) told_then heard_then.at
   reads_asked limits same =
-      subst (λ (l : Limits). ClientReads l (asked_at site requests) (said_to b (octets ++ sent_at site requests)) told_then heard_then.at) (sym same)
+      subst (λ (l : Limits). ClientReads l (asked_at site requests) (server_output b (octets ++ sent_at site requests)) told_then heard_then.at) (sym same)
       (subst (λ (o : List ℕ). ClientReads (client_limits x) (asked_at site requests) o told_then heard_then.at) (sym said_then) heard_then.reads)
 
   -- something was told of each call there
@@ -163,13 +163,13 @@ module _ (b : Beginning) (url : Option (List ℕ)) (octets : List ℕ) (told : L
   -- what becomes of a channel of the client that took a front of what the server says, or all of it
   module _ (y : ClientChannel) (same : client_limits y ≡ client_limits x) (taken : List ℕ) where
     -- it does not fail
-    pub asked_fails_not : (heard : List Heard) (why : Why) → ClientEnded y (asked_at site requests) taken heard why → Extends taken (said_to b (octets ++ sent_at site requests)) → ⊥
+    pub asked_fails_not : (heard : List Heard) (why : Why) → ClientEnded y (asked_at site requests) taken heard why → Extends taken (server_output b (octets ++ sent_at site requests)) → ⊥
     asked_fails_not heard why ended front =
         client_not_failed y (asked_at site requests) taken front.more heard told_then heard_then.at why ended
         (subst (λ (o : List ℕ). ClientReads (client_limits y) (asked_at site requests) o told_then heard_then.at) front.parts (reads_asked (client_limits y) same))
 
     -- behind all of it no reply is missing
-    pub asked_misses_not : GoesOn y (asked_at site requests) taken site.told (AreAwaited requests (id_at site)) → taken ≡ said_to b (octets ++ sent_at site requests) → ⊥
+    pub asked_misses_not : ClientGoesOn y (asked_at site requests) taken site.told (AreAwaited requests (id_at site)) → taken ≡ server_output b (octets ++ sent_at site requests) → ⊥
     asked_misses_not h all =
         let told_is : site.told ++ h.0 ≡ told_then =
         client_told y (asked_at site requests) taken (site.told ++ h.0) told_then heard_then.at h.1
@@ -177,7 +177,7 @@ module _ (b : Beginning) (url : Option (List ℕ)) (octets : List ℕ) (told : L
         never_missing requests (id_at site) (site.told ++ h.0) h.2.slots h.2.slots_are (λ k from to. subst (λ (ts : List Heard). 0 < length (told_of k ts)) (sym told_is) (each_told k from to)) h.2.missing
 
     -- a message that is no answer to its request is one with which the server answered it
-    pub asked_misanswered : ToldBehind → At x site → GoesOn y (asked_at site requests) taken site.told (IsMisanswered requests (id_at site)) → Extends taken (said_to b (octets ++ sent_at site requests)) → AreWritable requests
+    pub asked_misanswered : ToldBehind → StandsAt x site → ClientGoesOn y (asked_at site requests) taken site.told (IsMisanswered requests (id_at site)) → Extends taken (server_output b (octets ++ sent_at site requests)) → AreWritable requests
         → HaveMisanswer before.state b.moment requests
     asked_misanswered law at h front fits =
         let begins = client_begins y (asked_at site requests) taken front.more (site.told ++ h.0) told_then heard_then.at h.1
@@ -188,42 +188,42 @@ module _ (b : Beginning) (url : Option (List ℕ)) (octets : List ℕ) (told : L
         (law x site.asks site.octets site.told h.2.place at.goes) h.2.request_is all_is h.2.untold h.2.misanswers
 
   -- they are answered
-  module _ (behind : Site) (taken : List ℕ) (replies : List Reply) (a : Answered requests site behind taken replies) where
+  module _ (behind : ClientPlace) (taken : List ℕ) (replies : List Reply) (a : Answered requests site behind taken replies) where
     spare_then : then_at.issued < id_at behind
     spare_then =
         let ids : id_at behind ≡ id_at site + length bodies = ap (λ (p : List Placed). next_id (asked_in p)) a.asks ∙ next-calls site.asks (length site.octets) (id_at site) bodies in
         omega (arith, ids, issued_stays s lane bodies, t.spare)
 
-    module _ (y : ClientChannel) (stands : At y behind) (same : client_limits y ≡ client_limits x) where
+    module _ (y : ClientChannel) (stands : StandsAt y behind) (same : client_limits y ≡ client_limits x) where
       -- the client reads what the server says of it
-      reads_then : ClientReads (client_limits y) behind.asks (said_to b (octets ++ sent_at site requests)) told_then heard_then.at
+      reads_then : ClientReads (client_limits y) behind.asks (server_output b (octets ++ sent_at site requests)) told_then heard_then.at
       reads_then =
-          subst (λ (l : Limits). ClientReads l behind.asks (said_to b (octets ++ sent_at site requests)) told_then heard_then.at) (sym same)
-          (subst (λ (p : List Placed). ClientReads (client_limits x) p (said_to b (octets ++ sent_at site requests)) told_then heard_then.at) (sym a.asks)
+          subst (λ (l : Limits). ClientReads l behind.asks (server_output b (octets ++ sent_at site requests)) told_then heard_then.at) (sym same)
+          (subst (λ (p : List Placed). ClientReads (client_limits x) p (server_output b (octets ++ sent_at site requests)) told_then heard_then.at) (sym a.asks)
           (subst (λ (o : List ℕ). ClientReads (client_limits x) (asked_at site requests) o told_then heard_then.at) (sym said_then) heard_then.reads))
 
       -- which ends with the chunk of a reply
-      ends_then : LastChunk (client_limits y) behind.asks (said_to b (octets ++ sent_at site requests))
+      ends_then : LastChunk (client_limits y) behind.asks (server_output b (octets ++ sent_at site requests))
       ends_then =
-          subst (λ (l : Limits). LastChunk l behind.asks (said_to b (octets ++ sent_at site requests))) (sym same)
-          (subst (λ (p : List Placed). LastChunk (client_limits x) p (said_to b (octets ++ sent_at site requests))) (sym a.asks)
+          subst (λ (l : Limits). LastChunk l behind.asks (server_output b (octets ++ sent_at site requests))) (sym same)
+          (subst (λ (p : List Placed). LastChunk (client_limits x) p (server_output b (octets ++ sent_at site requests))) (sym a.asks)
           (subst (LastChunk (client_limits x) (asked_at site requests)) (sym said_then) (heard_then.ends (some_bodies requests some))))
 
       -- where it took a front of that, it took all of it
-      pub answered_took : NonePending → IsSettled behind → Extends behind.octets (said_to b (octets ++ sent_at site requests)) → behind.octets ≡ said_to b (octets ++ sent_at site requests)
+      pub answered_took : NonePending → IsSettled behind → Extends behind.octets (server_output b (octets ++ sent_at site requests)) → behind.octets ≡ server_output b (octets ++ sent_at site requests)
       answered_took law settled front =
-          took_all law y behind stands settled (said_to b (octets ++ sent_at site requests)) reads_then.frames reads_then.run (ends_then reads_then.frames reads_then.run) front
+          took_all law y behind stands settled (server_output b (octets ++ sent_at site requests)) reads_then.frames reads_then.run (ends_then reads_then.frames reads_then.run) front
 
       -- where octets begin with what it took, and with what the server says, it took just that
-      pub answered_taken : NonePending → IsSettled behind → LastCame y requests (id_at site) behind.asks behind.octets behind.told → (down : List ℕ) → Extends behind.octets down → Extends (said_to b (octets ++ sent_at site requests)) down
-          → behind.octets ≡ said_to b (octets ++ sent_at site requests)
-      answered_taken law settled came down got said = by (meets behind.octets (said_to b (octets ++ sent_at site requests)) got.more said.more (sym got.parts ∙ said.parts))
+      pub answered_taken : NonePending → IsSettled behind → LastCame y requests (id_at site) behind.asks behind.octets behind.told → (down : List ℕ) → Extends behind.octets down → Extends (server_output b (octets ++ sent_at site requests)) down
+          → behind.octets ≡ server_output b (octets ++ sent_at site requests)
+      answered_taken law settled came down got output_of = by (meets behind.octets (server_output b (octets ++ sent_at site requests)) got.more output_of.more (sym got.parts ∙ output_of.parts))
         where
-          by : (((more : List ℕ) × (said_to b (octets ++ sent_at site requests) ≡ behind.octets ++ more)) ⊎ ((more : List ℕ) × (behind.octets ≡ said_to b (octets ++ sent_at site requests) ++ more))) → behind.octets ≡ said_to b (octets ++ sent_at site requests)
+          by : (((more : List ℕ) × (server_output b (octets ++ sent_at site requests) ≡ behind.octets ++ more)) ⊎ ((more : List ℕ) × (behind.octets ≡ server_output b (octets ++ sent_at site requests) ++ more))) → behind.octets ≡ server_output b (octets ++ sent_at site requests)
           by (inl p) = answered_took law settled (record { more = p.0; parts = p.1 })
-          by (inr p) = took_no_more y requests (id_at site) behind came (said_to b (octets ++ sent_at site requests)) told_then heard_then.at reads_then each_told p.0 p.1
+          by (inr p) = took_no_more y requests (id_at site) behind came (server_output b (octets ++ sent_at site requests)) told_then heard_then.at reads_then each_told p.0 p.1
 
-      module _ (took : behind.octets ≡ said_to b (octets ++ sent_at site requests)) where
+      module _ (took : behind.octets ≡ server_output b (octets ++ sent_at site requests)) where
         here : ClientReads (client_limits y) behind.asks behind.octets told_then heard_then.at
         here = subst (λ (o : List ℕ). ClientReads (client_limits y) behind.asks o told_then heard_then.at) (sym took) reads_then
 

@@ -9,7 +9,7 @@ use Rattle.ua_frame.specs.declared.limits.Limits.{Limits}
 use Rattle.ua_chunk.specs.declared.lane.Lane.{Lane}
 use Rattle.ua_channel.specs.Client.{SameClient, client_limits}
 use Rattle.ua_channel.specs.ClientAsks.{call_lane}
-use Rattle.ua_channel.specs.Line.{Traffic, WhereTold}
+use Rattle.ua_channel.specs.Line.{Traffic, IfTrafficKnown}
 use Rattle.ua_channel_laws.specs.Outgoing.{renewal_by}
 use Rattle.ua_channel.specs.ServerTold.{Told, Opened}
 use Rattle.ua_channel.specs.declared.client.channel.ClientChannel.{ClientChannel}
@@ -17,10 +17,10 @@ use Rattle.ua_services.specs.declared.request.Request.{Request}
 use Rattle.ua_client.specs.Calls.{AnsweredAll, BreaksAt, BrokenAll, Rounds, all_of, refusal_at}
 use Rattle.ua_client.specs.Calls.Rounds.{NoRound, OneRound}
 use Rattle.ua_client.specs.Carried.{Carries}
-use Rattle.ua_client.specs.Hearing.{Moves, channel_of, untaken_of}
+use Rattle.ua_client.specs.Hearing.{MovesConnection, channel_of, untaken_of}
 use Rattle.ua_client.specs.Renewing.{IsRenewed, RenewsAt, refused_by, renewal_at, renewal_refusal}
 use Rattle.ua_client.specs.Sent.{bodies_of, group_reasons}
-use Rattle.ua_client.specs.Site.{Site, At, id_at}
+use Rattle.ua_client.specs.ClientPlace.{ClientPlace, StandsAt, id_at}
 use Rattle.ua_client.specs.declared.connection.Connection.{Connection}
 use Rattle.ua_client.specs.declared.fault.ClientFault.{ClientFault}
 use Rattle.ua_client.specs.declared.fault.ClientFault.TheVariants as fault
@@ -29,7 +29,7 @@ use Rattle.ua_client.proofs.Settled.{NonePending}
 use Rattle.ua_loopback.specs.Accepted.{IsTurnFault, acknowledged, held_behind_calls, turn_reasons}
 use Rattle.ua_loopback.specs.Beginning.{Beginning}
 use Rattle.ua_loopback.specs.Replies.{lane_back, turn_replies, turn_state}
-use Rattle.ua_loopback.specs.Says.{said_to, state_told}
+use Rattle.ua_loopback.specs.Says.{server_output, state_told}
 use Rattle.ua_loopback.specs.Sends.{turn_octets}
 use Rattle.ua_loopback.specs.Turns.{calls_told}
 use Rattle.ua_loopback.specs.Talking.{AreTalking, IsLineTo, IsServed}
@@ -40,7 +40,7 @@ use Rattle.ua_loopback.proofs.Rounds.{AreSome, Behind, all_front, lane_there, re
 -- ---- octets
 
 -- what rounds took
-pub rounds_octets : {c : ClientChannel} {s t : Site} {groups : List (List Request)} {sent taken : List ℕ} {replies : List Reply} → Rounds c s groups t sent taken replies → t.octets ≡ s.octets ++ taken
+pub rounds_octets : {c : ClientChannel} {s t : ClientPlace} {groups : List (List Request)} {sent taken : List ℕ} {replies : List Reply} → Rounds c s groups t sent taken replies → t.octets ≡ s.octets ++ taken
 rounds_octets {s = s} NoRound = sym (append-nil s.octets)
 rounds_octets {s = s} (OneRound {taken = taken} {part = part} group x r at a) = a.octets ∙ (ap (λ (o : List ℕ). o ++ part) (rounds_octets r) ∙ append_assoc s.octets taken part)
 
@@ -50,22 +50,22 @@ got_on got more octets left taken untaken is parts =
     ap (λ (t : List ℕ). t ++ more) is ∙ (append_assoc octets left more ∙ (ap (λ (t : List ℕ). octets ++ t) parts ∙ sym (append_assoc octets taken untaken)))
 
 -- a line to a server is one behind what then went over it
-pub line_on : (b : Beginning) (sent got more added : List ℕ) (before after : Option Traffic) → IsLineTo b sent got before → WhereTold (Carries added more) before after → IsLineTo b (sent ++ more) (got ++ added) after
+pub line_on : (b : Beginning) (sent got more added : List ℕ) (before after : Option Traffic) → IsLineTo b sent got before → IfTrafficKnown (Carries added more) before after → IsLineTo b (sent ++ more) (got ++ added) after
 line_on b sent got more added None after line carried = absurd line
 line_on b sent got more added (Some f) None line carried = absurd carried
 line_on b sent got more added (Some f) (Some g) line carried = λ further.
-    ap (said_to b) (append_assoc sent more further) ∙ (line (more ++ further) ∙ (ap (λ (o : List ℕ). got ++ o) (carried.coming further) ∙ sym (append_assoc got added (g.coming further))))
+    ap (server_output b) (append_assoc sent more further) ∙ (line (more ++ further) ∙ (ap (λ (o : List ℕ). got ++ o) (carried.coming further) ∙ sym (append_assoc got added (g.coming further))))
 
 -- what was taken is a front of what the server says of all that was sent
-pub fronts : (b : Beginning) (now : Option Traffic) (sent got taken untaken : List ℕ) → IsLineTo b sent got now → got ≡ taken ++ untaken → Extends taken (said_to b sent)
+pub fronts : (b : Beginning) (now : Option Traffic) (sent got taken untaken : List ℕ) → IsLineTo b sent got now → got ≡ taken ++ untaken → Extends taken (server_output b sent)
 fronts b None sent got taken untaken line is = absurd line
 fronts b (Some g) sent got taken untaken line is = record {
   more = untaken ++ g.coming [];
-  parts = ap (said_to b) (sym (append-nil sent)) ∙ (line [] ∙ (ap (λ (o : List ℕ). o ++ g.coming []) is ∙ append_assoc taken untaken (g.coming [])));
+  parts = ap (server_output b) (sym (append-nil sent)) ∙ (line [] ∙ (ap (λ (o : List ℕ). o ++ g.coming []) is ∙ append_assoc taken untaken (g.coming [])));
 }
 
 -- the same, named in another way
-pub talking_as : (b : Beginning) (limits : Limits) (url : Option (List ℕ)) (octets others : List ℕ) (told more : List Told) (token k id n held h : ℕ) (site : Site) (x : Connection) (now : Option Traffic)
+pub talking_as : (b : Beginning) (limits : Limits) (url : Option (List ℕ)) (octets others : List ℕ) (told more : List Told) (token k id n held h : ℕ) (site : ClientPlace) (x : Connection) (now : Option Traffic)
     → octets ≡ others → told ≡ more → token ≡ k → id ≡ n → held ≡ h → AreTalking b limits url octets told token id held site x now → AreTalking b limits url others more k n h site x now
 talking_as b limits url octets others told more token k id n held h site x now p q r s e t =
     subst (λ (o : List ℕ). AreTalking b limits url o more k n h site x now) p
@@ -76,7 +76,7 @@ talking_as b limits url octets others told more token k id n held h site x now p
 -- ---- a turn
 
 -- a group that is refused for such a fault was not asked
-pub breaks_refused : (group : List Request) (s : Site) (new : Connection) (sent taken : List ℕ) (f : ClientFault) → IsTurnFault f → BreaksAt group s new sent taken f → (sent ≡ []) × (taken ≡ []) × At (channel_of new) s × (refusal_at s group ≡ Some f)
+pub breaks_refused : (group : List Request) (s : ClientPlace) (new : Connection) (sent taken : List ℕ) (f : ClientFault) → IsTurnFault f → BreaksAt group s new sent taken f → (sent ≡ []) × (taken ≡ []) × StandsAt (channel_of new) s × (refusal_at s group ≡ Some f)
 breaks_refused group s new sent taken fault.NotWritable h k = k
 breaks_refused group s new sent taken fault.Exhausted h k = k
 breaks_refused group s new sent taken fault.TooLarge h k = k
@@ -93,7 +93,7 @@ breaks_refused group s new sent taken fault.OutOfMemory h k = absurd h
 breaks_refused group s new sent taken fault.Closed h k = absurd h
 
 -- a renewal that is refused for one is refused for it where the client stands
-renewal_refused : (s : Site) (moment : DateTime) (new : ClientChannel) (sent taken : List ℕ) (f : ClientFault) → IsTurnFault f → RenewsAt {A = Unit {0}} s moment new sent taken (Err f) → refused_by {A = Unit {0}} (Err f) ≡ renewal_refusal s → renewal_refusal s ≡ Some f
+renewal_refused : (s : ClientPlace) (moment : DateTime) (new : ClientChannel) (sent taken : List ℕ) (f : ClientFault) → IsTurnFault f → RenewsAt {A = Unit {0}} s moment new sent taken (Err f) → refused_by {A = Unit {0}} (Err f) ≡ renewal_refusal s → renewal_refusal s ≡ Some f
 renewal_refused s moment new sent taken fault.NotWritable h k e = absurd k
 renewal_refused s moment new sent taken fault.Exhausted h k e = sym e
 renewal_refused s moment new sent taken fault.TooLarge h k e = absurd k
@@ -109,8 +109,8 @@ renewal_refused s moment new sent taken fault.UnknownResponse h k e = absurd h
 renewal_refused s moment new sent taken fault.OutOfMemory h k e = absurd h
 renewal_refused s moment new sent taken fault.Closed h k e = absurd h
 
-module _ (b : Beginning) (limits : Limits) (url : Option (List ℕ)) (octets : List ℕ) (told : List Told) (token id held : ℕ) (site : Site) (x : Connection) (before : Option Traffic) (t : AreTalking b limits url octets told token id held site x before)
-    (y : Connection) (after : Option Traffic) (sent : List ℕ) (moves : Moves x y sent before after) (same : SameClient (channel_of x) (channel_of y)) where
+module _ (b : Beginning) (limits : Limits) (url : Option (List ℕ)) (octets : List ℕ) (told : List Told) (token id held : ℕ) (site : ClientPlace) (x : Connection) (before : Option Traffic) (t : AreTalking b limits url octets told token id held site x before)
+    (y : Connection) (after : Option Traffic) (sent : List ℕ) (moves : MovesConnection x y sent before after) (same : SameClient (channel_of x) (channel_of y)) where
   abbrev a : Ack
   a = acknowledged b.limits limits url
 
@@ -118,14 +118,14 @@ module _ (b : Beginning) (limits : Limits) (url : Option (List ℕ)) (octets : L
   limits_then = sym same.limits ∙ t.served.limits_are
 
   -- at a site where it took what it then took
-  module _ (behind : Site) (octets_are : behind.octets ≡ site.octets ++ moves.taken) where
+  module _ (behind : ClientPlace) (octets_are : behind.octets ≡ site.octets ++ moves.taken) where
     line_then : IsLineTo b (octets ++ sent) (t.got ++ moves.got) after
     line_then = line_on b octets t.got sent moves.got before after t.line moves.carried
 
     got_then : t.got ++ moves.got ≡ behind.octets ++ untaken_of y
     got_then = got_on t.got moves.got site.octets (untaken_of x) moves.taken (untaken_of y) t.got_is moves.parts ∙ ap (λ (o : List ℕ). o ++ untaken_of y) (sym octets_are)
 
-    front_then : Extends behind.octets (said_to b (octets ++ sent))
+    front_then : Extends behind.octets (server_output b (octets ++ sent))
     front_then = fronts b after (octets ++ sent) (t.got ++ moves.got) behind.octets (untaken_of y) line_then got_then
 
     talking_then : (more : List Told) (k n h : ℕ) → IsServed b limits url (octets ++ sent) (told ++ more) k n h behind (channel_of y) → AreTalking b limits url (octets ++ sent) (told ++ more) k n h behind y after
@@ -135,14 +135,14 @@ module _ (b : Beginning) (limits : Limits) (url : Option (List ℕ)) (octets : L
   whole octets = record { more = []; parts = sym (append-nil octets) }
 
   -- groups of requests are answered, behind which nothing more is sent or taken
-  pub asked_behind : NonePending → {groups : List (List Request)} {sent_there taken_there : List ℕ} {replies : List Reply} (behind : Site) → Rounds (channel_of y) site groups behind sent_there taken_there replies → AreSome groups
+  pub asked_behind : NonePending → {groups : List (List Request)} {sent_there taken_there : List ℕ} {replies : List Reply} (behind : ClientPlace) → Rounds (channel_of y) site groups behind sent_there taken_there replies → AreSome groups
       → sent ≡ sent_there → moves.taken ≡ taken_there → Behind b limits url octets told token id held site.number sent replies (all_of groups) behind
   asked_behind law {groups = groups} {sent_there = sent_there} {replies = replies} behind rounds some sent_is taken_is =
-      let front : Extends behind.octets (said_to b (octets ++ sent)) = front_then behind (rounds_octets rounds ∙ ap (λ (o : List ℕ). site.octets ++ o) (sym taken_is)) in
-      let said : Extends (said_to b (octets ++ sent_there)) (said_to b (octets ++ sent)) =
-      subst (λ (o : List ℕ). Extends (said_to b (octets ++ o)) (said_to b (octets ++ sent))) sent_is (whole (said_to b (octets ++ sent))) in
+      let front : Extends behind.octets (server_output b (octets ++ sent)) = front_then behind (rounds_octets rounds ∙ ap (λ (o : List ℕ). site.octets ++ o) (sym taken_is)) in
+      let said : Extends (server_output b (octets ++ sent_there)) (server_output b (octets ++ sent)) =
+      subst (λ (o : List ℕ). Extends (server_output b (octets ++ o)) (server_output b (octets ++ sent))) sent_is (whole (server_output b (octets ++ sent))) in
       subst (λ (o : List ℕ). Behind b limits url octets told token id held site.number o replies (all_of groups) behind) (sym sent_is)
-      (rounds_served b limits url octets told token id held law (channel_of x) t.served limits_then rounds some (said_to b (octets ++ sent)) front said)
+      (rounds_served b limits url octets told token id held law (channel_of x) t.served limits_then rounds some (server_output b (octets ++ sent)) front said)
 
   -- where requests are answered
   pub answered_behind : NonePending → (requests : List Request) (replies : List Reply) (q : AnsweredAll requests site (channel_of y) sent moves.taken replies) → Behind b limits url octets told token id held site.number sent replies requests q.behind
@@ -152,13 +152,13 @@ module _ (b : Beginning) (limits : Limits) (url : Option (List ℕ)) (octets : L
 
   -- or the first of them, behind which the next is refused
   module _ (law : NonePending) (requests : List Request) (f : ClientFault) (is : IsTurnFault f) (q : BrokenAll requests site y sent moves.taken f) where
-    none : (q.sent_then ≡ []) × (q.taken_then ≡ []) × At (channel_of y) q.behind × (refusal_at q.behind q.group ≡ Some f)
+    none : (q.sent_then ≡ []) × (q.taken_then ≡ []) × StandsAt (channel_of y) q.behind × (refusal_at q.behind q.group ≡ Some f)
     none = breaks_refused q.group q.behind y q.sent_then q.taken_then f is q.breaks
 
     taken_is : moves.taken ≡ q.taken_before
     taken_is = q.taken_parts ∙ (ap (λ (o : List ℕ). q.taken_before ++ o) none.1 ∙ append-nil q.taken_before)
 
-    pub refused_at : At (channel_of y) q.behind
+    pub refused_at : StandsAt (channel_of y) q.behind
     refused_at = none.2
 
     pub refused_octets : q.behind.octets ≡ site.octets ++ moves.taken
@@ -180,7 +180,7 @@ module _ (b : Beginning) (limits : Limits) (url : Option (List ℕ)) (octets : L
         (sym (refused_there b limits url (octets ++ sent) (told ++ calls_told token id (bodies_of all)) token (id + length all) (held_behind_calls held (length all)) q.behind there.channel there.served q.group) ∙ none.3))
 
   -- behind requests that are answered
-  module _ (requests : List Request) (replies : List Reply) (behind : Site) (at : At (channel_of y) behind) (octets_are : behind.octets ≡ site.octets ++ moves.taken) (there : Behind b limits url octets told token id held site.number sent replies requests behind) where
+  module _ (requests : List Request) (replies : List Reply) (behind : ClientPlace) (at : StandsAt (channel_of y) behind) (octets_are : behind.octets ≡ site.octets ++ moves.taken) (there : Behind b limits url octets told token id held site.number sent replies requests behind) where
     pub talks_asked : AreTalking b limits url (octets ++ sent) (told ++ calls_told token id (bodies_of requests)) token (id + length requests) (held_behind_calls held (length requests)) behind y after
     talks_asked =
         talking_then behind octets_are (calls_told token id (bodies_of requests)) token (id + length requests) (held_behind_calls held (length requests))
@@ -199,14 +199,14 @@ module _ (b : Beginning) (limits : Limits) (url : Option (List ℕ)) (octets : L
     judged_here : renewal_refusal site ≡ first_reason (turn_reasons a held id None)
     judged_here = renewal_refused_there b limits url octets told token id held site (channel_of x) t.served
 
-    pub talks_renewed : IsTrue (date_time.encodable moment) → IsTrue (date_time.encodable b.moment) → renewal_refusal site ≡ None → sent ≡ renewal_at site moment → (behind : Site) → IsRenewed (channel_of y) site behind moves.taken
+    pub talks_renewed : IsTrue (date_time.encodable moment) → IsTrue (date_time.encodable b.moment) → renewal_refusal site ≡ None → sent ≡ renewal_at site moment → (behind : ClientPlace) → IsRenewed (channel_of y) site behind moves.taken
         → AreTalking b limits url (octets ++ sent) (told ++ Opened id 0 (token + 1) 3600000 ∷ []) (token + 1) (id + 1) (held + 1) behind y after
     talks_renewed dated answered judged sent_is behind r =
-        let front : Extends behind.octets (said_to b (octets ++ renewal_at site moment)) = subst (λ (o : List ℕ). Extends behind.octets (said_to b (octets ++ o))) sent_is (front_then behind r.octets) in
+        let front : Extends behind.octets (server_output b (octets ++ renewal_at site moment)) = subst (λ (o : List ℕ). Extends behind.octets (server_output b (octets ++ o))) sent_is (front_then behind r.octets) in
         talking_then behind r.octets (Opened id 0 (token + 1) 3600000 ∷ []) (token + 1) (id + 1) (held + 1)
         (subst (λ (o : List ℕ). IsServed b limits url (octets ++ o) (told ++ Opened id 0 (token + 1) 3600000 ∷ []) (token + 1) (id + 1) (held + 1) behind (channel_of y)) (sym sent_is)
-        (renewal_served b limits url octets told token id held site (channel_of x) t.served (channel_of y) behind moves.taken limits_then (said_to b (octets ++ renewal_at site moment)) front moment dated answered judged r
-        (whole (said_to b (octets ++ renewal_at site moment)))))
+        (renewal_served b limits url octets told token id held site (channel_of x) t.served (channel_of y) behind moves.taken limits_then (server_output b (octets ++ renewal_at site moment)) front moment dated answered judged r
+        (whole (server_output b (octets ++ renewal_at site moment)))))
 
     -- what is sent of that
     pub renewal_sent : renewal_at site moment ≡ turn_octets (call_lane a b.channel token) site.number id moment None

@@ -30,7 +30,7 @@ use Rattle.ua_services.specs.declared.request.Request.{Request}
 use Rattle.ua_client.specs.Calls.{LastCame}
 use Rattle.ua_client.specs.Renewing.{IsSettled}
 use Rattle.ua_client.specs.Replies.{AreSlots}
-use Rattle.ua_client.specs.Site.{Site, At}
+use Rattle.ua_client.specs.ClientPlace.{ClientPlace, StandsAt}
 use Rattle.ua_client.specs.Told.{is_told_of, told_of}
 use Rattle.ua_client.specs.declared.reply.Reply.{Reply}
 use Rattle.ua_client.proofs.Renewals.{none-holds}
@@ -100,7 +100,7 @@ chunk_refused limits b asked c none e =
     let waits_nowhere : not (is_in c.request []) ≡ false = subst (λ (ids : List ℕ). not (is_in c.request ids) ≡ false) none waits in
     absurd cc
 
-module _ (law : NonePending) (y : ClientChannel) (s : Site) (at : At y s) (settled : IsSettled s) (all : List ℕ) (frames : List Frame) (run : Run (client_rules (client_limits y) s.asks) all frames [] Going) (last : EndsInChunk frames) (front : Extends s.octets all) where
+module _ (law : NonePending) (y : ClientChannel) (s : ClientPlace) (at : StandsAt y s) (settled : IsSettled s) (all : List ℕ) (frames : List Frame) (run : Run (client_rules (client_limits y) s.asks) all frames [] Going) (last : EndsInChunk frames) (front : Extends s.octets all) where
   abbrev here : List Frame
   here = at.goes.frames
 
@@ -154,7 +154,7 @@ never_missing (r ∷ rs) id told [] h each e = h
 never_missing (r ∷ rs) id told (None ∷ slots) h each e = let some = each id (omega arith) (omega arith) in omega (arith, some, ap length h.0)
 never_missing (r ∷ rs) id told (Some reply ∷ slots) h each e = never_missing rs (id + 1) told slots h.1 (λ k from to. each k (omega (arith, from)) (omega (arith, to))) e
 
-module _ (y : ClientChannel) (requests : List Request) (id : ℕ) (s : Site) (came : LastCame y requests id s.asks s.octets s.told) (all : List ℕ) (told : List ClientTold) (at : AtClient) (r : ClientReads (client_limits y) s.asks all told at)
+module _ (y : ClientChannel) (requests : List Request) (id : ℕ) (s : ClientPlace) (came : LastCame y requests id s.asks s.octets s.told) (all : List ℕ) (told : List ClientTold) (at : AtClient) (r : ClientReads (client_limits y) s.asks all told at)
     (each : (k : ℕ) → id ≤ k → k < id + length requests → 0 < length (told_of k told)) (more : List ℕ) (is : s.octets ≡ all ++ more) where
   abbrev taken : List Frame
   taken = came.tells.frames ++ came.tells.frame ∷ []

@@ -26,5 +26,5 @@ least = record {
 }
 
 -- a server with nothing to serve, of which no line is
-abbrev pub nobody : Beginning
-nobody = record { limits = least; channel = 0; first = fresh [] (record { url = None; application_uri = None; name = None; message_limit = 0 }); moment = record { ticks = pos 0 } }
+abbrev pub no_server : Beginning
+no_server = record { limits = least; channel = 0; first = fresh [] (record { url = None; application_uri = None; name = None; message_limit = 0 }); moment = record { ticks = pos 0 } }

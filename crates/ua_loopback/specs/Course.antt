@@ -2,7 +2,7 @@
 use Rattle.std.specs.Prelude.{◌≡◌, ◌++◌, ℕ, List, [], ◌∷◌, Option, Some, None}
 use Rattle.ua_builtin.specs.declared.date_time.DateTime.{DateTime}
 use Rattle.ua_frame.specs.declared.limits.Limits.{Limits}
-use Rattle.ua_channel.specs.Line.{Traffic, WhereTold}
+use Rattle.ua_channel.specs.Line.{Traffic, IfTrafficKnown}
 use Rattle.ua_channel.specs.declared.client.channel.ClientChannel.{ClientChannel}
 use Rattle.ua_services.specs.declared.request.Request.{Request}
 use Rattle.ua_client.specs.Calls.{AreGroups, Rounds, all_of}
@@ -11,19 +11,19 @@ use Rattle.ua_client.specs.Client.{closing_at}
 use Rattle.ua_client.specs.Hearing.{channel_of, untaken_of}
 use Rattle.ua_client.specs.Opening.{IsOpened, hello_octets, open_octets}
 use Rattle.ua_client.specs.Renewing.{IsRenewed, renewal_at}
-use Rattle.ua_client.specs.Site.{Site, At}
+use Rattle.ua_client.specs.ClientPlace.{ClientPlace, StandsAt}
 use Rattle.ua_client.specs.declared.connection.Connection.{Connection}
 use Rattle.ua_client.specs.declared.reply.Reply.{Reply}
 
 -- the turns of a client that stood here, each done where those before it left it, and all that it asks answered: where it then stands, what it
 -- sent, and the replies
-pub data Course (moment : DateTime) (s : Site) : List (Option (List Request)) → Site → List ℕ → List Reply → Type 0 where
+pub data Course (moment : DateTime) (s : ClientPlace) : List (Option (List Request)) → ClientPlace → List ℕ → List Reply → Type 0 where
   Begun : Course moment s [] s [] []
   -- requests, in groups of 64, of which the last may have fewer, each call with its own reply, by the channel of a client
-  Asked : {x : ClientChannel} {turns : List (Option (List Request))} {m u : Site} {sent more taken : List ℕ} {replies added : List Reply} (t : Option (List Request)) (groups : List (List Request))
+  Asked : {x : ClientChannel} {turns : List (Option (List Request))} {m u : ClientPlace} {sent more taken : List ℕ} {replies added : List Reply} (t : Option (List Request)) (groups : List (List Request))
       → Course moment s turns m sent replies → t ≡ Some (all_of groups) → AreGroups groups → Rounds x m groups u more taken added → Course moment s (turns ++ t ∷ []) u (sent ++ more) (replies ++ added)
   -- a renewal
-  Renewed : {turns : List (Option (List Request))} {m u : Site} {sent taken : List ℕ} {replies : List Reply} (t : Option (List Request)) (x : ClientChannel)
+  Renewed : {turns : List (Option (List Request))} {m u : ClientPlace} {sent taken : List ℕ} {replies : List Reply} (t : Option (List Request)) (x : ClientChannel)
       → Course moment s turns m sent replies → t ≡ None → IsRenewed x m u taken → Course moment s (turns ++ t ∷ []) u (sent ++ renewal_at m moment) replies
 
 -- what a client sends to open its connection
@@ -35,11 +35,11 @@ opening_octets limits url moment = hello_octets limits url ++ open_octets moment
 pub record Converses (limits : Limits) (url : Option (List ℕ)) (moment : DateTime) (turns : List (Option (List Request))) (up down : List ℕ) (replies : List Reply) : Type 0 where
   -- where the channel was open
   pub x : ClientChannel
-  pub opened : Site
+  pub opened : ClientPlace
   pub opens : IsOpened x opened.octets
-  pub opened_at : At x opened
+  pub opened_at : StandsAt x opened
   -- and where the last turn left it
-  pub last : Site
+  pub last : ClientPlace
   pub sent : List ℕ
   pub course : Course moment opened turns last sent replies
   pub up_is : up ≡ opening_octets limits url moment ++ (sent ++ closing_at last moment)
@@ -48,11 +48,11 @@ pub record Converses (limits : Limits) (url : Option (List ℕ)) (moment : DateT
 -- ---- on the way
 
 -- a client that did these turns over a line: where it stands, what went over the line, and the replies
-pub record Stays (moment : DateTime) (opening : List ℕ) (opened : Site) (turns : List (Option (List Request))) (x : Connection) (before now : Option Traffic) (replies : List Reply) : Type 0 where
-  pub site : Site
-  pub at : At (channel_of x) site
+pub record Stays (moment : DateTime) (opening : List ℕ) (opened : ClientPlace) (turns : List (Option (List Request))) (x : Connection) (before now : Option Traffic) (replies : List Reply) : Type 0 where
+  pub site : ClientPlace
+  pub at : StandsAt (channel_of x) site
   pub sent : List ℕ
   pub course : Course moment opened turns site sent replies
   pub got : List ℕ
-  pub carried : WhereTold (Carries got (opening ++ sent)) before now
+  pub carried : IfTrafficKnown (Carries got (opening ++ sent)) before now
   pub got_is : got ≡ site.octets ++ untaken_of x

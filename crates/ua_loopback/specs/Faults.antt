@@ -10,7 +10,7 @@ use Rattle.ua_loopback.specs.Accepted.{acknowledged}
 use Rattle.ua_loopback.specs.Beginning.{Beginning}
 use Rattle.ua_loopback.specs.Course.{opening_octets}
 use Rattle.ua_loopback.specs.Replies.{turns_replies, turns_state}
-use Rattle.ua_loopback.specs.Says.{left_by}
+use Rattle.ua_loopback.specs.Says.{services_after}
 use Rattle.ua_loopback.specs.Sends.{turns_octets}
 
 -- ---- faults
@@ -57,4 +57,4 @@ pub record BehindRefused (b : Beginning) (limits : Limits) (url : Option (List �
   pub done_is : DoneBefore turns place done
   pub sent : up ≡ opening_octets limits url moment ++ turns_octets (acknowledged b.limits limits url) b.channel moment 1 2 2 done
   pub replied : map (λ (r : Reply). Some r) replies ≡ turns_replies b limits url b.first 1 done
-  pub state : left_by b up ≡ turns_state b.first b.moment done
+  pub state : services_after b up ≡ turns_state b.first b.moment done

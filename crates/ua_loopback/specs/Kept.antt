@@ -7,11 +7,11 @@ use Rattle.ua_channel.specs.ServerStands.{channel_of, limits_of}
 use Rattle.ua_channel.specs.ServerTold.{Told}
 use Rattle.ua_server.specs.Served.{channel_in}
 use Rattle.ua_server.specs.State.{State}
-use Rattle.ua_server.specs.Stepping.{Stands}
+use Rattle.ua_server.specs.Stepping.{ServerStands}
 use Rattle.ua_server.specs.declared.server.Server.{Server}
 use Rattle.ua_server.specs.declared.step.End.TheVariants as ending
 use Rattle.ua_loopback.specs.Beginning.{Beginning}
-use Rattle.ua_loopback.specs.Says.{end_by, left_by, said_to, spent}
+use Rattle.ua_loopback.specs.Says.{end_by, services_after, server_output, times_of_answers}
 use Rattle.ua_loopback.specs.declared.stage.Stage.{Stage}
 use Rattle.ua_loopback.specs.declared.stage.Stage.TheVariants.{Going, Ended, Broken}
 
@@ -27,12 +27,12 @@ pub record Served : Type 0 where
 
 -- the octets of a line to a server that began so: what is to come is what the server says of all that is then written, behind what was read
 abbrev pub traffic_of : Beginning → Served → Traffic
-traffic_of b l = record { coming = λ (more : List ℕ). drop l.read (said_to b (l.up ++ more)); written = l.up }
+traffic_of b l = record { coming = λ (more : List ℕ). drop l.read (server_output b (l.up ++ more)); written = l.up }
 
 -- the server took all that was written
 pub record Serves (b : Beginning) (server : Server) (now : State) (up : List ℕ) : Type 0 where
   pub told : List Told
-  pub stands : Stands (channel_in server) up told b.first (spent told b.moment) now
+  pub stands : ServerStands (channel_in server) up told b.first (times_of_answers told b.moment) now
   pub limits_are : limits_of (channel_in server) ≡ b.limits
   pub channel_is : channel_of (channel_in server) ≡ b.channel
 
@@ -44,8 +44,8 @@ ServesAt Broken b server now up = Unit {0}
 
 -- the services are what all that was written leaves, unless memory was refused
 abbrev pub LeavesAt : Stage → Beginning → List ℕ → State → Type 0
-LeavesAt Going b up now = now ≡ left_by b up
-LeavesAt (Ended end) b up now = now ≡ left_by b up
+LeavesAt Going b up now = now ≡ services_after b up
+LeavesAt (Ended end) b up now = now ≡ services_after b up
 LeavesAt Broken b up now = Unit {0}
 
 -- how what was written ends at such a server, where the connection is so far: nothing of it is refused and nothing closed the channel, and it
@@ -61,7 +61,7 @@ EndsAt Broken b up = end_by b up ≡ run.Going
 -- what a line to a server that began so keeps
 pub record Keeps (b : Beginning) (server : Server) (now : State) (moment : DateTime) (up down : List ℕ) (read : ℕ) (stage : Stage) : Type 0 where
   pub moment_is : moment ≡ b.moment
-  pub down_is : down ≡ said_to b up
+  pub down_is : down ≡ server_output b up
   pub within : read ≤ length down
   pub serves : ServesAt stage b server now up
   pub leaves : LeavesAt stage b up now

@@ -6,34 +6,34 @@ use Rattle.ua_frame.specs.Run.{End, events}
 use Rattle.ua_frame.proofs.Readings.{reading}
 use Rattle.ua_channel.specs.ServerRules.{server_rules}
 use Rattle.ua_channel.specs.ServerTold.{Told}
-use Rattle.ua_server.specs.Said.{left, said, used_in}
+use Rattle.ua_server.specs.Said.{state_after, output_of, used_in}
 use Rattle.ua_server.specs.State.{State}
 use Rattle.ua_loopback.specs.Beginning.{Beginning}
 
 -- the one reading of octets at that server: their good frames, and how what stands behind them ends
-abbrev pub read_by : (b : Beginning) (octets : List ℕ) → Reading (server_rules b.limits b.channel) octets
-read_by b octets = reading (server_rules b.limits b.channel) octets
+abbrev pub reading_at_server : (b : Beginning) (octets : List ℕ) → Reading (server_rules b.limits b.channel) octets
+reading_at_server b octets = reading (server_rules b.limits b.channel) octets
 
 -- what the frames of octets tell it
-abbrev pub told_by : Beginning → List ℕ → List Told
-told_by b octets = events (server_rules b.limits b.channel) (read_by b octets).frames
+abbrev pub events_at_server : Beginning → List ℕ → List Told
+events_at_server b octets = events (server_rules b.limits b.channel) (reading_at_server b octets).frames
 
 -- how they end
 abbrev pub end_by : Beginning → List ℕ → End ℕ
-end_by b octets = (read_by b octets).end
+end_by b octets = (reading_at_server b octets).end
 
 -- its one moment, for each answer to what is told
-abbrev pub spent : List Told → DateTime → List DateTime
-spent told moment = replicate (used_in told) moment
+abbrev pub times_of_answers : List Told → DateTime → List DateTime
+times_of_answers told moment = replicate (used_in told) moment
 
 -- all that it says of octets
-unfoldable pub said_to : Beginning → List ℕ → List ℕ
-said_to b octets = said b.channel b.first (told_by b octets) (end_by b octets) (spent (told_by b octets) b.moment)
+unfoldable pub server_output : Beginning → List ℕ → List ℕ
+server_output b octets = output_of b.channel b.first (events_at_server b octets) (end_by b octets) (times_of_answers (events_at_server b octets) b.moment)
 
 -- the state in which octets leave its services
-unfoldable pub left_by : Beginning → List ℕ → State
-left_by b octets = (left b.channel b.first (told_by b octets) (spent (told_by b octets) b.moment)).state
+unfoldable pub services_after : Beginning → List ℕ → State
+services_after b octets = (state_after b.channel b.first (events_at_server b octets) (times_of_answers (events_at_server b octets) b.moment)).state
 
 -- the state in which what is told leaves its services
 abbrev pub state_told : Beginning → List Told → State
-state_told b told = (left b.channel b.first told (spent told b.moment)).state
+state_told b told = (state_after b.channel b.first told (times_of_answers told b.moment)).state

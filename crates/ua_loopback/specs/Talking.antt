@@ -9,7 +9,7 @@ use Rattle.ua_frame.specs.declared.limits.Limits.{Limits}
 use Rattle.ua_channel.specs.Client.{client_limits, url_of}
 use Rattle.ua_channel.specs.ClientAsks.{call_lane}
 use Rattle.ua_channel_laws.specs.ClientReads.{AtClient}
-use Rattle.ua_channel.specs.Line.{Traffic, WhereTold}
+use Rattle.ua_channel.specs.Line.{Traffic, IfTrafficKnown}
 use Rattle.ua_channel_laws.specs.ServerReads.{AtServer, ServerReads}
 use Rattle.ua_channel.specs.ServerTold.{Told}
 use Rattle.ua_channel.specs.declared.client.channel.ClientChannel.{ClientChannel}
@@ -20,7 +20,7 @@ use Rattle.ua_client.specs.Client.{IsReady, connection_of}
 use Rattle.ua_client.specs.Hearing.{channel_of, untaken_of}
 use Rattle.ua_client.specs.Renewing.{IsSettled}
 use Rattle.ua_client.specs.Session.{reply_failure}
-use Rattle.ua_client.specs.Site.{Site, id_at}
+use Rattle.ua_client.specs.ClientPlace.{ClientPlace, id_at}
 use Rattle.ua_client.specs.declared.client.Client.{Client}
 use Rattle.ua_client.specs.declared.connection.Connection.{Connection}
 use Rattle.ua_client.specs.declared.fault.ClientFault.{ClientFault}
@@ -31,7 +31,7 @@ use Rattle.ua_loopback.specs.Beginning.{Beginning}
 use Rattle.ua_loopback.specs.Course.{opening_octets}
 use Rattle.ua_loopback.specs.Faults.{FailsBehind}
 use Rattle.ua_loopback.specs.Replies.{HaveMisanswer, lane_back, requests_replies, turns_state}
-use Rattle.ua_loopback.specs.Says.{said_to, state_told}
+use Rattle.ua_loopback.specs.Says.{server_output, state_told}
 use Rattle.ua_loopback.specs.Sends.{closing_behind, turn_octets, turns_number}
 use Rattle.ua_loopback.specs.Together.{AreServing}
 use Rattle.ua_loopback.specs.Turns.{ids_behind, opening_told, tokens_behind, turns_told}
@@ -42,11 +42,11 @@ use Rattle.ua_loopback.specs.Turns.{ids_behind, opening_told, tokens_behind, tur
 -- come is what the server says of all of it, behind what was got
 abbrev pub IsLineTo : Beginning → List ℕ → List ℕ → Option Traffic → Type 0
 IsLineTo b sent got None = ⊥
-IsLineTo b sent got (Some traffic) = (more : List ℕ) → said_to b (sent ++ more) ≡ got ++ traffic.coming more
+IsLineTo b sent got (Some traffic) = (more : List ℕ) → server_output b (sent ++ more) ≡ got ++ traffic.coming more
 
 -- just these octets were sent over a line, if it tells them, between two moments
 abbrev pub IsSentOver : List ℕ → Option Traffic → Option Traffic → Type 0
-IsSentOver octets before after = WhereTold (λ (a b : Traffic). b.written ≡ a.written ++ octets) before after
+IsSentOver octets before after = IfTrafficKnown (λ (a b : Traffic). b.written ≡ a.written ++ octets) before after
 
 -- the numbers of a server have 32 bits, as its ACK and its channel give them, and its moment can be written (OPC 10000-6, 7.1.2.4)
 pub record CanBegin (b : Beginning) : Type 0 where
@@ -136,7 +136,7 @@ closed_octets t moment = t.octets ++ closing_behind (acked_in t) t.server.channe
 
 -- a client with these limits stands here, at a settled place: of these octets, which told such a server this, it took all that the server says,
 -- and both are in step; this is the newest token, this the next request id, and it holds so many tokens
-pub record IsServed (b : Beginning) (limits : Limits) (url : Option (List ℕ)) (octets : List ℕ) (told : List Told) (token id held : ℕ) (site : Site) (x : ClientChannel) : Type 0 where
+pub record IsServed (b : Beginning) (limits : Limits) (url : Option (List ℕ)) (octets : List ℕ) (told : List Told) (token id held : ℕ) (site : ClientPlace) (x : ClientChannel) : Type 0 where
   pub limits_are : client_limits x ≡ limits
   pub on : b.channel < 2 ^ 32
   pub settled : IsSettled site
@@ -150,14 +150,14 @@ pub record IsServed (b : Beginning) (limits : Limits) (url : Option (List ℕ)) 
   pub held_is : length at_client.tokens ≡ held
 
 -- the same of a client over a line to such a server, which sent just these octets
-pub record AreTalking (b : Beginning) (limits : Limits) (url : Option (List ℕ)) (octets : List ℕ) (told : List Told) (token id held : ℕ) (site : Site) (x : Connection) (now : Option Traffic) : Type 0 where
+pub record AreTalking (b : Beginning) (limits : Limits) (url : Option (List ℕ)) (octets : List ℕ) (told : List Told) (token id held : ℕ) (site : ClientPlace) (x : Connection) (now : Option Traffic) : Type 0 where
   pub got : List ℕ
   pub line : IsLineTo b octets got now
   pub got_is : got ≡ site.octets ++ untaken_of x
   pub served : IsServed b limits url octets told token id held site (channel_of x)
 
 -- the same behind the turns of a talk, each of which was accepted
-pub record TalksAt (t : SoFar) (site : Site) (x : Connection) (now : Option Traffic) : Type 0 where
+pub record TalksAt (t : SoFar) (site : ClientPlace) (x : Connection) (now : Option Traffic) : Type 0 where
   pub url_is : url_of (channel_of x) ≡ t.url
   pub dated : IsTrue (date_time.encodable t.server.moment)
   pub accepted : AreAccepted (acked_in t) t.turns
@@ -169,7 +169,7 @@ pub record TalksAt (t : SoFar) (site : Site) (x : Connection) (now : Option Traf
 -- client took all that the server says of that, and both are in step
 pub record IsTalking (t : SoFar) (x : Client) (now : Option Traffic) : Type 0 where
   pub ready : IsReady x
-  pub site : Site
+  pub site : ClientPlace
   pub talks : TalksAt t site (connection_of x) now
 
 -- it is behind this talk and the first of these requests, asked at this moment

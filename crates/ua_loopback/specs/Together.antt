@@ -17,27 +17,27 @@ use Rattle.ua_channel_laws.specs.ServerReads.{AtServer, ServerReads}
 use Rattle.ua_channel.specs.ServerSends.{opened_frame}
 use Rattle.ua_channel.specs.ServerTold.{Told}
 use Rattle.ua_channel.specs.declared.client.channel.ClientChannel.{ClientChannel}
-use Rattle.ua_client.specs.Site.{Site, At, id_at}
-use Rattle.ua_server.specs.Said.{left}
+use Rattle.ua_client.specs.ClientPlace.{ClientPlace, StandsAt, id_at}
+use Rattle.ua_server.specs.Said.{state_after}
 use Rattle.ua_loopback.specs.Beginning.{Beginning}
-use Rattle.ua_loopback.specs.Says.{said_to, spent}
+use Rattle.ua_loopback.specs.Says.{server_output, times_of_answers}
 
 -- a server with these limits on this channel read these octets, which told it this, and is here; a client stands where it read what the
 -- server sent, and is there; both are in step, and the client's next number is the one that the server waits for
-pub record AreTogether (limits : Limits) (url : Option (List ℕ)) (channel : ℕ) (octets : List ℕ) (told : List Told) (s : AtServer) (x : ClientChannel) (site : Site) (c : AtClient) : Type 0 where
+pub record AreTogether (limits : Limits) (url : Option (List ℕ)) (channel : ℕ) (octets : List ℕ) (told : List Told) (s : AtServer) (x : ClientChannel) (site : ClientPlace) (c : AtClient) : Type 0 where
   pub server_reads : ServerReads limits channel octets told s
-  pub stands : At x site
+  pub stands : StandsAt x site
   pub client_reads : ClientReads (client_limits x) site.asks site.octets site.told c
   pub in_step : AreInStep limits (client_limits x) url channel s c
   pub number_is : site.number ≡ s.next
 
 -- the same in one process: the client took all that a server which began so says of these octets, and what the server says next goes by what
 -- was agreed to, under the number that the client waits for
-pub record AreServing (b : Beginning) (url : Option (List ℕ)) (octets : List ℕ) (told : List Told) (s : AtServer) (x : ClientChannel) (site : Site) (c : AtClient) : Type 0 where
+pub record AreServing (b : Beginning) (url : Option (List ℕ)) (octets : List ℕ) (told : List Told) (s : AtServer) (x : ClientChannel) (site : ClientPlace) (c : AtClient) : Type 0 where
   pub together : AreTogether b.limits url b.channel octets told s x site c
-  pub taken : site.octets ≡ said_to b octets
-  pub agreed : (left b.channel b.first told (spent told b.moment)).agreement ≡ Some (agreement_of b.limits s.hello)
-  pub says_next : (left b.channel b.first told (spent told b.moment)).number ≡ c.next
+  pub taken : site.octets ≡ server_output b octets
+  pub agreed : (state_after b.channel b.first told (times_of_answers told b.moment)).agreement ≡ Some (agreement_of b.limits s.hello)
+  pub says_next : (state_after b.channel b.first told (times_of_answers told b.moment)).number ≡ c.next
   -- the server issued each token that the client holds, and it issued fewer than request ids were used
   pub issued : AllByRecursion (λ (token : ℕ). token ≤ s.issued) c.tokens
   pub spare : s.issued < id_at site

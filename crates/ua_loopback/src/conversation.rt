@@ -7,13 +7,13 @@ ghost use Rattle.ua_frame.specs.declared.limits.Limits.{Limits};
 ghost use Rattle.ua_channel.specs.Line.{Traffic};
 ghost use Rattle.ua_channel_laws.specs.ServerReads.{ServerCloses};
 ghost use Rattle.ua_client.specs.Client.{IsReady, connection_of};
-ghost use Rattle.ua_client.specs.Site.{Site};
+ghost use Rattle.ua_client.specs.ClientPlace.{ClientPlace};
 ghost use Rattle.ua_loopback.specs.Accepted.{AreAccepted, FirstRefused, IsTurnFault, acknowledged, turn_refusal};
 ghost use Rattle.ua_loopback.specs.Beginning.{Beginning};
 ghost use Rattle.ua_loopback.specs.Course.{Converses};
 ghost use Rattle.ua_server.specs.declared.step.End.TheVariants.{Closed};
 ghost use Rattle.ua_loopback.specs.Kept.{EndsAt, LeavesAt};
-ghost use Rattle.ua_loopback.specs.Says.{left_by, said_to};
+ghost use Rattle.ua_loopback.specs.Says.{services_after, server_output};
 ghost use Rattle.ua_loopback.specs.Faults.{BehindRefused, FailsBehind, IsOutside};
 ghost use Rattle.ua_loopback.specs.Replies.{HasMisanswer, HaveMisanswers, turns_replies, turns_state};
 ghost use Rattle.ua_loopback.specs.Sends.{conversation_octets};
@@ -85,13 +85,13 @@ fn take_turn<T: AsTurn, L: Line>(
     replies: &mut Vec<Reply>,
 ) -> Result<(), ClientFault>
     requires { IsReady client.old }
-    ensures stays { OnOk result ((b : Beginning) (limits : Limits) (url : Option (List ℕ)) (opened : Site) (turns : List (Option (List Request))) (first : Option Traffic) → StaysTalking b limits url moment opened turns (connection_of client.old) first (L.traffic line.old) replies.old.items
+    ensures stays { OnOk result ((b : Beginning) (limits : Limits) (url : Option (List ℕ)) (opened : ClientPlace) (turns : List (Option (List Request))) (first : Option Traffic) → StaysTalking b limits url moment opened turns (connection_of client.old) first (L.traffic line.old) replies.old.items
         → StaysTalking b limits url moment opened (turns ++ T.turn turn.now ∷ []) (connection_of client.new) first (L.traffic line.new) replies.new.items) }
-    ensures refused { IfErr result (λ fault. IsTurnFault fault → (b : Beginning) (limits : Limits) (url : Option (List ℕ)) (opened : Site) (turns : List (Option (List Request))) (first : Option Traffic) → StaysTalking b limits url moment opened turns (connection_of client.old) first (L.traffic line.old) replies.old.items
+    ensures refused { IfErr result (λ fault. IsTurnFault fault → (b : Beginning) (limits : Limits) (url : Option (List ℕ)) (opened : ClientPlace) (turns : List (Option (List Request))) (first : Option Traffic) → StaysTalking b limits url moment opened turns (connection_of client.old) first (L.traffic line.old) replies.old.items
         → turn_refusal (acknowledged b.limits limits url) turns (T.turn turn.now) ≡ Some fault) }
-    ensures fails { IfErr result (λ fault. (b : Beginning) (limits : Limits) (url : Option (List ℕ)) (opened : Site) (turns : List (Option (List Request))) (first : Option Traffic) → StaysTalking b limits url moment opened turns (connection_of client.old) first (L.traffic line.old) replies.old.items
+    ensures fails { IfErr result (λ fault. (b : Beginning) (limits : Limits) (url : Option (List ℕ)) (opened : ClientPlace) (turns : List (Option (List Request))) (first : Option Traffic) → StaysTalking b limits url moment opened turns (connection_of client.old) first (L.traffic line.old) replies.old.items
         → FailsBehind (HasMisanswer (turns_state b.first b.moment turns) b.moment (T.turn turn.now)) fault) }
-    ensures before { IfErr result (λ fault. IsTurnFault fault → (b : Beginning) (limits : Limits) (url : Option (List ℕ)) (opened : Site) (turns : List (Option (List Request))) (first : Option Traffic) → StaysTalking b limits url moment opened turns (connection_of client.old) first (L.traffic line.old) replies.old.items
+    ensures before { IfErr result (λ fault. IsTurnFault fault → (b : Beginning) (limits : Limits) (url : Option (List ℕ)) (opened : ClientPlace) (turns : List (Option (List Request))) (first : Option Traffic) → StaysTalking b limits url moment opened turns (connection_of client.old) first (L.traffic line.old) replies.old.items
         → StaysBehind b limits url moment opened turns (T.turn turn.now) (connection_of client.new) first (L.traffic line.new) replies.new.items) }
     ensures ready { OnOk result (IsReady client.new) }
 {
@@ -119,14 +119,14 @@ fn take_turns<T: AsTurn, L: Line>(
 ) -> Result<(), ClientFault>
     requires ready { IsReady client.old }
     requires none { taken.old ≡ 0 }
-    ensures stays { OnOk result ((b : Beginning) (limits : Limits) (url : Option (List ℕ)) (opened : Site) (first : Option Traffic) → StaysTalking b limits url moment opened [] (connection_of client.old) first (L.traffic line.old) replies.old.items
+    ensures stays { OnOk result ((b : Beginning) (limits : Limits) (url : Option (List ℕ)) (opened : ClientPlace) (first : Option Traffic) → StaysTalking b limits url moment opened [] (connection_of client.old) first (L.traffic line.old) replies.old.items
         → StaysTalking b limits url moment opened (map T.turn turns.now) (connection_of client.new) first (L.traffic line.new) replies.new.items) }
     ensures taken { OnOk result (taken.new ≡ length turns.now) }
-    ensures refused { IfErr result (λ fault. IsTurnFault fault → (b : Beginning) (limits : Limits) (url : Option (List ℕ)) (opened : Site) (first : Option Traffic) → StaysTalking b limits url moment opened [] (connection_of client.old) first (L.traffic line.old) replies.old.items
+    ensures refused { IfErr result (λ fault. IsTurnFault fault → (b : Beginning) (limits : Limits) (url : Option (List ℕ)) (opened : ClientPlace) (first : Option Traffic) → StaysTalking b limits url moment opened [] (connection_of client.old) first (L.traffic line.old) replies.old.items
         → FirstRefused (acknowledged b.limits limits url) (map T.turn turns.now) taken.new fault) }
-    ensures fails { IfErr result (λ fault. (b : Beginning) (limits : Limits) (url : Option (List ℕ)) (opened : Site) (first : Option Traffic) → StaysTalking b limits url moment opened [] (connection_of client.old) first (L.traffic line.old) replies.old.items
+    ensures fails { IfErr result (λ fault. (b : Beginning) (limits : Limits) (url : Option (List ℕ)) (opened : ClientPlace) (first : Option Traffic) → StaysTalking b limits url moment opened [] (connection_of client.old) first (L.traffic line.old) replies.old.items
         → FailsBehind (HaveMisanswers b.first b.moment (map T.turn turns.now)) fault) }
-    ensures before { IfErr result (λ fault. IsTurnFault fault → (b : Beginning) (limits : Limits) (url : Option (List ℕ)) (opened : Site) (first : Option Traffic) → StaysTalking b limits url moment opened [] (connection_of client.old) first (L.traffic line.old) replies.old.items
+    ensures before { IfErr result (λ fault. IsTurnFault fault → (b : Beginning) (limits : Limits) (url : Option (List ℕ)) (opened : ClientPlace) (first : Option Traffic) → StaysTalking b limits url moment opened [] (connection_of client.old) first (L.traffic line.old) replies.old.items
         → StaysBefore b limits url moment opened (map T.turn turns.now) taken.new (connection_of client.new) first (L.traffic line.new) replies.new.items) }
     ensures ready { OnOk result (IsReady client.new) }
 {
@@ -187,13 +187,13 @@ fn converse_with<T: AsTurn, W: Began>(
 ) -> Transcript
     requires url { IsTrue (text.encodable url) }
     requires began { W.beginning ≡ record { limits = limits; channel = channel_id; first = services; moment = moment } }
-    ensures down { result.down.items ≡ said_to W.beginning result.up.items }
+    ensures down { result.down.items ≡ server_output W.beginning result.up.items }
     ensures services { LeavesAt result.stage W.beginning result.up.items result.services }
     ensures ends { EndsAt result.stage W.beginning result.up.items }
     ensures converses { OnOk result.outcome (Converses limits url moment (map T.turn turns.now) result.up.items result.down.items result.replies.items) }
     ensures heard { OnOk result.outcome (ServerCloses limits channel_id result.up.items (conversation_told limits limits url (map T.turn turns.now))) }
     ensures closed { OnOk result.outcome (result.stage ≡ Ended Closed) }
-    ensures left { OnOk result.outcome (result.services ≡ left_by W.beginning result.up.items) }
+    ensures left { OnOk result.outcome (result.services ≡ services_after W.beginning result.up.items) }
     ensures sent { OnOk result.outcome (result.up.items ≡ conversation_octets limits limits url channel_id moment (map T.turn turns.now)) }
     ensures replied { OnOk result.outcome (map Some result.replies.items ≡ turns_replies (record { limits = limits; channel = channel_id; first = services; moment = moment }) limits url services 1 (map T.turn turns.now)) }
     ensures state { OnOk result.outcome (result.services ≡ turns_state services moment (map T.turn turns.now)) }
@@ -251,7 +251,7 @@ pub fn converse<T: AsTurn>(
     requires { IsTrue (text.encodable url) }
 
     // What the server said is what is said of what the client wrote, and the services are what that leaves.
-    ensures down { result.down.items ≡ said_to (record { limits = limits; channel = channel_id; first = services; moment = moment }) result.up.items }
+    ensures down { result.down.items ≡ server_output (record { limits = limits; channel = channel_id; first = services; moment = moment }) result.up.items }
     // How far the connection is says how it ends there.
     ensures services { LeavesAt result.stage (record { limits = limits; channel = channel_id; first = services; moment = moment }) result.up.items result.services }
     ensures ends { EndsAt result.stage (record { limits = limits; channel = channel_id; first = services; moment = moment }) result.up.items }
@@ -263,7 +263,7 @@ pub fn converse<T: AsTurn>(
     // next token at each renewal. The CLO closed the channel, and the services are what all of that leaves.
     ensures heard { OnOk result.outcome (ServerCloses limits channel_id result.up.items (conversation_told limits limits url (map T.turn turns.now))) }
     ensures closed { OnOk result.outcome (result.stage ≡ Ended Closed) }
-    ensures left { OnOk result.outcome (result.services ≡ left_by (record { limits = limits; channel = channel_id; first = services; moment = moment }) result.up.items) }
+    ensures left { OnOk result.outcome (result.services ≡ services_after (record { limits = limits; channel = channel_id; first = services; moment = moment }) result.up.items) }
 
     // What the client wrote, the replies and the services are functions of the turns.
     ensures sent { OnOk result.outcome (result.up.items ≡ conversation_octets limits limits url channel_id moment (map T.turn turns.now)) }

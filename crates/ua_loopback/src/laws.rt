@@ -25,12 +25,12 @@ ghost use Rattle.ua_client.specs.Client.{closing_at};
 ghost use Rattle.ua_client.specs.Renewing.{IsRenewed, IsSettled, renewal_at, renewal_refusal};
 ghost use Rattle.ua_client.specs.Replies.{AreReplies};
 ghost use Rattle.ua_client.specs.Sent.{bodies_of};
-ghost use Rattle.ua_client.specs.Site.{Site, At, id_at};
+ghost use Rattle.ua_client.specs.ClientPlace.{ClientPlace, StandsAt, id_at};
 ghost use Rattle.ua_client.specs.declared.reply.Reply.{Reply};
 ghost use Rattle.ua_loopback.specs.Accepted.{AreAccepted, acknowledged};
 ghost use Rattle.ua_loopback.specs.Beginning.{Beginning};
 ghost use Rattle.ua_loopback.specs.Course.{opening_octets};
-ghost use Rattle.ua_loopback.specs.Says.{said_to};
+ghost use Rattle.ua_loopback.specs.Says.{server_output};
 ghost use Rattle.ua_loopback.specs.Sends.{conversation_octets};
 ghost use Rattle.ua_loopback.specs.Together.{AreServing, AreTogether, behind_calls, opening_answer, renewal_answer};
 ghost use Rattle.ua_loopback.specs.Turns.{calls_told, conversation_told};
@@ -57,11 +57,11 @@ pub fn conversations_reach_the_server()
 pub fn ends_begin_together()
     ensures said { (b : Beginning) (client : Limits) (url : Option (List ℕ)) (moment : DateTime) →
         IsTrue (hello.encodable (hello_to client url)) → url_length url ≤ 4095 → IsTrue (date_time.encodable moment) →
-        said_to b (opening_octets client url moment) ≡ opening_answer b client url }
-    ensures serving { (b : Beginning) (url : Option (List ℕ)) (moment : DateTime) (x : ClientChannel) (site : Site) →
+        server_output b (opening_octets client url moment) ≡ opening_answer b client url }
+    ensures serving { (b : Beginning) (url : Option (List ℕ)) (moment : DateTime) (x : ClientChannel) (site : ClientPlace) →
         IsTrue (hello.encodable (hello_to (client_limits x) url)) → url_length url ≤ 4095 → IsTrue (date_time.encodable moment) →
         IsTrue (ack.encodable (ack_to (hello_to (client_limits x) url) b.limits)) → b.channel < 2 ^ 32 → IsTrue (date_time.encodable b.moment) →
-        At x site → site.asks ≡ [] → site.octets ≡ said_to b (opening_octets (client_limits x) url moment) → client_next x ≡ 2 →
+        StandsAt x site → site.asks ≡ [] → site.octets ≡ server_output b (opening_octets (client_limits x) url moment) → client_next x ≡ 2 →
         AreServing b url (opening_octets (client_limits x) url moment) (Agreed (agreement_of b.limits (hello_to (client_limits x) url)) ∷ (Opened 1 0 1 3600000 ∷ [])) (with_token (greeted_at (hello_to (client_limits x) url))) x site
         (opened_at (ack_to (hello_to (client_limits x) url) b.limits) b.channel 1 (next_number 1)) }
 {}
@@ -69,7 +69,7 @@ pub fn ends_begin_together()
 /// What a client then sends of requests that are answered the server reads as just these: in their
 /// order, each whole, once and under its own request id. And each reply is that of its own request.
 pub fn requests_reach_the_server()
-    ensures { (limits : Limits) (url : Option (List ℕ)) (channel : ℕ) (octets : List ℕ) (told : List Told) (s : AtServer) (x : ClientChannel) (site behind : Site) (c : AtClient) (requests : List Request) (taken : List ℕ) (replies : List Reply) →
+    ensures { (limits : Limits) (url : Option (List ℕ)) (channel : ℕ) (octets : List ℕ) (told : List Told) (s : AtServer) (x : ClientChannel) (site behind : ClientPlace) (c : AtClient) (requests : List Request) (taken : List ℕ) (replies : List Reply) →
         channel < 2 ^ 32 → AreTogether limits url channel octets told s x site c → Answered requests site behind taken replies →
         ServerReads limits channel (octets ++ sent_at site requests) (told ++ calls_told c.newest (id_at site) (bodies_of requests)) (behind_calls s (lane_from c) (bodies_of requests))
         × (behind.number ≡ (behind_calls s (lane_from c) (bodies_of requests)).next)
@@ -80,12 +80,12 @@ pub fn requests_reach_the_server()
 /// place and took a front of that. Then both are in step again, and the client's calls go under the token
 /// that they went under.
 pub fn ends_stay_together()
-    ensures took { (b : Beginning) (url : Option (List ℕ)) (octets : List ℕ) (told : List Told) (s : AtServer) (x y : ClientChannel) (site behind : Site) (c : AtClient) (requests : List Request) (taken : List ℕ) (replies : List Reply) →
+    ensures took { (b : Beginning) (url : Option (List ℕ)) (octets : List ℕ) (told : List Told) (s : AtServer) (x y : ClientChannel) (site behind : ClientPlace) (c : AtClient) (requests : List Request) (taken : List ℕ) (replies : List Reply) →
         b.channel < 2 ^ 32 → AreServing b url octets told s x site c → IsSettled site → 0 < length requests → Answered requests site behind taken replies →
-        At y behind → client_limits y ≡ client_limits x → Extends behind.octets (said_to b (octets ++ sent_at site requests)) → behind.octets ≡ said_to b (octets ++ sent_at site requests) }
-    ensures serving { (b : Beginning) (url : Option (List ℕ)) (octets : List ℕ) (told : List Told) (s : AtServer) (x y : ClientChannel) (site behind : Site) (c : AtClient) (requests : List Request) (taken : List ℕ) (replies : List Reply) →
+        StandsAt y behind → client_limits y ≡ client_limits x → Extends behind.octets (server_output b (octets ++ sent_at site requests)) → behind.octets ≡ server_output b (octets ++ sent_at site requests) }
+    ensures serving { (b : Beginning) (url : Option (List ℕ)) (octets : List ℕ) (told : List Told) (s : AtServer) (x y : ClientChannel) (site behind : ClientPlace) (c : AtClient) (requests : List Request) (taken : List ℕ) (replies : List Reply) →
         b.channel < 2 ^ 32 → AreServing b url octets told s x site c → 0 < length requests → Answered requests site behind taken replies →
-        At y behind → client_limits y ≡ client_limits x → behind.octets ≡ said_to b (octets ++ sent_at site requests) →
+        StandsAt y behind → client_limits y ≡ client_limits x → behind.octets ≡ server_output b (octets ++ sent_at site requests) →
         (d : AtClient) × AreServing b url (octets ++ sent_at site requests) (told ++ calls_told c.newest (id_at site) (bodies_of requests)) (behind_calls s (lane_from c) (bodies_of requests)) y behind d × (d.newest ≡ c.newest) }
 {
     clients_are_settled();
@@ -94,7 +94,7 @@ pub fn ends_stay_together()
 /// What it sends of a renewal that is not refused the server reads, and issues the next token, where it
 /// has one left.
 pub fn renewals_reach_the_server()
-    ensures { (limits : Limits) (url : Option (List ℕ)) (channel : ℕ) (octets : List ℕ) (told : List Told) (s : AtServer) (x : ClientChannel) (site : Site) (c : AtClient) (moment : DateTime) →
+    ensures { (limits : Limits) (url : Option (List ℕ)) (channel : ℕ) (octets : List ℕ) (told : List Told) (s : AtServer) (x : ClientChannel) (site : ClientPlace) (c : AtClient) (moment : DateTime) →
         channel < 2 ^ 32 → AreTogether limits url channel octets told s x site c → renewal_refusal site ≡ None → s.issued < 4294967295 → IsTrue (date_time.encodable moment) →
         ServerReads limits channel (octets ++ renewal_at site moment) (told ++ Opened (id_at site) 0 (s.issued + 1) 3600000 ∷ []) (with_token s) }
 {}
@@ -103,22 +103,22 @@ pub fn renewals_reach_the_server()
 /// that and with what a client took that stood at a settled place and whose renewal is answered, the
 /// client took just that. Both are then in step again, and the client's calls go under that token.
 pub fn renewals_stay_together()
-    ensures said { (b : Beginning) (url : Option (List ℕ)) (octets : List ℕ) (told : List Told) (s : AtServer) (x : ClientChannel) (site : Site) (c : AtClient) (moment : DateTime) →
+    ensures said { (b : Beginning) (url : Option (List ℕ)) (octets : List ℕ) (told : List Told) (s : AtServer) (x : ClientChannel) (site : ClientPlace) (c : AtClient) (moment : DateTime) →
         b.channel < 2 ^ 32 → AreServing b url octets told s x site c → renewal_refusal site ≡ None → IsTrue (date_time.encodable moment) →
-        said_to b (octets ++ renewal_at site moment) ≡ said_to b octets ++ renewal_answer b c.next (id_at site) (s.issued + 1) }
-    ensures took { (b : Beginning) (url : Option (List ℕ)) (octets : List ℕ) (told : List Told) (s : AtServer) (x y : ClientChannel) (site behind : Site) (c : AtClient) (moment : DateTime) (taken down : List ℕ) →
+        server_output b (octets ++ renewal_at site moment) ≡ server_output b octets ++ renewal_answer b c.next (id_at site) (s.issued + 1) }
+    ensures took { (b : Beginning) (url : Option (List ℕ)) (octets : List ℕ) (told : List Told) (s : AtServer) (x y : ClientChannel) (site behind : ClientPlace) (c : AtClient) (moment : DateTime) (taken down : List ℕ) →
         b.channel < 2 ^ 32 → AreServing b url octets told s x site c → renewal_refusal site ≡ None → IsTrue (date_time.encodable moment) → IsTrue (date_time.encodable b.moment) →
-        IsSettled site → IsRenewed y site behind taken → client_limits y ≡ client_limits x → Extends behind.octets down → Extends (said_to b (octets ++ renewal_at site moment)) down →
-        behind.octets ≡ said_to b (octets ++ renewal_at site moment) }
-    ensures serving { (b : Beginning) (url : Option (List ℕ)) (octets : List ℕ) (told : List Told) (s : AtServer) (x y : ClientChannel) (site behind : Site) (c : AtClient) (moment : DateTime) (taken : List ℕ) →
+        IsSettled site → IsRenewed y site behind taken → client_limits y ≡ client_limits x → Extends behind.octets down → Extends (server_output b (octets ++ renewal_at site moment)) down →
+        behind.octets ≡ server_output b (octets ++ renewal_at site moment) }
+    ensures serving { (b : Beginning) (url : Option (List ℕ)) (octets : List ℕ) (told : List Told) (s : AtServer) (x y : ClientChannel) (site behind : ClientPlace) (c : AtClient) (moment : DateTime) (taken : List ℕ) →
         b.channel < 2 ^ 32 → AreServing b url octets told s x site c → renewal_refusal site ≡ None → IsTrue (date_time.encodable moment) → IsTrue (date_time.encodable b.moment) →
-        IsSettled site → IsRenewed y site behind taken → client_limits y ≡ client_limits x → behind.octets ≡ said_to b (octets ++ renewal_at site moment) →
+        IsSettled site → IsRenewed y site behind taken → client_limits y ≡ client_limits x → behind.octets ≡ server_output b (octets ++ renewal_at site moment) →
         (d : AtClient) × AreServing b url (octets ++ renewal_at site moment) (told ++ Opened (id_at site) 0 (s.issued + 1) 3600000 ∷ []) (with_token s) y behind d × (d.newest ≡ s.issued + 1) }
 {}
 
 /// What it sends to close its channel the server reads, and the channel is closed.
 pub fn closings_reach_the_server()
-    ensures { (limits : Limits) (url : Option (List ℕ)) (channel : ℕ) (octets : List ℕ) (told : List Told) (s : AtServer) (x : ClientChannel) (site : Site) (c : AtClient) (moment : DateTime) →
+    ensures { (limits : Limits) (url : Option (List ℕ)) (channel : ℕ) (octets : List ℕ) (told : List Told) (s : AtServer) (x : ClientChannel) (site : ClientPlace) (c : AtClient) (moment : DateTime) →
         channel < 2 ^ 32 → AreTogether limits url channel octets told s x site c → id_at site < 2 ^ 32 →
         ServerCloses limits channel (octets ++ closing_at site moment) (told ++ Closed ∷ []) }
 {}

@@ -1,9 +1,9 @@
 //! A line to a server in the same process.
 
 ghost use Rattle.std.specs.Prelude.{◌≡◌, ◌++◌, ◌<◌, ◌≤◌, [], None, Some, IfOk, IfSome, OnErr, length, take};
-ghost use Rattle.ua_loopback.specs.Beginning.{Beginning, nobody};
+ghost use Rattle.ua_loopback.specs.Beginning.{Beginning, no_server};
 ghost use Rattle.ua_loopback.specs.Kept.{EndsAt, Keeps, LeavesAt, Served, traffic_of};
-ghost use Rattle.ua_loopback.specs.Says.{said_to};
+ghost use Rattle.ua_loopback.specs.Says.{server_output};
 ghost use Rattle.ua_loopback.specs.declared.stage.Stage.TheVariants.{Going};
 
 use crate::cuts::Cuts;
@@ -23,7 +23,7 @@ pub trait Began {
 }
 
 impl Began for Brand {
-    ghost beginning = { nobody };
+    ghost beginning = { no_server };
 }
 
 /// Adds octets to the one and to the other, or to neither.
@@ -124,7 +124,7 @@ impl<W: Began> ServedLine<W> {
     /// What the server said so far, read or not.
     pub fn down(&self) -> &[u8]
         ensures value { result.now ≡ self.now.down }
-        ensures said { result.now ≡ said_to W.beginning self.now.up }
+        ensures said { result.now ≡ server_output W.beginning self.now.up }
     {
         &self.down
     }
@@ -139,7 +139,7 @@ impl<W: Began> ServedLine<W> {
     /// What was written, what the server said, and its services.
     pub fn into_parts(self) -> (Vec<u8>, Vec<u8>, Services)
         ensures up { result.0.items ≡ self.up }
-        ensures down { result.1.items ≡ said_to W.beginning self.up }
+        ensures down { result.1.items ≡ server_output W.beginning self.up }
         ensures services { LeavesAt self.stage W.beginning self.up result.2 }
         ensures ends { EndsAt self.stage W.beginning self.up }
     {

@@ -24,7 +24,7 @@ ghost use Rattle.ua_loopback.specs.Accepted.{IsTurnFault, turn_refusal};
 ghost use Rattle.ua_loopback.specs.Beginning.{Beginning};
 ghost use Rattle.ua_loopback.specs.Faults.{FailsBehind, IsOutside};
 ghost use Rattle.ua_loopback.specs.Replies.{HaveMisanswer, lane_back, requests_replies, state_behind};
-ghost use Rattle.ua_loopback.specs.Says.{left_by, said_to};
+ghost use Rattle.ua_loopback.specs.Says.{services_after, server_output};
 ghost use Rattle.ua_loopback.specs.Talking.{CanBegin, FailsSession, IsBehindFirst, IsLineTo, IsSentOver, IsTalking, Reads, SoFar, acked_in, closed_octets, id_in, opening, session_requests, state_in, newest_in, octets_of, told_in, with_turn};
 ghost use Rattle.ua_loopback.specs.Sends.{closing_behind};
 ghost use Rattle.ua_loopback.specs.Turns.{calls_told};
@@ -79,7 +79,7 @@ pub fn begin_session_as<L: Line>(
     ensures sends { IfOk result (λ token. (t : SoFar) → IsTalking t client.old (L.traffic line.old) → IsSentOver (octets_of t moment (Some (session_requests t policy_id token moment))) (L.traffic line.old) (L.traffic line.new)) }
     // The server reads just these, and its services are as they leave them.
     ensures reaches { IfOk result (λ token. (t : SoFar) → IsTalking t client.old (L.traffic line.old) → Reads t.server (with_turn t moment (Some (session_requests t policy_id token moment))).octets (told_in t ++ calls_told (newest_in t) (id_in t) (bodies_of (session_requests t policy_id token moment)))) }
-    ensures state { IfOk result (λ token. (t : SoFar) → IsTalking t client.old (L.traffic line.old) → left_by t.server (with_turn t moment (Some (session_requests t policy_id token moment))).octets ≡ state_behind (state_in t) t.server.moment (session_requests t policy_id token moment)) }
+    ensures state { IfOk result (λ token. (t : SoFar) → IsTalking t client.old (L.traffic line.old) → services_after t.server (with_turn t moment (Some (session_requests t policy_id token moment))).octets ≡ state_behind (state_in t) t.server.moment (session_requests t policy_id token moment)) }
     // It does not fail for what the server says but where that says so: Service comes only where its reply to one of the two is that the service failed, with this code.
     ensures fails { IfErr result (λ fault. (t : SoFar) → IsTalking t client.old (L.traffic line.old) → FailsSession t policy_id moment fault) }
 {
@@ -110,7 +110,7 @@ pub fn call_all<L: Line>(
     ensures reaches { OnOk result ((t : SoFar) → IsTalking t client.old (L.traffic line.old) → Reads t.server (with_turn t moment (Some requests.now)).octets (told_in t ++ calls_told (newest_in t) (id_in t) (bodies_of requests.now))) }
     // Each reply is that of its own request in the state that those before it left, and all of them leave this state.
     ensures replied { IfOk result (λ replies. (t : SoFar) → IsTalking t client.old (L.traffic line.old) → map Some replies.items ≡ requests_replies (lane_back t.server t.limits t.url (newest_in t)) (state_in t) t.server.moment requests.now) }
-    ensures state { OnOk result ((t : SoFar) → IsTalking t client.old (L.traffic line.old) → left_by t.server (with_turn t moment (Some requests.now)).octets ≡ state_behind (state_in t) t.server.moment requests.now) }
+    ensures state { OnOk result ((t : SoFar) → IsTalking t client.old (L.traffic line.old) → services_after t.server (with_turn t moment (Some requests.now)).octets ≡ state_behind (state_in t) t.server.moment requests.now) }
     // The talk goes on with this turn more.
     ensures stays { OnOk result ((t : SoFar) → IsTalking t client.old (L.traffic line.old) → IsTalking (with_turn t moment (Some requests.now)) client.new (L.traffic line.new)) }
     // A fault that is a reason against a request is the first against them, and the talk goes on with the first of these requests, which were asked.
@@ -146,7 +146,7 @@ pub fn call_into<L: Line>(
     ensures sends { OnOk result ((t : SoFar) → IsTalking t client.old (L.traffic line.old) → IsSentOver (octets_of t moment (Some requests.now)) (L.traffic line.old) (L.traffic line.new)) }
     ensures reaches { OnOk result ((t : SoFar) → IsTalking t client.old (L.traffic line.old) → Reads t.server (with_turn t moment (Some requests.now)).octets (told_in t ++ calls_told (newest_in t) (id_in t) (bodies_of requests.now))) }
     ensures replied { OnOk result ((t : SoFar) → IsTalking t client.old (L.traffic line.old) → map Some replies.new.items ≡ map Some replies.old.items ++ requests_replies (lane_back t.server t.limits t.url (newest_in t)) (state_in t) t.server.moment requests.now) }
-    ensures state { OnOk result ((t : SoFar) → IsTalking t client.old (L.traffic line.old) → left_by t.server (with_turn t moment (Some requests.now)).octets ≡ state_behind (state_in t) t.server.moment requests.now) }
+    ensures state { OnOk result ((t : SoFar) → IsTalking t client.old (L.traffic line.old) → services_after t.server (with_turn t moment (Some requests.now)).octets ≡ state_behind (state_in t) t.server.moment requests.now) }
     ensures stays { OnOk result ((t : SoFar) → IsTalking t client.old (L.traffic line.old) → IsTalking (with_turn t moment (Some requests.now)) client.new (L.traffic line.new)) }
     ensures refused { IfErr result (λ calls. IsTurnFault calls.fault → (t : SoFar) → IsTalking t client.old (L.traffic line.old) → turn_refusal (acked_in t) t.turns (Some requests.now) ≡ Some calls.fault) }
     ensures before { IfErr result (λ calls. IsTurnFault calls.fault → (t : SoFar) → IsTalking t client.old (L.traffic line.old) → IsBehindFirst t moment requests.now client.new (L.traffic line.new)) }
@@ -177,7 +177,7 @@ pub fn renew<L: Line>(
     // The server reads just this OPN more, and issues the next token, for an hour (OPC 10000-4, 5.6.2).
     ensures reaches { OnOk result ((t : SoFar) → IsTalking t client.old (L.traffic line.old) → Reads t.server (with_turn t moment None).octets (told_in t ++ Opened (id_in t) 0 (newest_in t + 1) 3600000 ∷ [])) }
     // It leaves the services as they were.
-    ensures state { OnOk result ((t : SoFar) → IsTalking t client.old (L.traffic line.old) → left_by t.server (with_turn t moment None).octets ≡ state_in t) }
+    ensures state { OnOk result ((t : SoFar) → IsTalking t client.old (L.traffic line.old) → services_after t.server (with_turn t moment None).octets ≡ state_in t) }
     // The talk goes on with this turn more: calls go out under the next token.
     ensures stays { OnOk result ((t : SoFar) → IsTalking t client.old (L.traffic line.old) → IsTalking (with_turn t moment None) client.new (L.traffic line.new)) }
     // A fault that is a reason against a renewal is the first against it.
@@ -207,8 +207,8 @@ pub fn close<L: Line>(
     // The server reads just this CLO more, which closes its channel.
     ensures reaches { OnOk result ((t : SoFar) → IsTalking t client.old (L.traffic line.old) → ServerCloses t.server.limits t.server.channel (closed_octets t moment) (told_in t ++ ToldClosed ∷ [])) }
     // It says nothing of that, so that the client took all that it said; and its services are as the talk left them.
-    ensures silent { OnOk result ((t : SoFar) → IsTalking t client.old (L.traffic line.old) → said_to t.server (closed_octets t moment) ≡ said_to t.server t.octets) }
-    ensures state { OnOk result ((t : SoFar) → IsTalking t client.old (L.traffic line.old) → left_by t.server (closed_octets t moment) ≡ state_in t) }
+    ensures silent { OnOk result ((t : SoFar) → IsTalking t client.old (L.traffic line.old) → server_output t.server (closed_octets t moment) ≡ server_output t.server t.octets) }
+    ensures state { OnOk result ((t : SoFar) → IsTalking t client.old (L.traffic line.old) → services_after t.server (closed_octets t moment) ≡ state_in t) }
     ensures fails { IfErr result (λ fault. (t : SoFar) → IsTalking t client.old (L.traffic line.old) → IsOutside fault) }
 {
     match client.close(line, moment) {

@@ -22,11 +22,8 @@ use ua_builtin::laws::moment_is_encodable;
 use ua_builtin::{
     DateTime, Identifier, LocalizedText, NodeId, QualifiedName, StatusCode, UaString,
 };
-use ua_structures::ReadValueId;
+use ua_structures::{ReadValueId, VALUE_ATTRIBUTE};
 use ua_variant::{Boxed, DataValue, HeldVariant, Scalar, Variant};
-
-/// The id of the attribute Value.
-pub(crate) const VALUE: u32 = 13;
 
 /// The NodeClass of a Variable (OPC 10000-3, 8.29).
 const VARIABLE: i32 = 2;
@@ -86,11 +83,11 @@ impl Variable {
             Ok(asked) => asked,
             Err(code) => return Ok(Some(refused(code))),
         };
-        if item.attribute_id == VALUE && range.is_none() {
+        if item.attribute_id == VALUE_ATTRIBUTE && range.is_none() {
             return Ok(None);
         }
         let value = HeldVariant::new(self.value_read(alloc, &item.node_id, attribute, range)?);
-        Ok(Some(self.stamped(Some(value), item.attribute_id == VALUE, stamps, moment)))
+        Ok(Some(self.stamped(Some(value), item.attribute_id == VALUE_ATTRIBUTE, stamps, moment)))
     }
 
     /// The attribute and the range that an item for this node asks for, or why the item is refused.
@@ -101,14 +98,14 @@ impl Variable {
             return Err(StatusCode::BAD_ATTRIBUTE_ID_INVALID);
         };
         let range = IndexRange::asked(&item.index_range);
-        let is_array = item.attribute_id == VALUE && self.array;
+        let is_array = item.attribute_id == VALUE_ATTRIBUTE && self.array;
         if has_text(&item.index_range) && !(is_array && range.is_some()) {
             return Err(StatusCode::BAD_INDEX_RANGE_INVALID);
         }
         if !is_binary(&item.data_encoding) {
             return Err(StatusCode::BAD_DATA_ENCODING_INVALID);
         }
-        if item.attribute_id == VALUE && !self.access.readable {
+        if item.attribute_id == VALUE_ATTRIBUTE && !self.access.readable {
             return Err(StatusCode::BAD_NOT_READABLE);
         }
         if let Some(range) = range {

@@ -9,11 +9,11 @@ ghost use Rattle.ua_nodes.specs.Write.{is_of_type, write_item_reasons, write_ans
 
 use crate::attribute::Attribute;
 use crate::node::{NodeValue, Variable};
-use crate::read::{VALUE, has_text};
+use crate::read::has_text;
 use crate::table::NodeTable;
 use ua_builtin::laws::moment_is_encodable;
 use ua_builtin::{DateTime, StatusCode};
-use ua_structures::WriteValue;
+use ua_structures::{VALUE_ATTRIBUTE, WriteValue};
 use ua_variant::{DataValue, Variant};
 
 impl NodeTable {
@@ -73,7 +73,7 @@ impl Variable {
         if Attribute::of_id(item.attribute_id).is_none() {
             return Some(StatusCode::BAD_ATTRIBUTE_ID_INVALID);
         }
-        if !(item.attribute_id == VALUE && self.access.writable) {
+        if !(item.attribute_id == VALUE_ATTRIBUTE && self.access.writable) {
             return Some(StatusCode::BAD_NOT_WRITABLE);
         }
         // Ranges of arrays would be taken here.

@@ -26,10 +26,10 @@ use Rattle.ua_chunk.specs.declared.chunk.Chunk.{Chunk}
 use Rattle.ua_chunk.specs.Open.{open_octets}
 use Rattle.ua_pair.specs.Before.{message_chunks}
 use Rattle.ua_pair.specs.Dissected.{rules, every_frame, AddsLines}
-use Rattle.ua_pair.specs.Dissecting.{Holds, GoesOn, HasRefused, IsClosed, AreHeld, StandsAt, StandsBehind, TellsMore, EndsLines, is_going, MovesOn, Takes, Accepts, Refuses, FrameTold, TakesNone, TakesSome}
+use Rattle.ua_pair.specs.Dissecting.{Holds, DissectorGoesOn, HasRefused, IsClosed, AreHeld, StandsAt, StandsBehind, TellsMore, EndsLines, is_going, MovesOn, TakesPiece, Accepts, Refuses, FrameTold, TakesNone, TakesSome}
 use Rattle.ua_pair.specs.Lines.{rest_line, refused_line}
 use Rattle.ua_pair.specs.Refused.{frame_reasons}
-use Rattle.ua_pair.specs.Telling.{Stands}
+use Rattle.ua_pair.specs.Telling.{TellerStands}
 use Rattle.ua_pair.specs.Told.{frame_lines, place_behind}
 use Rattle.ua_pair.proofs.Befores.{message_chunks-nil}
 
@@ -59,7 +59,7 @@ pub record GoesBehind (d : Dissector) (options : DissectOptions) (octets told : 
   pub rest : List ℕ
   pub run : Run (rules options) octets frames rest Going
   pub told_are : told ≡ events (rules options) frames
-  pub goes_on : GoesOn d options frames rest
+  pub goes_on : DissectorGoesOn d options frames rest
   pub place : d.place ≡ place_behind frames
 
 goes_at : (d : Dissector) (options : DissectOptions) (octets told : List ℕ) (fs : List Frame) (rest : List ℕ) (end : End ℕ) → Run (rules options) octets fs rest end → told ≡ events (rules options) fs → StandsAt d options fs rest end → d.place ≡ place_behind fs → is_going d.state ≡ true → GoesBehind d options octets told
@@ -86,7 +86,7 @@ events-nil options = refl
 frames_octets-nil : frames_octets [] ≡ []
 frames_octets-nil = sym (append-nil (frames_octets [])) ∙ front_none []
 
-pub stands_first : (d : Dissector) (options : DissectOptions) → d.state ≡ state.Going → d.reader ≡ open_reader every_frame [] → Stands d.teller [] → d.teller.options ≡ options → d.place ≡ 0 → StandsBehind d options [] []
+pub stands_first : (d : Dissector) (options : DissectOptions) → d.state ≡ state.Going → d.reader ≡ open_reader every_frame [] → TellerStands d.teller [] → d.teller.options ≡ options → d.place ≡ 0 → StandsBehind d options [] []
 stands_first d options goes reader teller is place = stands_on d options [] [] (record {
   frames = [];
   rest = [];
@@ -210,12 +210,12 @@ module _ (d e : Dissector) (octets : List ℕ) (n : ℕ) (f : Frame) (lines : Li
   frame_told (inl a) = frame_accepted a
   frame_told (inr r) = frame_refused r
 
-module _ (d e : Dissector) (octets : List ℕ) (n : ℕ) (f : Frame) (y : Reader) (lines : List ℕ) (goes : is_going d.state ≡ true) (t : TakesFrame d.reader octets n f y) (told_by : (options : DissectOptions) (before : List Frame) → GoesOn (record d { reader = y }) options before [] → d.place ≡ place_behind before → FrameTold e options before f lines) where
+module _ (d e : Dissector) (octets : List ℕ) (n : ℕ) (f : Frame) (y : Reader) (lines : List ℕ) (goes : is_going d.state ≡ true) (t : TakesFrame d.reader octets n f y) (told_by : (options : DissectOptions) (before : List Frame) → DissectorGoesOn (record d { reader = y }) options before [] → d.place ≡ place_behind before → FrameTold e options before f lines) where
   frame_moves : MovesOn d e (take n octets) lines
   frame_moves options o told s =
       let g = goes_behind d options o told s goes in
       let reader : y ≡ open_reader every_frame [] = t.new_is ∙ ap (λ (r : Reader). open_reader r.gate []) g.goes_on.holds.reader in
-      let now : GoesOn (record d { reader = y }) options g.frames [] = record { state = g.goes_on.state; options_are = g.goes_on.options_are; holds = record { reader = reader; teller = g.goes_on.holds.teller } } in
+      let now : DissectorGoesOn (record d { reader = y }) options g.frames [] = record { state = g.goes_on.state; options_are = g.goes_on.options_are; holds = record { reader = reader; teller = g.goes_on.holds.teller } } in
       let joined : g.rest ++ take n octets ≡ frame_octets f = ap (λ (r : Reader). r.held ++ take n octets) (sym g.goes_on.holds.reader) ∙ t.octets in
       let let_in : LetsIn every_frame f = subst (λ (r : Reader). LetsIn r.gate f) g.goes_on.holds.reader t.let_in in
       frame_told d e octets n f lines options o told g joined t.sized let_in (told_by options g.frames now g.place)
@@ -226,7 +226,7 @@ module _ (d e : Dissector) (octets : List ℕ) (n : ℕ) (f : Frame) (y : Reader
 -- ---- what becomes of a frame
 
 -- it was told
-pub told_accepts : (d : Dissector) (t : Teller) (place n : ℕ) (options : DissectOptions) (before : List Frame) (f : Frame) (empty lines : List ℕ) → GoesOn d options before [] → d.place ≡ place_behind before → first_reason (frame_reasons d.teller.options.side before f) ≡ None → lines ≡ empty ++ frame_lines d.teller.options before f → empty ≡ [] → Stands t (before ++ f ∷ []) → t.options ≡ d.teller.options → n ≡ frame_size f → place ≡ d.place + n → FrameTold (record d { teller = t; place = place }) options before f lines
+pub told_accepts : (d : Dissector) (t : Teller) (place n : ℕ) (options : DissectOptions) (before : List Frame) (f : Frame) (empty lines : List ℕ) → DissectorGoesOn d options before [] → d.place ≡ place_behind before → first_reason (frame_reasons d.teller.options.side before f) ≡ None → lines ≡ empty ++ frame_lines d.teller.options before f → empty ≡ [] → TellerStands t (before ++ f ∷ []) → t.options ≡ d.teller.options → n ≡ frame_size f → place ≡ d.place + n → FrameTold (record d { teller = t; place = place }) options before f lines
 told_accepts d t place n options before f empty lines g place_is accepted lines_are none stands same size grown =
     let told : lines ≡ frame_lines d.teller.options before f = lines_are ∙ ap (λ (x : List ℕ). x ++ frame_lines d.teller.options before f) none in
     let behind : place_behind (before ++ f ∷ []) ≡ place_behind before + frame_size f = ap length (frames_octets-push before f) ∙ length-append (frames_octets before) (frame_octets f) ∙ ap (λ (k : ℕ). place_behind before + k) (length-frame_octets f) in
@@ -240,7 +240,7 @@ told_accepts d t place n options before f empty lines g place_is accepted lines_
 -- ---- a whole piece
 
 -- nothing yet
-pub takes_first : (d : Dissector) (piece text : List ℕ) → Takes d d (take 0 piece) text text
+pub takes_first : (d : Dissector) (piece text : List ℕ) → TakesPiece d d (take 0 piece) text text
 takes_first d piece text = record {
   lines = [];
   added = sym (append-nil text);
@@ -248,7 +248,7 @@ takes_first d piece text = record {
 }
 
 -- some octets more
-pub takes_more : (d m e : Dissector) (piece : List ℕ) (at n : ℕ) (rest a b c lines text : List ℕ) → Takes d m (take at piece) a b → rest ≡ drop at piece → TakesSome m rest n e lines → text ≡ lines → c ≡ b ++ text → Takes d e (take (at + n) piece) a c
+pub takes_more : (d m e : Dissector) (piece : List ℕ) (at n : ℕ) (rest a b c lines text : List ℕ) → TakesPiece d m (take at piece) a b → rest ≡ drop at piece → TakesSome m rest n e lines → text ≡ lines → c ≡ b ++ text → TakesPiece d e (take (at + n) piece) a c
 takes_more d m e piece at n rest a b c lines text x rest_is y text_is grown = record {
   lines = x.lines ++ lines;
   added = grown ∙ ap₂ (λ (u v : List ℕ). u ++ v) x.added text_is ∙ append_assoc a x.lines lines;
@@ -260,10 +260,10 @@ takes_more d m e piece at n rest a b c lines text x rest_is y text_is grown = re
 }
 
 -- nothing is left that counts
-takes_rest : (d m : Dissector) (piece : List ℕ) (at : ℕ) (a b : List ℕ) → Takes d m (take at piece) a b → at ≤ length piece → (drop at piece ≡ []) ⊎ (is_going m.state ≡ false) → Takes d m piece a b
+takes_rest : (d m : Dissector) (piece : List ℕ) (at : ℕ) (a b : List ℕ) → TakesPiece d m (take at piece) a b → at ≤ length piece → (drop at piece ≡ []) ⊎ (is_going m.state ≡ false) → TakesPiece d m piece a b
 takes_rest d m piece at a b x within (inl none) =
     let all : take at piece ≡ piece = take_all at piece (omega (arith, ap length none, length-drop at piece)) in
-    subst (λ (u : List ℕ). Takes d m u a b) all x
+    subst (λ (u : List ℕ). TakesPiece d m u a b) all x
 takes_rest d m piece at a b x within (inr still) = record {
   lines = x.lines;
   added = x.added;
@@ -273,14 +273,14 @@ takes_rest d m piece at a b x within (inr still) = record {
       (stays m options (o ++ take at piece) (told ++ x.lines) (drop at piece) still (x.moves options o told s));
 }
 
-pub takes_end : (d m e : Dissector) (piece : List ℕ) (at : ℕ) (rest a b lines : List ℕ) → Takes d m (take at piece) a b → at ≤ length piece → rest ≡ drop at piece → TakesNone m rest e lines → Takes d e piece a b
+pub takes_end : (d m e : Dissector) (piece : List ℕ) (at : ℕ) (rest a b lines : List ℕ) → TakesPiece d m (take at piece) a b → at ≤ length piece → rest ≡ drop at piece → TakesNone m rest e lines → TakesPiece d e piece a b
 takes_end d m e piece at rest a b lines x within rest_is none =
-    subst (λ (u : Dissector). Takes d u piece a b) (sym none.same)
+    subst (λ (u : Dissector). TakesPiece d u piece a b) (sym none.same)
     (takes_rest d m piece at a b x within (subst (λ (u : List ℕ). (u ≡ []) ⊎ (is_going m.state ≡ false)) rest_is none.why))
 
 -- the octets in front of a place of a piece were taken
 pub record SoFar (d e : Dissector) (piece : List ℕ) (at : ℕ) (a b : List ℕ) : Type 0 where
-  pub takes : Takes d e (take at piece) a b
+  pub takes : TakesPiece d e (take at piece) a b
   pub within : at ≤ length piece
 
 pub so_far_first : (d : Dissector) (piece text : List ℕ) → SoFar d d piece 0 text text
@@ -292,7 +292,7 @@ so_far_more d m e piece at n rest a b c lines text x rest_is y text_is grown = r
   within = omega (arith, x.within, y.within, ap length rest_is, length-drop at piece);
 }
 
-pub so_far_end : (d m e : Dissector) (piece : List ℕ) (at : ℕ) (rest a b lines : List ℕ) → SoFar d m piece at a b → rest ≡ drop at piece → TakesNone m rest e lines → Takes d e piece a b
+pub so_far_end : (d m e : Dissector) (piece : List ℕ) (at : ℕ) (rest a b lines : List ℕ) → SoFar d m piece at a b → rest ≡ drop at piece → TakesNone m rest e lines → TakesPiece d e piece a b
 so_far_end d m e piece at rest a b lines x rest_is none = takes_end d m e piece at rest a b lines x.takes x.within rest_is none
 
 -- what was added stands behind what was there
@@ -300,7 +300,7 @@ pub so_far_extends : (d e : Dissector) (piece : List ℕ) (at : ℕ) (a b : List
 so_far_extends d e piece at a b x = record { more = x.takes.lines; parts = x.takes.added }
 
 -- what was told with a piece
-pub takes_tells : {E : Type 0} (r : Result (Unit {0}) E) (d e : Dissector) (piece a b : List ℕ) → OnOk r (Takes d e piece a b) → (options : DissectOptions) (o told : List ℕ) → StandsBehind d options o told → OnOk r (TellsMore e options (o ++ piece) told a b)
+pub takes_tells : {E : Type 0} (r : Result (Unit {0}) E) (d e : Dissector) (piece a b : List ℕ) → OnOk r (TakesPiece d e piece a b) → (options : DissectOptions) (o told : List ℕ) → StandsBehind d options o told → OnOk r (TellsMore e options (o ++ piece) told a b)
 takes_tells (Ok u) d e piece a b x options o told s = record { lines = x.lines; added = x.added; stands = x.moves options o told s }
 takes_tells (Err u) d e piece a b x options o told s = tt
 
@@ -352,13 +352,13 @@ ends_added (Err e) options o told empty line text old new l none text_is grown =
 
 -- ---- what is held
 
-holds_sum : (d : Dissector) (fs : List Frame) (rest : List ℕ) (a b : ℕ) → Holds d fs rest → a ≡ length d.reader.held → ((before : List Frame) → Stands d.teller before → b ≡ open_octets (message_chunks before)) → a + b ≡ length rest + open_octets (message_chunks fs)
+holds_sum : (d : Dissector) (fs : List Frame) (rest : List ℕ) (a b : ℕ) → Holds d fs rest → a ≡ length d.reader.held → ((before : List Frame) → TellerStands d.teller before → b ≡ open_octets (message_chunks before)) → a + b ≡ length rest + open_octets (message_chunks fs)
 holds_sum d fs rest a b h a_is b_is = ap₂ (λ (x y : ℕ). x + y) (a_is ∙ ap (λ (r : Reader). length r.held) h.reader) (b_is fs h.teller)
 
-holds_none : (d : Dissector) (a b : ℕ) → Holds d [] [] → a ≡ length d.reader.held → ((before : List Frame) → Stands d.teller before → b ≡ open_octets (message_chunks before)) → a + b ≡ 0
+holds_none : (d : Dissector) (a b : ℕ) → Holds d [] [] → a ≡ length d.reader.held → ((before : List Frame) → TellerStands d.teller before → b ≡ open_octets (message_chunks before)) → a + b ≡ 0
 holds_none d a b h a_is b_is = holds_sum d [] [] a b h a_is b_is ∙ ap (λ (cs : List Chunk). 0 + open_octets cs) message_chunks-nil
 
-held_at : (d : Dissector) (options : DissectOptions) (o told : List ℕ) (a b : ℕ) (fs : List Frame) (rest : List ℕ) (end : End ℕ) → Run (rules options) o fs rest end → StandsAt d options fs rest end → a ≡ length d.reader.held → ((before : List Frame) → Stands d.teller before → b ≡ open_octets (message_chunks before)) → AreHeld options o (a + b)
+held_at : (d : Dissector) (options : DissectOptions) (o told : List ℕ) (a b : ℕ) (fs : List Frame) (rest : List ℕ) (end : End ℕ) → Run (rules options) o fs rest end → StandsAt d options fs rest end → a ≡ length d.reader.held → ((before : List Frame) → TellerStands d.teller before → b ≡ open_octets (message_chunks before)) → AreHeld options o (a + b)
 held_at d options o told a b fs rest Going run at a_is b_is = record { frames = fs; rest = rest; end = Going; run = run; held_are = holds_sum d fs rest a b at.holds a_is b_is }
 held_at d options o told a b fs rest (Stopped code) run at a_is b_is = record { frames = fs; rest = rest; end = Stopped code; run = run; held_are = holds_none d a b at.nothing a_is b_is }
 held_at d options o told a b fs rest Over run at a_is b_is = absurd at
@@ -366,7 +366,7 @@ held_at d options o told a b fs rest Over run at a_is b_is = absurd at
 -- its teller stands somewhere
 pub record Tells (d : Dissector) : Type 0 where
   pub frames : List Frame
-  pub stands : Stands d.teller frames
+  pub stands : TellerStands d.teller frames
 
 tells_at : (d : Dissector) (options : DissectOptions) (fs : List Frame) (rest : List ℕ) (end : End ℕ) → StandsAt d options fs rest end → Tells d
 tells_at d options fs rest Going at = record { frames = fs; stands = at.holds.teller }
@@ -377,11 +377,11 @@ pub tells : (d : Dissector) (options : DissectOptions) (o told : List ℕ) → S
 tells d options o told s = tells_at d options s.are.frames s.are.rest s.are.end s.at
 
 -- what a dissector holds, as the sum of what its reader and its teller hold
-pub held_is : (d : Dissector) (options : DissectOptions) (o told : List ℕ) (a b n : ℕ) → StandsBehind d options o told → a ≡ length d.reader.held → ((before : List Frame) → Stands d.teller before → b ≡ open_octets (message_chunks before)) → n ≡ a + b → AreHeld options o n
+pub held_is : (d : Dissector) (options : DissectOptions) (o told : List ℕ) (a b n : ℕ) → StandsBehind d options o told → a ≡ length d.reader.held → ((before : List Frame) → TellerStands d.teller before → b ≡ open_octets (message_chunks before)) → n ≡ a + b → AreHeld options o n
 held_is d options o told a b n s a_is b_is sum = subst (λ (k : ℕ). AreHeld options o k) (sym sum) (held_at d options o told a b s.are.frames s.are.rest s.are.end s.are.run s.at a_is b_is)
 
 -- a closed one holds nothing
-pub held_closed : (d : Dissector) (a b n : ℕ) → IsClosed d → a ≡ length d.reader.held → ((before : List Frame) → Stands d.teller before → b ≡ open_octets (message_chunks before)) → n ≡ a + b → n ≡ 0
+pub held_closed : (d : Dissector) (a b n : ℕ) → IsClosed d → a ≡ length d.reader.held → ((before : List Frame) → TellerStands d.teller before → b ≡ open_octets (message_chunks before)) → n ≡ a + b → n ≡ 0
 held_closed d a b n c a_is b_is sum = sum ∙ holds_none d a b c.nothing a_is b_is
 
 -- ---- a whole list of octets in one piece

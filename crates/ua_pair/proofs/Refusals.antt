@@ -23,7 +23,7 @@ use Rattle.ua_pair.specs.declared.fault.DissectFault.{DissectFault}
 use Rattle.ua_pair.specs.declared.side.Side.{Side}
 use Rattle.ua_pair.specs.declared.options.DissectOptions.{DissectOptions}
 use Rattle.ua_pair.specs.Before.{message_chunks, last_sequence}
-use Rattle.ua_pair.specs.Telling.{Stands, Judges, JudgesKind, chunk_fault}
+use Rattle.ua_pair.specs.Telling.{TellerStands, Judges, JudgesKind, chunk_fault}
 use Rattle.ua_pair.specs.Refused.{most_octets, most_chunks, chunk_code, chunk_reasons, greeting_reasons, frame_reasons}
 use Rattle.ua_pair.specs.Told.{line_if, item_lines, chunk_lines, frame_lines, place_behind}
 
@@ -50,7 +50,7 @@ message_refused side last cs f c OutOfMemory lines old new e h = tt
 message_refused side last cs f c Closed lines old new e h = absurd h
 
 -- the limits and the last number of a teller are those of its frames
-pub refusal_at : (d : Teller) (fs : List Frame) (cs : List Chunk) (c : Chunk) → Stands d fs → refusal (octet_limit d.assembler) (chunk_limit d.assembler) (last_number d.assembler) cs c ≡ refusal most_octets most_chunks (last_sequence fs) cs c
+pub refusal_at : (d : Teller) (fs : List Frame) (cs : List Chunk) (c : Chunk) → TellerStands d fs → refusal (octet_limit d.assembler) (chunk_limit d.assembler) (last_number d.assembler) cs c ≡ refusal most_octets most_chunks (last_sequence fs) cs c
 refusal_at d fs cs c s =
     ap (λ (n : ℕ). refusal n (chunk_limit d.assembler) (last_number d.assembler) cs c) s.octets
     ∙ ap (λ (n : ℕ). refusal most_octets n (last_number d.assembler) cs c) s.chunks
@@ -66,7 +66,7 @@ message_told options cs place n f c items old mid new e size given_is first seco
     ∙ ap (λ (m : ℕ). old ++ chunk_lines options cs place m c) size
     ∙ ap (λ (o : Option Chunk). old ++ line_if (chunk_lines options cs place (frame_size f)) o) (sym e)
 
-module _ (d : Teller) (fs : List Frame) (place n : ℕ) (f : Frame) (c : Chunk) (old mid : List ℕ) (s : Stands d fs) (chunk : chunk_in f ≡ Some c) (size : n ≡ frame_size f) (first : mid ≡ old ++ chunk_line (codes "MSG") place n c) where
+module _ (d : Teller) (fs : List Frame) (place n : ℕ) (f : Frame) (c : Chunk) (old mid : List ℕ) (s : TellerStands d fs) (chunk : chunk_in f ≡ Some c) (size : n ≡ frame_size f) (first : mid ≡ old ++ chunk_line (codes "MSG") place n c) where
   -- a chunk that delivers nothing
   pub message_continued : refusal (octet_limit d.assembler) (chunk_limit d.assembler) (last_number d.assembler) (message_chunks fs) c ≡ None → given (message_chunks fs) c ≡ [] → JudgesKind Msg d.options fs place f (Ok tt) old mid
   message_continued none given_is = (
@@ -82,7 +82,7 @@ module _ (d : Teller) (fs : List Frame) (place n : ℕ) (f : Frame) (c : Chunk) 
   )
 
 -- a chunk that is refused
-pub message_fails : (d : Teller) (fs : List Frame) (place : ℕ) (f : Frame) (c : Chunk) (fault : AssembleFault) (e : DissectFault) (old new : List ℕ) → Stands d fs → chunk_in f ≡ Some c → IsFor (refusal (octet_limit d.assembler) (chunk_limit d.assembler) (last_number d.assembler) (message_chunks fs) c) fault → e ≡ chunk_fault d.options.side fault → JudgesKind Msg d.options fs place f (Err e) old new
+pub message_fails : (d : Teller) (fs : List Frame) (place : ℕ) (f : Frame) (c : Chunk) (fault : AssembleFault) (e : DissectFault) (old new : List ℕ) → TellerStands d fs → chunk_in f ≡ Some c → IsFor (refusal (octet_limit d.assembler) (chunk_limit d.assembler) (last_number d.assembler) (message_chunks fs) c) fault → e ≡ chunk_fault d.options.side fault → JudgesKind Msg d.options fs place f (Err e) old new
 message_fails d fs place f c fault e old new s chunk why is =
     subst (λ (x : DissectFault). JudgesKind Msg d.options fs place f (Err x) old new) (sym is)
     (message_refused d.options.side (last_sequence fs) (message_chunks fs) f c fault (line_if (chunk_lines d.options (message_chunks fs) place (frame_size f)) (chunk_in f)) old new chunk (subst (λ (o : Option AssembleFault). IsFor o fault) (refusal_at d fs (message_chunks fs) c s) why))

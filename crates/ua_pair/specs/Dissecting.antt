@@ -11,7 +11,7 @@ use Rattle.ua_pair.specs.declared.dissector.State.TheVariants as state
 use Rattle.ua_pair.specs.declared.options.DissectOptions.{DissectOptions}
 use Rattle.ua_pair.specs.Before.{message_chunks}
 use Rattle.ua_pair.specs.Dissected.{rules, every_frame, AreTold, AreLines}
-use Rattle.ua_pair.specs.Telling.{Stands}
+use Rattle.ua_pair.specs.Telling.{TellerStands}
 use Rattle.ua_pair.specs.Told.{frame_lines, place_behind}
 
 -- ---- what is held
@@ -39,10 +39,10 @@ most_held = 83886080
 -- it holds these octets of a frame that is not whole, and what these frames leave unfinished
 pub record Holds (d : Dissector) (fs : List Frame) (rest : List ℕ) : Type 0 where
   pub reader : d.reader ≡ open_reader every_frame rest
-  pub teller : Stands d.teller fs
+  pub teller : TellerStands d.teller fs
 
 -- it goes on behind these frames
-pub record GoesOn (d : Dissector) (options : DissectOptions) (fs : List Frame) (rest : List ℕ) : Type 0 where
+pub record DissectorGoesOn (d : Dissector) (options : DissectOptions) (fs : List Frame) (rest : List ℕ) : Type 0 where
   pub state : d.state ≡ state.Going
   pub options_are : d.teller.options ≡ options
   pub holds : Holds d fs rest
@@ -60,7 +60,7 @@ pub record IsClosed (d : Dissector) : Type 0 where
 
 -- it stands behind these frames of octets that end so
 abbrev pub StandsAt : Dissector → DissectOptions → List Frame → List ℕ → End ℕ → Type 0
-StandsAt d options fs rest Going = GoesOn d options fs rest
+StandsAt d options fs rest Going = DissectorGoesOn d options fs rest
 StandsAt d options fs rest (Stopped code) = HasRefused d options code
 StandsAt d options fs rest Over = ⊥
 
@@ -113,7 +113,7 @@ abbrev pub MovesOn : Dissector → Dissector → List ℕ → List ℕ → Type 
 MovesOn old new piece lines = (options : DissectOptions) (octets told : List ℕ) → StandsBehind old options octets told → StandsBehind new options (octets ++ piece) (told ++ lines)
 
 -- a piece was taken, and lines were added to a text
-pub record Takes (old new : Dissector) (piece before after : List ℕ) : Type 0 where
+pub record TakesPiece (old new : Dissector) (piece before after : List ℕ) : Type 0 where
   pub lines : List ℕ
   pub added : after ≡ before ++ lines
   pub moves : MovesOn old new piece lines
@@ -122,7 +122,7 @@ pub record Takes (old new : Dissector) (piece before after : List ℕ) : Type 0 
 pub record Accepts (new : Dissector) (options : DissectOptions) (before : List Frame) (f : Frame) (lines : List ℕ) : Type 0 where
   pub accepted : refusal (rules options) before f ≡ None
   pub lines_are : lines ≡ frame_lines options before f
-  pub goes_on : GoesOn new options (before ++ f ∷ []) []
+  pub goes_on : DissectorGoesOn new options (before ++ f ∷ []) []
   pub place : new.place ≡ place_behind (before ++ f ∷ [])
 
 -- a frame behind these is refused

@@ -36,7 +36,7 @@ opening_fault opening.Policy = Refused (of_code 0x8055_0000)
 opening_fault opening.OutOfMemory = OutOfMemory
 
 -- the teller is where these frames leave it
-pub record Stands (t : Teller) (fs : List Frame) : Type 0 where
+pub record TellerStands (t : Teller) (fs : List Frame) : Type 0 where
   pub messages : AssemblerStands t.assembler (message_chunks fs)
   pub last : last_number t.assembler ≡ last_sequence fs
   pub octets : octet_limit t.assembler ≡ most_octets

@@ -5,7 +5,7 @@ ghost use Rattle.ua_wire.specs.Format.{Extends};
 ghost use Rattle.ua_frame.specs.declared.frame.Frame.{Frame};
 ghost use Rattle.ua_frame.specs.Frames.{IsSized, LetsIn};
 ghost use Rattle.ua_pair.specs.Dissected.{every_frame as open_gate};
-ghost use Rattle.ua_pair.specs.Dissecting.{StandsBehind, TellsMore, EndsLines, AreHeld, IsClosed, most_held, Holds, GoesOn, FrameTold, Takes, TakesNext, is_going, is_refused, is_stopped, HasRefusedOne};
+ghost use Rattle.ua_pair.specs.Dissecting.{StandsBehind, TellsMore, EndsLines, AreHeld, IsClosed, most_held, Holds, DissectorGoesOn, FrameTold, TakesPiece, TakesNext, is_going, is_refused, is_stopped, HasRefusedOne};
 ghost use Rattle.ua_pair.specs.Told.{place_behind};
 
 use crate::fault::DissectFault;
@@ -94,7 +94,7 @@ impl Dissector {
     fn tell(&mut self, frame: Frame, lines: &mut String) -> Result<(), AllocError>
         requires sized { IsSized frame }
         requires let_in { LetsIn open_gate frame }
-        ensures { (options : DissectOptions) (before : List Frame) → GoesOn self.old options before [] → self.old.place ≡ place_behind before
+        ensures { (options : DissectOptions) (before : List Frame) → DissectorGoesOn self.old options before [] → self.old.place ≡ place_behind before
             → OnOk result (FrameTold self.new options before frame (string_bytes lines.new)) }
     {
         let size = frame_size(&frame);
@@ -145,7 +145,7 @@ impl Dissector {
     /// Adds the lines of what is whole with a piece, where memory was not refused before. After an error
     /// some of them may stand there.
     fn take_all(&mut self, piece: &[u8], out: &mut String) -> Result<(), AllocError>
-        ensures takes { OnOk result (Takes self.old self.new piece.now (string_bytes out.old) (string_bytes out.new)) }
+        ensures takes { OnOk result (TakesPiece self.old self.new piece.now (string_bytes out.old) (string_bytes out.new)) }
         ensures err { OnErr result (Extends (string_bytes out.old) (string_bytes out.new)) }
         ensures closed { IsClosed self.old → IsErr result }
     {

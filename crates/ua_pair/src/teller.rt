@@ -12,7 +12,7 @@ ghost use Rattle.ua_chunk.specs.Open.{open_octets};
 ghost use Rattle.ua_chunk.specs.View.{item_of};
 ghost use Rattle.ua_pair.specs.Before.{message_chunks};
 ghost use Rattle.ua_pair.specs.Dissected.{every_frame};
-ghost use Rattle.ua_pair.specs.Telling.{Stands, Judges, JudgesKind};
+ghost use Rattle.ua_pair.specs.Telling.{TellerStands, Judges, JudgesKind};
 ghost use Rattle.ua_pair.specs.Refused.{greeting_reasons, frame_reasons};
 ghost use Rattle.ua_pair.specs.Lines.{message_line};
 ghost use Rattle.ua_pair.specs.Names.{message_kind as kind_of_message, opening_kind as kind_of_opening, opening_name as name_of_opening};
@@ -164,7 +164,7 @@ fn push_opened(
 impl Teller {
     /// A teller of what one side sends, from its first frame on.
     pub fn new(alloc: Global, options: DissectOptions) -> Teller
-        ensures stands { Stands result [] }
+        ensures stands { TellerStands result [] }
         ensures options { result.options ≡ options }
     {
         Teller {
@@ -183,9 +183,9 @@ impl Teller {
     ) -> Result<(), DissectFault>
         requires kind { frame.kind ≡ Opn }
         requires sized { IsSized frame }
-        ensures judged { (before : List Frame) → Stands self.old before →
+        ensures judged { (before : List Frame) → TellerStands self.old before →
             JudgesKind Opn self.old.options before place frame result (string_bytes lines.old) (string_bytes lines.new) }
-        ensures stands { (before : List Frame) → Stands self.old before → OnOk result (Stands self.new (before ++ frame ∷ [])) }
+        ensures stands { (before : List Frame) → TellerStands self.old before → OnOk result (TellerStands self.new (before ++ frame ∷ [])) }
         ensures options { self.new.options ≡ self.old.options }
     {
         let size = frame_size(&frame);
@@ -211,9 +211,9 @@ impl Teller {
         requires kind { frame.kind ≡ Msg }
         requires sized { IsSized frame }
         requires let_in { LetsIn every_frame frame }
-        ensures judged { (before : List Frame) → Stands self.old before →
+        ensures judged { (before : List Frame) → TellerStands self.old before →
             JudgesKind Msg self.old.options before place frame result (string_bytes lines.old) (string_bytes lines.new) }
-        ensures stands { (before : List Frame) → Stands self.old before → OnOk result (Stands self.new (before ++ frame ∷ [])) }
+        ensures stands { (before : List Frame) → TellerStands self.old before → OnOk result (TellerStands self.new (before ++ frame ∷ [])) }
         ensures options { self.new.options ≡ self.old.options }
     {
         let size = frame_size(&frame);
@@ -239,9 +239,9 @@ impl Teller {
         requires kind { frame.kind ≡ Clo }
         requires sized { IsSized frame }
         requires let_in { LetsIn every_frame frame }
-        ensures judged { (before : List Frame) → Stands self.old before →
+        ensures judged { (before : List Frame) → TellerStands self.old before →
             JudgesKind Clo self.old.options before place frame result (string_bytes lines.old) (string_bytes lines.new) }
-        ensures stands { (before : List Frame) → Stands self.old before → OnOk result (Stands self.new (before ++ frame ∷ [])) }
+        ensures stands { (before : List Frame) → TellerStands self.old before → OnOk result (TellerStands self.new (before ++ frame ∷ [])) }
         ensures options { self.new.options ≡ self.old.options }
     {
         let size = frame_size(&frame);
@@ -263,9 +263,9 @@ impl Teller {
     ) -> Result<(), DissectFault>
         requires sized { IsSized frame }
         requires let_in { LetsIn every_frame frame }
-        ensures judged { (before : List Frame) → Stands self.old before → place ≡ place_behind before →
+        ensures judged { (before : List Frame) → TellerStands self.old before → place ≡ place_behind before →
             Judges (first_reason (frame_reasons self.old.options.side before frame)) (frame_lines self.old.options before frame) result (string_bytes lines.old) (string_bytes lines.new) }
-        ensures stands { (before : List Frame) → Stands self.old before → OnOk result (Stands self.new (before ++ frame ∷ [])) }
+        ensures stands { (before : List Frame) → TellerStands self.old before → OnOk result (TellerStands self.new (before ++ frame ∷ [])) }
         ensures options { self.new.options ≡ self.old.options }
     {
         let size = frame_size(&frame);
@@ -284,8 +284,8 @@ impl Teller {
 
     /// How many octets are held of unfinished messages.
     pub fn held(&self) -> usize
-        ensures held { (before : List Frame) → Stands self.now before → result ≡ open_octets (message_chunks before) }
-        ensures bound { (before : List Frame) → Stands self.now before → result ≤ 67108864 }
+        ensures held { (before : List Frame) → TellerStands self.now before → result ≡ open_octets (message_chunks before) }
+        ensures bound { (before : List Frame) → TellerStands self.now before → result ≤ 67108864 }
     {
         self.assembler.held()
     }

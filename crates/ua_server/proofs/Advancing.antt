@@ -15,14 +15,14 @@ use Rattle.ua_channel.specs.ServerStands.{limits_of, channel_of, next_of, rules_
 use Rattle.ua_channel.specs.ServerTold.{Told, Agreed, Opened, Asked, GaveUp, Closed}
 use Rattle.ua_channel.specs.Stops.{StopsAt}
 use Rattle.ua_channel.specs.declared.server.ServerChannel.{ServerChannel}
-use Rattle.ua_server.specs.Said.{Course, say, left, said, used_in, is_answered}
+use Rattle.ua_server.specs.Said.{Course, say, state_after, output_of, used_in, is_answered}
 use Rattle.ua_server.specs.Served.{channel_in}
 use Rattle.ua_server.specs.Happening.{Event, noted_in}
 use Rattle.ua_server.specs.Requests.{requests}
 use Rattle.ua_server.specs.Serving.{moments_in, Answer, AreAsked, AreUsed, BrokenOff, Refusal, IsUsedUp}
 use Rattle.ua_server.specs.ServingParts.{AdvancesTo, Ends, FailsTelling, Keeps, Owes, Pending, is_there, noted}
 use Rattle.ua_server.specs.State.{State}
-use Rattle.ua_server.specs.Stepping.{AdvanceBy, Stands, StepAnswers, StepBy, Stops, given_up, spent}
+use Rattle.ua_server.specs.Stepping.{AdvanceBy, ServerStands, StepAnswers, StepBy, Stops, given_up, times_of_answers}
 use Rattle.ua_server.specs.declared.serve_fault.ServeFault.TheVariants as serve_fault
 use Rattle.ua_server.specs.declared.server.Server.{Server}
 use Rattle.ua_server.specs.declared.serving.Serving.{Serving}
@@ -50,7 +50,7 @@ there (Some a) e = (a, refl)
 
 -- the moment that is kept behind an answer
 kept-by : (greeted : Bool) (t : Told) (m : DateTime) → IsTrue (is_answered t) → (greeted ≡ false → (a : Agreement) × (t ≡ Agreed a)) → (greeted ≡ true → (a : Agreement) → t ≡ Agreed a → ⊥)
-    → spent (t ∷ []) m ++ listed (cond greeted None (Some m)) ≡ m ∷ []
+    → times_of_answers (t ∷ []) m ++ listed (cond greeted None (Some m)) ≡ m ∷ []
 kept-by false (Agreed a) m h first later = refl
 kept-by true (Agreed a) m h first later = absurd (later refl a refl)
 kept-by false (Opened id handle token lifetime) m h first later = let e = (first refl).1 in absurd cc
@@ -128,10 +128,10 @@ module _ (x : Serving) (server : Server) (m : DateTime) (piece read written : Li
   events-here : (frames : List Frame) (told : List Told) → events (rules_of ch) frames ≡ told → events (server_rules l c) frames ≡ told
   events-here frames told e = ap (λ (R : Rules Told ℕ). events R frames) (sym rules-here) ∙ e
 
-  all-said : said c first o.told Going o.used ≡ written
+  all-said : output_of c first o.told Going o.used ≡ written
   all-said = o.said_is ∙ append-nil written
 
-  said-more-here : (out said_now : List ℕ) → said_now ≡ said c first o.told Going o.used ++ out → said_now ≡ written ++ out
+  said-more-here : (out said_now : List ℕ) → said_now ≡ output_of c first o.told Going o.used ++ out → said_now ≡ written ++ out
   said-more-here out said_now e = e ∙ ap (λ (w : List ℕ). w ++ out) all-said
 
   enough-taken : (n : ℕ) → n ≡ length piece → n ≤ length piece
@@ -144,11 +144,11 @@ module _ (x : Serving) (server : Server) (m : DateTime) (piece read written : Li
   room q = enough-used (used_in o.told) (used_in (o.told ++ given_up q)) (length o.used) (used-quiet o.told q) o.stands.used
 
   -- all that was said behind messages that were given up, with moments more
-  said-before : (q : List ℕ) (extra : List DateTime) → written ≡ said c first (o.told ++ given_up q) Going (o.used ++ extra) ++ []
-  said-before q extra = sym (append-nil (said c first (o.told ++ given_up q) Going (o.used ++ extra))
+  said-before : (q : List ℕ) (extra : List DateTime) → written ≡ output_of c first (o.told ++ given_up q) Going (o.used ++ extra) ++ []
+  said-before q extra = sym (append-nil (output_of c first (o.told ++ given_up q) Going (o.used ++ extra))
       ∙ (said-more c first (o.told ++ given_up q) Going o.used extra (room q) ∙ (said-silent c first o.told q o.used ∙ all-said)))
 
-  state-here : (q : List ℕ) → (left c first (o.told ++ given_up q) o.used).state ≡ now0
+  state-here : (q : List ℕ) → (state_after c first (o.told ++ given_up q) o.used).state ≡ now0
   state-here q = ap (λ (d : Course). d.state) (left-quiet c first o.told q o.used) ∙ o.stands.state_is
 
   -- the requests that were told of, and those told of now
@@ -179,16 +179,16 @@ module _ (x : Serving) (server : Server) (m : DateTime) (piece read written : Li
 
   -- nothing is answered
   on-silent : noted_in ts ≡ [] → (n : ℕ) (out q : List ℕ) (more : List Told) → false ≡ has_some more → Stops ch read piece n out (o.told ++ given_up q) more
-      → Stands ch (read ++ take n piece) ((o.told ++ given_up q) ++ more) first (o.used ++ spent more m) now1
-      → said c first ((o.told ++ given_up q) ++ more) Going (o.used ++ spent more m) ≡ said c first o.told Going o.used ++ out
+      → ServerStands ch (read ++ take n piece) ((o.told ++ given_up q) ++ more) first (o.used ++ times_of_answers more m) now1
+      → output_of c first ((o.told ++ given_up q) ++ more) Going (o.used ++ times_of_answers more m) ≡ output_of c first o.told Going o.used ++ out
       → Owes y l c first (read ++ take n piece) out written (given ++ ts) now1
   on-silent no_request n out q [] none stops stands said_is =
       let ds = append-nil (o.told ++ given_up q) in
       let us = append-nil o.used in
       let same : now0 ≡ now1 =
-      sym (state-here q) ∙ (ap (λ (k : ℕ). (left k first (o.told ++ given_up q) o.used).state) (sym chan)
-      ∙ (ap (λ (d : List Told). (left (channel_of ch) first d o.used).state) (sym ds)
-      ∙ (ap (λ (u : List DateTime). (left (channel_of ch) first ((o.told ++ given_up q) ++ []) u).state) (sym us) ∙ stands.state_is))) in
+      sym (state-here q) ∙ (ap (λ (k : ℕ). (state_after k first (o.told ++ given_up q) o.used).state) (sym chan)
+      ∙ (ap (λ (d : List Told). (state_after (channel_of ch) first d o.used).state) (sym ds)
+      ∙ (ap (λ (u : List DateTime). (state_after (channel_of ch) first ((o.told ++ given_up q) ++ []) u).state) (sym us) ∙ stands.state_is))) in
       record {
         limits_is = lim;
         channel_is = chan;
@@ -215,9 +215,9 @@ module _ (x : Serving) (server : Server) (m : DateTime) (piece read written : Li
 
   -- something is answered
   on-saying : (request : Option AnsweredRequest) → noted_in ts ≡ listed request → (n : ℕ) (out q : List ℕ) (more : List Told) → true ≡ has_some more → Stops ch read piece n out (o.told ++ given_up q) more
-      → Stands ch (read ++ take n piece) ((o.told ++ given_up q) ++ more) first (o.used ++ spent more m) now1
-      → said c first ((o.told ++ given_up q) ++ more) Going (o.used ++ spent more m) ≡ said c first o.told Going o.used ++ out
-      → requests c first ((o.told ++ given_up q) ++ more) (o.used ++ spent more m) ≡ requests c first o.told o.used ++ listed request
+      → ServerStands ch (read ++ take n piece) ((o.told ++ given_up q) ++ more) first (o.used ++ times_of_answers more m) now1
+      → output_of c first ((o.told ++ given_up q) ++ more) Going (o.used ++ times_of_answers more m) ≡ output_of c first o.told Going o.used ++ out
+      → requests c first ((o.told ++ given_up q) ++ more) (o.used ++ times_of_answers more m) ≡ requests c first o.told o.used ++ listed request
       → Owes (noted y) l c first (read ++ take n piece) out written (given ++ ts) now1
   on-saying request telling n out q [] some stops stands said_is asks = absurd cc
   on-saying request telling n out q (t ∷ (u ∷ more)) some stops stands said_is asks = absurd stops
@@ -231,15 +231,15 @@ module _ (x : Serving) (server : Server) (m : DateTime) (piece read written : Li
       let kept = kept-by x.greeted t m stops.2 greets greeted in
       let kept_here = answer-kept l c x.greeted t m (read ++ take n piece) g.frames g.frame stops.2 greets greeted (run-here (read ++ take n piece) (g.frames ++ g.frame ∷ []) [] Going g.stands.run)
       (ap (λ (R : Rules Told ℕ). R.tells g.frames g.frame) (sym rules-here) ∙ g.tells) in
-      let moments_now = moments-are ∙ (ap (λ (a : List DateTime). o.used ++ a) (sym kept) ∙ sym (append_assoc o.used (spent (t ∷ []) m) (listed (cond x.greeted None (Some m))))) in
+      let moments_now = moments-are ∙ (ap (λ (a : List DateTime). o.used ++ a) (sym kept) ∙ sym (append_assoc o.used (times_of_answers (t ∷ []) m) (listed (cond x.greeted None (Some m))))) in
       let agreed : is_there (agreed_by ((o.told ++ given_up q) ++ t ∷ [])) ≡ true =
       ap is_there (sym (left-agreement c first ((o.told ++ given_up q) ++ t ∷ []) o.used) ∙ ap (λ (d : Course). d.agreement) (left-append c first (o.told ++ given_up q) (t ∷ []) o.used))
-      ∙ agreed-behind c (left c first (o.told ++ given_up q) o.used) t x.greeted greets (o.greeted_is ∙ ap is_there (sym (left-agreement c first (o.told ++ given_up q) o.used ∙ before))) in
+      ∙ agreed-behind c (state_after c first (o.told ++ given_up q) o.used) t x.greeted greets (o.greeted_is ∙ ap is_there (sym (left-agreement c first (o.told ++ given_up q) o.used ∙ before))) in
       record {
         limits_is = lim;
         channel_is = chan;
         told = (o.told ++ given_up q) ++ t ∷ [];
-        used = o.used ++ spent (t ∷ []) m;
+        used = o.used ++ times_of_answers (t ∷ []) m;
         moments_are = moments_now;
         stands = stands;
         kept_is = kept_here;
@@ -261,15 +261,15 @@ module _ (x : Serving) (server : Server) (m : DateTime) (piece read written : Li
             tells = ap (λ (R : Rules Told ℕ). R.tells g.frames g.frame) (sym rules-here) ∙ g.tells;
             answered = stops.2;
           };
-          state_is = ap (λ (k : ℕ). (left k first ((o.told ++ given_up q) ++ t ∷ []) (o.used ++ spent (t ∷ []) m)).state) (sym chan) ∙ stands.state_is;
+          state_is = ap (λ (k : ℕ). (state_after k first ((o.told ++ given_up q) ++ t ∷ []) (o.used ++ times_of_answers (t ∷ []) m)).state) (sym chan) ∙ stands.state_is;
           all_used = stands.used;
           requests_are = requests-then _ _ (listed request) telling asks;
           part = [];
-          written_is = said-before q (spent (t ∷ []) m);
+          written_is = said-before q (times_of_answers (t ∷ []) m);
           said_is = said-more-here out _ said_is;
         };
         asked = λ words. subst (λ (ms : List DateTime). AreAsked l c (read ++ take n piece) ((o.told ++ given_up q) ++ t ∷ []) ms) (sym moments_now)
-            (asked-by l c (read ++ take n piece) ((o.told ++ given_up q) ++ t ∷ []) (o.used ++ spent (t ∷ []) m) (cond x.greeted None (Some m)) stands.used kept_here);
+            (asked-by l c (read ++ take n piece) ((o.told ++ given_up q) ++ t ∷ []) (o.used ++ times_of_answers (t ∷ []) m) (cond x.greeted None (Some m)) stands.used kept_here);
       }
 
   -- the connection ends
@@ -325,12 +325,12 @@ module _ (x : Serving) (server : Server) (m : DateTime) (piece read written : Li
         stops = stops-here s.refused.frames s.refused.rest code.code s.refused.stops;
         told_is = events-here s.refused.frames _ s.refused.told_is;
       };
-      state_is = ap (λ (d : List Told). (left c first d o.used).state) (append-nil (o.told ++ given_up s.quiet)) ∙ s.left_is;
+      state_is = ap (λ (d : List Told). (state_after c first d o.used).state) (append-nil (o.told ++ given_up s.quiet)) ∙ s.left_is;
       all_used = plain-used (o.told ++ given_up s.quiet) (length o.used) (used-here s.quiet);
       requests_are = noted-told no_request ∙ sym (ap (λ (d : List Told). requests c first d o.used) (append-nil (o.told ++ given_up s.quiet)) ∙ requests-silent c first o.told s.quiet o.used);
       part = [];
-      written_is = said-before s.quiet [] ∙ ap (λ (u : List DateTime). said c first (o.told ++ given_up s.quiet) Going u ++ []) (append-nil o.used);
-      said_is = ap (λ (d : List Told). said c first d (Stopped code.code) o.used) (append-nil (o.told ++ given_up s.quiet)) ∙ said-more-here out _ s.out_is;
+      written_is = said-before s.quiet [] ∙ ap (λ (u : List DateTime). output_of c first (o.told ++ given_up s.quiet) Going u ++ []) (append-nil o.used);
+      said_is = ap (λ (d : List Told). output_of c first d (Stopped code.code) o.used) (append-nil (o.told ++ given_up s.quiet)) ∙ said-more-here out _ s.out_is;
     };
     asked = λ words. subst (λ (ms : List DateTime). AreAsked l c (read ++ take n piece) ((o.told ++ given_up s.quiet) ++ []) ms) (sym moments-are)
         (asked-by l c (read ++ take n piece) ((o.told ++ given_up s.quiet) ++ []) o.used (Some m) (plain-used (o.told ++ given_up s.quiet) (length o.used) (used-here s.quiet))
@@ -363,7 +363,7 @@ module _ (x : Serving) (server : Server) (m : DateTime) (piece read written : Li
       let w = by.ends in
       let before = o.told ++ given_up w.quiet in
       let t = Asked w.id w.token by.message in
-      let behind : left c first before o.used ≡ course now0 (next_of (channel_in x.server)) [] (agreed_by o.told) = left-quiet c first o.told w.quiet o.used ∙ left-course (channel_in x.server) read o.told first o.used now0 o.stands in
+      let behind : state_after c first before o.used ≡ course now0 (next_of (channel_in x.server)) [] (agreed_by o.told) = left-quiet c first o.told w.quiet o.used ∙ left-course (channel_in x.server) read o.told first o.used now0 o.stands in
       let at : List DateTime → Type 0 = λ ms. (broken : BrokenOff l c first (read ++ piece) written ms now1) × (broken.part ≡ []) × (noted_in (given ++ ts) ≡ requests c first broken.before ms) in
       let broken : at (moments_in (given ++ ts)) = subst at (sym moments-are) (
         record {

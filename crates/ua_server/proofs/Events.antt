@@ -13,7 +13,7 @@ use Rattle.ua_channel.specs.Received.{received}
 use Rattle.ua_channel.specs.ServerPlaces.{agreed_by}
 use Rattle.ua_channel.specs.ServerRules.{server_rules}
 use Rattle.ua_channel.specs.ServerSends.{IsReply, RepliesGo}
-use Rattle.ua_channel.specs.ServerStands.{limits_of, channel_of, next_of, rules_of, GoesTelling, Stands as Holds}
+use Rattle.ua_channel.specs.ServerStands.{limits_of, channel_of, next_of, rules_of, GoesTelling, ChannelStands as Holds}
 use Rattle.ua_channel.specs.ServerTold.{Told, Asked}
 use Rattle.ua_channel.specs.declared.server.ServerChannel.{ServerChannel}
 use Rattle.ua_server.specs.Reply.{answered}

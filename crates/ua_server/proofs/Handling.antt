@@ -8,18 +8,18 @@ use Rattle.ua_frame.proofs.Ends.{ends_stay}
 use Rattle.ua_frame.specs.Run.{End, Rules, Run, Going, Stopped, Over, events}
 use Rattle.ua_frame.specs.declared.frame.Frame.{Frame}
 use Rattle.ua_frame.specs.declared.limits.Limits.{Limits}
-use Rattle.ua_channel.specs.Line.{Traffic, HandsOut, WhereTold}
+use Rattle.ua_channel.specs.Line.{Traffic, HandsOut, IfTrafficKnown}
 use Rattle.ua_channel.specs.Received.{listed}
 use Rattle.ua_channel.specs.ServerRules.{server_rules}
-use Rattle.ua_channel.specs.ServerStands.{limits_of, channel_of, rules_of, Stands as Holds}
+use Rattle.ua_channel.specs.ServerStands.{limits_of, channel_of, rules_of, ChannelStands as Holds}
 use Rattle.ua_channel.specs.ServerTold.{Told}
 use Rattle.ua_channel.specs.declared.line.LineFault.{LineFault}
 use Rattle.ua_channel.specs.declared.server.ServerChannel.{ServerChannel}
-use Rattle.ua_server.specs.Said.{left}
+use Rattle.ua_server.specs.Said.{state_after}
 use Rattle.ua_server.specs.Served.{channel_in}
 use Rattle.ua_server.specs.Happening.{Event, Happens, noted_in}
 use Rattle.ua_server.specs.Requests.{requests}
-use Rattle.ua_server.specs.Serving.{coming_now, moments_in, greatest, Answered, AnsweredTo, Moves, ServesTelling, ServesBy, TellsAll, TellsBy}
+use Rattle.ua_server.specs.Serving.{coming_now, moments_in, greatest, Answered, AnsweredTo, MovesTraffic, ServesTelling, ServesBy, TellsAll, TellsBy}
 use Rattle.ua_server.specs.ServingParts.{EndsTelling, Exchanged, FailsTelling, Finishes, Handles, Keeps, Reads, Turns, TurnsTo}
 use Rattle.ua_server.specs.State.{State}
 use Rattle.ua_server.specs.declared.serve_fault.ServeFault.{ServeFault}
@@ -174,7 +174,7 @@ module _ (limits : Limits) (channel : ℕ) (first : State) where
       run.0
       run.1
       (sym (k.said_is ∙ append-nil written))
-      (ap (λ (n : ℕ). (left n first k.told k.used).state) (sym k.channel_is) ∙ k.stands.state_is)
+      (ap (λ (n : ℕ). (state_after n first k.told k.used).state) (sym k.channel_is) ∙ k.stands.state_is)
       k.stands.used
 
   keeps-told : (x : Serving) (read written : List ℕ) (given : List Event) (now : State) (k : Keeps x limits channel first read written given now) → TellsAll limits channel first (moments_in given) k.stands.goes.frames (noted_in given)
@@ -229,17 +229,17 @@ module _ (limits : Limits) (channel : ℕ) (first : State) where
         let to = by e.written e.ticks e.holds in
         record { read = read; written = e.written; happened = e.ticks; moved = e.moved; led = e.given; comes_to = to.0; tells = to.1 }
 
-    handed : (n : ℕ) (buffer : List ℕ) (a b : Option Traffic) → WhereTold (HandsOut (Ok n) buffer) a b → WhereTold (Moves (take n buffer) []) a b
+    handed : (n : ℕ) (buffer : List ℕ) (a b : Option Traffic) → IfTrafficKnown (HandsOut (Ok n) buffer) a b → IfTrafficKnown (MovesTraffic (take n buffer) []) a b
     handed n buffer (Some a) (Some b) h = (h.0, h.1 ∙ sym (append-nil a.written))
     handed n buffer (Some a) None h = h
     handed n buffer None b h = h
 
-    not-handed : (f : LineFault) (buffer : List ℕ) (a b : Option Traffic) → WhereTold (HandsOut (Err f) buffer) a b → WhereTold (Moves [] []) a b
+    not-handed : (f : LineFault) (buffer : List ℕ) (a b : Option Traffic) → IfTrafficKnown (HandsOut (Err f) buffer) a b → IfTrafficKnown (MovesTraffic [] []) a b
     not-handed f buffer (Some a) (Some b) h = (λ rest. ap (λ (t : Traffic). t.coming rest) (sym h), ap (λ (t : Traffic). t.written) h ∙ sym (append-nil a.written))
     not-handed f buffer (Some a) None h = h
     not-handed f buffer None b h = h
 
-    ended : (n : ℕ) (buffer : List ℕ) (a b : Option Traffic) → WhereTold (HandsOut (Ok n) buffer) a b → n ≡ 0 → 0 < length buffer → coming_now b ≡ []
+    ended : (n : ℕ) (buffer : List ℕ) (a b : Option Traffic) → IfTrafficKnown (HandsOut (Ok n) buffer) a b → n ≡ 0 → 0 < length buffer → coming_now b ≡ []
     ended n buffer (Some a) (Some b) h zero room = sym (ap (λ (k : ℕ). take k buffer ++ b.coming []) zero) ∙ (sym (h.0 []) ∙ h.2 zero room)
     ended n buffer (Some a) None h zero room = refl
     ended n buffer None b h zero room = ap coming_now h
@@ -260,17 +260,17 @@ module _ (limits : Limits) (channel : ℕ) (first : State) where
         ((broken.0, inr broken.1), inr (broken.1, broken.2)))
 
     -- a read is handed out
-    read-on : (la lb lc : Option Traffic) (reads : ℕ) (m : M × W) (x : Serving) (now : State) (n : ℕ) (buffer : List ℕ) (s : Served la reads m lb x now) → WhereTold (Moves (take n buffer) []) lb lc
+    read-on : (la lb lc : Option Traffic) (reads : ℕ) (m : M × W) (x : Serving) (now : State) (n : ℕ) (buffer : List ℕ) (s : Served la reads m lb x now) → IfTrafficKnown (MovesTraffic (take n buffer) []) lb lc
         → Exchanged step m0 m (s.read ++ take n buffer) la lc (λ written ts. Keeps x limits channel first s.read written ts now)
     read-on la lb lc reads m x now n buffer s moved = record {
       written = s.exchanged.written;
       ticks = s.exchanged.ticks;
-      moved = subst (λ (w : List ℕ). WhereTold (Moves (s.read ++ take n buffer) w) la lc) (append-nil s.exchanged.written) (told-then s.read s.exchanged.written (take n buffer) [] la lb lc s.exchanged.moved moved);
+      moved = subst (λ (w : List ℕ). IfTrafficKnown (MovesTraffic (s.read ++ take n buffer) w) la lc) (append-nil s.exchanged.written) (told-then s.read s.exchanged.written (take n buffer) [] la lb lc s.exchanged.moved moved);
       given = s.exchanged.given;
       holds = s.exchanged.holds;
     }
 
-    pub read-failed : (la lb lc : Option Traffic) (reads : ℕ) (m : M × W) (x : Serving) (now : State) (f : LineFault) (buffer : List ℕ) → Served la reads m lb x now → WhereTold (HandsOut (Err f) buffer) lb lc
+    pub read-failed : (la lb lc : Option Traffic) (reads : ℕ) (m : M × W) (x : Serving) (now : State) (f : LineFault) (buffer : List ℕ) → Served la reads m lb x now → IfTrafficKnown (HandsOut (Err f) buffer) lb lc
         → ServesTelling limits channel gives notes first m0 (Err fault.Read) now m la lc
     read-failed la lb lc reads m x now f buffer s h =
         served m s.read la lc (Err fault.Read) now (λ written ts. Keeps x limits channel first s.read written ts now)
@@ -278,7 +278,7 @@ module _ (limits : Limits) (channel : ℕ) (first : State) where
         (read-on la lb lc reads m x now 0 [] s (not-handed f buffer lb lc h)))
         (λ w ts k. still-going x s.read w ts now k)
 
-    pub read-ended : (la lb lc : Option Traffic) (reads : ℕ) (m : M × W) (x : Serving) (now : State) (n : ℕ) (buffer : List ℕ) (end : Ending) → Served la reads m lb x now → WhereTold (HandsOut (Ok n) buffer) lb lc → n ≡ 0 → 0 < length buffer
+    pub read-ended : (la lb lc : Option Traffic) (reads : ℕ) (m : M × W) (x : Serving) (now : State) (n : ℕ) (buffer : List ℕ) (end : Ending) → Served la reads m lb x now → IfTrafficKnown (HandsOut (Ok n) buffer) lb lc → n ≡ 0 → 0 < length buffer
         → ((octets : List ℕ) (frames : List Frame) (rest : List ℕ) → Holds (channel_in x.server) octets frames rest → Finishes end frames rest)
         → ServesTelling limits channel gives notes first m0 (Ok end) now m la lc
     read-ended la lb lc reads m x now n buffer end s h zero room by =
@@ -297,7 +297,7 @@ module _ (limits : Limits) (channel : ℕ) (first : State) where
         more-than : (a b c : ℕ) → a ≤ b → b ≤ c → a ≤ c
         more-than a b c p q = omega (arith, p, q)
 
-    module _ (la lb lc ld : Option Traffic) (reads : ℕ) (m m' : M × W) (x y : Serving) (now now' : State) (n : ℕ) (buffer : List ℕ) (s : Served la reads m lb x now) (h : WhereTold (HandsOut (Ok n) buffer) lb lc) where
+    module _ (la lb lc ld : Option Traffic) (reads : ℕ) (m m' : M × W) (x y : Serving) (now now' : State) (n : ℕ) (buffer : List ℕ) (s : Served la reads m lb x now) (h : IfTrafficKnown (HandsOut (Ok n) buffer) lb lc) where
       -- the octets that were read are handled so
       handles-on : (result : Result (Option Ending) ServeFault)
           → Exchanged step m m' [] lc ld (λ more ts. Handles result y limits channel first (s.read ++ take n buffer) (s.exchanged.written ++ more) (s.exchanged.ticks ++ ts) now')
@@ -306,8 +306,8 @@ module _ (limits : Limits) (channel : ℕ) (first : State) where
           record {
             written = s.exchanged.written ++ f.written;
             ticks = s.exchanged.ticks ++ f.ticks;
-            moved = subst (λ (r : List ℕ). WhereTold (Moves r (s.exchanged.written ++ f.written)) la ld) (append-nil (s.read ++ take n buffer))
-                (subst (λ (w : List ℕ). WhereTold (Moves ((s.read ++ take n buffer) ++ []) (w ++ f.written)) la ld) (append-nil s.exchanged.written)
+            moved = subst (λ (r : List ℕ). IfTrafficKnown (MovesTraffic r (s.exchanged.written ++ f.written)) la ld) (append-nil (s.read ++ take n buffer))
+                (subst (λ (w : List ℕ). IfTrafficKnown (MovesTraffic ((s.read ++ take n buffer) ++ []) (w ++ f.written)) la ld) (append-nil s.exchanged.written)
                 (told-then (s.read ++ take n buffer) (s.exchanged.written ++ []) [] f.written la lc ld (told-then s.read s.exchanged.written (take n buffer) [] la lb lc s.exchanged.moved (handed n buffer lb lc h)) f.moved));
             given = gives-then step m0 m m' s.exchanged.ticks f.ticks s.exchanged.given f.given;
             holds = f.holds;

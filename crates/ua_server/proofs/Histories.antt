@@ -13,11 +13,11 @@ use Rattle.ua_channel.specs.ServerTold.{Told, Agreed, Opened, Asked, GaveUp, Clo
 use Rattle.ua_channel.specs.declared.server.ServerChannel.{ServerChannel}
 use Rattle.ua_server.specs.History.{ConnectionEvent, Heard, Became, OverBy, StandsOver, StepOver, IsUndisturbed, course_over, with_changes, event_answer, heard_at, moments_of, output_over, told_in}
 use Rattle.ua_server.specs.Now.{NowBy, NowGoes, StepNow, standing}
-use Rattle.ua_server.specs.Said.{Course, last_words, left, left_by, said_of, say, start, used_in}
+use Rattle.ua_server.specs.Said.{Course, last_words, state_after, course_after, said_of, say, start, used_in}
 use Rattle.ua_server.specs.State.{State, with_session}
 use Rattle.ua_server.specs.declared.endpoint.Endpoint.{Endpoint}
 use Rattle.ua_server.specs.declared.session.Session.{Session}
-use Rattle.ua_server.specs.Stepping.{Stands, StepBreaks, Stops, given_up}
+use Rattle.ua_server.specs.Stepping.{ServerStands, StepBreaks, Stops, given_up}
 use Rattle.ua_server.specs.declared.step.End.{End as Ending}
 use Rattle.ua_server.specs.declared.step.Step.{Step}
 use Rattle.ua_server.specs.declared.step.StepFault.{StepFault}
@@ -108,13 +108,13 @@ one-output channel s n a moment new octets piece k out told (t ∷ []) h = refl
 one-output channel s n a moment new octets piece k out told (t ∷ (u ∷ more)) h = absurd h
 
 one-state : (channel : ℕ) (s : State) (n : ℕ) (a : Option Agreement) (moment : DateTime) (new : ServerChannel) (octets piece : List ℕ) (k : ℕ) (out : List ℕ) (told more : List Told) → Stops new octets piece k out told more
-    → (course_over channel (course s n [] a) (heard_at moment more)).state ≡ (left_by channel (standing s n a more moment) more).state
+    → (course_over channel (course s n [] a) (heard_at moment more)).state ≡ (course_after channel (standing s n a more moment) more).state
 one-state channel s n a moment new octets piece k out told [] h = refl
 one-state channel s n a moment new octets piece k out told (t ∷ []) h = refl
 one-state channel s n a moment new octets piece k out told (t ∷ (u ∷ more)) h = absurd h
 
 one-number : (channel : ℕ) (s : State) (n : ℕ) (a : Option Agreement) (moment : DateTime) (new : ServerChannel) (octets piece : List ℕ) (k : ℕ) (out : List ℕ) (told more : List Told) → Stops new octets piece k out told more
-    → (course_over channel (course s n [] a) (heard_at moment more)).number ≡ (left_by channel (standing s n a more moment) more).number
+    → (course_over channel (course s n [] a) (heard_at moment more)).number ≡ (course_after channel (standing s n a more moment) more).number
 one-number channel s n a moment new octets piece k out told [] h = refl
 one-number channel s n a moment new octets piece k out told (t ∷ []) h = refl
 one-number channel s n a moment new octets piece k out told (t ∷ (u ∷ more)) h = absurd h
@@ -158,14 +158,14 @@ module _ (old new : ServerChannel) (moment : DateTime) (piece octets : List ℕ)
       let a = agreed_by (told_in hs) in
       let told = given_up g.quiet ++ g.more in
       let behind = course-behind old octets hs first before moment g.quiet g.more s in
-      let left : (course_over ch (start first []) (hs ++ heard_at moment told)).state ≡ now =
+      let state_after : (course_over ch (start first []) (hs ++ heard_at moment told)).state ≡ now =
       ap (λ (c : Course). c.state) behind ∙ (one-state ch before (next_of old) a moment new octets piece n out (told_in hs ++ given_up g.quiet) g.more g.stops ∙ sym g.state_is) in (
         told,
-        left,
+        state_after,
         (
           record {
             goes = subst (λ (t : List Told). Goes new (octets ++ take n piece) t) (told-behind hs moment g.quiet g.more) g.goes;
-            state_is = ap (λ (k : ℕ). (course_over k (start first []) (hs ++ heard_at moment told)).state) same ∙ left;
+            state_is = ap (λ (k : ℕ). (course_over k (start first []) (hs ++ heard_at moment told)).state) same ∙ state_after;
             number_is = ap (λ (k : ℕ). (course_over k (start first []) (hs ++ heard_at moment told)).number) same ∙ (ap (λ (c : Course). c.number) behind
                 ∙ (one-number ch before (next_of old) a moment new octets piece n out (told_in hs ++ given_up g.quiet) g.more g.stops ∙ sym g.number_is));
           },
@@ -231,7 +231,7 @@ step_over old new moment piece octets hs first before now result s same g = by-r
 
 -- ---- where no nodes change, it is what it was
 
-pub same-left : (channel : ℕ) (s : State) (n : ℕ) (a : Option Agreement) (hs : List ConnectionEvent) → IsUndisturbed hs → course_over channel (course s n [] a) hs ≡ left_by channel (course s n (moments_of hs) a) (told_in hs)
+pub same-left : (channel : ℕ) (s : State) (n : ℕ) (a : Option Agreement) (hs : List ConnectionEvent) → IsUndisturbed hs → course_over channel (course s n [] a) hs ≡ course_after channel (course s n (moments_of hs) a) (told_in hs)
 same-left channel s n a [] u = refl
 same-left channel s n a (Heard (Agreed g) m ∷ hs) u = same-left channel s n (Some g) hs u
 same-left channel s n a (Heard (Opened id handle token lifetime) m ∷ hs) u =
@@ -267,8 +267,8 @@ all-used (Heard Closed m ∷ hs) u = let more = all-used hs u in omega (arith, m
 all-used (Became nodes made ∷ hs) u = absurd u
 
 -- a server that nothing else changes stands after what it was told
-pub stands-alone : (x : ServerChannel) (octets : List ℕ) (hs : List ConnectionEvent) (first now : State) → StandsOver x octets hs first now → IsUndisturbed hs → Stands x octets (told_in hs) first (moments_of hs) now
-unfolding left
+pub stands-alone : (x : ServerChannel) (octets : List ℕ) (hs : List ConnectionEvent) (first now : State) → StandsOver x octets hs first now → IsUndisturbed hs → ServerStands x octets (told_in hs) first (moments_of hs) now
+unfolding state_after
 stands-alone x octets hs first now s u =
     let same = same-left (channel_of x) first 1 None hs u in
     record {

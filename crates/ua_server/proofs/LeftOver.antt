@@ -16,7 +16,7 @@ use Rattle.ua_channel.specs.Received.{closings, listed, received}
 use Rattle.ua_channel.specs.ServerRules.{server_rules}
 use Rattle.ua_channel.specs.ServerTold.{Told, Agreed, Opened, Asked, GaveUp, Closed}
 use Rattle.ua_server.proofs.SaidInParts.{used_in-append}
-use Rattle.ua_server.specs.Said.{is_answered, used_in, uses}
+use Rattle.ua_server.specs.Said.{is_answered, used_in, times_used_by}
 use Rattle.ua_server.specs.Serving.{AreAsked, EndsAnswered, EndsRefused, IsUsedUp}
 use Rattle.ua_server.specs.ServingParts.{IsKept}
 
@@ -153,7 +153,7 @@ module _ (limits : Limits) (channel : ℕ) where
   all-asked octets told moments (inr a) = omega (arith, a.1)
 
   -- up to an answer, and up to what is refused
-  pub answered-count : (octets : List ℕ) (before : List Told) (t : Told) (moments : List DateTime) → EndsAnswered limits channel octets before t → AreAsked limits channel octets (before ++ t ∷ []) moments → length moments + uses t ≡ used_in (before ++ t ∷ []) + 1
+  pub answered-count : (octets : List ℕ) (before : List Told) (t : Told) (moments : List DateTime) → EndsAnswered limits channel octets before t → AreAsked limits channel octets (before ++ t ∷ []) moments → length moments + times_used_by t ≡ used_in (before ++ t ∷ []) + 1
   answered-count octets before (Agreed a) moments e (inl m) = absurd (unused-left octets e.frames e.frame e.run (ap used_in e.tells) m.0)
   answered-count octets before (Agreed a) moments e (inr m) = omega (arith, m.1)
   answered-count octets before (Opened id handle token lifetime) moments e (inl m) = ap (λ (n : ℕ). n + 1) m.1

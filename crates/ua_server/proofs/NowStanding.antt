@@ -10,9 +10,9 @@ use Rattle.ua_channel.specs.ServerTold.{Told}
 use Rattle.ua_channel.specs.declared.server.ServerChannel.{ServerChannel}
 use Rattle.ua_server.specs.Now.{AdvanceNow, AdvanceNowBy, NowBy, StepNow, standing}
 use Rattle.ua_server.specs.Requests.{request_at, requests_of, with_first}
-use Rattle.ua_server.specs.Said.{last_words, left_by, said_of, say}
+use Rattle.ua_server.specs.Said.{last_words, course_after, said_of, say}
 use Rattle.ua_server.specs.State.{State}
-use Rattle.ua_server.specs.Stepping.{AdvanceBy, Advances, Stands, StepAnswers, StepBy, StepCloses, StepGoes, StepRefuses, Stops, Tells, given_up}
+use Rattle.ua_server.specs.Stepping.{AdvanceBy, Advances, ServerStands, StepAnswers, StepBy, StepCloses, StepGoes, StepRefuses, Stops, Tells, given_up}
 use Rattle.ua_server.specs.declared.step.End.{End as Ending}
 use Rattle.ua_server.specs.declared.step.End.TheVariants as ending
 use Rattle.ua_server.specs.declared.step.Step.{Step}
@@ -28,11 +28,11 @@ listed-is (Some x) None e = absurd cc
 listed-is (Some x) (Some y) e = cc
 
 module _ (old new : ServerChannel) (moment : DateTime) (piece octets : List ℕ) (told : List Told) (first : State) (ms : List DateTime) (before now : State)
-    (s : Stands old octets told first ms before) (same : channel_of new ≡ channel_of old) where
+    (s : ServerStands old octets told first ms before) (same : channel_of new ≡ channel_of old) where
   goes-by : (n : ℕ) (out quiet : List ℕ) (more : List Told) → Stops new octets piece n out (told ++ given_up quiet) more → Goes new (octets ++ take n piece) ((told ++ given_up quiet) ++ more)
       → out ≡ said_of (channel_of old) (standing before (next_of old) (agreed_by told) more moment) more
-      → now ≡ (left_by (channel_of old) (standing before (next_of old) (agreed_by told) more moment) more).state
-      → next_of new ≡ (left_by (channel_of old) (standing before (next_of old) (agreed_by told) more moment) more).number
+      → now ≡ (course_after (channel_of old) (standing before (next_of old) (agreed_by told) more moment) more).state
+      → next_of new ≡ (course_after (channel_of old) (standing before (next_of old) (agreed_by told) more moment) more).number
       → StepGoes (channel_of old) moment piece n out new octets told first ms now
   goes-by n out quiet [] stops goes said state number =
       subst (λ (o : List ℕ). StepGoes (channel_of old) moment piece n o new octets told first ms now) (sym said)
@@ -47,8 +47,8 @@ module _ (old new : ServerChannel) (moment : DateTime) (piece octets : List ℕ)
   -- with whether something was answered, and which request
   tells-by : (n : ℕ) (out quiet : List ℕ) (more : List Told) (answered : Bool) (request : Option AnsweredRequest) → Stops new octets piece n out (told ++ given_up quiet) more → Goes new (octets ++ take n piece) ((told ++ given_up quiet) ++ more)
       → out ≡ said_of (channel_of old) (standing before (next_of old) (agreed_by told) more moment) more
-      → now ≡ (left_by (channel_of old) (standing before (next_of old) (agreed_by told) more moment) more).state
-      → next_of new ≡ (left_by (channel_of old) (standing before (next_of old) (agreed_by told) more moment) more).number
+      → now ≡ (course_after (channel_of old) (standing before (next_of old) (agreed_by told) more moment) more).state
+      → next_of new ≡ (course_after (channel_of old) (standing before (next_of old) (agreed_by told) more moment) more).number
       → answered ≡ has_some more → listed request ≡ requests_of (channel_of old) (standing before (next_of old) (agreed_by told) more moment) more
       → Tells answered request (channel_of old) moment piece n out new octets told first ms now
   tells-by n out quiet [] answered request stops goes said state number a r =
@@ -96,14 +96,14 @@ module _ (old new : ServerChannel) (moment : DateTime) (piece octets : List ℕ)
 
 -- the same of a step that tells which request it answered
 pub as-advanced : (old new : ServerChannel) (moment : DateTime) (piece octets : List ℕ) (told : List Told) (first : State) (moments : List DateTime) (before now : State) (result : Result (Step × Bool × Option AnsweredRequest) StepFault)
-    → Stands old octets told first moments before → channel_of new ≡ channel_of old
+    → ServerStands old octets told first moments before → channel_of new ≡ channel_of old
     → AdvanceNow (limits_of old) (channel_of old) (next_of old) moment piece result new octets told before now
     → Advances (limits_of old) (channel_of old) moment piece result new octets told first moments before now
 as-advanced old new moment piece octets told first moments before now result s same g = advance-by old new moment piece octets told first moments before now s same result g
 
 -- what stands answers as all that was told
 pub as-told : (old new : ServerChannel) (moment : DateTime) (piece octets : List ℕ) (told : List Told) (first : State) (moments : List DateTime) (before now : State) (result : Result Step StepFault)
-    → Stands old octets told first moments before → channel_of new ≡ channel_of old
+    → ServerStands old octets told first moments before → channel_of new ≡ channel_of old
     → StepNow (limits_of old) (channel_of old) (next_of old) moment piece result new octets told before now
     → StepAnswers (limits_of old) (channel_of old) moment piece result new octets told first moments before now
 as-told old new moment piece octets told first moments before now result s same g = step-by old new moment piece octets told first moments before now s same result g

@@ -5,7 +5,7 @@ use Rattle.std.proofs.Math.Seq.{take-add, take-length}
 use Rattle.std.proofs.lemmas.List.{length-drop}
 use Rattle.ua_builtin.specs.declared.date_time.DateTime.{DateTime}
 use Rattle.ua_channel_laws.proofs.ServerReadings.{goes_behind}
-use Rattle.ua_channel.specs.ServerAnswers.{Counts, Hands, AnswersAt, Progress}
+use Rattle.ua_channel.specs.ServerAnswers.{Counts, EventHandedOut, AnswersAt, Progress}
 use Rattle.ua_channel.specs.ServerStands.{limits_of, channel_of, next_of, IsDone, Goes, RefusedAt}
 use Rattle.ua_channel.specs.ServerTold.{Told, GaveUp}
 use Rattle.ua_channel.specs.declared.server.ServerChannel.{ServerChannel}
@@ -128,9 +128,9 @@ counts-on piece taken n (event.Aborted id) h c = let l = rest-length piece taken
 counts-on piece taken n event.Closed h c = let l = rest-length piece taken in let a = c.0 in let b = c.1 in (omega (arith, a), omega (arith, h, l, b))
 
 hands-moved : (channel number channel' number' : ℕ) (moment : DateTime) (e : ServerEvent) (new : ServerChannel) (octets octets' : List ℕ) (before : List Told)
-    → channel' ≡ channel → number' ≡ number → octets' ≡ octets → Hands channel' number' moment e new octets' before → Hands channel number moment e new octets before
+    → channel' ≡ channel → number' ≡ number → octets' ≡ octets → EventHandedOut channel' number' moment e new octets' before → EventHandedOut channel number moment e new octets before
 hands-moved channel number channel' number' moment e new octets octets' before c k o a =
-    subst (λ (x : List ℕ). Hands channel number moment e new x before) o (subst (λ (x : ℕ). Hands channel x moment e new octets' before) k (subst (λ (x : ℕ). Hands x number' moment e new octets' before) c a))
+    subst (λ (x : List ℕ). EventHandedOut channel number moment e new x before) o (subst (λ (x : ℕ). EventHandedOut channel x moment e new octets' before) k (subst (λ (x : ℕ). EventHandedOut x number' moment e new octets' before) c a))
 
 answers-moved : (channel number channel' number' : ℕ) (moment : DateTime) (piece : List ℕ) (taken n : ℕ) (answer : Result ServerEvent ChannelFault) (new : ServerChannel) (octets : List ℕ) (before : List Told)
     → taken ≤ length piece → channel' ≡ channel → number' ≡ number

@@ -10,10 +10,10 @@ use Rattle.ua_channel.specs.ServerRules.{server_rules}
 use Rattle.ua_channel.specs.ServerStands.{limits_of, channel_of}
 use Rattle.ua_channel.specs.ServerTold.{Told}
 use Rattle.ua_server.specs.Requests.{requests}
-use Rattle.ua_server.specs.Said.{Course, left, said, used_in}
+use Rattle.ua_server.specs.Said.{Course, state_after, output_of, used_in}
 use Rattle.ua_server.specs.Served.{channel_in}
 use Rattle.ua_server.specs.Serving.{AnsweredTo, AreAsked, AreUsed, BrokenOff, Nothing, TellsAll, told_at, end_at}
-use Rattle.ua_server.specs.Stepping.{Stands}
+use Rattle.ua_server.specs.Stepping.{ServerStands}
 use Rattle.ua_server.specs.declared.server.Server.{Server}
 use Rattle.ua_server.specs.ServingParts.{IsKept, Keeps, Pending}
 use Rattle.ua_server.specs.State.{State}
@@ -41,9 +41,9 @@ module _ (limits : Limits) (channel : ℕ) (first : State) where
   }
 
   -- more octets are written
-  abbrev pub pending-written : (requested : List AnsweredRequest) (read out written : List ℕ) (used : List DateTime) (now : State) (done left : List ℕ) → out ≡ done ++ left → Pending requested limits channel first read out written used now
-      → Pending requested limits channel first read left (written ++ done) used now
-  pending-written requested read out written used now done left e p = record {
+  abbrev pub pending-written : (requested : List AnsweredRequest) (read out written : List ℕ) (used : List DateTime) (now : State) (done state_after : List ℕ) → out ≡ done ++ state_after → Pending requested limits channel first read out written used now
+      → Pending requested limits channel first read state_after (written ++ done) used now
+  pending-written requested read out written used now done state_after e p = record {
     front = p.front;
     behind = p.behind;
     front_is = p.front_is;
@@ -54,8 +54,8 @@ module _ (limits : Limits) (channel : ℕ) (first : State) where
     all_used = p.all_used;
     requests_are = p.requests_are;
     part = p.part ++ done;
-    written_is = ap (λ (w : List ℕ). w ++ done) p.written_is ∙ append_assoc (said channel first p.before Going used) p.part done;
-    said_is = p.said_is ∙ (ap (λ (o : List ℕ). written ++ o) e ∙ sym (append_assoc written done left));
+    written_is = ap (λ (w : List ℕ). w ++ done) p.written_is ∙ append_assoc (output_of channel first p.before Going used) p.part done;
+    said_is = p.said_is ∙ (ap (λ (o : List ℕ). written ++ o) e ∙ sym (append_assoc written done state_after));
   }
 
   used-before : (before word : List Told) (n : ℕ) → n ≡ used_in (before ++ word) → used_in before ≤ n
@@ -104,20 +104,20 @@ module _ (limits : Limits) (channel : ℕ) (first : State) where
 
   -- what was read is answered and written
   pub answered-as : (read written : List ℕ) (frames : List Frame) (rest : List ℕ) (end : End ℕ) (told : List Told) (used : List DateTime) (kept : Option DateTime) (moments : List DateTime) (now : State) → moments ≡ used ++ listed kept → IsKept limits channel read kept
-      → Run (server_rules limits channel) read frames rest end → events (server_rules limits channel) frames ≡ told → written ≡ said channel first told end used → (left channel first told used).state ≡ now → length used ≡ used_in told
+      → Run (server_rules limits channel) read frames rest end → events (server_rules limits channel) frames ≡ told → written ≡ output_of channel first told end used → (state_after channel first told used).state ≡ now → length used ≡ used_in told
       → AnsweredTo limits channel first read written moments now frames rest end
   answered-as read written frames rest end told used kept moments now is left_over run told_is written_is state_is used_is =
       subst (λ (ms : List DateTime). AnsweredTo limits channel first read written ms now frames rest end) (sym is) (record {
         run = run;
-        written_is = written_is ∙ (sym (said-more channel first told end used (listed kept) (enough told (length used) used_is)) ∙ ap (λ (t : List Told). said channel first t end (used ++ listed kept)) (sym told_is));
-        state_is = ap (λ (t : List Told). (left channel first t (used ++ listed kept)).state) told_is ∙ (ap (λ (c : Course). c.state) (left-more channel first told used (listed kept) (enough told (length used) used_is)) ∙ state_is);
+        written_is = written_is ∙ (sym (said-more channel first told end used (listed kept) (enough told (length used) used_is)) ∙ ap (λ (t : List Told). output_of channel first t end (used ++ listed kept)) (sym told_is));
+        state_is = ap (λ (t : List Told). (state_after channel first t (used ++ listed kept)).state) told_is ∙ (ap (λ (c : Course). c.state) (left-more channel first told used (listed kept) (enough told (length used) used_is)) ∙ state_is);
         asked = subst (λ (t : List Told). AreAsked limits channel read t (used ++ listed kept)) (sym told_is) (asked-by limits channel read told used kept used_is left_over);
       })
 
 -- before any octet
-pub keeps-first : (server : Server) (limits : Limits) (channel : ℕ) (first : State) → limits_of (channel_in server) ≡ limits → channel_of (channel_in server) ≡ channel → Stands (channel_in server) [] [] first [] first
+pub keeps-first : (server : Server) (limits : Limits) (channel : ℕ) (first : State) → limits_of (channel_in server) ≡ limits → channel_of (channel_in server) ≡ channel → ServerStands (channel_in server) [] [] first [] first
     → Keeps (record { server = server; moment = None; greeted = false; written = 0 }) limits channel first [] [] [] first
-unfolding left said requests
+unfolding state_after output_of requests
 keeps-first server limits channel first lim chan stands = record {
   limits_is = lim;
   channel_is = chan;

@@ -6,7 +6,7 @@ use Rattle.ua_channel.specs.Agreement.{Agreement}
 use Rattle.ua_channel.specs.Received.{listed}
 use Rattle.ua_channel.specs.ServerTold.{Told, Agreed, Opened, Asked, GaveUp, Closed}
 use Rattle.ua_server.specs.Requests.{request_at, with_first, requests_of, requests}
-use Rattle.ua_server.specs.Said.{Course, start, with_more, say, left_by, left, uses, used_in}
+use Rattle.ua_server.specs.Said.{Course, start, with_more, say, course_after, state_after, times_used_by, used_in}
 use Rattle.ua_server.specs.State.{State}
 use Rattle.ua_server.specs.Stepping.{given_up}
 use Rattle.ua_server.specs.declared.watch.AnsweredRequest.{AnsweredRequest}
@@ -18,14 +18,14 @@ first-append : (o : Option AnsweredRequest) (xs ys : List AnsweredRequest) → w
 first-append None xs ys = refl
 first-append (Some x) xs ys = refl
 
-requests_of-append : (channel : ℕ) (c : Course) (a b : List Told) → requests_of channel c (a ++ b) ≡ requests_of channel c a ++ requests_of channel (left_by channel c a) b
+requests_of-append : (channel : ℕ) (c : Course) (a b : List Told) → requests_of channel c (a ++ b) ≡ requests_of channel c a ++ requests_of channel (course_after channel c a) b
 requests_of-append channel c [] b = refl
 requests_of-append channel c (t ∷ a) b =
     ap (λ (r : List AnsweredRequest). with_first (request_at channel c t) r) (requests_of-append channel (say channel c t).1 a b)
-    ∙ first-append (request_at channel c t) (requests_of channel (say channel c t).1 a) (requests_of channel (left_by channel (say channel c t).1 a) b)
+    ∙ first-append (request_at channel c t) (requests_of channel (say channel c t).1 a) (requests_of channel (course_after channel (say channel c t).1 a) b)
 
-pub requests-append : (channel : ℕ) (s : State) (a b : List Told) (moments : List DateTime) → requests channel s (a ++ b) moments ≡ requests channel s a moments ++ requests_of channel (left channel s a moments) b
-unfolding requests left
+pub requests-append : (channel : ℕ) (s : State) (a b : List Told) (moments : List DateTime) → requests channel s (a ++ b) moments ≡ requests channel s a moments ++ requests_of channel (state_after channel s a moments) b
+unfolding requests state_after
 requests-append channel s a b moments = requests_of-append channel (start s moments) a b
 
 quiet-asked : (channel : ℕ) (c : Course) (ids : List ℕ) → requests_of channel c (given_up ids) ≡ []
@@ -35,7 +35,7 @@ quiet-asked channel c (id ∷ ids) = quiet-asked channel c ids
 pub requests-silent : (channel : ℕ) (s : State) (told : List Told) (ids : List ℕ) (moments : List DateTime) → requests channel s (told ++ given_up ids) moments ≡ requests channel s told moments
 requests-silent channel s told ids moments =
     requests-append channel s told (given_up ids) moments
-    ∙ (ap (λ (r : List AnsweredRequest). requests channel s told moments ++ r) (quiet-asked channel (left channel s told moments) ids) ∙ append-nil (requests channel s told moments))
+    ∙ (ap (λ (r : List AnsweredRequest). requests channel s told moments ++ r) (quiet-asked channel (state_after channel s told moments) ids) ∙ append-nil (requests channel s told moments))
 
 -- a CLO is no request
 pub requests-closed : (channel : ℕ) (s : State) (told : List Told) (moments : List DateTime) → requests channel s (told ++ Closed ∷ []) moments ≡ requests channel s told moments
@@ -43,7 +43,7 @@ requests-closed channel s told moments = requests-append channel s told (Closed 
 
 -- ---- with moments that come later
 
-request-more : (channel : ℕ) (s : State) (n : ℕ) (ms : List DateTime) (a : Option Agreement) (more : List DateTime) (t : Told) → uses t ≤ length ms
+request-more : (channel : ℕ) (s : State) (n : ℕ) (ms : List DateTime) (a : Option Agreement) (more : List DateTime) (t : Told) → times_used_by t ≤ length ms
     → request_at channel (with_more (course s n ms a) more) t ≡ request_at channel (course s n ms a) t
 request-more channel s n ms a more (Agreed g) h = refl
 request-more channel s n ms a more (Opened id handle token lifetime) h = refl
@@ -73,10 +73,10 @@ first-only : (o : Option AnsweredRequest) → with_first o [] ≡ listed o
 first-only None = refl
 first-only (Some x) = refl
 
-pub requests-one : (channel : ℕ) (first : State) (told : List Told) (t : Told) (ms extra : List DateTime) (c : Course) → left channel first told ms ≡ c → used_in told ≤ length ms
+pub requests-one : (channel : ℕ) (first : State) (told : List Told) (t : Told) (ms extra : List DateTime) (c : Course) → state_after channel first told ms ≡ c → used_in told ≤ length ms
     → requests channel first (told ++ t ∷ []) (ms ++ extra) ≡ requests channel first told ms ++ listed (request_at channel (with_more c extra) t)
 requests-one channel first told t ms extra c e h =
     requests-append channel first told (t ∷ []) (ms ++ extra)
-    ∙ (ap (λ (r : List AnsweredRequest). r ++ requests_of channel (left channel first told (ms ++ extra)) (t ∷ [])) (requests-more channel first told ms extra h)
+    ∙ (ap (λ (r : List AnsweredRequest). r ++ requests_of channel (state_after channel first told (ms ++ extra)) (t ∷ [])) (requests-more channel first told ms extra h)
     ∙ (ap (λ (d : Course). requests channel first told ms ++ requests_of channel d (t ∷ [])) (left-more channel first told ms extra h ∙ ap (λ (d : Course). with_more d extra) e)
     ∙ ap (λ (r : List AnsweredRequest). requests channel first told ms ++ r) (first-only (request_at channel (with_more c extra) t))))

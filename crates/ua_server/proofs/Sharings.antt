@@ -13,7 +13,7 @@ use Rattle.ua_server.specs.History.{ConnectionEvent, Heard, Became, EndedAt, End
 use Rattle.ua_server.specs.Sharing.{SharedEvent, At, Changed, Own, SharedState, AmongBy, EndsAmong, OthersStand, ResultAmong, StandsAmong, StepAmong, answer_at, at_moment, course_at, opened, seen_as, seen_by, sent_at, sent_to, shared_by, shared_over, told_by, with_course}
 use Rattle.ua_server.specs.Said.{Course, first_of, last_words, say, start}
 use Rattle.ua_server.specs.State.{State, begun, with_nodes, with_session}
-use Rattle.ua_server.specs.Stepping.{spent}
+use Rattle.ua_server.specs.Stepping.{times_of_answers}
 use Rattle.ua_server.specs.declared.endpoint.Endpoint.{Endpoint}
 use Rattle.ua_server.specs.declared.session.Session.{Session}
 use Rattle.ua_server.specs.declared.step.End.{End as Ending}
@@ -49,7 +49,7 @@ say-stays channel c (GaveUp id) = refl
 say-stays channel c Closed = refl
 
 answer-stays : (channels : ℕ → ℕ) (p : SharedState) (k : ℕ) (t : Told) (moment : DateTime) → (answer_at channels p k t moment).1.state.endpoint ≡ p.state.endpoint
-answer-stays channels p k t moment = say-stays (channels k) (record { state = with_session p.state (p.own k).session; number = (p.own k).number; moments = spent (t ∷ []) moment; agreement = (p.own k).agreement }) t
+answer-stays channels p k t moment = say-stays (channels k) (record { state = with_session p.state (p.own k).session; number = (p.own k).number; moments = times_of_answers (t ∷ []) moment; agreement = (p.own k).agreement }) t
 
 -- ---- one event, as a connection sees it
 

@@ -9,9 +9,9 @@ use Rattle.ua_channel.specs.ServerTold.{Told}
 use Rattle.ua_server.specs.Served.{channel_in}
 use Rattle.ua_server.specs.Happening.{Event, Happens, IsTold}
 use Rattle.ua_server.specs.Serving.{moment_of, moments_in}
-use Rattle.ua_server.specs.ServingParts.{AdvancesTo, Asked, FailsTelling, Keeps, Met, Steps, noted}
+use Rattle.ua_server.specs.ServingParts.{AdvancesTo, Asked, FailsTelling, Keeps, OfEventsBetween, Steps, noted}
 use Rattle.ua_server.specs.State.{State}
-use Rattle.ua_server.specs.Stepping.{AdvanceBy, Advances, Stands}
+use Rattle.ua_server.specs.Stepping.{AdvanceBy, Advances, ServerStands}
 use Rattle.ua_server.specs.declared.serve_fault.ServeFault.TheVariants as serve_fault
 use Rattle.ua_server.specs.declared.server.Server.{Server}
 use Rattle.ua_server.specs.declared.serving.Serving.{Serving}
@@ -35,7 +35,7 @@ noted-first server m true n e = absurd cc
 module _ {M W : Type 0} (gives : M → ℤ → M → Type 0) (notes : W → AnsweredRequest → W → Type 0) (m0 m1 : M) (limits : Limits) (channel : ℕ) (first : State) (x mid : Serving) (server : Server) (mom : DateTime) (piece read written : List ℕ) (given : List Event) (now0 now1 : State) (some : 0 < length piece)
     (kept : mid ≡ record x { moment = Some mom }) (a : Asked gives m0 m1 (λ ts. listed x.moment ++ map moment_of ts ≡ mom ∷ []))
     (lim : limits_of (channel_in server) ≡ limits_of (channel_in mid.server)) (chan : channel_of (channel_in server) ≡ channel_of (channel_in mid.server)) (result : Result (Step × Bool × Option AnsweredRequest) StepFault)
-    (answers : (octets : List ℕ) (told : List Told) (f : State) (moments : List DateTime) → Stands (channel_in mid.server) octets told f moments now0
+    (answers : (octets : List ℕ) (told : List Told) (f : State) (moments : List DateTime) → ServerStands (channel_in mid.server) octets told f moments now0
     → Advances (limits_of (channel_in mid.server)) (channel_of (channel_in mid.server)) mom piece result (channel_in server) octets told f moments now0 now1)
     (k : Keeps x limits channel first read written given now0) where
   abbrev l : Limits
@@ -59,7 +59,7 @@ module _ {M W : Type 0} (gives : M → ℤ → M → Type 0) (notes : W → Answ
   advanced : Advances l c mom piece result (channel_in server) read own.told first own.used now0 now1
   advanced =
       subst (λ (s : Server). Advances (limits_of (channel_in s)) (channel_of (channel_in s)) mom piece result (channel_in server) read own.told first own.used now0 now1) same
-      (answers read own.told first own.used (subst (λ (s : Server). Stands (channel_in s) read own.told first own.used now0) (sym same) own.stands))
+      (answers read own.told first own.used (subst (λ (s : Server). ServerStands (channel_in s) read own.told first own.used now0) (sym same) own.stands))
 
   advanced-at : (r : Result (Step × Bool × Option AnsweredRequest) StepFault) → result ≡ r → Advances l c mom piece r (channel_in server) read own.told first own.used now0 now1
   advanced-at r is = subst (λ (v : Result (Step × Bool × Option AnsweredRequest) StepFault). Advances l c mom piece v (channel_in server) read own.told first own.used now0 now1) is advanced
@@ -72,7 +72,7 @@ module _ {M W : Type 0} (gives : M → ℤ → M → Type 0) (notes : W → Answ
   kept-moment request = ap (λ (ms : List DateTime). listed x.moment ++ ms) (meeting-moments a.ticks request) ∙ a.holds
 
   pub steps-quiet : (w : W) (found : Step × Bool × Option AnsweredRequest) → result ≡ Ok found → found.1 ≡ false
-      → Met (Happens gives notes) (m0, w) (m1, w) (λ ts. Steps (Ok found.0) (record mid { server = server }) limits channel first piece read written (given ++ ts) now1)
+      → OfEventsBetween (Happens gives notes) (m0, w) (m1, w) (λ ts. Steps (Ok found.0) (record mid { server = server }) limits channel first piece read written (given ++ ts) now1)
   steps-quiet w found is quiet =
       let ts = meeting a.ticks None in
       record {
@@ -85,7 +85,7 @@ module _ {M W : Type 0} (gives : M → ℤ → M → Type 0) (notes : W → Answ
       }
 
   pub steps-saying : (w w' : W) (found : Step × Bool × Option AnsweredRequest) → IsTold notes w found.2 w' → result ≡ Ok found → found.1 ≡ true
-      → Met (Happens gives notes) (m0, w) (m1, w') (λ ts. Steps (Ok found.0) (noted (record mid { server = server })) limits channel first piece read written (given ++ ts) now1)
+      → OfEventsBetween (Happens gives notes) (m0, w) (m1, w') (λ ts. Steps (Ok found.0) (noted (record mid { server = server })) limits channel first piece read written (given ++ ts) now1)
   steps-saying w w' found led is said =
       let ts = meeting a.ticks found.2 in
       record {
@@ -97,7 +97,7 @@ module _ {M W : Type 0} (gives : M → ℤ → M → Type 0) (notes : W → Answ
             (subst (λ (b : Bool). AdvanceBy b found.2 c mom piece found.0.end found.0.taken found.0.out.items (channel_in server) read own.told first own.used now0 now1) said (advanced-at (Ok found) is))));
       }
 
-  pub steps-broken : (w : W) (f : StepFault) (y : Serving) → result ≡ Err f → Met (Happens gives notes) (m0, w) (m1, w) (λ ts. Steps (Err f) y limits channel first piece read written (given ++ ts) now1)
+  pub steps-broken : (w : W) (f : StepFault) (y : Serving) → result ≡ Err f → OfEventsBetween (Happens gives notes) (m0, w) (m1, w) (λ ts. Steps (Err f) y limits channel first piece read written (given ++ ts) now1)
   steps-broken w f y is =
       let ts = meeting a.ticks None in
       record {

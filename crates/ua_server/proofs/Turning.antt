@@ -4,13 +4,13 @@ use Rattle.std.proofs.Common.{refl, sym, ◌∙◌, ap, subst, inl, inr, append_
 use Rattle.std.proofs.lemmas.List.{length-drop, length-take-le}
 use Rattle.ua_builtin.specs.declared.date_time.DateTime.{DateTime}
 use Rattle.ua_frame.specs.declared.limits.Limits.{Limits}
-use Rattle.ua_channel.specs.Line.{Traffic, WhereTold}
+use Rattle.ua_channel.specs.Line.{Traffic, IfTrafficKnown}
 use Rattle.ua_channel.specs.Received.{listed}
 use Rattle.ua_channel.specs.ServerTold.{Told}
 use Rattle.ua_server.specs.Happening.{Event, noted_in}
 use Rattle.ua_server.specs.Requests.{requests}
-use Rattle.ua_server.specs.Serving.{AreAsked, moments_in, greatest, BrokenOff, LastWord, told_at, Moves}
-use Rattle.ua_server.specs.ServingParts.{AdvancesTo, Exchanged, FailsTelling, Met, Owes, Says, Steps, Turns, TurnsTo, counted}
+use Rattle.ua_server.specs.Serving.{AreAsked, moments_in, greatest, BrokenOff, LastWord, told_at, MovesTraffic}
+use Rattle.ua_server.specs.ServingParts.{AdvancesTo, Exchanged, FailsTelling, OfEventsBetween, Owes, Says, Steps, Turns, TurnsTo, counted}
 use Rattle.ua_server.specs.State.{State}
 use Rattle.ua_server.specs.declared.serve_fault.ServeFault.{ServeFault}
 use Rattle.ua_server.specs.declared.serve_fault.ServeFault.TheVariants as fault
@@ -152,8 +152,8 @@ module _ (limits : Limits) (channel : ℕ) (first : State) where
   front-back read piece n = append_assoc read (take n piece) (drop n piece) ∙ ap (λ (p : List ℕ). read ++ p) (take-append-drop n piece)
 
   module _ {M : Type 0} (gives : M → Event → M → Type 0) (m0 m1 : M) (la lb : Option Traffic) (piece read written : List ℕ) (given : List Event) (now : State) where
-    pub turn-said : (step : Step) (y z : Serving) → Met gives m0 m1 (λ ts. Steps (Ok step) y limits channel first piece read written (given ++ ts) now)
-        → z ≡ record y { written = counted y.written (length step.out.items) } → WhereTold (Moves [] step.out.items) la lb
+    pub turn-said : (step : Step) (y z : Serving) → OfEventsBetween gives m0 m1 (λ ts. Steps (Ok step) y limits channel first piece read written (given ++ ts) now)
+        → z ≡ record y { written = counted y.written (length step.out.items) } → IfTrafficKnown (MovesTraffic [] step.out.items) la lb
         → Exchanged gives m0 m1 [] la lb (λ more ts. Turns (Ok (step.taken, step.end)) z limits channel first piece read (written ++ more) (given ++ ts) now)
     turn-said step y z a same moved = record {
       written = step.out.items;
@@ -164,7 +164,7 @@ module _ (limits : Limits) (channel : ℕ) (first : State) where
           (turned step.end y (read ++ take step.taken piece) step.out.items written (given ++ a.ticks) now a.holds);
     }
 
-    pub turn-unsaid : (step : Step) (y z : Serving) (f : ServeFault) → Met gives m0 m1 (λ ts. Steps (Ok step) y limits channel first piece read written (given ++ ts) now) → Says step.out.items (Err f) y z la lb
+    pub turn-unsaid : (step : Step) (y z : Serving) (f : ServeFault) → OfEventsBetween gives m0 m1 (λ ts. Steps (Ok step) y limits channel first piece read written (given ++ ts) now) → Says step.out.items (Err f) y z la lb
         → Exchanged gives m0 m1 [] la lb (λ more ts. Turns (Err f) z limits channel first piece read (written ++ more) (given ++ ts) now)
     turn-unsaid step y z f a s = record {
       written = take s.0 step.out.items;
@@ -177,7 +177,7 @@ module _ (limits : Limits) (channel : ℕ) (first : State) where
           (unwritten step.end y (read ++ take step.taken piece) step.out.items written (given ++ a.ticks) now s.0 s.2 a.holds)));
     }
 
-    pub turn-broken : (g : StepFault) (y : Serving) → Met gives m0 m1 (λ ts. Steps (Err g) y limits channel first piece read written (given ++ ts) now)
+    pub turn-broken : (g : StepFault) (y : Serving) → OfEventsBetween gives m0 m1 (λ ts. Steps (Err g) y limits channel first piece read written (given ++ ts) now)
         → Exchanged gives m0 m1 [] la la (λ more ts. Turns (Err fault.OutOfMemory) y limits channel first piece read (written ++ more) (given ++ ts) now)
     turn-broken g y a = record {
       written = [];

@@ -9,7 +9,7 @@ use Rattle.ua_channel.specs.ServerTold.{Told, Agreed, Opened, Asked, GaveUp, Clo
 use Rattle.ua_channel.specs.declared.server.ServerChannel.{ServerChannel}
 use Rattle.ua_server.specs.Said.{Course, last_words, say, start}
 use Rattle.ua_server.specs.State.{State}
-use Rattle.ua_server.specs.Stepping.{EndsMessage, given_up, spent}
+use Rattle.ua_server.specs.Stepping.{EndsMessage, given_up, times_of_answers}
 use Rattle.ua_server.specs.declared.step.End.{End as Ending}
 use Rattle.ua_server.specs.declared.step.End.TheVariants as ending
 use Rattle.ua_server.specs.declared.step.Step.{Step}
@@ -30,7 +30,7 @@ told_in (Became nodes made ∷ hs) = told_in hs
 
 -- the course as this is answered at the moment
 abbrev pub answered_at : Course → Told → DateTime → Course
-answered_at c t moment = record { state = c.state; number = c.number; moments = spent (t ∷ []) moment; agreement = c.agreement }
+answered_at c t moment = record { state = c.state; number = c.number; moments = times_of_answers (t ∷ []) moment; agreement = c.agreement }
 
 -- the course with its moments used
 abbrev pub used_up : Course → Course
@@ -66,7 +66,7 @@ heard_at moment told = map (λ t. Heard t moment) told
 -- the moments that the answers to what the frames told use, in order
 abbrev pub moments_of : List ConnectionEvent → List DateTime
 moments_of [] = []
-moments_of (Heard t moment ∷ hs) = spent (t ∷ []) moment ++ moments_of hs
+moments_of (Heard t moment ∷ hs) = times_of_answers (t ∷ []) moment ++ moments_of hs
 moments_of (Became nodes made ∷ hs) = moments_of hs
 
 -- nothing changed the state from outside: neither the application nor another connection

@@ -13,9 +13,9 @@ use Rattle.ua_channel.specs.declared.server.ServerChannel.{ServerChannel}
 use Rattle.ua_channel.specs.declared.server_event.ServerEvent.{ServerEvent}
 use Rattle.ua_channel.specs.declared.server_fault.ChannelFault.{ChannelFault}
 use Rattle.ua_server.specs.Requests.{requests_of}
-use Rattle.ua_server.specs.Said.{Course, last_words, left_by, said_of}
+use Rattle.ua_server.specs.Said.{Course, last_words, course_after, said_of}
 use Rattle.ua_server.specs.State.{State}
-use Rattle.ua_server.specs.Stepping.{ClosesAt, RefusesAt, StepBreaks, Stops, given_up, spent}
+use Rattle.ua_server.specs.Stepping.{ClosesAt, RefusesAt, StepBreaks, Stops, given_up, times_of_answers}
 use Rattle.ua_server.specs.declared.step.End.{End as Ending}
 use Rattle.ua_server.specs.declared.step.End.TheVariants as ending
 use Rattle.ua_server.specs.declared.step.Step.{Step}
@@ -25,7 +25,7 @@ use Rattle.ua_server.specs.declared.watch.AnsweredRequest.{AnsweredRequest}
 
 -- how far a server is that stands so, and answers these at a moment
 abbrev pub standing : State → ℕ → Option Agreement → List Told → DateTime → Course
-standing now number agreement more moment = record { state = now; number = number; moments = spent more moment; agreement = agreement }
+standing now number agreement more moment = record { state = now; number = number; moments = times_of_answers more moment; agreement = agreement }
 
 -- it goes on: what was taken told that messages were given up, and then at most one thing more, which is answered; what is said of that, the
 -- state that is left and the number of the chunk that is sent next are what is said of it, and left, from where it stands
@@ -35,8 +35,8 @@ pub record NowGoes (channel number : ℕ) (moment : DateTime) (piece : List ℕ)
   pub stops : Stops new octets piece n out (told ++ given_up quiet) more
   pub goes : Goes new (octets ++ take n piece) ((told ++ given_up quiet) ++ more)
   pub out_is : out ≡ said_of channel (standing before number (agreed_by told) more moment) more
-  pub state_is : now ≡ (left_by channel (standing before number (agreed_by told) more moment) more).state
-  pub number_is : next_of new ≡ (left_by channel (standing before number (agreed_by told) more moment) more).number
+  pub state_is : now ≡ (course_after channel (standing before number (agreed_by told) more moment) more).state
+  pub number_is : next_of new ≡ (course_after channel (standing before number (agreed_by told) more moment) more).number
 
 -- by how the connection ended, if it did: then the services are as they were, and the last word of a refusal is the ERR frame
 abbrev pub NowBy : ℕ → ℕ → DateTime → List ℕ → Option Ending → ℕ → List ℕ → ServerChannel → List ℕ → List Told → State → State → Type 0

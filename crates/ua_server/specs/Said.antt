@@ -77,9 +77,9 @@ said_of channel c [] = []
 said_of channel c (t ∷ told) = (say channel c t).0 ++ said_of channel (say channel c t).1 told
 
 -- the course behind what is told
-abbrev pub left_by : ℕ → Course → List Told → Course
-left_by channel c [] = c
-left_by channel c (t ∷ told) = left_by channel (say channel c t).1 told
+abbrev pub course_after : ℕ → Course → List Told → Course
+course_after channel c [] = c
+course_after channel c (t ∷ told) = course_after channel (say channel c t).1 told
 
 -- the ERR frame where the stream is refused
 abbrev pub last_words : End ℕ → List ℕ
@@ -88,26 +88,26 @@ last_words Over = []
 last_words (Stopped code) = frame_octets (err_frame (of_code code))
 
 -- what a server in this state says of what it is told by frames that end so, at these moments
-unfoldable pub said : ℕ → State → List Told → End ℕ → List DateTime → List ℕ
-said channel s told end moments = said_of channel (start s moments) told ++ last_words end
+unfoldable pub output_of : ℕ → State → List Told → End ℕ → List DateTime → List ℕ
+output_of channel s told end moments = said_of channel (start s moments) told ++ last_words end
 
 -- how far it is then, and the state that it is left in
-unfoldable pub left : ℕ → State → List Told → List DateTime → Course
-left channel s told moments = left_by channel (start s moments) told
+unfoldable pub state_after : ℕ → State → List Told → List DateTime → Course
+state_after channel s told moments = course_after channel (start s moments) told
 
 -- ---- moments
 
 -- how many moments this uses: an OPN response and a reply use one each
-abbrev pub uses : Told → ℕ
-uses (Agreed agreement) = 0
-uses (Opened id handle token lifetime) = 1
-uses (Asked id token octets) = 1
-uses (GaveUp id) = 0
-uses Closed = 0
+abbrev pub times_used_by : Told → ℕ
+times_used_by (Agreed agreement) = 0
+times_used_by (Opened id handle token lifetime) = 1
+times_used_by (Asked id token octets) = 1
+times_used_by (GaveUp id) = 0
+times_used_by Closed = 0
 
 abbrev pub used_in : List Told → ℕ
 used_in [] = 0
-used_in (t ∷ told) = uses t + used_in told
+used_in (t ∷ told) = times_used_by t + used_in told
 
 -- there is an answer to this: the ACK, an OPN response or a reply
 abbrev pub is_answered : Told → Bool

@@ -5,7 +5,7 @@ use Rattle.ua_chunk.specs.Open.{open_ids}
 use Rattle.ua_frame.specs.Run.{End, Going, Stopped, Over, Run, events}
 use Rattle.ua_frame.specs.declared.frame.Frame.{Frame}
 use Rattle.ua_frame.specs.declared.limits.Limits.{Limits}
-use Rattle.ua_channel.specs.Line.{Traffic, WhereTold, one_more}
+use Rattle.ua_channel.specs.Line.{Traffic, IfTrafficKnown, one_more}
 use Rattle.ua_channel.specs.Moments.{Gives}
 use Rattle.ua_channel.specs.Received.{received}
 use Rattle.ua_channel.specs.ServerRules.{server_rules}
@@ -13,7 +13,7 @@ use Rattle.ua_channel.specs.ServerTold.{Told}
 use Rattle.ua_channel.specs.Stops.{StopsAt}
 use Rattle.ua_server.specs.Happening.{Event, Happens, Leads, noted_in, ticks_in}
 use Rattle.ua_server.specs.Requests.{requests}
-use Rattle.ua_server.specs.Said.{is_answered, left, said, used_in}
+use Rattle.ua_server.specs.Said.{is_answered, state_after, output_of, used_in}
 use Rattle.ua_server.specs.State.{State}
 use Rattle.ua_server.specs.declared.serve_fault.ServeFault.{ServeFault}
 use Rattle.ua_server.specs.declared.serve_fault.ServeFault.TheVariants as fault
@@ -56,8 +56,8 @@ AreUsed told moments = (used_in told ≤ length moments) × (length moments ≤ 
 -- these are the frames of what was read; what was written is what is said of it, and the state is the one that it leaves
 pub record AnsweredTo (limits : Limits) (channel : ℕ) (first : State) (read written : List ℕ) (moments : List DateTime) (now : State) (frames : List Frame) (rest : List ℕ) (end : End ℕ) : Type 0 where
   pub run : Run (server_rules limits channel) read frames rest end
-  pub written_is : written ≡ said channel first (events (server_rules limits channel) frames) end moments
-  pub state_is : (left channel first (events (server_rules limits channel) frames) moments).state ≡ now
+  pub written_is : written ≡ output_of channel first (events (server_rules limits channel) frames) end moments
+  pub state_is : (state_after channel first (events (server_rules limits channel) frames) moments).state ≡ now
   pub asked : AreAsked limits channel read (events (server_rules limits channel) frames) moments
 
 -- the same of some frames, behind which the connection stands so
@@ -130,12 +130,12 @@ pub record BrokenOff (limits : Limits) (channel : ℕ) (first : State) (read wri
   pub before : List Told
   pub word : LastWord
   pub ends : EndsAt limits channel front before word
-  pub state_is : (left channel first (before ++ told_at word) moments).state ≡ now
+  pub state_is : (state_after channel first (before ++ told_at word) moments).state ≡ now
   pub used : AreUsed (before ++ told_at word) moments
   pub part : List ℕ
-  pub written_is : written ≡ said channel first before Going moments ++ part
+  pub written_is : written ≡ output_of channel first before Going moments ++ part
   pub unwritten : List ℕ
-  pub said_is : said channel first (before ++ told_at word) (end_at word) moments ≡ written ++ unwritten
+  pub said_is : output_of channel first (before ++ told_at word) (end_at word) moments ≡ written ++ unwritten
 
 -- ---- by the answer
 
@@ -205,8 +205,8 @@ TellsBy (Err fault.TooLong) limits channel first read written moments now coming
 -- ---- by the line
 
 -- a line moved octets: those read were to come before those that still are, once those written are, and these stand behind those written before
-abbrev pub Moves : List ℕ → List ℕ → Traffic → Traffic → Type 0
-Moves read written before after = ((more : List ℕ) → before.coming (written ++ more) ≡ read ++ after.coming more) × (after.written ≡ before.written ++ written)
+abbrev pub MovesTraffic : List ℕ → List ℕ → Traffic → Traffic → Type 0
+MovesTraffic read written before after = ((more : List ℕ) → before.coming (written ++ more) ≡ read ++ after.coming more) × (after.written ≡ before.written ++ written)
 
 -- the octets that are to come from a line before more is written; none where it does not tell them
 abbrev pub coming_now : Option Traffic → List ℕ
@@ -218,7 +218,7 @@ pub record Serves {M : Type 0} (limits : Limits) (channel : ℕ) (gives : M → 
   pub read : List ℕ
   pub written : List ℕ
   pub ticks : List ℤ
-  pub moved : WhereTold (Moves read written) before after
+  pub moved : IfTrafficKnown (MovesTraffic read written) before after
   pub given : Gives gives moments ticks later
   pub comes_to : ServesBy result limits channel first read written (map moment_of ticks) now (coming_now after)
 
@@ -227,7 +227,7 @@ pub record ServesTelling {M W : Type 0} (limits : Limits) (channel : ℕ) (gives
   pub read : List ℕ
   pub written : List ℕ
   pub happened : List Event
-  pub moved : WhereTold (Moves read written) before after
+  pub moved : IfTrafficKnown (MovesTraffic read written) before after
   pub led : Leads (Happens gives notes) beside happened later
   pub comes_to : ServesBy result limits channel first read written (moments_in happened) now (coming_now after)
   pub tells : TellsBy result limits channel first read written (moments_in happened) now (coming_now after) comes_to (noted_in happened)

@@ -5,7 +5,7 @@ use Rattle.ua_frame.specs.Run.{Going}
 use Rattle.ua_frame.specs.declared.frame.Frame.{Frame}
 use Rattle.ua_frame.specs.declared.limits.Limits.{Limits}
 use Rattle.ua_channel.specs.Agreement.{Agreement}
-use Rattle.ua_channel.specs.Line.{Traffic, WhereTold, one_more}
+use Rattle.ua_channel.specs.Line.{Traffic, IfTrafficKnown, one_more}
 use Rattle.ua_channel.specs.Moments.{Gives}
 use Rattle.ua_channel.specs.Received.{listed}
 use Rattle.ua_channel.specs.ServerPlaces.{agreed_by}
@@ -13,11 +13,11 @@ use Rattle.ua_channel.specs.ServerStands.{limits_of, channel_of}
 use Rattle.ua_channel.specs.ServerTold.{Told}
 use Rattle.ua_server.specs.Happening.{Event, Leads, noted_in}
 use Rattle.ua_server.specs.Requests.{requests}
-use Rattle.ua_server.specs.Said.{left, said, used_in}
+use Rattle.ua_server.specs.Said.{state_after, output_of, used_in}
 use Rattle.ua_server.specs.Served.{channel_in}
-use Rattle.ua_server.specs.Serving.{moments_in, LastWord, told_at, end_at, EndsAt, IsClean, IsUsedUp, AreAsked, EndsBy, EndTells, FailsBy, FailTells, Moves, greatest}
+use Rattle.ua_server.specs.Serving.{moments_in, LastWord, told_at, end_at, EndsAt, IsClean, IsUsedUp, AreAsked, EndsBy, EndTells, FailsBy, FailTells, MovesTraffic, greatest}
 use Rattle.ua_server.specs.State.{State}
-use Rattle.ua_server.specs.Stepping.{Stands}
+use Rattle.ua_server.specs.Stepping.{ServerStands}
 use Rattle.ua_server.specs.declared.serve_fault.ServeFault.{ServeFault}
 use Rattle.ua_server.specs.declared.serve_fault.ServeFault.TheVariants as fault
 use Rattle.ua_server.specs.declared.serving.Serving.{Serving}
@@ -51,8 +51,8 @@ StopsWithin octets (Err n) = n < length octets
 
 -- the octets were written, all or the first of them
 abbrev pub Wrote : List ℕ → Result (Unit {0}) ℕ → Traffic → Traffic → Type 0
-Wrote octets (Ok u) before after = Moves [] octets before after
-Wrote octets (Err n) before after = Moves [] (take n octets) before after
+Wrote octets (Ok u) before after = MovesTraffic [] octets before after
+Wrote octets (Err n) before after = MovesTraffic [] (take n octets) before after
 
 -- the count of failures after a write
 abbrev pub write_failures : Result (Unit {0}) ℕ → ℕ → ℕ
@@ -65,8 +65,8 @@ counted n more = min (n + more) greatest
 
 -- octets were written and counted, all of them, or not the last
 abbrev pub Says : List ℕ → Result (Unit {0}) ServeFault → Serving → Serving → Option Traffic → Option Traffic → Type 0
-Says octets (Ok u) old new before after = (new ≡ record old { written = counted old.written (length octets) }) × WhereTold (Moves [] octets) before after
-Says octets (Err f) old new before after = (n : ℕ) × (f ≡ fault.Write (counted old.written n)) × (n < length octets) × WhereTold (Moves [] (take n octets)) before after
+Says octets (Ok u) old new before after = (new ≡ record old { written = counted old.written (length octets) }) × IfTrafficKnown (MovesTraffic [] octets) before after
+Says octets (Err f) old new before after = (n : ℕ) × (f ≡ fault.Write (counted old.written n)) × (n < length octets) × IfTrafficKnown (MovesTraffic [] (take n octets)) before after
 
 -- an answer was made: the first one is the ACK, and those behind it use the moment that is kept
 abbrev pub noted : Serving → Serving
@@ -87,12 +87,12 @@ pub record Pending (requested : List AnsweredRequest) (limits : Limits) (channel
   pub before : List Told
   pub word : LastWord
   pub ends : EndsAt limits channel front before word
-  pub state_is : (left channel first (before ++ told_at word) used).state ≡ now
+  pub state_is : (state_after channel first (before ++ told_at word) used).state ≡ now
   pub all_used : length used ≡ used_in (before ++ told_at word)
   pub requests_are : requested ≡ requests channel first (before ++ told_at word) used
   pub part : List ℕ
-  pub written_is : written ≡ said channel first before Going used ++ part
-  pub said_is : said channel first (before ++ told_at word) (end_at word) used ≡ written ++ out
+  pub written_is : written ≡ output_of channel first before Going used ++ part
+  pub said_is : output_of channel first (before ++ told_at word) (end_at word) used ≡ written ++ out
 
 -- a moment is kept exactly where one that was asked for is left over behind these octets
 abbrev pub IsKept : Limits → ℕ → List ℕ → Option DateTime → Type 0
@@ -111,11 +111,11 @@ pub record Owes (x : Serving) (limits : Limits) (channel : ℕ) (first : State) 
   pub told : List Told
   pub used : List DateTime
   pub moments_are : moments_in ticks ≡ used ++ listed x.moment
-  pub stands : Stands (channel_in x.server) read told first used now
+  pub stands : ServerStands (channel_in x.server) read told first used now
   pub kept_is : IsKept limits channel read x.moment
   pub greeted_is : x.greeted ≡ is_there (agreed_by told)
   pub count_is : x.written ≡ min (length written) greatest
-  pub said_is : said channel first told Going used ≡ written ++ out
+  pub said_is : output_of channel first told Going used ≡ written ++ out
   pub requests_are : noted_in ticks ≡ requests channel first told used
   pub pending : Pending (noted_in ticks) limits channel first read out written used now
   pub asked : AreAskedBy out limits channel pending.front (pending.before ++ told_at pending.word) (moments_in ticks)
@@ -177,7 +177,7 @@ Handles (Err f) x limits channel first read written ticks now = FailsTelling f l
 pub record Exchanged {M : Type 0} (gives : M → Event → M → Type 0) (moments later : M) (read : List ℕ) (before after : Option Traffic) (P : List ℕ → List Event → Type 0) : Type 0 where
   pub written : List ℕ
   pub ticks : List Event
-  pub moved : WhereTold (Moves read written) before after
+  pub moved : IfTrafficKnown (MovesTraffic read written) before after
   pub given : Leads gives moments ticks later
   pub holds : P written ticks
 
@@ -188,7 +188,7 @@ pub record Asked {M : Type 0} (gives : M → ℤ → M → Type 0) (moments late
   pub holds : P ticks
 
 -- moments were given and requests told, of which this holds
-pub record Met {M : Type 0} (step : M → Event → M → Type 0) (before later : M) (P : List Event → Type 0) : Type 0 where
+pub record OfEventsBetween {M : Type 0} (step : M → Event → M → Type 0) (before later : M) (P : List Event → Type 0) : Type 0 where
   pub ticks : List Event
   pub given : Leads step before ticks later
   pub holds : P ticks

@@ -16,7 +16,7 @@ use Rattle.ua_channel.specs.declared.server_event.ServerEvent.TheVariants as eve
 use Rattle.ua_channel.specs.declared.server_fault.ChannelFault.{ChannelFault}
 use Rattle.ua_server.specs.Reply.{answered}
 use Rattle.ua_server.specs.Requests.{requests}
-use Rattle.ua_server.specs.Said.{is_answered, lane_at, left, replied_at, said, used_in}
+use Rattle.ua_server.specs.Said.{is_answered, lane_at, state_after, replied_at, output_of, used_in}
 use Rattle.ua_server.specs.State.{State}
 use Rattle.ua_server.specs.declared.step.End.{End as Ending}
 use Rattle.ua_server.specs.declared.step.End.TheVariants as ending
@@ -29,10 +29,10 @@ use Rattle.ua_server.specs.declared.watch.AnsweredRequest.{AnsweredRequest}
 
 -- a server stands after these octets, which told this: its services were in the first state as the connection began and are in this one
 -- now, the chunk that it sends next has the number that is due, and each of the moments was used
-pub record Stands (x : ServerChannel) (octets : List ℕ) (told : List Told) (first : State) (moments : List DateTime) (now : State) : Type 0 where
+pub record ServerStands (x : ServerChannel) (octets : List ℕ) (told : List Told) (first : State) (moments : List DateTime) (now : State) : Type 0 where
   pub goes : Goes x octets told
-  pub state_is : (left (channel_of x) first told moments).state ≡ now
-  pub number_is : (left (channel_of x) first told moments).number ≡ next_of x
+  pub state_is : (state_after (channel_of x) first told moments).state ≡ now
+  pub number_is : (state_after (channel_of x) first told moments).number ≡ next_of x
   pub used : length moments ≡ used_in told
 
 -- ---- what a step answers
@@ -42,8 +42,8 @@ abbrev pub given_up : List ℕ → List Told
 given_up ids = map GaveUp ids
 
 -- the moments that this uses: an OPN response and a reply use one each
-abbrev pub spent : List Told → DateTime → List DateTime
-spent more moment = replicate (used_in more) moment
+abbrev pub times_of_answers : List Told → DateTime → List DateTime
+times_of_answers more moment = replicate (used_in more) moment
 
 -- where a step stops: nothing is answered, and the whole piece is taken; or the last octet is that of the frame that is answered
 abbrev pub Stops : ServerChannel → List ℕ → List ℕ → ℕ → List ℕ → List Told → List Told → Type 0
@@ -57,8 +57,8 @@ pub record StepGoes (channel : ℕ) (moment : DateTime) (piece : List ℕ) (n : 
   pub quiet : List ℕ
   pub more : List Told
   pub stops : Stops new octets piece n out (told ++ given_up quiet) more
-  pub stands : Stands new (octets ++ take n piece) ((told ++ given_up quiet) ++ more) first (moments ++ spent more moment) now
-  pub out_is : said channel first ((told ++ given_up quiet) ++ more) Going (moments ++ spent more moment) ≡ said channel first told Going moments ++ out
+  pub stands : ServerStands new (octets ++ take n piece) ((told ++ given_up quiet) ++ more) first (moments ++ times_of_answers more moment) now
+  pub out_is : output_of channel first ((told ++ given_up quiet) ++ more) Going (moments ++ times_of_answers more moment) ≡ output_of channel first told Going moments ++ out
 
 -- it ended at the last octet of a CLO, without a word
 pub record StepCloses (channel : ℕ) (piece : List ℕ) (n : ℕ) (out : List ℕ) (new : ServerChannel) (octets : List ℕ) (told : List Told) (first : State) (moments : List DateTime) (before now : State) : Type 0 where
@@ -66,9 +66,9 @@ pub record StepCloses (channel : ℕ) (piece : List ℕ) (n : ℕ) (out : List �
   pub some : (0 < n) × (n ≤ length piece)
   pub closed : ClosedAt new (octets ++ take n piece) ((told ++ given_up quiet) ++ Closed ∷ [])
   pub state_is : now ≡ before
-  pub left_is : (left channel first ((told ++ given_up quiet) ++ Closed ∷ []) moments).state ≡ now
+  pub left_is : (state_after channel first ((told ++ given_up quiet) ++ Closed ∷ []) moments).state ≡ now
   pub silent : out ≡ []
-  pub out_is : said channel first ((told ++ given_up quiet) ++ Closed ∷ []) Over moments ≡ said channel first told Going moments ++ out
+  pub out_is : output_of channel first ((told ++ given_up quiet) ++ Closed ∷ []) Over moments ≡ output_of channel first told Going moments ++ out
 
 -- it refused what stands there, and its last word is the ERR frame
 pub record StepRefuses (channel : ℕ) (code : ℕ) (piece : List ℕ) (n : ℕ) (out : List ℕ) (new : ServerChannel) (octets : List ℕ) (told : List Told) (first : State) (moments : List DateTime) (before now : State) : Type 0 where
@@ -76,8 +76,8 @@ pub record StepRefuses (channel : ℕ) (code : ℕ) (piece : List ℕ) (n : ℕ)
   pub within : n ≤ length piece
   pub refused : RefusedAt new (octets ++ take n piece) (told ++ given_up quiet) code
   pub state_is : now ≡ before
-  pub left_is : (left channel first (told ++ given_up quiet) moments).state ≡ now
-  pub out_is : said channel first (told ++ given_up quiet) (Stopped code) moments ≡ said channel first told Going moments ++ out
+  pub left_is : (state_after channel first (told ++ given_up quiet) moments).state ≡ now
+  pub out_is : output_of channel first (told ++ given_up quiet) (Stopped code) moments ≡ output_of channel first told Going moments ++ out
 
 -- within this piece, behind messages that were given up, ends a frame that tells of this whole message
 pub record EndsMessage (limits : Limits) (channel : ℕ) (piece : List ℕ) (octets : List ℕ) (told : List Told) (message : List ℕ) : Type 0 where
@@ -152,8 +152,8 @@ StepStands piece (Err step_fault.OutOfMemory) new octets told = IsDone new
 StepStands piece (Err step_fault.Closed) new octets told = ⊥
 
 -- what a step takes is within the piece, and is something, where the connection goes on, unless the piece is empty
-abbrev pub Takes : List ℕ → Step → Type 0
-Takes piece step = (step.taken ≤ length piece) × (step.end ≡ None → 0 < length piece → 0 < step.taken)
+abbrev pub StepTakes : List ℕ → Step → Type 0
+StepTakes piece step = (step.taken ≤ length piece) × (step.end ≡ None → 0 < length piece → 0 < step.taken)
 
 -- ---- inside
 
@@ -175,7 +175,7 @@ pub record AnswersBehind (channel number : ℕ) (moment : DateTime) (piece : Lis
 pub record Tells (answered : Bool) (request : Option AnsweredRequest) (channel : ℕ) (moment : DateTime) (piece : List ℕ) (n : ℕ) (out : List ℕ) (new : ServerChannel) (octets : List ℕ) (told : List Told) (first : State) (moments : List DateTime) (now : State) : Type 0 where
   pub goes : StepGoes channel moment piece n out new octets told first moments now
   pub answered_is : answered ≡ has_some goes.more
-  pub requests_are : requests channel first ((told ++ given_up goes.quiet) ++ goes.more) (moments ++ spent goes.more moment) ≡ requests channel first told moments ++ listed request
+  pub requests_are : requests channel first ((told ++ given_up goes.quiet) ++ goes.more) (moments ++ times_of_answers goes.more moment) ≡ requests channel first told moments ++ listed request
 
 -- the same by how the connection ended, with whether something was answered, and which request
 abbrev pub AdvanceBy : Bool → Option AnsweredRequest → ℕ → DateTime → List ℕ → Option Ending → ℕ → List ℕ → ServerChannel → List ℕ → List Told → State → List DateTime → State → State → Type 0

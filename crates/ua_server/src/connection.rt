@@ -2,7 +2,7 @@
 
 ghost use Rattle.std.specs.Prelude.{◌≡◌, ◌≤◌, [], ℕ, List, Err, None, IfOk, IsErrOf};
 ghost use Rattle.ua_channel.specs.Received.{received};
-ghost use Rattle.ua_channel.specs.ServerStands.{limits_of, channel_of, next_of, bound_of, bound_after, held_after, Goes, IsDone, Stands as Holds};
+ghost use Rattle.ua_channel.specs.ServerStands.{limits_of, channel_of, next_of, bound_of, bound_after, held_after, Goes, IsDone, ChannelStands as Holds};
 ghost use Rattle.ua_channel.specs.ServerTold.{Told};
 ghost use Rattle.ua_frame.specs.declared.frame.Frame.{Frame};
 ghost use Rattle.ua_server.specs.History.{ConnectionEvent, StandsOver, StepOver};
@@ -10,7 +10,7 @@ ghost use Rattle.ua_server.specs.Now.{StepNow};
 ghost use Rattle.ua_server.specs.Served.{channel_at, session_at, with_own_session};
 ghost use Rattle.ua_server.specs.Sharing.{SharedEvent, StandsAmong, StepAmong, opened, shared_over, told_by};
 ghost use Rattle.ua_server.specs.State.{State};
-ghost use Rattle.ua_server.specs.Stepping.{StepStands, Takes};
+ghost use Rattle.ua_server.specs.Stepping.{StepStands, StepTakes};
 ghost use Rattle.ua_server.specs.Storing.{StepStores};
 ghost use Rattle.ua_server.specs.declared.step.StepFault.TheVariants as step_fault;
 
@@ -95,7 +95,7 @@ impl Connection {
             → StepStores piece.now result (channel_at self.new) octets told (with_own_session self.old services.old) }
         ensures apart { services.new.session ≡ services.old.session }
         ensures endpoint { services.new.endpoint ≡ services.old.endpoint }
-        ensures progress { IfOk result (λ step. Takes piece.now step) }
+        ensures progress { IfOk result (λ step. StepTakes piece.now step) }
         // After want of memory, the bound is what it was before the call.
         ensures starved { (octets : List ℕ) (told : List Told) → Goes (channel_at self.old) octets told
             → IsErrOf result step_fault.OutOfMemory → bound_of (channel_at self.new) ≡ bound_of (channel_at self.old) }

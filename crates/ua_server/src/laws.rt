@@ -2,7 +2,7 @@
 
 ghost use Rattle.std.specs.Prelude.{◌≡◌, ◌≤◌, ◌++◌, ◌∷◌, [], ℕ, List, length, Option, Some, Result, Ok};
 ghost use Rattle.ua_builtin.specs.declared.date_time.DateTime.{DateTime};
-ghost use Rattle.ua_channel.specs.ServerStands.{limits_of, channel_of, next_of, ClosedAt, RefusedAt, Stands as Holds};
+ghost use Rattle.ua_channel.specs.ServerStands.{limits_of, channel_of, next_of, ClosedAt, RefusedAt, ChannelStands as Holds};
 ghost use Rattle.ua_channel_laws.specs.ServerReads.{AtServer, ServerCloses, ServerReads};
 ghost use Rattle.ua_channel.specs.Stops.{StopsAt};
 ghost use Rattle.ua_channel.specs.declared.server.ServerChannel.{ServerChannel};
@@ -15,10 +15,10 @@ ghost use Rattle.ua_nodes.specs.Table.{Nodes, node_at};
 ghost use Rattle.ua_nodes.specs.Write.{after_write};
 ghost use Rattle.ua_server.specs.History.{ConnectionEvent, Became, IsUndisturbed, StandsOver, StepOver, course_over, with_changes, moments_of, output_over, told_in};
 ghost use Rattle.ua_server.specs.Now.{StepNow};
-ghost use Rattle.ua_server.specs.Stepping.{Stands, StepAnswers};
+ghost use Rattle.ua_server.specs.Stepping.{ServerStands, StepAnswers};
 ghost use Rattle.ua_server.specs.declared.step.Step.{Step};
 ghost use Rattle.ua_server.specs.declared.step.StepFault.{StepFault};
-ghost use Rattle.ua_server.specs.Said.{Course, start, with_more, said_of, left_by, last_words, said, left, used_in};
+ghost use Rattle.ua_server.specs.Said.{Course, start, with_more, said_of, course_after, last_words, output_of, state_after, used_in};
 ghost use Rattle.ua_server.specs.Sharing.{SharedEvent, SharedState, Changed, EndsAmong, StandsAmong, at_moment, course_at, opened, seen_by, sent_to, shared_over, told_by};
 ghost use Rattle.ua_services.specs.declared.request.Request.{Request};
 ghost use Rattle.ua_opening.specs.declared.header.RequestHeader.{RequestHeader};
@@ -39,24 +39,24 @@ ghost use Rattle.ua_server.specs.declared.session.Session.{Session};
 /// What is said of what is told in two parts is said of the first, and then of the second from where
 /// the first leaves the server.
 pub fn what_is_told_in_parts_is_answered_in_parts()
-    ensures left { (channel : ℕ) (s : State) (a b : List Told) (moments : List DateTime) → left channel s (a ++ b) moments ≡ left_by channel (left channel s a moments) b }
+    ensures left { (channel : ℕ) (s : State) (a b : List Told) (moments : List DateTime) → state_after channel s (a ++ b) moments ≡ course_after channel (state_after channel s a moments) b }
     ensures said { (channel : ℕ) (s : State) (a b : List Told) (end : End ℕ) (moments : List DateTime)
-        → said channel s (a ++ b) end moments ≡ said channel s a Going moments ++ (said_of channel (left channel s a moments) b ++ last_words end) }
+        → output_of channel s (a ++ b) end moments ≡ output_of channel s a Going moments ++ (said_of channel (state_after channel s a moments) b ++ last_words end) }
 {}
 
 /// Moments that are given later change nothing of what was said before.
 pub fn later_moments_change_nothing_before()
     ensures left { (channel : ℕ) (s : State) (told : List Told) (moments more : List DateTime) → used_in told ≤ length moments
-        → left channel s told (moments ++ more) ≡ with_more (left channel s told moments) more }
+        → state_after channel s told (moments ++ more) ≡ with_more (state_after channel s told moments) more }
     ensures said { (channel : ℕ) (s : State) (told : List Told) (end : End ℕ) (moments more : List DateTime) → used_in told ≤ length moments
-        → said channel s told end (moments ++ more) ≡ said channel s told end moments }
+        → output_of channel s told end (moments ++ more) ≡ output_of channel s told end moments }
 {}
 
 /// What a step answers by what stands is what it answers of all that was told, wherever a first state
 /// leaves what stands.
 pub fn what_stands_answers_as_all_that_was_told()
     ensures { (old new : ServerChannel) (moment : DateTime) (piece octets : List ℕ) (told : List Told) (first : State) (moments : List DateTime) (before now : State) (result : Result Step StepFault)
-        → Stands old octets told first moments before → channel_of new ≡ channel_of old
+        → ServerStands old octets told first moments before → channel_of new ≡ channel_of old
         → StepNow (limits_of old) (channel_of old) (next_of old) moment piece result new octets told before now
         → StepAnswers (limits_of old) (channel_of old) moment piece result new octets told first moments before now }
 {}
@@ -76,9 +76,9 @@ pub fn a_history_goes_on_by_changes_and_steps()
     ensures unchanged { (channel : ℕ) (s : State) (hs : List ConnectionEvent) → IsUndisturbed hs
         → output_over channel (start s []) hs ≡ said_of channel (start s (moments_of hs)) (told_in hs) }
     ensures left { (channel : ℕ) (s : State) (hs : List ConnectionEvent) → IsUndisturbed hs
-        → course_over channel (start s []) hs ≡ left_by channel (start s (moments_of hs)) (told_in hs) }
+        → course_over channel (start s []) hs ≡ course_after channel (start s (moments_of hs)) (told_in hs) }
     ensures stands { (x : ServerChannel) (octets : List ℕ) (hs : List ConnectionEvent) (first now : State) → StandsOver x octets hs first now → IsUndisturbed hs
-        → Stands x octets (told_in hs) first (moments_of hs) now }
+        → ServerStands x octets (told_in hs) first (moments_of hs) now }
 {}
 
 /// Events in two parts are answered as the first, and then as the second from where the first leaves the

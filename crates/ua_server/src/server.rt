@@ -161,7 +161,7 @@ impl Server {
     ghost use Rattle.std.specs.Prelude.{◌≡◌, ◌≤◌, ◌↔◌, ◌++◌, [], ℕ, List, length, take, None, false, Ok, Err, IfOk, IsErrOf, IsTrue};
     ghost use Rattle.ua_builtin.specs.declared.date_time.DateTime.{DateTime};
     ghost use Rattle.ua_channel.specs.Received.{received};
-    ghost use Rattle.ua_channel.specs.ServerStands.{limits_of, channel_of, next_of, bound_of, Goes, IsDone, bound_after, held_after, Stands as Holds};
+    ghost use Rattle.ua_channel.specs.ServerStands.{limits_of, channel_of, next_of, bound_of, Goes, IsDone, bound_after, held_after, ChannelStands as Holds};
     ghost use Rattle.ua_channel.specs.ServerTold.{Told};
     ghost use Rattle.ua_channel.specs.declared.server.ServerChannel.{ServerChannel};
     ghost use Rattle.ua_frame.specs.declared.frame.Frame.{Frame};
@@ -170,13 +170,13 @@ impl Server {
     ghost use Rattle.ua_server.specs.Served.{channel_in};
     ghost use Rattle.ua_server.specs.Serving.{IsClean};
     ghost use Rattle.ua_server.specs.State.{State};
-    ghost use Rattle.ua_server.specs.Stepping.{AnswersBehind, Advances, AdvanceStands, Stands, StepAnswers, StepStands, Takes, is_given_up};
+    ghost use Rattle.ua_server.specs.Stepping.{AnswersBehind, Advances, AdvanceStands, ServerStands, StepAnswers, StepStands, StepTakes, is_given_up};
     ghost use Rattle.ua_server.specs.Storing.{AdvanceStores, StepStores};
     ghost use Rattle.ua_server.specs.declared.step.StepFault.TheVariants as step_fault;
 
     /// Waits for the HEL of a client, with these limits; the channel will have this id.
     pub fn new(alloc: Global, limits: Limits, channel_id: u32) -> Server
-        ensures stands { (first : State) → Stands (channel_in result) [] [] first [] first }
+        ensures stands { (first : State) → ServerStands (channel_in result) [] [] first [] first }
         ensures history { (first : State) → StandsOver (channel_in result) [] [] first first }
         ensures holds { Holds (channel_in result) [] [] [] }
         ensures limits { limits_of (channel_in result) ≡ limits }
@@ -219,7 +219,7 @@ impl Server {
         piece: &[u8],
         moment: DateTime,
     ) -> Result<Step, StepFault>
-        ensures answers { (octets : List ℕ) (told : List Told) (first : State) (moments : List DateTime) → Stands (channel_in self.old) octets told first moments services.old
+        ensures answers { (octets : List ℕ) (told : List Told) (first : State) (moments : List DateTime) → ServerStands (channel_in self.old) octets told first moments services.old
             → StepAnswers (limits_of (channel_in self.old)) (channel_of (channel_in self.old)) moment piece.now result (channel_in self.new) octets told first moments services.old services.new }
         // By what stands alone, however that came to be.
         ensures now { (octets : List ℕ) (told : List Told) → Goes (channel_in self.old) octets told
@@ -232,7 +232,7 @@ impl Server {
         // Just the items that the Write that it answered stored are told, in order.
         ensures stores { (octets : List ℕ) (told : List Told) → Goes (channel_in self.old) octets told → StepStores piece.now result (channel_in self.new) octets told services.old }
         ensures endpoint { services.new.endpoint ≡ services.old.endpoint }
-        ensures progress { IfOk result (λ step. Takes piece.now step) }
+        ensures progress { IfOk result (λ step. StepTakes piece.now step) }
         // After want of memory, the bound is what it was before the call.
         ensures starved { (octets : List ℕ) (told : List Told) → Goes (channel_in self.old) octets told
             → IsErrOf result step_fault.OutOfMemory → bound_of (channel_in self.new) ≡ bound_of (channel_in self.old) }
@@ -261,14 +261,14 @@ impl Server {
         piece: &[u8],
         moment: DateTime,
     ) -> Result<(Step, bool, Option<AnsweredRequest>), StepFault>
-        ensures answers { (octets : List ℕ) (told : List Told) (first : State) (moments : List DateTime) → Stands (channel_in self.old) octets told first moments services.old
+        ensures answers { (octets : List ℕ) (told : List Told) (first : State) (moments : List DateTime) → ServerStands (channel_in self.old) octets told first moments services.old
             → Advances (limits_of (channel_in self.old)) (channel_of (channel_in self.old)) moment piece.now result (channel_in self.new) octets told first moments services.old services.new }
         ensures now { (octets : List ℕ) (told : List Told) → Goes (channel_in self.old) octets told
             → AdvanceNow (limits_of (channel_in self.old)) (channel_of (channel_in self.old)) (next_of (channel_in self.old)) moment piece.now result (channel_in self.new) octets told services.old services.new }
         ensures stands { (octets : List ℕ) (told : List Told) → Goes (channel_in self.old) octets told → AdvanceStands piece.now result (channel_in self.new) octets told }
         ensures stores { (octets : List ℕ) (told : List Told) → Goes (channel_in self.old) octets told → AdvanceStores piece.now result (channel_in self.new) octets told services.old }
         ensures endpoint { services.new.endpoint ≡ services.old.endpoint }
-        ensures progress { IfOk result (λ found. Takes piece.now found.0) }
+        ensures progress { IfOk result (λ found. StepTakes piece.now found.0) }
         ensures starved { (octets : List ℕ) (told : List Told) → Goes (channel_in self.old) octets told
             → IsErrOf result step_fault.OutOfMemory → bound_of (channel_in self.new) ≡ bound_of (channel_in self.old) }
         ensures closed { IsDone (channel_in self.old) → (result ≡ Err step_fault.Closed) × (self.new ≡ self.old) × (services.new ≡ services.old) }

@@ -1,7 +1,7 @@
 //! Serving a line.
 
 ghost use Rattle.std.specs.Prelude.{◌≡◌, ◌<◌, ℕ, List, [], IfOk, length};
-ghost use Rattle.ua_channel.specs.Line.{WhereTold};
+ghost use Rattle.ua_channel.specs.Line.{IfTrafficKnown};
 ghost use Rattle.ua_server.specs.Happening.{WasTold};
 ghost use Rattle.ua_server.specs.Serving.{Serves, ServesTelling, LineFailed};
 ghost use Rattle.ua_server.specs.ServingParts.{StopsWithin, Wrote, most_at_once, write_failures};
@@ -83,7 +83,7 @@ fn piece(alloc: Global) -> Result<Vec<u8>, AllocError>
 /// Writes octets whole. Where the line fails it says behind how many of them.
 fn write_whole<L: Line>(line: &mut L, octets: &[u8]) -> Result<(), usize>
     ensures within { StopsWithin octets.now result }
-    ensures wrote { WhereTold (Wrote octets.now result) (L.traffic line.old) (L.traffic line.new) }
+    ensures wrote { IfTrafficKnown (Wrote octets.now result) (L.traffic line.old) (L.traffic line.new) }
     ensures failed { L.failures line.new ≡ write_failures result (L.failures line.old) }
 {
     let mut written = 0;
@@ -111,16 +111,16 @@ pub struct Serving {
 impl Serving {
     ghost use Rattle.std.specs.Prelude.{◌≡◌, ◌<◌, ◌≤◌, ◌++◌, ◌∷◌, ℕ, ℤ, List, [], map, IfOk, length, Bool, cond, None, Some};
     ghost use Rattle.ua_builtin.specs.declared.date_time.DateTime.{DateTime};
-    ghost use Rattle.ua_channel.specs.Line.{WhereTold};
+    ghost use Rattle.ua_channel.specs.Line.{IfTrafficKnown};
     ghost use Rattle.ua_channel.specs.Received.{listed};
-    ghost use Rattle.ua_channel.specs.ServerStands.{Stands as Holds};
+    ghost use Rattle.ua_channel.specs.ServerStands.{ChannelStands as Holds};
     ghost use Rattle.ua_frame.specs.declared.frame.Frame.{Frame};
     ghost use Rattle.ua_frame.specs.declared.limits.Limits.{Limits};
     ghost use Rattle.ua_server.specs.Served.{channel_in};
     ghost use Rattle.ua_server.specs.Happening.{Event, Happens, WasTold};
-    ghost use Rattle.ua_server.specs.Serving.{moment_of, Moves, ServesTelling, LineFailed};
-    ghost use Rattle.ua_server.specs.ServingParts.{Asked, Exchanged, Finishes, Handles, Keeps, Met, Says, Steps, Turns, noted};
-    ghost use Rattle.ua_server.specs.Stepping.{Takes};
+    ghost use Rattle.ua_server.specs.Serving.{moment_of, MovesTraffic, ServesTelling, LineFailed};
+    ghost use Rattle.ua_server.specs.ServingParts.{Asked, Exchanged, Finishes, Handles, Keeps, OfEventsBetween, Says, Steps, Turns, noted};
+    ghost use Rattle.ua_server.specs.Stepping.{StepTakes};
     ghost use Rattle.ua_server.specs.State.{State};
 
     /// Before the first octet of a client.
@@ -175,9 +175,9 @@ impl Serving {
     ) -> Result<Step, StepFault>
         requires { 0 < length piece.now }
         ensures steps { (limits : Limits) (channel : ℕ) (first : State) (read written : List ℕ) (given : List Event) → Keeps self.old limits channel first read written given services.old
-            → Met (Happens M.gives W.notes) (moments.old, watch.old) (moments.new, watch.new) (λ events. Steps result self.new limits channel first piece.now read written (given ++ events) services.new) }
+            → OfEventsBetween (Happens M.gives W.notes) (moments.old, watch.old) (moments.new, watch.new) (λ events. Steps result self.new limits channel first piece.now read written (given ++ events) services.new) }
         ensures told { WasTold W.notes watch.old watch.new }
-        ensures progress { IfOk result (λ step. Takes piece.now step) }
+        ensures progress { IfOk result (λ step. StepTakes piece.now step) }
     {
         let moment = self.moment(moments);
         let (step, answered, request) = match self.server.advance(services, piece, moment) {

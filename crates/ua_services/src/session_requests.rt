@@ -27,7 +27,8 @@ use ua_builtin::{DateTime, DoubleBits, NodeId, UaString, WriteFault};
 use ua_opening::RequestHeader;
 use ua_structures::{
     ActivateSessionRequest, AnonymousIdentityToken, ApplicationDescription, CloseSessionRequest,
-    CreateSessionRequest, GetEndpointsRequest, ReadRequest, ReadValueId, WriteRequest, WriteValue,
+    CreateSessionRequest, GetEndpointsRequest, ReadRequest, ReadValueId, VALUE_ATTRIBUTE,
+    WriteRequest, WriteValue,
 };
 use ua_variant::{DataValue, HeldVariant, Variant};
 
@@ -35,9 +36,6 @@ use ua_variant::{DataValue, HeldVariant, Variant};
 const SESSION_TIMEOUT: DoubleBits = DoubleBits {
     bits: 0x40FD_4C00_0000_0000,
 };
-
-/// The id of the attribute Value (OPC 10000-6, A.1).
-const VALUE: u32 = 13;
 
 /// The address of a server on this machine.
 #[tactic(auto, unfolding(crate::specs::SessionRequests::local_url))]
@@ -199,7 +197,7 @@ pub fn read_item(node: NodeId, range: UaString) -> ReadValueId
     ensures value { result ≡ part_of_node node range }
     ensures encodable { IsTrue (node_id.encodable node) → IsTrue (string.encodable range) → IsTrue (read_value_id.encodable result) }
 {
-    read_attribute_item(node, VALUE, range)
+    read_attribute_item(node, VALUE_ATTRIBUTE, range)
 }
 
 /// The item of a Write that sets the Value of a node, without status and times.

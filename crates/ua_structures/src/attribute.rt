@@ -25,7 +25,7 @@ use ua_wire::{append_three, append_two};
 #[derive(Drop)]
 pub struct ReadValueId {
     pub node_id: NodeId,
-    /// 13 is the Value.
+    /// [`VALUE_ATTRIBUTE`] is the Value.
     pub attribute_id: u32,
     /// Which elements of an array; null is all.
     pub index_range: UaString,
@@ -33,8 +33,8 @@ pub struct ReadValueId {
     pub data_encoding: QualifiedName,
 }
 
-/// The attribute of a node's value (OPC 10000-6, A.1).
-const VALUE: u32 = 13;
+/// The id of the attribute Value of a node (OPC 10000-6, A.1).
+pub const VALUE_ATTRIBUTE: u32 = 13;
 
 /// The times of source and server (OPC 10000-4, 7.40).
 const BOTH_TIMES: i32 = 2;
@@ -48,7 +48,7 @@ impl ReadValueId {
     {
         ReadValueId {
             node_id,
-            attribute_id: VALUE,
+            attribute_id: VALUE_ATTRIBUTE,
             index_range: UaString::null(),
             data_encoding: QualifiedName {
                 namespace: 0,
@@ -310,7 +310,7 @@ impl Wire for ReadResponse {
 #[derive(Drop)]
 pub struct WriteValue {
     pub node_id: NodeId,
-    /// 13 is the Value.
+    /// [`VALUE_ATTRIBUTE`] is the Value.
     pub attribute_id: u32,
     /// Which elements of an array; null is all.
     pub index_range: UaString,
@@ -326,7 +326,7 @@ impl WriteValue {
     {
         WriteValue {
             node_id,
-            attribute_id: VALUE,
+            attribute_id: VALUE_ATTRIBUTE,
             index_range: UaString::null(),
             value,
         }

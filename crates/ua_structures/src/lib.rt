@@ -25,7 +25,7 @@ mod signature;
 mod thin;
 
 pub use attribute::{
-    ReadRequest, ReadResponse, ReadValueId, WriteRequest, WriteResponse, WriteValue,
+    ReadRequest, ReadResponse, ReadValueId, VALUE_ATTRIBUTE, WriteRequest, WriteResponse, WriteValue,
 };
 pub use discovery::{
     ApplicationDescription, EndpointDescription, GetEndpointsRequest, GetEndpointsResponse,

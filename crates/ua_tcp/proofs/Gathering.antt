@@ -2,7 +2,7 @@
 use Rattle.std.specs.Prelude.{◌≡◌, ℕ, ◌+◌, ◌-◌, List, ◌++◌, length, take, drop, option_map, Option, Some, None, Ok}
 use Rattle.std.proofs.Common.{sym, ◌∙◌, ap, subst, append_assoc, drop-drop, length-drop, take-append-drop}
 use Rattle.std.proofs.Math.Seq.{take-length}
-use Rattle.ua_channel.specs.Line.{Takes, Traffic, WhereTold}
+use Rattle.ua_channel.specs.Line.{WriteTakes, Traffic, IfTrafficKnown}
 use Rattle.ua_tcp.specs.Lines.{behind_gathered}
 
 -- functions that agree everywhere are one
@@ -17,7 +17,7 @@ same-traffic f g u v p q = λ i. record { coming = p i; written = q i }
 parts-went : (n : ℕ) (gathered more : List ℕ) → take n gathered ++ (drop n gathered ++ more) ≡ gathered ++ more
 parts-went n gathered more = sym (append_assoc (take n gathered) (drop n gathered) more) ∙ ap (λ (o : List ℕ). o ++ more) (take-append-drop n gathered)
 
-pub went : (n : ℕ) (gathered : List ℕ) (before after : Option Traffic) → WhereTold (Takes (Ok n) gathered) before after → option_map (behind_gathered (drop n gathered)) after ≡ option_map (behind_gathered gathered) before
+pub went : (n : ℕ) (gathered : List ℕ) (before after : Option Traffic) → IfTrafficKnown (WriteTakes (Ok n) gathered) before after → option_map (behind_gathered (drop n gathered)) after ≡ option_map (behind_gathered gathered) before
 went n gathered (Some b) (Some a) h =
     ap (λ (t : Traffic). Some t) (same-traffic (λ more. a.coming (drop n gathered ++ more)) (λ more. b.coming (gathered ++ more)) (a.written ++ drop n gathered) (b.written ++ gathered)
     (everywhere (λ more. a.coming (drop n gathered ++ more)) (λ more. b.coming (gathered ++ more)) (λ more. h.1 (drop n gathered ++ more) ∙ ap b.coming (parts-went n gathered more)))
@@ -29,9 +29,9 @@ went n gathered None a h = ap (option_map (behind_gathered (drop n gathered))) h
 all-behind : (gone : ℕ) (items : List ℕ) → take (length items - gone) (drop gone items) ≡ drop gone items
 all-behind gone items = ap (λ (k : ℕ). take k (drop gone items)) (sym (length-drop gone items)) ∙ take-length (drop gone items)
 
-pub went-on : (n gone : ℕ) (gathered items : List ℕ) (before after first : Option Traffic) → items ≡ gathered → WhereTold (Takes (Ok n) (take (length items - gone) (drop gone items))) before after
+pub went-on : (n gone : ℕ) (gathered items : List ℕ) (before after first : Option Traffic) → items ≡ gathered → IfTrafficKnown (WriteTakes (Ok n) (take (length items - gone) (drop gone items))) before after
     → option_map (behind_gathered (drop gone gathered)) before ≡ first → option_map (behind_gathered (drop (gone + n) gathered)) after ≡ first
 went-on n gone gathered items before after first is h so_far =
     let rest = all-behind gone items ∙ ap (drop gone) is in
     ap (λ (o : List ℕ). option_map (behind_gathered o) after) (sym (drop-drop n gone gathered))
-    ∙ (went n (drop gone gathered) before after (subst (λ (o : List ℕ). WhereTold (Takes (Ok n) o) before after) rest h) ∙ so_far)
+    ∙ (went n (drop gone gathered) before after (subst (λ (o : List ℕ). IfTrafficKnown (WriteTakes (Ok n) o) before after) rest h) ∙ so_far)

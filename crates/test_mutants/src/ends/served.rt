@@ -2,7 +2,7 @@
 
 ghost use Rattle.std.specs.Prelude.{◌≡◌, ◌≤◌, IfErr, IsTrue, OnOk, Some, map};
 ghost use Rattle.ua_wire.specs.Counted.{text};
-ghost use Rattle.ua_channel.specs.Line.{Takes, WhereTold};
+ghost use Rattle.ua_channel.specs.Line.{WriteTakes, IfTrafficKnown};
 ghost use Rattle.ua_frame.specs.Agreement.{url_length};
 ghost use Rattle.ua_loopback.specs.Accepted.{IsTurnFault};
 ghost use Rattle.ua_loopback.specs.Asked.{asked_by};
@@ -10,7 +10,7 @@ ghost use Rattle.ua_loopback.specs.Beginning.{Beginning};
 ghost use Rattle.ua_loopback.specs.Faults.{BehindRefused, FailsBehind};
 ghost use Rattle.ua_loopback.specs.Kept.{LeavesAt, traffic_of};
 ghost use Rattle.ua_loopback.specs.Replies.{HaveMisanswers};
-ghost use Rattle.ua_loopback.specs.Says.{left_by};
+ghost use Rattle.ua_loopback.specs.Says.{services_after};
 ghost use Rattle.ua_loopback.specs.Talking.{IsTalking, SoFar};
 ghost use Rattle.ua_loopback.specs.declared.stage.Stage.TheVariants.{Ended};
 ghost use Rattle.ua_server.specs.declared.step.End.TheVariants.{Closed};
@@ -25,7 +25,7 @@ use ua_server::Services;
 
 /// Writes octets to a line to a server.
 pub fn write_up<W: Began>(line: &mut ServedLine<W>, octets: &[u8]) -> Result<usize, LineFault>
-    ensures octets { WhereTold (Takes result octets.now) (Some (traffic_of W.beginning line.old)) (Some (traffic_of W.beginning line.new)) }
+    ensures octets { IfTrafficKnown (WriteTakes result octets.now) (Some (traffic_of W.beginning line.old)) (Some (traffic_of W.beginning line.new)) }
 {
     line.write(octets)
 }
@@ -48,7 +48,7 @@ pub fn converse_over(
     requires same { before.old ≡ services }
     ensures services { LeavesAt result.stage (record { limits = limits; channel = channel_id; first = services; moment = moment }) result.up.items result.services }
     ensures closed { OnOk result.outcome (result.stage ≡ Ended Closed) }
-    ensures left { OnOk result.outcome (result.services ≡ left_by (record { limits = limits; channel = channel_id; first = services; moment = moment }) result.up.items) }
+    ensures left { OnOk result.outcome (result.services ≡ services_after (record { limits = limits; channel = channel_id; first = services; moment = moment }) result.up.items) }
     ensures before { IfErr result.outcome (λ fault. IsTurnFault fault → BehindRefused (record { limits = limits; channel = channel_id; first = services; moment = moment }) limits url moment (map asked_by turns.now) result.taken result.up.items result.replies.items) }
     ensures fails { IfErr result.outcome (λ fault. url_length url ≤ 4095 → FailsBehind (HaveMisanswers services moment (map asked_by turns.now)) fault) }
 {

@@ -8,7 +8,7 @@ use Rattle.ua_channel.specs.Asks.{end_of}
 use Rattle.ua_channel.specs.Content.{content}
 use Rattle.ua_channel.specs.Ends.{Side, EndDone, EndGoes, EndOver, EndStarves, EndStops, EndTells, HandsOutParts, rules_by}
 use Rattle.ua_channel.specs.Received.{received}
-use Rattle.ua_channel.specs.inside.Parts.{IsFaultFor, MayEndIn, Moves}
+use Rattle.ua_channel.specs.inside.Parts.{IsFaultFor, MayEndIn, IsWithinPiece}
 use Rattle.ua_channel.specs.declared.end_core.EndCore.{EndCore}
 use Rattle.ua_channel.specs.declared.step_fault.StepFault.{StepFault}
 use Rattle.ua_channel.specs.declared.step_fault.StepFault.TheVariants.{Refused, Peer, OutOfMemory, Closed}
@@ -114,4 +114,4 @@ pub record EndTook {R P E : Type 0} (S : Side R P E) (old now : EndCore R P) (pi
 -- what is taken is within the piece, and is something unless the piece is empty or memory was refused
 abbrev pub MovesBy : {A : Type 0} → List ℕ → ℕ → Result A StepFault → Type 0
 MovesBy piece n (Err OutOfMemory) = n ≤ length piece
-MovesBy piece n other = Moves piece n
+MovesBy piece n other = IsWithinPiece piece n

@@ -40,5 +40,5 @@ IsFaultFor Refuses ServerRefuses Closed = ⊥
 -- ---- pieces
 
 -- so many octets of a piece are within it, and some unless it is empty
-abbrev pub Moves : List ℕ → ℕ → Type 0
-Moves piece n = (n ≤ length piece) × (0 < length piece → 0 < n)
+abbrev pub IsWithinPiece : List ℕ → ℕ → Type 0
+IsWithinPiece piece n = (n ≤ length piece) × (0 < length piece → 0 < n)

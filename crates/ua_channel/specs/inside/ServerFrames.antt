@@ -34,14 +34,14 @@ LaneIs channel Done lane = ⊥
 -- ---- what a frame makes of it
 
 -- where a connection is behind a frame, by whether that was the last
-abbrev pub GoesOn : Bool → Limits → Phase → Received → Type 0
-GoesOn false limits p before = InServerPhase limits p before
-GoesOn true limits p before = p ≡ Done
+abbrev pub PhaseBehindFrame : Bool → Limits → Phase → Received → Type 0
+PhaseBehindFrame false limits p before = InServerPhase limits p before
+PhaseBehindFrame true limits p before = p ≡ Done
 
 -- a frame that carries this is taken, and comes to this; where the connection then is
 pub record ServerTakesFrame (r : ServerRules) (before : Received) (c : Content) (p : Phase) (bound : ℕ) (e : Option Event) : Type 0 where
   pub takes : TakesSo r.limits r.channel before c e
-  pub goes : GoesOn (after before c).closed r.limits p (after before c)
+  pub goes : PhaseBehindFrame (after before c).closed r.limits p (after before c)
   pub bound_is : bound ≡ bound_after r.limits (after before c)
 
 -- what is made of a frame that carries this

@@ -9,7 +9,7 @@ use Rattle.ua_client.specs.declared.reply.Reply.{Reply}
 use Rattle.ua_loopback.specs.Accepted as judged
 use Rattle.ua_loopback.specs.Beginning.{Beginning}
 use Rattle.ua_loopback.specs.Replies.{turns_replies, turns_state}
-use Rattle.ua_loopback.specs.Says.{said_to}
+use Rattle.ua_loopback.specs.Says.{server_output}
 use Rattle.ua_loopback.specs.Sends.{conversation_octets}
 use Rattle.ua_loopback.specs.Turns.{conversation_told}
 use Rattle.ua_loopback.specs.declared.conversation.Transcript.{Transcript}
@@ -25,7 +25,7 @@ beginning_by limits first moment = record { limits = limits; channel = channel; 
 -- what an exchange needs of what `converse` says of the transcript of these turns, of both ends with these limits, for this address, over
 -- services in this state
 pub record ConversesBy (limits : Limits) (address : Option (List ℕ)) (first : State) (moment : DateTime) (turns : List Turn) (t : Transcript) : Type 0 where
-  pub down : t.down.items ≡ said_to (beginning_by limits first moment) t.up.items
+  pub down : t.down.items ≡ server_output (beginning_by limits first moment) t.up.items
   pub closed : OnOk t.outcome (t.stage ≡ Ended Closed)
   pub sent : OnOk t.outcome (t.up.items ≡ conversation_octets limits limits address channel moment (served_turns turns))
   pub heard : OnOk t.outcome (ServerCloses limits channel t.up.items (conversation_told limits limits address (served_turns turns)))

@@ -7,14 +7,14 @@ use Rattle.ua_frame.specs.Agreement.{ack_to}
 use Rattle.ua_frame.specs.Messages.{ack, hello}
 use Rattle.ua_frame.specs.declared.limits.Limits.{Limits}
 use Rattle.ua_channel.specs.ClientSends.{hello_to}
-use Rattle.ua_channel.specs.Line.{Traffic, WhereTold}
+use Rattle.ua_channel.specs.Line.{Traffic, IfTrafficKnown}
 use Rattle.ua_channel_laws.specs.ServerReads.{ServerCloses}
 use Rattle.ua_channel.specs.declared.client.channel.ClientChannel.{ClientChannel}
 use Rattle.ua_services.specs.declared.request.Request.{Request}
 use Rattle.ua_client.specs.Carried.{Carries}
 use Rattle.ua_client.specs.Client.{closing_at}
 use Rattle.ua_client.specs.Opening.{IsOpened}
-use Rattle.ua_client.specs.Site.{Site, At}
+use Rattle.ua_client.specs.ClientPlace.{ClientPlace, StandsAt}
 use Rattle.ua_client.specs.declared.connection.Connection.{Connection}
 use Rattle.ua_client.specs.declared.reply.Reply.{Reply}
 use Rattle.ua_loopback.specs.Accepted.{AreAccepted, acknowledged}
@@ -22,7 +22,7 @@ use Rattle.ua_loopback.specs.Beginning.{Beginning}
 use Rattle.ua_loopback.specs.Course.{Course, Stays, opening_octets}
 use Rattle.ua_loopback.specs.Faults.{DoneBefore, IsDoneOf}
 use Rattle.ua_loopback.specs.Replies.{turns_replies, turns_state}
-use Rattle.ua_loopback.specs.Says.{said_to, state_told}
+use Rattle.ua_loopback.specs.Says.{server_output, state_told}
 use Rattle.ua_loopback.specs.Sends.{conversation_octets, turns_octets}
 use Rattle.ua_loopback.specs.Talking.{TalksAt}
 use Rattle.ua_loopback.specs.Turns.{conversation_told, opening_told, turns_told}
@@ -37,7 +37,7 @@ pub record CanOpen (b : Beginning) (limits : Limits) (url : Option (List ℕ)) (
   pub answered : IsTrue (date_time.encodable b.moment)
 
 -- a client did these turns over a line to such a server, all at this moment, and both are in step behind them
-pub record StaysTalking (b : Beginning) (limits : Limits) (url : Option (List ℕ)) (moment : DateTime) (opened : Site) (turns : List (Option (List Request))) (x : Connection) (first now : Option Traffic) (replies : List Reply) : Type 0 where
+pub record StaysTalking (b : Beginning) (limits : Limits) (url : Option (List ℕ)) (moment : DateTime) (opened : ClientPlace) (turns : List (Option (List Request))) (x : Connection) (first now : Option Traffic) (replies : List Reply) : Type 0 where
   pub stays : Stays moment (opening_octets limits url moment) opened turns x first now replies
   pub sent_is : stays.sent ≡ turns_octets (acknowledged b.limits limits url) b.channel moment 1 2 2 turns
   pub replied : map (λ (r : Reply). Some r) replies ≡ turns_replies b limits url b.first 1 turns
@@ -46,43 +46,43 @@ pub record StaysTalking (b : Beginning) (limits : Limits) (url : Option (List �
 -- a client opened its channel over a line to such a server
 pub record Went (b : Beginning) (limits : Limits) (url : Option (List ℕ)) (moment : DateTime) (x : Connection) (first now : Option Traffic) : Type 0 where
   pub channel : ClientChannel
-  pub opened : Site
+  pub opened : ClientPlace
   pub opens : IsOpened channel opened.octets
-  pub opened_at : At channel opened
+  pub opened_at : StandsAt channel opened
   pub stays : StaysTalking b limits url moment opened [] x first now []
 
 -- it did these turns, and closed behind them
 pub record Talked (b : Beginning) (limits : Limits) (url : Option (List ℕ)) (moment : DateTime) (turns : List (Option (List Request))) (first now : Option Traffic) (replies : List Reply) : Type 0 where
   pub channel : ClientChannel
-  pub opened : Site
+  pub opened : ClientPlace
   pub opens : IsOpened channel opened.octets
-  pub opened_at : At channel opened
-  pub last : Site
+  pub opened_at : StandsAt channel opened
+  pub last : ClientPlace
   pub sent : List ℕ
   pub course : Course moment opened turns last sent replies
   pub got : List ℕ
-  pub carried : WhereTold (Carries got (opening_octets limits url moment ++ (sent ++ closing_at last moment))) first now
+  pub carried : IfTrafficKnown (Carries got (opening_octets limits url moment ++ (sent ++ closing_at last moment))) first now
   pub accepted : AreAccepted (acknowledged b.limits limits url) turns
   pub up_is : opening_octets limits url moment ++ (sent ++ closing_at last moment) ≡ conversation_octets b.limits limits url b.channel moment turns
   pub replied : map (λ (r : Reply). Some r) replies ≡ turns_replies b limits url b.first 1 turns
   pub state_is : state_told b (opening_told b.limits limits url ++ turns_told 1 2 turns) ≡ turns_state b.first b.moment turns
-  pub took : last.octets ≡ said_to b (opening_octets limits url moment ++ (sent ++ closing_at last moment))
+  pub took : last.octets ≡ server_output b (opening_octets limits url moment ++ (sent ++ closing_at last moment))
   pub closes : ServerCloses b.limits b.channel (opening_octets limits url moment ++ (sent ++ closing_at last moment)) (conversation_told b.limits limits url turns)
 
 -- it did what stands before the turn at this place, which is refused, and both are in step behind that
-pub record StaysBefore (b : Beginning) (limits : Limits) (url : Option (List ℕ)) (moment : DateTime) (opened : Site) (turns : List (Option (List Request))) (place : ℕ) (x : Connection) (first now : Option Traffic) (replies : List Reply) : Type 0 where
+pub record StaysBefore (b : Beginning) (limits : Limits) (url : Option (List ℕ)) (moment : DateTime) (opened : ClientPlace) (turns : List (Option (List Request))) (place : ℕ) (x : Connection) (first now : Option Traffic) (replies : List Reply) : Type 0 where
   pub done : List (Option (List Request))
   pub done_is : DoneBefore turns place done
   pub stays : StaysTalking b limits url moment opened done x first now replies
 
 -- the same of one turn behind others
-pub record StaysBehind (b : Beginning) (limits : Limits) (url : Option (List ℕ)) (moment : DateTime) (opened : Site) (before : List (Option (List Request))) (turn : Option (List Request)) (x : Connection) (first now : Option Traffic) (replies : List Reply) : Type 0 where
+pub record StaysBehind (b : Beginning) (limits : Limits) (url : Option (List ℕ)) (moment : DateTime) (opened : ClientPlace) (before : List (Option (List Request))) (turn : Option (List Request)) (x : Connection) (first now : Option Traffic) (replies : List Reply) : Type 0 where
   pub done : List (Option (List Request))
   pub done_is : IsDoneOf before turn done
   pub stays : StaysTalking b limits url moment opened done x first now replies
 
 -- the same of a client that opened its channel before
 pub record WentBefore (b : Beginning) (limits : Limits) (url : Option (List ℕ)) (moment : DateTime) (turns : List (Option (List Request))) (place : ℕ) (first now : Option Traffic) (replies : List Reply) : Type 0 where
-  pub opened : Site
+  pub opened : ClientPlace
   pub connection : Connection
   pub stays : StaysBefore b limits url moment opened turns place connection first now replies

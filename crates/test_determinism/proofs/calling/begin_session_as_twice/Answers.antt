@@ -1,5 +1,5 @@
 use Rattle.std.proofs.Common.{List, ℕ}
-use Rattle.ua_client.specs.Site.{Site}
+use Rattle.ua_client.specs.ClientPlace.{ClientPlace}
 use Rattle.ua_client.specs.declared.fault.ClientFault.TheVariants.{OutOfMemory}
 use Rattle.test_determinism.specs.Calling.{CallsAlike, StandReady}
 use Rattle.test_determinism.specs.Pinned.{HadMemory}
@@ -7,7 +7,7 @@ use Rattle.test_determinism.proofs.SessionsAlike.{SessionOnce, session_once}
 use Rattle.test_determinism.proofs.calling.begin_session_as_twice.Goals as goal
 use Rattle.test_determinism.proofs.calling.begin_session_as_twice.Given.{Over as Given}
 
-once : (g : Given) (c : goal.After-begin_session_as-second g) (s : Site) (coming : List ℕ) → StandReady c.args.one.now c.args.two.now (g.L.Line.traffic c.args.line.now) (g.K.Line.traffic c.args.other.now) s coming → HadMemory OutOfMemory c.begin_session_as-first.result c.begin_session_as-second.result
+once : (g : Given) (c : goal.After-begin_session_as-second g) (s : ClientPlace) (coming : List ℕ) → StandReady c.args.one.now c.args.two.now (g.L.Line.traffic c.args.line.now) (g.K.Line.traffic c.args.other.now) s coming → HadMemory OutOfMemory c.begin_session_as-first.result c.begin_session_as-second.result
     → CallsAlike c.begin_session_as-first.result c.begin_session_as-second.result (g.L.Line.traffic c.args.line.now) (g.L.Line.traffic c.begin_session_as-first.new.line) (g.K.Line.traffic c.args.other.now) (g.K.Line.traffic c.begin_session_as-second.new.line)
     → SessionOnce c.begin_session_as-first.result c.begin_session_as-second.result c.begin_session_as-first.new.self c.begin_session_as-second.new.self (g.L.Line.traffic c.args.line.now) (g.L.Line.traffic c.begin_session_as-first.new.line) (g.K.Line.traffic c.args.other.now) (g.K.Line.traffic c.begin_session_as-second.new.line)
 once g c s coming stand had faults =

@@ -1,5 +1,5 @@
 use Rattle.std.proofs.Common.{List, ℕ}
-use Rattle.ua_client.specs.Site.{Site}
+use Rattle.ua_client.specs.ClientPlace.{ClientPlace}
 use Rattle.ua_client.specs.declared.fault.ClientFault.TheVariants.{OutOfMemory}
 use Rattle.test_determinism.specs.Calling.{CallsAlike, StandReady}
 use Rattle.test_determinism.specs.Pinned.{HadMemory}
@@ -7,7 +7,7 @@ use Rattle.test_determinism.proofs.CallsOnce.{CalledOnce, called_once}
 use Rattle.test_determinism.proofs.calling.call_all_twice.Goals as goal
 use Rattle.test_determinism.proofs.calling.call_all_twice.Given.{Over as Given}
 
-once : (g : Given) (c : goal.After-call_all-second g) (s : Site) (coming : List ℕ) → StandReady c.args.one.now c.args.two.now (g.L.Line.traffic c.args.line.now) (g.K.Line.traffic c.args.other.now) s coming → HadMemory OutOfMemory c.call_all-first.result c.call_all-second.result
+once : (g : Given) (c : goal.After-call_all-second g) (s : ClientPlace) (coming : List ℕ) → StandReady c.args.one.now c.args.two.now (g.L.Line.traffic c.args.line.now) (g.K.Line.traffic c.args.other.now) s coming → HadMemory OutOfMemory c.call_all-first.result c.call_all-second.result
     → CallsAlike c.call_all-first.result c.call_all-second.result (g.L.Line.traffic c.args.line.now) (g.L.Line.traffic c.call_all-first.new.line) (g.K.Line.traffic c.args.other.now) (g.K.Line.traffic c.call_all-second.new.line)
     → CalledOnce (λ replies. replies.items) c.call_all-first.result c.call_all-second.result c.call_all-first.new.self c.call_all-second.new.self (g.L.Line.traffic c.args.line.now) (g.L.Line.traffic c.call_all-first.new.line) (g.K.Line.traffic c.args.other.now) (g.K.Line.traffic c.call_all-second.new.line)
 once g c s coming stand had faults =

@@ -1,6 +1,6 @@
 use Rattle.std.proofs.Common.{List, ℕ}
 use Rattle.ua_client.specs.Hearing.{fault_alone}
-use Rattle.ua_client.specs.Site.{Site}
+use Rattle.ua_client.specs.ClientPlace.{ClientPlace}
 use Rattle.ua_client.specs.declared.fault.ClientFault.TheVariants.{OutOfMemory}
 use Rattle.test_determinism.specs.Calling.{CallsAlike, StandReady}
 use Rattle.test_determinism.specs.Pinned.{HadMemory}
@@ -8,7 +8,7 @@ use Rattle.test_determinism.proofs.CallsOnce.{AddedOnce, added_once}
 use Rattle.test_determinism.proofs.calling.call_into_twice.Goals as goal
 use Rattle.test_determinism.proofs.calling.call_into_twice.Given.{Over as Given}
 
-once : (g : Given) (c : goal.After-call_into-second g) (s : Site) (coming : List ℕ) → StandReady c.args.one.now c.args.two.now (g.L.Line.traffic c.args.line.now) (g.K.Line.traffic c.args.other.now) s coming → HadMemory OutOfMemory (fault_alone c.call_into-first.result) (fault_alone c.call_into-second.result)
+once : (g : Given) (c : goal.After-call_into-second g) (s : ClientPlace) (coming : List ℕ) → StandReady c.args.one.now c.args.two.now (g.L.Line.traffic c.args.line.now) (g.K.Line.traffic c.args.other.now) s coming → HadMemory OutOfMemory (fault_alone c.call_into-first.result) (fault_alone c.call_into-second.result)
     → CallsAlike (fault_alone c.call_into-first.result) (fault_alone c.call_into-second.result) (g.L.Line.traffic c.args.line.now) (g.L.Line.traffic c.call_into-first.new.line) (g.K.Line.traffic c.args.other.now) (g.K.Line.traffic c.call_into-second.new.line)
     → AddedOnce c.call_into-first.result c.call_into-second.result c.call_into-first.new.replies.items c.call_into-second.new.replies.items c.call_into-first.new.self c.call_into-second.new.self (g.L.Line.traffic c.args.line.now) (g.L.Line.traffic c.call_into-first.new.line) (g.K.Line.traffic c.args.other.now) (g.K.Line.traffic c.call_into-second.new.line)
 once g c s coming stand had faults =

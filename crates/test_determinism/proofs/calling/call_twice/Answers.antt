@@ -1,5 +1,5 @@
 use Rattle.std.proofs.Common.{List, ℕ, [], ◌∷◌}
-use Rattle.ua_client.specs.Site.{Site}
+use Rattle.ua_client.specs.ClientPlace.{ClientPlace}
 use Rattle.ua_client.specs.declared.fault.ClientFault.TheVariants.{OutOfMemory}
 use Rattle.test_determinism.specs.Calling.{CallsAlike, StandReady}
 use Rattle.test_determinism.specs.Pinned.{HadMemory}
@@ -7,7 +7,7 @@ use Rattle.test_determinism.proofs.CallsOnce.{CalledOnce, called_once, one_answe
 use Rattle.test_determinism.proofs.calling.call_twice.Goals as goal
 use Rattle.test_determinism.proofs.calling.call_twice.Given.{Over as Given}
 
-once : (g : Given) (c : goal.After-call-second g) (s : Site) (coming : List ℕ) → StandReady c.args.one.now c.args.two.now (g.L.Line.traffic c.args.line.now) (g.K.Line.traffic c.args.other.now) s coming → HadMemory OutOfMemory c.call-first.result c.call-second.result
+once : (g : Given) (c : goal.After-call-second g) (s : ClientPlace) (coming : List ℕ) → StandReady c.args.one.now c.args.two.now (g.L.Line.traffic c.args.line.now) (g.K.Line.traffic c.args.other.now) s coming → HadMemory OutOfMemory c.call-first.result c.call-second.result
     → CallsAlike c.call-first.result c.call-second.result (g.L.Line.traffic c.args.line.now) (g.L.Line.traffic c.call-first.new.line) (g.K.Line.traffic c.args.other.now) (g.K.Line.traffic c.call-second.new.line)
     → CalledOnce (λ reply. reply ∷ []) c.call-first.result c.call-second.result c.call-first.new.self c.call-second.new.self (g.L.Line.traffic c.args.line.now) (g.L.Line.traffic c.call-first.new.line) (g.K.Line.traffic c.args.other.now) (g.K.Line.traffic c.call-second.new.line)
 once g c s coming stand had faults =

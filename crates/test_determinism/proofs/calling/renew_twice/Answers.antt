@@ -1,5 +1,5 @@
 use Rattle.std.proofs.Common.{List, ℕ, ap}
-use Rattle.ua_client.specs.Site.{Site}
+use Rattle.ua_client.specs.ClientPlace.{ClientPlace}
 use Rattle.ua_client.specs.declared.fault.ClientFault.TheVariants.{OutOfMemory}
 use Rattle.test_determinism.specs.Calling.{CallsAlike, StandReady}
 use Rattle.test_determinism.specs.Pinned.{HadMemory}
@@ -7,7 +7,7 @@ use Rattle.test_determinism.proofs.RenewalsAlike.{CalledOnce, renewed_once}
 use Rattle.test_determinism.proofs.calling.renew_twice.Goals as goal
 use Rattle.test_determinism.proofs.calling.renew_twice.Given.{Over as Given}
 
-once : (g : Given) (c : goal.After-renew-second g) (s : Site) (coming : List ℕ) → StandReady c.args.one.now c.args.two.now (g.L.Line.traffic c.args.line.now) (g.K.Line.traffic c.args.other.now) s coming → HadMemory OutOfMemory c.renew-first.result c.renew-second.result
+once : (g : Given) (c : goal.After-renew-second g) (s : ClientPlace) (coming : List ℕ) → StandReady c.args.one.now c.args.two.now (g.L.Line.traffic c.args.line.now) (g.K.Line.traffic c.args.other.now) s coming → HadMemory OutOfMemory c.renew-first.result c.renew-second.result
     → CallsAlike c.renew-first.result c.renew-second.result (g.L.Line.traffic c.args.line.now) (g.L.Line.traffic c.renew-first.new.line) (g.K.Line.traffic c.args.other.now) (g.K.Line.traffic c.renew-second.new.line)
     → CalledOnce c.renew-first.result c.renew-second.result c.renew-first.new.self c.renew-second.new.self (g.L.Line.traffic c.args.line.now) (g.L.Line.traffic c.renew-first.new.line) (g.K.Line.traffic c.args.other.now) (g.K.Line.traffic c.renew-second.new.line)
 once g c s coming stand had faults =

@@ -1,6 +1,6 @@
 use Rattle.std.proofs.Common.{◌++◌, ◌<◌, [], List, length, length-append, take, drop, suc, refl, sym, ◌∙◌, ap, subst, arith}
 use Rattle.std.specs.Prelude.{ℕ}
-use Rattle.ua_channel.specs.Line.{WhereTold}
+use Rattle.ua_channel.specs.Line.{IfTrafficKnown}
 use Rattle.ua_client.specs.Carried.{Carries, WritesFront}
 use Rattle.ua_client.specs.Sent.{asked_octets}
 use Rattle.ua_client.proofs.Askings.{asked-octets-at, asked-octets-push, take-push, take-whole}
@@ -19,7 +19,7 @@ loop-call-preserved g c =
       written = carried-as [] _ [] _ (g.L.Line.traffic c.args.line.now) (g.L.Line.traffic c.write_frames.new.line) refl
           (asked-octets-push (take c.loop-call.call-index c.args.calls.now) c.call-item.result ∙ ap asked_octets all)
           (carried-then [] before [] here (g.L.Line.traffic c.args.line.now) (g.L.Line.traffic c.loop-call.line) (g.L.Line.traffic c.write_frames.new.line) c.loop-call.invariant.written
-          (subst (λ (o : List ℕ). WhereTold (Carries [] o) (g.L.Line.traffic c.loop-call.line) (g.L.Line.traffic c.write_frames.new.line)) c.deref.ensures.value c.in-Ok.ensures.written));
+          (subst (λ (o : List ℕ). IfTrafficKnown (Carries [] o) (g.L.Line.traffic c.loop-call.line) (g.L.Line.traffic c.write_frames.new.line)) c.deref.ensures.value c.in-Ok.ensures.written));
       same = c.in-Ok.ensures.failed ∙ c.loop-call.invariant.same;
     }
 
@@ -28,11 +28,11 @@ returns-in-Err-clause-written g c =
     let before = asked_octets (take c.loop-call.call-index c.args.calls.now) in
     let here = c.call-item.result.octets.items in
     let behind = asked_octets (drop (suc c.loop-call.call-index) c.args.calls.now) in
-    subst (λ (o : List ℕ). WhereTold (WritesFront o) (g.L.Line.traffic c.args.line.now) (g.L.Line.traffic c.write_frames.new.line))
+    subst (λ (o : List ℕ). IfTrafficKnown (WritesFront o) (g.L.Line.traffic c.args.line.now) (g.L.Line.traffic c.write_frames.new.line))
     (sym (asked-octets-at c.args.calls.now c.loop-call.call-index c.call-item.result _ c.loop-call-test.true c.call-item.is))
     (joined-front before here behind (g.L.Line.traffic c.args.line.now) (g.L.Line.traffic c.loop-call.line) (g.L.Line.traffic c.write_frames.new.line) c.loop-call.invariant.written
     (subst (λ (o : List ℕ). 0 < length o) c.deref.ensures.value c.in-Err.ensures.some)
-    (subst (λ (o : List ℕ). WhereTold (WritesFront o) (g.L.Line.traffic c.loop-call.line) (g.L.Line.traffic c.write_frames.new.line)) c.deref.ensures.value c.in-Err.ensures.written))
+    (subst (λ (o : List ℕ). IfTrafficKnown (WritesFront o) (g.L.Line.traffic c.loop-call.line) (g.L.Line.traffic c.write_frames.new.line)) c.deref.ensures.value c.in-Err.ensures.written))
 
 pub returns-in-Err-clause-some : goal.returns-in-Err-clause-some
 returns-in-Err-clause-some g c =

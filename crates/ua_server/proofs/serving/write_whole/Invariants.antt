@@ -1,12 +1,12 @@
 use Rattle.std.proofs.Common.{◌≡◌, ◌≤◌, ◌-◌, [], take, length}
-use Rattle.ua_channel.specs.Line.{WhereTold}
-use Rattle.ua_server.specs.Serving.{Moves}
+use Rattle.ua_channel.specs.Line.{IfTrafficKnown}
+use Rattle.ua_server.specs.Serving.{MovesTraffic}
 use Rattle.ua_server.proofs.serving.write_whole.Given as goal
 
 abbrev pub invariant-loop-written : goal.invariant-loop-written
 invariant-loop-written g l = record {
   within : l.written ≤ length l.octets;
-  moved : WhereTold (Moves [] (take l.written l.octets)) (g.L.Line.traffic l.fn.line) (g.L.Line.traffic l.line);
+  moved : IfTrafficKnown (MovesTraffic [] (take l.written l.octets)) (g.L.Line.traffic l.fn.line) (g.L.Line.traffic l.line);
   same : g.L.Line.failures l.line ≡ g.L.Line.failures l.fn.line;
 }
 

@@ -1,7 +1,7 @@
 use Rattle.std.proofs.Common.{◌++◌, ◌<◌, length, refl, sym, ◌∙◌, ap, subst}
 use Rattle.std.specs.Prelude.{List, []}
 use Rattle.std.proofs.lemmas.Result.{err_from_is_err_and}
-use Rattle.ua_channel.specs.Line.{WhereTold}
+use Rattle.ua_channel.specs.Line.{IfTrafficKnown}
 use Rattle.ua_channel.specs.declared.client.asked_call.AskedCall.{AskedCall}
 use Rattle.ua_client.specs.Carried.{Carries, WritesFront}
 use Rattle.ua_client.specs.Replies.{front_of}
@@ -46,7 +46,7 @@ returns-in_default-clause-calls g c =
       asks = c.in_ok-asked.ensures.asks;
     } in
     group-unwritten c.args.requests.now c.args.self.now mid c.in_ok-asked.asked.0 (asked_octets c.in_ok-asked.asked.1.items) asked (g.L.Line.traffic c.args.line.now) (g.L.Line.traffic c.write_calls.new.line) c.args.reads.now c.args.replies.now.items c.make_room.new.replies.items c.in_ok-make_room.ensures.same (subst (λ (cs : List AskedCall). 0 < length (asked_octets cs)) c.deref.ensures.value c.in_default.ensures.some)
-    (subst (λ (cs : List AskedCall). WhereTold (WritesFront (asked_octets cs)) (g.L.Line.traffic c.args.line.now) (g.L.Line.traffic c.write_calls.new.line)) c.deref.ensures.value c.in_default.ensures.written)
+    (subst (λ (cs : List AskedCall). IfTrafficKnown (WritesFront (asked_octets cs)) (g.L.Line.traffic c.args.line.now) (g.L.Line.traffic c.write_calls.new.line)) c.deref.ensures.value c.in_default.ensures.written)
 
 pub returns-in_err-slots-clause-calls : goal.returns-in_err-slots-clause-calls
 returns-in_err-slots-clause-calls g c =
@@ -62,7 +62,7 @@ returns-in_err-slots-clause-calls g c =
       asks = c.in_ok-asked.ensures.asks;
     } in
     rw (p.1, p.2) (group-unslotted c.args.requests.now c.args.self.now mid c.in_ok-asked.asked.0 (asked_octets c.in_ok-asked.asked.1.items) asked c.calls_are_told_behind.ensures (g.L.Line.traffic c.args.line.now) (g.L.Line.traffic c.write_calls.new.line) c.args.reads.now
-    (subst (λ (cs : List AskedCall). WhereTold (Carries [] (asked_octets cs)) (g.L.Line.traffic c.args.line.now) (g.L.Line.traffic c.write_calls.new.line)) c.deref.ensures.value c.in-Ok.ensures.written)
+    (subst (λ (cs : List AskedCall). IfTrafficKnown (Carries [] (asked_octets cs)) (g.L.Line.traffic c.args.line.now) (g.L.Line.traffic c.write_calls.new.line)) c.deref.ensures.value c.in-Ok.ensures.written)
     c.in_err-slots.field-0.0 c.args.replies.now.items c.make_room.new.replies.items c.in_ok-make_room.ensures.same c.in_err-slots.ensures.err)
 
 pub returns-in_err-slots-clause-failed : goal.returns-in_err-slots-clause-failed
@@ -83,7 +83,7 @@ returns-clause-calls g c =
       asks = c.in_ok-asked.ensures.asks;
     } in
     group-kept c.args.requests.now c.args.self.now mid c.in_ok-asked.asked.0 (asked_octets c.in_ok-asked.asked.1.items) asked c.calls_are_told_behind.ensures c.collect-waited.new.self (g.L.Line.traffic c.args.line.now) (g.L.Line.traffic c.write_calls.new.line) (g.L.Line.traffic c.collect-waited.new.line) c.args.reads.now c.collect-waited.new.reads
-    (subst (λ (cs : List AskedCall). WhereTold (Carries [] (asked_octets cs)) (g.L.Line.traffic c.args.line.now) (g.L.Line.traffic c.write_calls.new.line)) c.deref.ensures.value c.in-Ok.ensures.written)
+    (subst (λ (cs : List AskedCall). IfTrafficKnown (Carries [] (asked_octets cs)) (g.L.Line.traffic c.args.line.now) (g.L.Line.traffic c.write_calls.new.line)) c.deref.ensures.value c.in-Ok.ensures.written)
     c.collect-waited.new.slots.items c.args.replies.now.items c.append_front.new.replies.items (c.append_front.ensures ∙ ap (λ (rs : List Reply). rs ++ front_of c.collect-waited.new.slots.items) c.in_ok-make_room.ensures.same) c.collect-waited.result c.collect-waited.ensures.collects
 
 pub returns-clause-more : goal.returns-clause-more

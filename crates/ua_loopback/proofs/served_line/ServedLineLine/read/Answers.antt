@@ -1,5 +1,5 @@
 use Rattle.std.proofs.Common.{rules, ◌≡◌, ◌++◌, ◌≤◌, ◌<◌, ◌+◌, ◌-◌, min, ℕ, List, [], length, take, drop, sym, ◌∙◌, ap, subst}
-use Rattle.ua_loopback.specs.Says.{said_to}
+use Rattle.ua_loopback.specs.Says.{server_output}
 use Rattle.ua_loopback.proofs.Lines.{read_more, read_none}
 use Rattle.ua_loopback.proofs.Pieces.{none_left}
 use Rattle.ua_loopback.proofs.served_line.ServedLineLine.read.Goals as goal
@@ -16,14 +16,14 @@ returns-clause-octets g c =
     let least : c.min.result ≡ min (length i.down.items - i.read) (length c.args.buffer.now) = search rules in
     let room : length (c.copy_from_slice.new.self ++ drop n c.args.buffer.now) ≡ length c.args.buffer.now = search rules in (
       λ more.
-          ap (λ (k : ℕ). drop k (said_to b (c.args.self.now.up ++ more))) (sym read)
-          ∙ (ap (λ (o : List ℕ). drop i.read (said_to b (o ++ more))) (sym up)
+          ap (λ (k : ℕ). drop k (server_output b (c.args.self.now.up ++ more))) (sym read)
+          ∙ (ap (λ (o : List ℕ). drop i.read (server_output b (o ++ more))) (sym up)
           ∙ (read_more b i.up.items i.down.items c.args.buffer.now i.read n c.self.invariant.down_is few more
-          ∙ ap (λ (t : List ℕ). take n (t ++ drop n c.args.buffer.now) ++ drop (i.read + n) (said_to b (i.up.items ++ more))) (sym put))),
+          ∙ ap (λ (t : List ℕ). take n (t ++ drop n c.args.buffer.now) ++ drop (i.read + n) (server_output b (i.up.items ++ more))) (sym put))),
       up,
       λ none roomy.
-          ap (λ (k : ℕ). drop k (said_to b (c.args.self.now.up ++ []))) (sym read)
-          ∙ (ap (λ (o : List ℕ). drop i.read (said_to b (o ++ []))) (sym up)
+          ap (λ (k : ℕ). drop k (server_output b (c.args.self.now.up ++ []))) (sym read)
+          ∙ (ap (λ (o : List ℕ). drop i.read (server_output b (o ++ []))) (sym up)
           ∙ read_none b i.up.items i.down.items i.read c.self.invariant.down_is
           (none_left i.down.items i.read (length c.args.buffer.now) n (subst (λ (k : ℕ). 0 < k → 0 < n) least c.front-n.ensures.some) none (subst (λ (k : ℕ). 0 < k) room roomy))),
     )

@@ -1,6 +1,6 @@
 use Rattle.std.proofs.Common.{◌++◌, Ok, sym, subst}
 use Rattle.ua_server.specs.Happening.{Happens}
-use Rattle.ua_server.specs.ServingParts.{Met, Steps}
+use Rattle.ua_server.specs.ServingParts.{OfEventsBetween, Steps}
 use Rattle.ua_server.specs.declared.serving.Serving.{Serving}
 use Rattle.ua_server.proofs.Happened.{told-none, told-one}
 use Rattle.ua_server.proofs.Stepped.{steps-quiet, steps-saying, steps-broken}
@@ -22,7 +22,7 @@ returns-then-not-answered-clause-progress g c = c.in-Ok.ensures.progress
 
 pub returns-clause-steps : goal.returns-clause-steps
 returns-clause-steps g c = λ limits channel first read written given k.
-    subst (λ (z : Serving). Met (Happens g.M.Moments.gives g.W.Watch.notes) (c.args.moments.now, c.args.watch.now) (c.moment-moment.new.moments, c.tell.new.watch) (λ events. Steps (Ok c.in-Ok.found.0) z limits channel first c.args.piece.now read written (given ++ events) c.advance.new.services)) (sym c.note_answer.ensures)
+    subst (λ (z : Serving). OfEventsBetween (Happens g.M.Moments.gives g.W.Watch.notes) (c.args.moments.now, c.args.watch.now) (c.moment-moment.new.moments, c.tell.new.watch) (λ events. Steps (Ok c.in-Ok.found.0) z limits channel first c.args.piece.now read written (given ++ events) c.advance.new.services)) (sym c.note_answer.ensures)
     (steps-saying g.M.Moments.gives g.W.Watch.notes c.args.moments.now c.moment-moment.new.moments limits channel first c.args.self.now c.moment-moment.new.self c.advance.new.self c.moment-moment.result c.args.piece.now read written given c.args.services.now c.advance.new.services c.requires
     c.moment-moment.ensures.kept c.moment-moment.ensures.asked c.advance.ensures.limits c.advance.ensures.channel c.advance.result c.advance.ensures.answers k c.args.watch.now c.tell.new.watch c.in-Ok.found c.tell.ensures c.in-Ok.is c.if-not-answered.false)
 

@@ -1,7 +1,7 @@
 use Rattle.std.proofs.Common.{◌≡◌, [], ℕ, List, Err, length, refl, subst}
-use Rattle.ua_channel.specs.Line.{WhereTold}
+use Rattle.ua_channel.specs.Line.{IfTrafficKnown}
 use Rattle.ua_server.specs.Happening.{Happens}
-use Rattle.ua_server.specs.Serving.{Moves}
+use Rattle.ua_server.specs.Serving.{MovesTraffic}
 use Rattle.ua_server.specs.ServingParts.{Says, counted}
 use Rattle.ua_server.specs.declared.serving.Serving.{Serving}
 use Rattle.ua_server.proofs.Turning.{turn-said, turn-unsaid, turn-broken}
@@ -19,7 +19,7 @@ returns-in-Ok-say-clause-turns g c = λ limits channel first read written given 
     let counted_so : List ℕ → Serving = λ o. record c.step.new.self { written = counted c.step.new.self.written (length o) } in
     turn-said limits channel first (Happens g.M.Moments.gives g.W.Watch.notes) (c.args.moments.now, c.args.watch.now) (c.step.new.moments, c.step.new.watch) (g.L.Line.traffic c.args.line.now) (g.L.Line.traffic c.say.new.line) c.args.piece.now read written given c.step.new.services c.in-Ok.step c.step.new.self c.say.new.self (c.in-Ok.ensures.steps limits channel first read written given k)
     (subst (λ (o : List ℕ). c.say.new.self ≡ counted_so o) c.deref.ensures.value c.in-Ok-say.ensures.says.0)
-    (subst (λ (o : List ℕ). WhereTold (Moves [] o) (g.L.Line.traffic c.args.line.now) (g.L.Line.traffic c.say.new.line)) c.deref.ensures.value c.in-Ok-say.ensures.says.1)
+    (subst (λ (o : List ℕ). IfTrafficKnown (MovesTraffic [] o) (g.L.Line.traffic c.args.line.now) (g.L.Line.traffic c.say.new.line)) c.deref.ensures.value c.in-Ok-say.ensures.says.1)
 
 pub returns-in-Ok-say-clause-progress : goal.returns-in-Ok-say-clause-progress
 returns-in-Ok-say-clause-progress g c = c.in-Ok.ensures.progress

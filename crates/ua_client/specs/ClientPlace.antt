@@ -12,7 +12,7 @@ use Rattle.ua_channel.specs.declared.client.channel.ClientChannel.{ClientChannel
 
 -- where a client stands: what it asked, each with its place; the octets that its channel took, what their frames brought, and what
 -- they told; the sequence number that is sent next
-pub record Site : Type 0 where
+pub record ClientPlace : Type 0 where
   pub asks : List Placed
   pub octets : List ℕ
   pub before : Received
@@ -20,13 +20,13 @@ pub record Site : Type 0 where
   pub number : ℕ
 
 -- a channel stands there
-pub record At (x : ClientChannel) (s : Site) : Type 0 where
+pub record StandsAt (x : ClientChannel) (s : ClientPlace) : Type 0 where
   pub goes : ClientGoes x s.asks s.octets s.told
   pub before_is : received goes.frames ≡ s.before
   pub number_is : client_next x ≡ s.number
 
 -- the request id of the next call
-abbrev pub id_at : Site → ℕ
+abbrev pub id_at : ClientPlace → ℕ
 id_at s = next_id (asked_in s.asks)
 
 -- the request id under which a call would go out, unless all were used
