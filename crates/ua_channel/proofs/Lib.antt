@@ -29,3 +29,4 @@ mod ClientSteps
 mod MemoryLines
 pub mod ClientSending
 mod ReplyLimits
+pub mod Moving

@@ -42,3 +42,20 @@ abbrev pub IfTrafficKnown : (Traffic → Traffic → Type 0) → Option Traffic 
 IfTrafficKnown P (Some before) (Some after) = P before after
 IfTrafficKnown P (Some before) None = ⊥
 IfTrafficKnown P None after = after ≡ None
+
+-- a line moved octets: those read were to come before those that still are, once those written are, and these stand behind those written
+-- before
+abbrev pub MovesTraffic : List ℕ → List ℕ → Traffic → Traffic → Type 0
+MovesTraffic read written before after = ((more : List ℕ) → before.coming (written ++ more) ≡ read ++ after.coming more) × (after.written ≡ before.written ++ written)
+
+-- ---- octets that are to be written whole
+
+-- a write stopped before the last of the octets
+abbrev pub StopsWithin : List ℕ → Result (Unit {0}) ℕ → Type 0
+StopsWithin octets (Ok u) = Unit {0}
+StopsWithin octets (Err n) = n < length octets
+
+-- the octets were written, all or the first of them
+abbrev pub Wrote : List ℕ → Result (Unit {0}) ℕ → Traffic → Traffic → Type 0
+Wrote octets (Ok u) before after = MovesTraffic [] octets before after
+Wrote octets (Err n) before after = MovesTraffic [] (take n octets) before after

@@ -33,6 +33,7 @@ mod server_fault;
 mod server_opening;
 mod server_rules;
 mod step_fault;
+mod writing;
 
 pub use client::{AskFault, AskedCall, ClientChannel, ClientEvent, ClientTakeFault};
 pub use line::{Line, LineFault};
@@ -42,3 +43,4 @@ pub use sent_reply::SentReply;
 pub use server::ServerChannel;
 pub use server_event::ServerEvent;
 pub use server_fault::{ChannelFault, ReplyFault};
+pub use writing::write_whole;

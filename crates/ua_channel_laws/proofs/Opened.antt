@@ -32,7 +32,7 @@ in_phase limits (Greeted a) before h = (λ t. ap (λ (b : Received). b.openings)
 in_phase limits (Open r) before h = (λ t. absurd t, λ e. none_issued before.openings r.issued h.issued_is h.some e)
 in_phase limits Done before h = absurd h
 
-pub server_open : (x : ServerChannel) (octets : List ℕ) (frames : List Frame) (rest : List ℕ) → server.Stands x octets frames rest → server.IsWithoutToken x ↔ ((received frames).openings ≡ [])
+pub server_open : (x : ServerChannel) (octets : List ℕ) (frames : List Frame) (rest : List ℕ) → server.ChannelStands x octets frames rest → server.IsWithoutToken x ↔ ((received frames).openings ≡ [])
 server_open x octets frames rest s = in_phase (server.limits_of x) x.end.phase (received frames) s.phase_is
 
 pub server_done : (x : ServerChannel) → server.IsDone x → server.IsWithoutToken x

@@ -4,7 +4,7 @@ use Rattle.std.proofs.Common.{refl, sym, ◌∙◌, ap, subst, append_assoc, app
 use Rattle.std.proofs.Math.Seq.{take-add, take-length}
 use Rattle.std.proofs.lemmas.List.{length-append, length-drop, take-append-drop}
 use Rattle.ua_wire.specs.Format.{Extends}
-use Rattle.ua_channel.specs.Line.{Traffic, HandsOut, WriteTakes, IfTrafficKnown}
+use Rattle.ua_channel.specs.Line.{Traffic, HandsOut, MovesTraffic, IfTrafficKnown}
 use Rattle.ua_channel.specs.declared.line.LineFault.{LineFault}
 use Rattle.ua_client.specs.Carried.{Carries, IsAtEnd, IsPart, WritesFront}
 
@@ -29,16 +29,6 @@ pub carried-as : (got sent got' sent' : List ℕ) (a b : Option Traffic) → got
 carried-as got sent got' sent' a b p q h = subst (λ (s : List ℕ). IfTrafficKnown (Carries got' s) a b) q (subst (λ (g : List ℕ). IfTrafficKnown (Carries g sent) a b) p h)
 
 -- ---- calls of a line
-
-pub wrote : (octets : List ℕ) (n : ℕ) (a b : Option Traffic) → IfTrafficKnown (WriteTakes (Ok n) octets) a b → IfTrafficKnown (Carries [] (take n octets)) a b
-wrote octets n (Some a) (Some b) h = record { coming = λ rest. sym (h.1 rest); written = h.0 }
-wrote octets n (Some a) None h = absurd h
-wrote octets n None b h = h
-
-pub failed-write : (fault : LineFault) (octets : List ℕ) (a b : Option Traffic) → IfTrafficKnown (WriteTakes (Err fault) octets) a b → b ≡ a
-failed-write fault octets (Some a) (Some b) h = ap (λ (t : Traffic). Some t) h
-failed-write fault octets (Some a) None h = absurd h
-failed-write fault octets None b h = h
 
 pub had-read : (buffer : List ℕ) (n : ℕ) (a b : Option Traffic) → IfTrafficKnown (HandsOut (Ok n) buffer) a b → IfTrafficKnown (Carries (take n buffer) []) a b
 had-read buffer n (Some a) (Some b) h = record { coming = h.0; written = h.1 ∙ sym (append-nil a.written) }
@@ -74,17 +64,6 @@ all-rest octets at = ap (λ (k : ℕ). take k (drop at octets)) (sym (length-dro
 pub length-rest : (octets : List ℕ) (at : ℕ) → length (take (length octets - at) (drop at octets)) ≡ length octets - at
 length-rest octets at = ap length (all-rest octets at) ∙ length-drop at octets
 
-pub written-more : (octets : List ℕ) (at n : ℕ) (a b c : Option Traffic) → Written octets at a b → at < length octets
-    → n ≤ length (take (length octets - at) (drop at octets)) → IfTrafficKnown (WriteTakes (Ok n) (take (length octets - at) (drop at octets))) b c → Written octets (at + n) a c
-written-more octets at n a b c w more few h =
-    let len = length-rest octets at in
-    record {
-      within = omega (arith, few, len, more);
-      carried = carried-as [] (take at octets ++ take n (take (length octets - at) (drop at octets))) [] (take (at + n) octets) a c refl
-          (ap (λ (t : List ℕ). take at octets ++ take n t) (all-rest octets at) ∙ sym (take-add at n octets))
-          (carried-then [] (take at octets) [] (take n (take (length octets - at) (drop at octets))) a b c w.carried (wrote (take (length octets - at) (drop at octets)) n b c h));
-    }
-
 pub written-all : (octets : List ℕ) (at : ℕ) (a b : Option Traffic) → Written octets at a b → length octets ≤ at → IfTrafficKnown (Carries [] octets) a b
 written-all octets at a b w all =
     let whole : at ≡ length octets = omega (arith, w.within, all) in
@@ -100,6 +79,15 @@ length-front octets at more = omega (arith, more, ap length (take-append-drop at
 
 pub written-front : (octets : List ℕ) (at : ℕ) (a b : Option Traffic) → at < length octets → IfTrafficKnown (Carries [] (take at octets)) a b → IfTrafficKnown (WritesFront octets) a b
 written-front octets at a b more h = front-of (take at octets) octets a b (record { more = drop at octets; parts = sym (take-append-drop at octets) }) (length-front octets at more) h
+
+-- what was moved is what was carried
+pub sent-whole : (octets : List ℕ) (a b : Option Traffic) → IfTrafficKnown (MovesTraffic [] octets) a b → IfTrafficKnown (Carries [] octets) a b
+sent-whole octets (Some a) (Some b) h = record { coming = h.0; written = h.1 }
+sent-whole octets (Some a) None h = h
+sent-whole octets None b h = h
+
+pub sent-front : (octets : List ℕ) (n : ℕ) (a b : Option Traffic) → n < length octets → IfTrafficKnown (MovesTraffic [] (take n octets)) a b → IfTrafficKnown (WritesFront octets) a b
+sent-front octets n a b more h = written-front octets n a b more (sent-whole (take n octets) a b h)
 
 -- a beginning of these octets was written, and where there are some not all of them
 pub sends-front : (octets : List ℕ) (a b : Option Traffic) → IfTrafficKnown (WritesFront octets) a b → (sent : List ℕ) × Extends sent octets × IfTrafficKnown (Carries [] sent) a b × (0 < length octets → length sent < length octets)

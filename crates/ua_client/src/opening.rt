@@ -11,7 +11,7 @@ ghost use Rattle.ua_client.specs.declared.fault.ClientFault.TheVariants.{OutOfMe
 use crate::connection::Connection;
 use crate::fault::ClientFault;
 use crate::piece::Piece;
-use crate::sending::write_whole;
+use crate::sending::send_whole;
 use std::alloc::Global;
 use ua_builtin::{DateTime, UaString};
 use ua_channel::{ClientChannel, ClientEvent, Line};
@@ -84,14 +84,14 @@ impl Connection {
         let Ok(hello) = self.channel.hello() else {
             return Err(ClientFault::OutOfMemory);
         };
-        let Ok(()) = write_whole(line, &hello) else {
+        let Ok(()) = send_whole(line, &hello) else {
             return Err(ClientFault::Write);
         };
         let opening = match self.wait_for_opening(line, &mut reads, moment) {
             Ok(opening) => opening,
             Err(fault) => return Err(fault),
         };
-        let Ok(()) = write_whole(line, &opening) else {
+        let Ok(()) = send_whole(line, &opening) else {
             return Err(ClientFault::Write);
         };
         self.wait_until_open(line, &mut reads, moment)
@@ -105,7 +105,7 @@ impl Connection {
         let Ok(octets) = self.channel.close(moment) else {
             return Err(ClientFault::OutOfMemory);
         };
-        match write_whole(line, &octets) {
+        match send_whole(line, &octets) {
             Ok(()) => Ok(()),
             Err(_) => Err(ClientFault::Write),
         }

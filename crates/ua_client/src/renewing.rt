@@ -8,7 +8,7 @@ ghost use Rattle.ua_client.specs.Renewing.{Renews, IsRefusal, StandsSettled, is_
 use crate::connection::Connection;
 use crate::fault::ClientFault;
 use crate::laws::clients_are_settled;
-use crate::sending::write_whole;
+use crate::sending::send_whole;
 use ua_builtin::DateTime;
 use ua_channel::{AskFault, ClientEvent, Line};
 use ua_channel_laws::client_laws::client_goes_on;
@@ -60,7 +60,7 @@ impl Connection {
             Ok(asked) => asked,
             Err(fault) => return Err(of_ask(fault)),
         };
-        let Ok(()) = write_whole(line, &octets) else {
+        let Ok(()) = send_whole(line, &octets) else {
             return Err(ClientFault::Write);
         };
         let mut reads = u64::MAX;

@@ -5,23 +5,18 @@ ghost use Rattle.ua_channel.specs.Line.{IfTrafficKnown, failures_after};
 ghost use Rattle.ua_client.specs.Carried.{Writes};
 ghost use Rattle.ua_client.specs.Sent.{asked_octets};
 
-use ua_channel::{AskedCall, Line, LineFault};
+use ua_channel::{AskedCall, Line, LineFault, write_whole};
 
-/// Writes octets whole: by one write where the line takes them so, and where it takes fewer, on from
-/// where it stopped.
-pub fn write_whole<L: Line>(line: &mut L, octets: &[u8]) -> Result<(), LineFault>
+/// Writes octets whole, or a beginning of them where the line fails.
+pub fn send_whole<L: Line>(line: &mut L, octets: &[u8]) -> Result<(), LineFault>
     ensures written { IfTrafficKnown (Writes result octets.now) (L.traffic line.old) (L.traffic line.new) }
     ensures some { OnErr result (0 < length octets.now) }
     ensures failed { L.failures line.new ≡ failures_after (L.failures line.old) result }
 {
-    let mut at = 0;
-    while at < octets.len() {
-        match line.write(&octets[at..]) {
-            Ok(n) => at += n,
-            Err(fault) => return Err(fault),
-        }
+    match write_whole(line, octets) {
+        Ok(()) => Ok(()),
+        Err(_) => Err(LineFault::Failed),
     }
-    Ok(())
 }
 
 /// Where the frame ends that begins at a place of so many octets: it has `frame_len`, or those that are
@@ -49,7 +44,7 @@ fn write_frames<L: Line>(line: &mut L, octets: &[u8], frame_len: usize) -> Resul
     let mut at = 0;
     while at < octets.len() {
         let end = frame_end(at, frame_len, octets.len());
-        match write_whole(line, &octets[at..end]) {
+        match send_whole(line, &octets[at..end]) {
             Ok(()) => at = end,
             Err(fault) => return Err(fault),
         }

@@ -1,18 +1,12 @@
 -- What is written for an item of a Read, part by part.
-use Rattle.std.proofs.Common.{◌≡◌, ◌⊎◌, inl, inr, ℕ, zero, suc, ◌+◌, ◌≤◌, List, [], ◌∷◌, ◌++◌, take, length, length-append, Bool, true, false, ◌&&◌, leb, nat_eq, Option, None, Result, Ok, Err, OnErr, append_assoc, is_some, option_map, refl, sym, ap, ◌∙◌, arith}
-use Rattle.std.proofs.lemmas.Bool.{le-leb, leb-true}
+use Rattle.std.proofs.Common.{◌≡◌, ◌⊎◌, inl, inr, ℕ, zero, suc, ◌+◌, ◌≤◌, List, [], ◌∷◌, ◌++◌, take, length, length-append, true, nat_eq, Option, None, Result, Ok, Err, OnErr, append_assoc, option_map, refl, sym, ap, ◌∙◌, arith}
 use Rattle.std.specs.List.{flat_map}
-use Rattle.ua_builtin.specs.Flags.{flag_bit}
 use Rattle.ua_wire.specs.Format.{Extends}
 use Rattle.ua_builtin.specs.Reasons.{first_reason}
 use Rattle.ua_builtin.specs.declared.date_time.DateTime.{DateTime}
 use Rattle.ua_builtin.specs.declared.status_code.StatusCode.{StatusCode}
-use Rattle.ua_wire.proofs.Readers.{both_true}
 use Rattle.ua_structures.specs.declared.attribute.ReadValueId.{ReadValueId}
-use Rattle.ua_variant.specs.Data.{DataFields, VariantData, bare, valued}
-use Rattle.ua_variant.specs.Encodable.{data_fields_encodable, data_value_encodable, variant_encodable, variant_fits}
-use Rattle.ua_variant.specs.Fields.{data_flags}
-use Rattle.ua_variant.specs.Measure.{variant_depth}
+use Rattle.ua_variant.specs.Data.{valued}
 use Rattle.ua_nodes.specs.Attribute.{attribute_of, attribute_value}
 use Rattle.ua_nodes.specs.Range.{asked_range}
 use Rattle.ua_nodes.specs.Read.{judged, read_item_reasons, stamps_of, value_read, with_stamps, read_by}
@@ -21,30 +15,7 @@ use Rattle.ua_nodes.specs.declared.attribute.Attribute.{Attribute}
 use Rattle.ua_nodes.specs.declared.node.Variable.{Variable}
 use Rattle.ua_nodes.specs.declared.range.IndexRange.{IndexRange}
 use Rattle.ua_nodes.specs.declared.stamps.Stamps.{Stamps}
-use Rattle.ua_nodes.proofs.Fits.{both_are}
 use Rattle.ua_nodes.proofs.Judged.{judged_ok}
-
--- ---- fields
-
-bit_low : (bit : ℕ) (there : Bool) → flag_bit bit there ≤ bit
-bit_low bit true = omega arith
-bit_low bit false = omega arith
-
-pub flags_low : (f : DataFields) → data_flags f ≤ 62
-unfolding data_flags
-flags_low f =
-    omega (arith, bit_low 2 (is_some f.status), bit_low 4 (is_some f.source_timestamp), bit_low 8 (is_some f.server_timestamp), bit_low 16 (is_some f.source_picoseconds), bit_low 32 (is_some f.server_picoseconds))
-
-pub bare_fits : (f : DataFields) → data_fields_encodable f ≡ true → data_value_encodable (bare f) ≡ true
-bare_fits f h = rw h refl
-
--- a value and the fields beside it
-pub parts_fit : (v : VariantData) (f : DataFields) → data_value_encodable (valued v f) ≡ true → (data_fields_encodable f ≡ true) × (variant_encodable v ≡ true)
-parts_fit v f h =
-    let a = both_true (leb (1 + variant_depth v) 100) (data_fields_encodable f && variant_fits v) h in
-    let b = both_true (data_fields_encodable f) (variant_fits v) a.1 in
-    let deep = leb-true (1 + variant_depth v) 100 a.0 in
-    (b.0, both_are (leb (variant_depth v) 100) (variant_fits v) (le-leb (variant_depth v) 100 (omega arith)) b.1)
 
 -- ---- whole values
 

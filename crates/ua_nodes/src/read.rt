@@ -87,7 +87,12 @@ impl Variable {
             return Ok(None);
         }
         let value = HeldVariant::new(self.value_read(alloc, &item.node_id, attribute, range)?);
-        Ok(Some(self.stamped(Some(value), item.attribute_id == VALUE_ATTRIBUTE, stamps, moment)))
+        Ok(Some(self.stamped(
+            Some(value),
+            item.attribute_id == VALUE_ATTRIBUTE,
+            stamps,
+            moment,
+        )))
     }
 
     /// The attribute and the range that an item for this node asks for, or why the item is refused.

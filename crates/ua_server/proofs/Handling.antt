@@ -28,9 +28,10 @@ use Rattle.ua_server.specs.declared.serving.Serving.{Serving}
 use Rattle.ua_server.specs.declared.step.End.{End as Ending}
 use Rattle.ua_server.specs.declared.step.End.TheVariants as ending
 use Rattle.ua_server.specs.declared.watch.AnsweredRequest.{AnsweredRequest}
-use Rattle.ua_server.proofs.Exchanges.{told-then, told-nothing, gives-then, exchanged-then}
+use Rattle.ua_channel.proofs.Moving.{rest_of, rest-is, rest-length, joined, told-then, told-nothing}
+use Rattle.ua_server.proofs.Exchanges.{gives-then, exchanged-then}
 use Rattle.ua_server.proofs.LeftOver.{asked-over}
-use Rattle.ua_server.proofs.Passing.{rest_of, rest-is, rest-length, joined, fewer}
+use Rattle.ua_server.proofs.Passing.{fewer}
 use Rattle.ua_server.proofs.Pendings.{pending-unwritten, answered-as, requests-as}
 use Rattle.ua_server.proofs.Turning.{listed-one}
 

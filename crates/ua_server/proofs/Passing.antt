@@ -1,10 +1,9 @@
 -- Messages that were given up are passed over.
-use Rattle.std.specs.Prelude.{◌≡◌, ℕ, ◌+◌, ◌-◌, ◌≤◌, ◌<◌, true, false, List, [], ◌∷◌, ◌++◌, take, drop, length, Result, Ok, Err}
+use Rattle.std.specs.Prelude.{◌≡◌, ℕ, ◌+◌, ◌-◌, ◌≤◌, ◌<◌, true, false, List, [], ◌∷◌, ◌++◌, take, length, Result, Ok, Err}
 use Rattle.std.proofs.Common.{refl, sym, ◌∙◌, ap, subst, append_assoc, append-nil, arith}
-use Rattle.std.proofs.Math.Seq.{take-add, take-length}
-use Rattle.std.proofs.lemmas.List.{length-drop}
 use Rattle.ua_builtin.specs.declared.date_time.DateTime.{DateTime}
 use Rattle.ua_channel_laws.proofs.ServerReadings.{goes_behind}
+use Rattle.ua_channel.proofs.Moving.{rest_of, rest-length, joined, within-piece}
 use Rattle.ua_channel.specs.ServerAnswers.{Counts, EventHandedOut, AnswersAt, Progress}
 use Rattle.ua_channel.specs.ServerStands.{limits_of, channel_of, next_of, IsDone, Goes, RefusedAt}
 use Rattle.ua_channel.specs.ServerTold.{Told, GaveUp}
@@ -24,21 +23,6 @@ pub record Passed (old new : ServerChannel) (piece : List ℕ) (taken : ℕ) : T
   pub alive : IsDone old → ⊥
   pub passed : (octets : List ℕ) (told : List Told) → Goes old octets told
       → (quiet : List ℕ) × Goes new (octets ++ take taken piece) (told ++ given_up quiet) × (next_of new ≡ next_of old)
-
--- what is left of a piece
-abbrev pub rest_of : List ℕ → ℕ → List ℕ
-rest_of piece taken = take (length piece - taken) (drop taken piece)
-
-pub rest-is : (piece : List ℕ) (taken : ℕ) → rest_of piece taken ≡ drop taken piece
-rest-is piece taken = ap (λ (k : ℕ). take k (drop taken piece)) (sym (length-drop taken piece)) ∙ take-length (drop taken piece)
-
-pub rest-length : (piece : List ℕ) (taken : ℕ) → length (rest_of piece taken) ≡ length piece - taken
-rest-length piece taken = ap length (rest-is piece taken) ∙ length-drop taken piece
-
-pub joined : (octets piece : List ℕ) (m n : ℕ) → (octets ++ take m piece) ++ take n (rest_of piece m) ≡ octets ++ take (m + n) piece
-joined octets piece m n =
-    ap (λ (z : List ℕ). (octets ++ take m piece) ++ take n z) (rest-is piece m)
-    ∙ (append_assoc octets (take m piece) (take n (drop m piece)) ∙ ap (λ (t : List ℕ). octets ++ t) (sym (take-add m n piece)))
 
 one-more : (told : List Told) (quiet : List ℕ) (id : ℕ) → (told ++ given_up quiet) ++ GaveUp id ∷ [] ≡ told ++ given_up (quiet ++ id ∷ [])
 one-more told quiet id = append_assoc told (given_up quiet) (GaveUp id ∷ []) ∙ ap (λ (t : List Told). told ++ t) (pushed quiet)
@@ -80,12 +64,6 @@ first-passed old new moment piece n answer answers progress closed limits channe
   alive = λ d. closed-not answer (closed d) e;
   passed = λ octets told h. let g = gone (channel_of old) (next_of old) moment piece n answer new octets told (answers octets told h) e in (g.0 ∷ [], g.1, g.2);
 }
-
-less-left : (l m n d : ℕ) → m ≤ l → d ≡ l - m → n ≤ d → m + n ≤ l
-less-left l m n d h e k = omega (arith, h, e, k)
-
-pub within-piece : (piece : List ℕ) (taken n : ℕ) → taken ≤ length piece → n ≤ length (rest_of piece taken) → taken + n ≤ length piece
-within-piece piece taken n h k = less-left (length piece) taken n (length (rest_of piece taken)) h (rest-length piece taken) k
 
 pub fewer : (l m n d : ℕ) → m < l → d ≡ l - m → n ≤ d → (0 < d → 0 < n) → l - (m + n) < l - m
 fewer l m n d h e k some = let more = some (omega (arith, h, e)) in omega (arith, h, e, k, more)

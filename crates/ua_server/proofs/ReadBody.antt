@@ -1,11 +1,12 @@
 -- The body of a Read response, part by part.
-use Rattle.std.specs.Prelude.{◌≡◌, ◌<◌, ℕ, suc, List, [], ◌∷◌, ◌++◌, length, Some}
+use Rattle.std.specs.Prelude.{◌≡◌, ◌<◌, ℕ, suc, List, [], ◌∷◌, ◌++◌, length, Some, None, IsTrue}
 use Rattle.std.specs.List.{flat_map}
-use Rattle.std.proofs.Common.{inl, inr, ◌+◌, ◌≤◌, Option, length-append, refl, sym, ◌∙◌, ap, append_assoc, arith}
+use Rattle.std.proofs.Common.{inl, inr, ◌+◌, ◌≤◌, Option, length-append, refl, sym, ◌∙◌, ap, append_assoc, subst, arith}
 use Rattle.ua_builtin.specs.Counted.{null_count}
 use Rattle.ua_builtin.specs.NodeId.{node_id}
 use Rattle.ua_builtin.specs.Number.{number_octets}
 use Rattle.ua_builtin.specs.declared.date_time.DateTime.{DateTime}
+use Rattle.ua_builtin.specs.Format.{Format}
 use Rattle.ua_nodes.specs.Read.{answer_octets, read_answer}
 use Rattle.ua_nodes.specs.Table.{Nodes, node_at}
 use Rattle.ua_nodes.specs.Within.{IsWithin}
@@ -19,11 +20,12 @@ use Rattle.ua_opening.specs.Array.{array}
 use Rattle.ua_structures.specs.Attribute.{read_response}
 use Rattle.ua_opening.specs.Header.{response_header}
 use Rattle.ua_structures.specs.Plain.{values_of}
+use Rattle.ua_structures.specs.Results.{AddsResponse}
 use Rattle.ua_structures.specs.declared.attribute.ReadValueId.{ReadValueId}
 use Rattle.ua_opening.specs.declared.header.ResponseHeader.{ResponseHeader}
 use Rattle.ua_variant.specs.Canonical.{data_value_canonical}
 use Rattle.ua_variant.specs.Data.{DataValueData, bare, valued}
-use Rattle.ua_variant.specs.Formats.{data_value_format}
+use Rattle.ua_variant.specs.Formats.{data_value_format, diagnostic_format}
 use Rattle.ua_variant.specs.declared.values.DataValue.{DataValue}
 use Rattle.ua_server.specs.Attributes.{value_from, read_answers}
 use Rattle.ua_server.specs.Reply.{IsBodyWithin}
@@ -83,6 +85,30 @@ written_whole header nodes items stamps moment =
     ∙ ap (λ (b : List ℕ). node_id.canonical (standard 634) ++ (response_header.canonical header ++ (b ++ number_octets 4 null_count))) (sym (array_octets values))
     ∙ ap (λ (b : List ℕ). node_id.canonical (standard 634) ++ b) (sym (no_diagnostics header values))
     ∙ sym (response-canonical Read (values_of header values))
+
+-- the front, as it is written: the NodeId and the header, and behind them the count
+front-parts : (header : ResponseHeader) (results : ℕ) → (node_id.canonical (standard 634) ++ response_header.canonical header) ++ number_octets 4 results ≡ front header results
+front-parts header results = append_assoc (node_id.canonical (standard 634)) (response_header.canonical header) (number_octets 4 results)
+
+null_diagnostics : (array diagnostic_format).canonical None ≡ number_octets 4 null_count
+unfolding array
+null_diagnostics = refl
+
+pub null_fits : {A : Type 0} (format : Format A) (items : Option (List A)) → items ≡ None → IsTrue ((array format).encodable items)
+unfolding array
+null_fits {A = A} format items is = subst (λ (o : Option (List A)). IsTrue ((array format).encodable o)) (sym is) refl
+
+-- what stands there is the front, the results and no diagnostics
+pub written_parts : (most : Option ℕ) (header : ResponseHeader) (nodes : Nodes) (items : List ReadValueId) (stamps : Stamps) (moment : DateTime) (id body : List ℕ)
+    → id ≡ node_id.canonical (standard 634)
+    → AddsResponse (λ old new. IsWithin most (answer_octets nodes stamps moment) items (old ++ number_octets 4 (length items)) new) header None id body
+    → (results : List ℕ) × IsWithin most (answer_octets nodes stamps moment) items (front header (length items)) results × (body ≡ results ++ number_octets 4 null_count)
+written_parts most header nodes items stamps moment id body is adds =
+    let named = λ (b : List ℕ). IsWithin most (answer_octets nodes stamps moment) items b adds.behind in (
+      adds.behind,
+      subst named (front-parts header (length items)) (subst (λ (i : List ℕ). named ((i ++ response_header.canonical header) ++ number_octets 4 (length items))) is adds.results),
+      adds.rest ∙ ap (λ (b : List ℕ). adds.behind ++ b) null_diagnostics,
+    )
 
 -- the body that is written, which may have been given up
 pub written_within : (most : Option ℕ) (header : ResponseHeader) (nodes : Nodes) (items : List ReadValueId) (stamps : Stamps) (moment : DateTime) (results body : List ℕ)

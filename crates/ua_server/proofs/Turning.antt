@@ -19,7 +19,7 @@ use Rattle.ua_server.specs.declared.step.End.{End as Ending}
 use Rattle.ua_server.specs.declared.step.Step.{Step}
 use Rattle.ua_server.specs.declared.step.StepFault.{StepFault}
 use Rattle.ua_server.specs.declared.watch.AnsweredRequest.{AnsweredRequest}
-use Rattle.ua_server.proofs.Exchanges.{told-nothing}
+use Rattle.ua_channel.proofs.Moving.{told-nothing}
 use Rattle.ua_server.proofs.LeftOver.{no-words}
 use Rattle.ua_server.proofs.Pendings.{pending-written, pending-unwritten}
 

@@ -1,4 +1,5 @@
 -- What serving a line comes to.
+pub use Rattle.ua_channel.specs.Line.{MovesTraffic}
 use Rattle.std.specs.Prelude.{◌≡◌, ◌⊎◌, ℕ, ◌+◌, ◌<◌, ◌≤◌, ℤ, IsTrue, List, [], ◌∷◌, ◌++◌, map, min, length, Option, Some, None, Result, Ok, Err}
 use Rattle.ua_builtin.specs.declared.date_time.DateTime.{DateTime}
 use Rattle.ua_chunk.specs.Open.{open_ids}
@@ -203,10 +204,6 @@ TellsBy (Err fault.OutOfMemory) limits channel first read written moments now co
 TellsBy (Err fault.TooLong) limits channel first read written moments now coming a told = TellsAll limits channel first moments a.0.frames told
 
 -- ---- by the line
-
--- a line moved octets: those read were to come before those that still are, once those written are, and these stand behind those written before
-abbrev pub MovesTraffic : List ℕ → List ℕ → Traffic → Traffic → Type 0
-MovesTraffic read written before after = ((more : List ℕ) → before.coming (written ++ more) ≡ read ++ after.coming more) × (after.written ≡ before.written ++ written)
 
 -- the octets that are to come from a line before more is written; none where it does not tell them
 abbrev pub coming_now : Option Traffic → List ℕ

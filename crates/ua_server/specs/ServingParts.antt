@@ -5,7 +5,7 @@ use Rattle.ua_frame.specs.Run.{Going}
 use Rattle.ua_frame.specs.declared.frame.Frame.{Frame}
 use Rattle.ua_frame.specs.declared.limits.Limits.{Limits}
 use Rattle.ua_channel.specs.Agreement.{Agreement}
-use Rattle.ua_channel.specs.Line.{Traffic, IfTrafficKnown, one_more}
+use Rattle.ua_channel.specs.Line.{Traffic, IfTrafficKnown}
 use Rattle.ua_channel.specs.Moments.{Gives}
 use Rattle.ua_channel.specs.Received.{listed}
 use Rattle.ua_channel.specs.ServerPlaces.{agreed_by}
@@ -43,21 +43,6 @@ abbrev pub most_at_once : ℕ
 most_at_once = 4096
 
 -- ---- what is written
-
--- a write stopped before the last of the octets
-abbrev pub StopsWithin : List ℕ → Result (Unit {0}) ℕ → Type 0
-StopsWithin octets (Ok u) = Unit {0}
-StopsWithin octets (Err n) = n < length octets
-
--- the octets were written, all or the first of them
-abbrev pub Wrote : List ℕ → Result (Unit {0}) ℕ → Traffic → Traffic → Type 0
-Wrote octets (Ok u) before after = MovesTraffic [] octets before after
-Wrote octets (Err n) before after = MovesTraffic [] (take n octets) before after
-
--- the count of failures after a write
-abbrev pub write_failures : Result (Unit {0}) ℕ → ℕ → ℕ
-write_failures (Ok u) before = before
-write_failures (Err n) before = one_more before
 
 -- so many octets and so many more, up to the greatest number
 abbrev pub counted : ℕ → ℕ → ℕ

@@ -12,24 +12,24 @@ ghost use Rattle.ua_builtin.specs.Status.{status_code};
 ghost use Rattle.ua_nodes.specs.Read.{read_answer};
 ghost use Rattle.ua_nodes.specs.Table.{node_at};
 ghost use Rattle.ua_nodes.specs.Write.{write_answers, after_write};
-ghost use Rattle.ua_opening.specs.Header.{response_header};
 ghost use Rattle.ua_variant.specs.Formats.{data_value_format};
 ghost use Rattle.ua_server.specs.State.{with_nodes};
 ghost use Rattle.ua_server.specs.Answer.{read_items, write_items};
 ghost use Rattle.ua_server.specs.Reply.{IsBodyWithin};
-ghost use Rattle.ua_server.specs.Attributes.{items_of, most_items, value_from, count_reasons, items_reasons, read_reasons, read_answers, values_given, with_written, statuses_given};
+ghost use Rattle.ua_server.specs.Attributes.{items_of, most_items, value_from, count_reasons, items_reasons, read_reasons, read_answers, values_given};
 
 use crate::reply::body_of;
 use crate::services::Services;
 use crate::sessions::good_header;
 use std::alloc::{AllocError, Global};
 use std::mem;
-use ua_builtin::{DateTime, Identifier, NULL_COUNT, NodeId, StatusCode, Wire};
-use ua_nodes::Stamps;
+use ua_builtin::{DateTime, Identifier, NodeId, StatusCode, Wire};
+use ua_nodes::{NodeTable, Stamps};
 use ua_services::{
     ReadRequest, ReadResponse, ReadValueId, RequestHeader, Response, ResponseHeader, TakesTypes,
     UaArray, ValueType, WriteRequest, WriteResponse, WriteValue, empty_body,
 };
+use ua_structures::{ReadResults, append_read_response};
 use ua_variant::DataValue;
 
 /// The most items of a request.
@@ -65,17 +65,50 @@ pub(crate) fn count_refusal(items: usize) -> Option<StatusCode>
     None
 }
 
-/// Adds what a Read response begins with: the NodeId of its encoding, its header, and how many results
-/// it has.
+/// Adds what a Read response begins with: the NodeId of its encoding.
 #[tactic(auto, unfolding(ua_builtin::specs::NodeId::node_id))]
-fn append_front(header: &ResponseHeader, results: u32, out: &mut Vec<u8>) -> Result<(), AllocError>
-    requires { IsTrue (response_header.encodable header.now) }
-    ensures ok { OnOk result (out.new.items ≡ out.old.items ++ (node_id.canonical (standard 634) ++ (response_header.canonical header.now ++ number_octets 4 results))) }
+fn append_front(out: &mut Vec<u8>) -> Result<(), AllocError>
+    ensures ok { OnOk result (out.new.items ≡ out.old.items ++ node_id.canonical (standard 634)) }
     ensures err { OnErr result (Extends out.old.items out.new.items) }
 {
-    NodeId::new(0, Identifier::Numeric(READ_RESPONSE)).append(out)?;
-    header.append(out)?;
-    results.append(out)
+    NodeId::new(0, Identifier::Numeric(READ_RESPONSE)).append(out)
+}
+
+/// The answers to the items of a Read that is granted, each made as it is written, the Value of a node from
+/// where it stands. Once there are more octets than `most`, no further answer is made.
+#[derive(Clone, Copy)]
+struct ReadAnswers<'a> {
+    alloc: Global,
+    nodes: &'a NodeTable,
+    items: &'a [ReadValueId],
+    stamps: Stamps,
+    moment: DateTime,
+    most: Option<usize>,
+}
+
+impl ReadResults for ReadAnswers<'_> {
+    ghost use Rattle.std.specs.Prelude.{◌≤◌, ◌++◌, length};
+    ghost use Rattle.ua_builtin.specs.Number.{number_octets};
+    ghost use Rattle.ua_nodes.specs.Read.{answer_octets};
+    ghost use Rattle.ua_nodes.specs.Sound.{IsSound};
+    ghost use Rattle.ua_nodes.specs.Within.{IsWithin};
+    ghost use Rattle.ua_server.specs.Attributes.{most_items};
+
+    ghost writable = { λ a. IsSound a.nodes.now × (length a.items.now ≤ most_items) };
+
+    ghost adds = { λ a old new. IsWithin a.most (answer_octets a.nodes.now a.stamps a.moment) a.items.now (old ++ number_octets 4 (length a.items.now)) new };
+
+    fn append_results(&self, out: &mut Vec<u8>) -> Result<(), AllocError> {
+        (self.items.len() as u32).append(out)?;
+        self.nodes.append_items(
+            self.alloc,
+            self.items,
+            self.stamps,
+            self.moment,
+            self.most,
+            out,
+        )
+    }
 }
 
 /// Before a session is activated no value is taken, whatever the nodes are: a Write is refused.
@@ -178,11 +211,17 @@ impl Services {
         let stamps = Stamps::of_number(request.timestamps_to_return).unwrap_or(Stamps::Neither);
         let items = request.nodes_to_read.as_items().unwrap_or(&[]);
         let header = good_header(moment, request.request_header.request_handle);
+        let answers = ReadAnswers {
+            alloc,
+            nodes: &self.nodes,
+            items,
+            stamps,
+            moment,
+            most,
+        };
         let mut body = empty_body(alloc);
-        append_front(&header, items.len() as u32, &mut body)?;
-        self.nodes
-            .append_items(alloc, items, stamps, moment, most, &mut body)?;
-        NULL_COUNT.append(&mut body)?;
+        append_front(&mut body)?;
+        append_read_response(&header, &answers, &UaArray::null(), &mut body)?;
         Ok(body)
     }
 

@@ -1,10 +1,9 @@
 //! Serving a line.
 
 ghost use Rattle.std.specs.Prelude.{◌≡◌, ◌<◌, ℕ, List, [], IfOk, length};
-ghost use Rattle.ua_channel.specs.Line.{IfTrafficKnown};
 ghost use Rattle.ua_server.specs.Happening.{WasTold};
 ghost use Rattle.ua_server.specs.Serving.{Serves, ServesTelling, LineFailed};
-ghost use Rattle.ua_server.specs.ServingParts.{StopsWithin, Wrote, most_at_once, write_failures};
+ghost use Rattle.ua_server.specs.ServingParts.{most_at_once};
 ghost use Rattle.ua_server.specs.State.{begun};
 
 use crate::serve_fault::ServeFault;
@@ -14,7 +13,7 @@ use crate::step::{End, Step, StepFault};
 use crate::watch::{Unwatched, Watch, tell};
 use std::alloc::{AllocError, Global};
 use ua_builtin::DateTime;
-use ua_channel::{Line, Moments};
+use ua_channel::{Line, Moments, write_whole};
 use ua_frame::Limits;
 
 /// The most octets that are read at once.
@@ -78,22 +77,6 @@ fn piece(alloc: Global) -> Result<Vec<u8>, AllocError>
     let mut buffer = Vec::new(alloc);
     buffer.resize(PIECE, 0)?;
     Ok(buffer)
-}
-
-/// Writes octets whole. Where the line fails it says behind how many of them.
-fn write_whole<L: Line>(line: &mut L, octets: &[u8]) -> Result<(), usize>
-    ensures within { StopsWithin octets.now result }
-    ensures wrote { IfTrafficKnown (Wrote octets.now result) (L.traffic line.old) (L.traffic line.new) }
-    ensures failed { L.failures line.new ≡ write_failures result (L.failures line.old) }
-{
-    let mut written = 0;
-    while written < octets.len() {
-        match line.write(&octets[written..]) {
-            Ok(n) => written += n,
-            Err(_) => return Err(written),
-        }
-    }
-    Ok(())
 }
 
 /// A connection that is served, as far as it has come.

@@ -1,6 +1,7 @@
 pub mod Attribute
 pub mod Discovery
 pub mod Plain
+pub mod Results
 pub mod Session
 pub mod Thin
 pub mod WrittenBack

@@ -1,11 +1,14 @@
 //! Reading and writing attributes.
 
-ghost use Rattle.std.specs.Prelude.{◌≡◌, ◌<◌, ◌≤◌, ◌∷◌, [], length, IsTrue, IfOk};
+ghost use Rattle.std.specs.Prelude.{◌≡◌, ◌<◌, ◌≤◌, ◌∷◌, [], length, IsTrue, IfOk, OnOk, OnErr};
 ghost use Rattle.std.specs.List.{list_all};
 ghost use Rattle.ua_builtin.specs.Counted.{first_negative};
 ghost use Rattle.ua_builtin.specs.NodeId.{node_id as node_format};
 ghost use Rattle.ua_builtin.specs.Status.{status_code};
-ghost use Rattle.ua_variant.specs.Formats.{data_value_format};
+ghost use Rattle.ua_builtin.specs.Format.{Extends};
+ghost use Rattle.ua_opening.specs.Array.{array};
+ghost use Rattle.ua_variant.specs.Formats.{data_value_format, diagnostic_format};
+ghost use Rattle.ua_structures.specs.Results.{AddsResponse};
 ghost use Rattle.ua_structures.specs.Attribute.{read_value_id, read_request, read_response, write_value, write_request, write_response};
 ghost use Rattle.ua_opening.specs.Header.{request_header as header_format, response_header as answer_format};
 ghost use Rattle.ua_structures.specs.Plain.{empty_read, empty_read_response, value_of_node, value_for_node, read_of, write_of, values_of, statuses_of};
@@ -302,8 +305,64 @@ impl Wire for ReadResponse {
     }
 
     fn append(&self, out: &mut Vec<u8>) -> Result<(), AllocError> {
-        append_fields!(self, out => response_header, results, diagnostic_infos)
+        append_read_response(
+            &self.response_header,
+            &self.results,
+            &self.diagnostic_infos,
+            out,
+        )
     }
+}
+
+/// Values that answer the items of a Read: held, or made one by one as they are written.
+pub trait ReadResults {
+    ghost use Rattle.std.specs.Prelude.{ℕ, List, OnOk};
+    ghost use Rattle.ua_builtin.specs.Format.{Extends};
+
+    /// They can be written.
+    ghost writable: { Self → Type 0 };
+
+    /// What they add: the octets behind which they are written, and those that stand there then.
+    ghost adds: { Self → List ℕ → List ℕ → Type 0 };
+
+    /// Adds them at the end, as an array of DataValues is encoded (OPC 10000-6, 5.2.5). What was there stays,
+    /// also behind an error.
+    fn append_results(&self, out: &mut Vec<u8>) -> Result<(), AllocError>
+        requires { writable self.now }
+        ensures ok { OnOk result (adds self.now out.old.items out.new.items) }
+        ensures behind { Extends out.old.items out.new.items };
+}
+
+/// An array that is held.
+impl ReadResults for UaArray<DataValue> {
+    ghost use Rattle.ua_structures.specs.Results.{AddsArray, IsWritableArray};
+
+    ghost writable = { IsWritableArray };
+
+    ghost adds = { AddsArray };
+
+    fn append_results(&self, out: &mut Vec<u8>) -> Result<(), AllocError> {
+        self.append(out)
+    }
+}
+
+/// Adds the fields of a ReadResponse at the end, in their order (OPC 10000-4, 5.11.2). An error leaves what
+/// was there, and perhaps octets behind it.
+pub fn append_read_response<R: ReadResults>(
+    response_header: &ResponseHeader,
+    results: &R,
+    diagnostic_infos: &UaArray<DiagnosticInfo>,
+    out: &mut Vec<u8>,
+) -> Result<(), AllocError>
+    requires header { IsTrue (answer_format.encodable response_header.now) }
+    requires results { R.writable results.now }
+    requires diagnostics { IsTrue ((array diagnostic_format).encodable diagnostic_infos.now) }
+    ensures ok { OnOk result (AddsResponse (R.adds results.now) response_header.now diagnostic_infos.now out.old.items out.new.items) }
+    ensures err { OnErr result (Extends out.old.items out.new.items) }
+{
+    response_header.append(out)?;
+    results.append_results(out)?;
+    diagnostic_infos.append(out)
 }
 
 /// What is to be written: a value for an attribute of a node (OPC 10000-4, 5.11.4).

@@ -25,7 +25,8 @@ mod signature;
 mod thin;
 
 pub use attribute::{
-    ReadRequest, ReadResponse, ReadValueId, VALUE_ATTRIBUTE, WriteRequest, WriteResponse, WriteValue,
+    ReadRequest, ReadResponse, ReadResults, ReadValueId, VALUE_ATTRIBUTE, WriteRequest,
+    WriteResponse, WriteValue, append_read_response,
 };
 pub use discovery::{
     ApplicationDescription, EndpointDescription, GetEndpointsRequest, GetEndpointsResponse,

@@ -19,6 +19,14 @@ fits_at (Some w) f v is h =
 pub valued_fits : (d : DataValue) (v : VariantData) → d.value ≡ Some v → data_value_fits (data_value_of d) ≡ true → variant_fits v ≡ true
 valued_fits d v is h = fits_at d.value (data_fields_of d) v is h
 
+-- the fields of a DataValue that fits
+fields_at : (o : Option VariantData) (f : DataFields) → data_value_fits (value_within o f) ≡ true → data_fields_encodable f ≡ true
+fields_at None f h = h
+fields_at (Some w) f h = (both_true (data_fields_encodable f) (variant_fits w) h).0
+
+pub fields_fit : (d : DataValue) → data_value_fits (data_value_of d) ≡ true → data_fields_encodable (data_fields_of d) ≡ true
+fields_fit d h = fields_at d.value (data_fields_of d) h
+
 counts_at : (o : Option VariantData) (f : DataFields) (v : VariantData) → o ≡ Some v → variant_count v < data_value_count (value_within o f)
 counts_at None f v is = absurd cc
 counts_at (Some w) f v is =

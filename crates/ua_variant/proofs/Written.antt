@@ -4,7 +4,7 @@ use lib.IntN.{ℤ}
 use Rattle.std.proofs.lemmas.Grind.{common_steps}
 use Rattle.ua_wire.specs.Format.{most_levels}
 use Rattle.ua_wire.proofs.Readers.{both_true}
-use Rattle.ua_variant.specs.Data.{DataFields, VariantData, DataValueData, ScalarData, ScalarsData, many}
+use Rattle.ua_variant.specs.Data.{DataFields, VariantData, DataValueData, ScalarData, ScalarsData, many, valued}
 use Rattle.ua_variant.specs.View.{scalar_of, row}
 use Rattle.std.specs.Prelude.{leb}
 use Rattle.ua_builtin.specs.DateTime.{date_time}
@@ -47,6 +47,10 @@ variant_fits_of v h = (both_true (leb (variant_depth v) most_levels) (variant_fi
 
 pub data_value_fits_of : (d : DataValueData) → IsTrue (data_value_encodable d) → data_value_fits d ≡ true
 data_value_fits_of d h = (both_true (leb (data_value_depth d) most_levels) (data_value_fits d) h).1
+
+-- a value and the fields beside it
+pub valued_parts : (v : VariantData) (f : DataFields) → data_value_encodable (valued v f) ≡ true → (data_fields_encodable f ≡ true) × (variant_fits v ≡ true)
+valued_parts v f h = both_true (data_fields_encodable f) (variant_fits v) (both_true (leb (data_value_depth (valued v f)) most_levels) (data_value_fits (valued v f)) h).1
 
 -- each of the fields can be written
 pub data_fields_parts : (f : DataFields) → data_fields_encodable f ≡ true

@@ -1,8 +1,15 @@
 //! How octets encode Variants and DataValues.
 
+ghost use Rattle.std.specs.Prelude.{◌≡◌, ◌++◌, true, OnOk, OnErr};
+ghost use Rattle.ua_builtin.specs.Format.{Extends};
+ghost use Rattle.ua_variant.specs.Canonical.{data_value_canonical};
+ghost use Rattle.ua_variant.specs.Data.{valued};
+ghost use Rattle.ua_variant.specs.Encodable.{data_value_encodable};
+ghost use Rattle.ua_variant.specs.View.{data_fields_of, variant_of};
+
 use crate::read::{read_data_value, read_variant};
 use crate::values::{DataValue, Variant};
-use crate::write::{append_data_value, append_variant};
+use crate::write::{append_data_value, append_valued, append_variant};
 use std::alloc::{AllocError, Global};
 use ua_builtin::{ReadFault, Source, Wire};
 
@@ -64,5 +71,19 @@ impl Wire for DataValue {
     #[tactic(auto, using(crate::proofs::Written::data_value_fits_of), unfolding(crate::specs::Formats::data_value_format))]
     fn append(&self, out: &mut Vec<u8>) -> Result<(), AllocError> {
         append_data_value(self, out)
+    }
+}
+
+impl DataValue {
+    /// Adds the canonical encoding of a DataValue that has this value, and the status and the times of this one: a value is
+    /// written from where it stands. An error leaves what was there, and perhaps octets behind it.
+    #[inline]
+    #[tactic(auto, using(crate::proofs::Written::valued_parts))]
+    pub fn append_beside(&self, value: &Variant, out: &mut Vec<u8>) -> Result<(), AllocError>
+        requires { data_value_encodable (valued (variant_of value.now) (data_fields_of self.now)) ≡ true }
+        ensures ok { OnOk result (out.new.items ≡ out.old.items ++ data_value_canonical (valued (variant_of value.now) (data_fields_of self.now))) }
+        ensures err { OnErr result (Extends out.old.items out.new.items) }
+    {
+        append_valued(value, self, out)
     }
 }

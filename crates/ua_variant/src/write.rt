@@ -4,7 +4,7 @@ ghost use Rattle.std.specs.Prelude.{◌≡◌, ◌<◌, ◌≤◌, ◌++◌, tru
 ghost use Rattle.ua_builtin.specs.Counted.{first_negative};
 ghost use Rattle.ua_builtin.specs.Format.{Extends};
 ghost use Rattle.ua_diagnostic.specs.Dimensions.{dims_encodable, has_dims};
-ghost use Rattle.ua_variant.specs.Data.{many};
+ghost use Rattle.ua_variant.specs.Data.{many, valued};
 ghost use Rattle.ua_variant.specs.Canonical.{data_fields_canonical, variant_canonical, scalar_canonical, row_canonical, data_value_canonical};
 ghost use Rattle.ua_variant.specs.Encoding.{array_octet};
 ghost use Rattle.ua_variant.specs.Fields.{data_flags};
@@ -226,17 +226,30 @@ pub fn append_data_value(value: &DataValue, out: &mut Vec<u8>) -> Result<(), All
     ensures ok { OnOk result (out.new.items ≡ out.old.items ++ data_value_canonical (data_value_of value.now)) }
     ensures err { OnErr result (Extends out.old.items out.new.items) }
 {
-    let mask = data_mask(value);
     match &value.value {
         None => {
-            out.push(mask)?;
-            append_data_fields(value, out)?;
+            out.push(data_mask(value))?;
+            append_data_fields(value, out)
         }
-        Some(v) => {
-            out.push(mask + masks::VALUE)?;
-            append_variant(v.get(), out)?;
-            append_data_fields(value, out)?;
-        }
+        Some(v) => append_valued(v.get(), value, out),
     }
-    Ok(())
+}
+
+/// Adds the canonical encoding of a DataValue of this value that can be written, its depth apart, with the
+/// status and the times of another DataValue.
+#[cycle(appends)]
+#[inline(always)]
+pub fn append_valued(
+    value: &Variant,
+    beside: &DataValue,
+    out: &mut Vec<u8>,
+) -> Result<(), AllocError>
+    requires fields { data_fields_encodable (data_fields_of beside.now) ≡ true }
+    requires value { variant_fits (variant_of value.now) ≡ true }
+    ensures ok { OnOk result (out.new.items ≡ out.old.items ++ data_value_canonical (valued (variant_of value.now) (data_fields_of beside.now))) }
+    ensures err { OnErr result (Extends out.old.items out.new.items) }
+{
+    out.push(data_mask(beside) + masks::VALUE)?;
+    append_variant(value, out)?;
+    append_data_fields(beside, out)
 }

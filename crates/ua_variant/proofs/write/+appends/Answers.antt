@@ -5,7 +5,7 @@ use Rattle.ua_variant.proofs.Rows.{count_below}
 use Rattle.ua_variant.proofs.Fits.{fits_within}
 use Rattle.ua_variant.specs.Measure.{variant_count}
 use Rattle.ua_variant.specs.Encodable.{variant_fits}
-use Rattle.ua_variant.proofs.Valued.{valued_fits, valued_counts}
+use Rattle.ua_variant.proofs.Valued.{fields_fit, valued_fits, valued_counts}
 use Rattle.ua_variant.proofs.Written.{row_after}
 use Rattle.ua_variant.proofs.write.+appends.Goals as goal
 
@@ -20,8 +20,8 @@ append_row-loop-s-preserved t c =
     c.in_ok-append_scalar.ensures.ok ∙ ap (λ xs. xs ++ scalar_canonical (scalar_of c.s-item.result)) c.loop-s.invariant
     ∙ row_after c.args.out.now.items c.deref-s-items.result.now c.loop-s.s-index c.s-item.result (omega arith) c.s-item.is
 
-pub append_data_value-append_variant-requires : goal.append_data_value-append_variant-requires
-append_data_value-append_variant-requires t c = (
+pub append_data_value-append_valued-requires : goal.append_data_value-append_valued-requires
+append_data_value-append_valued-requires t c = (
   omega (arith, valued_counts c.args.value.now c.in-Some.v c.in-Some.is, ap variant_count c.get.ensures),
-  ap variant_fits c.get.ensures ∙ valued_fits c.args.value.now c.in-Some.v c.in-Some.is c.requires,
+  (fields_fit c.args.value.now c.requires, ap variant_fits c.get.ensures ∙ valued_fits c.args.value.now c.in-Some.v c.in-Some.is c.requires),
 )

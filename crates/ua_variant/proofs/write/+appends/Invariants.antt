@@ -27,3 +27,6 @@ invariant-append_row-loop-s l = l.out.items ≡ l.fn.out.items ++ row_canonical 
 
 abbrev pub decreases-append_array : goal.decreases-append_array
 decreases-append_array l = 5 * scalars_count (row l.items.now) + 4
+
+abbrev pub decreases-append_valued : goal.decreases-append_valued
+decreases-append_valued l = 5 * variant_count (variant_of l.value.now) + 1

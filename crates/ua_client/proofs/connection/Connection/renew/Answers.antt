@@ -16,7 +16,7 @@ returns-in_default-clause-renews g c =
     renews-unwritten c.args.moment c.args.self.now mid mid c.in-Ok.asked.0 c.deref.result.now
     (asks-as c.args.moment c.args.self.now.channel c.renew.new.self c.in-Ok.asked.0 c.in-Ok.asked.1.items c.deref.result.now c.deref.ensures.value
     (record { refused = c.in-Ok.ensures.answers; sends = c.in-Ok.ensures.sent; stands = c.in-Ok.ensures.stands; same = c.in-Ok.ensures.same })) refl
-    (g.L.Line.traffic c.args.line.now) (g.L.Line.traffic c.args.line.now) (g.L.Line.traffic c.write_whole.new.line)
+    (g.L.Line.traffic c.args.line.now) (g.L.Line.traffic c.args.line.now) (g.L.Line.traffic c.send_whole.new.line)
     c.requires.settled (λ s at. c.clients_are_settled.ensures.idle c.args.self.now.channel s c.requires.settled at) refl c.in_default.ensures.some c.in_default.ensures.written
 
 pub returns-clause-renews : goal.returns-clause-renews
@@ -25,8 +25,8 @@ returns-clause-renews g c =
     renews-last c.args.moment c.args.self.now mid c.wait_until_renewed.new.self c.in-Ok.asked.0 c.deref.result.now
     (asks-as c.args.moment c.args.self.now.channel c.renew.new.self c.in-Ok.asked.0 c.in-Ok.asked.1.items c.deref.result.now c.deref.ensures.value
     (record { refused = c.in-Ok.ensures.answers; sends = c.in-Ok.ensures.sent; stands = c.in-Ok.ensures.stands; same = c.in-Ok.ensures.same })) refl
-    (g.L.Line.traffic c.args.line.now) (g.L.Line.traffic c.write_whole.new.line) (g.L.Line.traffic c.wait_until_renewed.new.line)
-    c.requires.settled (λ s at. c.clients_are_settled.ensures.idle c.args.self.now.channel s c.requires.settled at) c.client_goes_on.ensures c.wait_until_renewed.new.reads c.in-Ok-write_whole.ensures.written
+    (g.L.Line.traffic c.args.line.now) (g.L.Line.traffic c.send_whole.new.line) (g.L.Line.traffic c.wait_until_renewed.new.line)
+    c.requires.settled (λ s at. c.clients_are_settled.ensures.idle c.args.self.now.channel s c.requires.settled at) c.client_goes_on.ensures c.wait_until_renewed.new.reads c.in-Ok-send_whole.ensures.written
     c.wait_until_renewed.result c.wait_until_renewed.ensures.waits
 
 pub returns-clause-unchanged : goal.returns-clause-unchanged

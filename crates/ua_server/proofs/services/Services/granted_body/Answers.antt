@@ -1,16 +1,22 @@
 use Rattle.std.proofs.Common.{rules, ◌≡◌, ◌<◌, ℕ, List, ◌++◌, length, sym, subst}
-use Rattle.ua_builtin.specs.Counted.{null_count}
-use Rattle.ua_builtin.specs.Number.{number_octets}
+use Rattle.ua_builtin.specs.NodeId.{node_id}
 use Rattle.ua_nodes.specs.Read.{answer_octets}
 use Rattle.ua_nodes.specs.Within.{IsWithin}
+use Rattle.ua_builtin.specs.Number.{number_octets}
+use Rattle.ua_opening.specs.Message.{standard}
 use Rattle.ua_services.specs.Response.{response}
 use Rattle.ua_services.specs.declared.response.Response.{Response}
 use Rattle.ua_services.specs.declared.response.Response.TheVariants.{Read as ReadMessage}
 use Rattle.ua_structures.specs.Plain.{values_of}
+use Rattle.ua_structures.specs.Results.{AddsResponse}
+use Rattle.ua_variant.specs.Formats.{diagnostic_format}
 use Rattle.ua_server.specs.Attributes.{read_answers, values_given}
 use Rattle.ua_server.specs.Reply.{IsBodyWithin}
-use Rattle.ua_server.proofs.ReadBody.{front, written_within, written_some}
+use Rattle.ua_server.proofs.ReadBody.{null_fits, written_parts, written_within, written_some}
 use Rattle.ua_server.proofs.services.Services.granted_body.Goals as goal
+
+pub append_read_response-requires-clause-diagnostics : goal.append_read_response-requires-clause-diagnostics
+append_read_response-requires-clause-diagnostics c = null_fits diagnostic_format c.null.result c.null.ensures
 
 pub returns-clause-body : goal.returns-clause-body
 returns-clause-body c =
@@ -18,15 +24,24 @@ returns-clause-body c =
     let stamps = c.unwrap_or-stamps.result in
     let items = c.unwrap_or-items.result.now in
     let nodes = c.self.inside.nodes in
-    let begun : c.append_front.new.out.items ≡ front header (length items) = search rules in
-    let results : IsWithin c.args.most (answer_octets nodes stamps c.args.moment) items (front header (length items)) c.append_items.new.out.items =
-    subst (λ (b : List ℕ). IsWithin c.args.most (answer_octets nodes stamps c.args.moment) items b c.append_items.new.out.items) begun c.in_ok-append_items.ensures.ok in
-    let body : c.append.new.out.items ≡ c.append_items.new.out.items ++ number_octets 4 null_count = search rules in
+    let id : c.append_front.new.out.items ≡ node_id.canonical (standard 634) = search rules in
+    let adds =
+    subst (λ d. AddsResponse (λ old new. IsWithin c.args.most (answer_octets nodes stamps c.args.moment) items (old ++ number_octets 4 (length items)) new) header d c.append_front.new.out.items c.append_read_response.new.out.items)
+    c.null.ensures c.in_ok-append_read_response.ensures.ok in
+    let parts = written_parts c.args.most header nodes items stamps c.args.moment c.append_front.new.out.items c.append_read_response.new.out.items id adds in
     let given : values_given c.args.self.now c.args.moment c.args.request.now ≡ ReadMessage (values_of header (read_answers nodes items stamps c.args.moment)) = search rules in
-    subst (λ (r : Response). IsBodyWithin c.args.most (response.canonical r) c.append.new.out.items) (sym given)
-    (written_within c.args.most header nodes items stamps c.args.moment c.append_items.new.out.items c.append.new.out.items results body)
+    subst (λ (r : Response). IsBodyWithin c.args.most (response.canonical r) c.append_read_response.new.out.items) (sym given)
+    (written_within c.args.most header nodes items stamps c.args.moment parts.0 c.append_read_response.new.out.items parts.1 parts.2)
 
 pub returns-clause-some : goal.returns-clause-some
 returns-clause-some c =
-    let body : c.append.new.out.items ≡ c.append_items.new.out.items ++ number_octets 4 null_count = search rules in
-    subst (λ (b : List ℕ). 0 < length b) (sym body) (written_some c.append_items.new.out.items)
+    let header = c.good_header-header.result in
+    let stamps = c.unwrap_or-stamps.result in
+    let nodes = c.self.inside.nodes in
+    let items = c.unwrap_or-items.result.now in
+    let id : c.append_front.new.out.items ≡ node_id.canonical (standard 634) = search rules in
+    let adds =
+    subst (λ d. AddsResponse (λ old new. IsWithin c.args.most (answer_octets nodes stamps c.args.moment) items (old ++ number_octets 4 (length items)) new) header d c.append_front.new.out.items c.append_read_response.new.out.items)
+    c.null.ensures c.in_ok-append_read_response.ensures.ok in
+    let parts = written_parts c.args.most header nodes items stamps c.args.moment c.append_front.new.out.items c.append_read_response.new.out.items id adds in
+    subst (λ (b : List ℕ). 0 < length b) (sym parts.2) (written_some parts.0)

@@ -4,7 +4,7 @@ use Rattle.ua_server.specs.Serving.{LineFailed}
 use Rattle.ua_server.specs.declared.step.End.{End}
 use Rattle.ua_server.proofs.Handling.{handled-nothing, handled-more, handled-end, handled-fault, handled-all, turns-fewer}
 use Rattle.ua_server.proofs.Happened.{told-none, told-more}
-use Rattle.ua_server.proofs.Passing.{within-piece}
+use Rattle.ua_channel.proofs.Moving.{within-piece}
 use Rattle.ua_server.proofs.serving.Serving.handle.Goals as goal
 
 pub loop-taken-init : goal.loop-taken-init

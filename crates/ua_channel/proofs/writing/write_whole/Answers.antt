@@ -1,7 +1,6 @@
 use Rattle.std.proofs.Common.{arith, ◌∙◌, refl}
-use Rattle.ua_server.proofs.Exchanges.{told-nothing, wrote-more}
-use Rattle.ua_server.proofs.Passing.{within-piece}
-use Rattle.ua_server.proofs.serving.write_whole.Goals as goal
+use Rattle.ua_channel.proofs.Moving.{told-nothing, within-piece, wrote-more}
+use Rattle.ua_channel.proofs.writing.write_whole.Goals as goal
 
 pub loop-written-init : goal.loop-written-init
 loop-written-init g c = record { within = omega arith; moved = told-nothing (g.L.Line.traffic c.args.line.now); same = refl }

@@ -1,7 +1,6 @@
 use Rattle.std.proofs.Common.{◌≡◌, ◌≤◌, ◌-◌, [], take, length}
-use Rattle.ua_channel.specs.Line.{IfTrafficKnown}
-use Rattle.ua_server.specs.Serving.{MovesTraffic}
-use Rattle.ua_server.proofs.serving.write_whole.Given as goal
+use Rattle.ua_channel.specs.Line.{IfTrafficKnown, MovesTraffic}
+use Rattle.ua_channel.proofs.writing.write_whole.Given as goal
 
 abbrev pub invariant-loop-written : goal.invariant-loop-written
 invariant-loop-written g l = record {
