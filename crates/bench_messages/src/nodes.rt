@@ -4,8 +4,9 @@ use crate::fault::Fault;
 use crate::given::{Given, MOMENT, request_of};
 use std::alloc::Global;
 use std::str;
-use ua_nodes::{NodeTable, Stamps};
+use ua_nodes::{NodeTable, Reading, Stamps};
 use ua_services::{ReadValueId, Request};
+use ua_variant::{Scalar, Variant};
 
 /// Loads a node file so many times, and lets the table go; how many octets it went over.
 pub fn load_nodes(alloc: Global, octets: &[u8], times: u32) -> Result<u64, Fault> {
@@ -47,6 +48,42 @@ pub fn read_items(alloc: Global, given: &Given, times: u32) -> Result<u64, Fault
     let mut sum = 0u64;
     for _ in 0..times {
         sum = sum.wrapping_add(read_each(alloc, &table, items)?);
+    }
+    Ok(sum)
+}
+
+/// Sets an Int32 of each node that items name; how many were set.
+fn set_each(table: &mut NodeTable, items: &[ReadValueId], value: i32) -> Result<u64, Fault> {
+    let mut sum = 0u64;
+    for item in items {
+        let reading = Reading {
+            value: Variant::One(Scalar::Int32(value)),
+            status: None,
+            source_time: MOMENT,
+            source_picoseconds: None,
+        };
+        match table.set(&item.node_id, reading) {
+            Ok(()) => sum = sum.wrapping_add(1),
+            Err(_) => return Err(Fault::Value),
+        }
+    }
+    Ok(sum)
+}
+
+/// Sets the nodes that the items of a Read name so many times, in the table of a node file; how many were
+/// set.
+pub fn set_items(alloc: Global, given: &Given, times: u32) -> Result<u64, Fault> {
+    let Ok(mut table) = NodeTable::load(alloc, given.text()?) else {
+        return Err(Fault::Value);
+    };
+    let request = request_of(alloc, given.octets())?;
+    let Request::Read(read) = &request else {
+        return Err(Fault::Value);
+    };
+    let items = read.nodes_to_read.as_items().unwrap_or(&[]);
+    let mut sum = 0u64;
+    for _ in 0..times {
+        sum = sum.wrapping_add(set_each(&mut table, items, 7)?);
     }
     Ok(sum)
 }

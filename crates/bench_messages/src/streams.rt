@@ -9,7 +9,7 @@ use ua_channel::{ServerChannel, ServerEvent};
 use ua_frame::{FrameReader, Gate, Kind};
 use ua_nodes::NodeTable;
 use ua_pair::{DissectOptions, Dissector, Side};
-use ua_server::{Endpoint, Server, Services};
+use ua_server::{Connection, Endpoint, Server, Services};
 
 /// The most octets of a piece.
 const PIECE: usize = 4096;
@@ -164,6 +164,32 @@ impl Takes for Serving {
     }
 }
 
+/// One of several connections, and the services that they share.
+#[derive(Drop)]
+struct Sharing {
+    connection: Connection,
+    services: Services,
+    count: u64,
+}
+
+impl Takes for Sharing {
+    fn take_front(&mut self, piece: &[u8]) -> Result<usize, Fault> {
+        match self.connection.step(&mut self.services, piece, MOMENT) {
+            Ok(step) => {
+                if !step.out.is_empty() {
+                    self.count = self.count.wrapping_add(1);
+                }
+                Ok(step.taken)
+            }
+            Err(_) => Err(Fault::Value),
+        }
+    }
+
+    fn count(&self) -> u64 {
+        self.count
+    }
+}
+
 /// The services over the nodes of a node file.
 fn services(alloc: Global, nodes: &str) -> Result<Services, Fault> {
     let Ok(nodes) = NodeTable::load(alloc, nodes) else {
@@ -193,6 +219,17 @@ pub fn answer_messages(alloc: Global, given: &Given, times: u32) -> Result<u64, 
     };
     take_pieces(&mut serving, given.octets(), times as u64)?;
     Ok(serving.count)
+}
+
+/// The same by one of several connections; how many answers there were.
+pub fn answer_among(alloc: Global, given: &Given, times: u32) -> Result<u64, Fault> {
+    let mut sharing = Sharing {
+        connection: Connection::new(alloc, limits()?, CHANNEL),
+        services: services(alloc, given.text()?)?,
+        count: 0,
+    };
+    take_pieces(&mut sharing, given.octets(), times as u64)?;
+    Ok(sharing.count)
 }
 
 /// Dissects what a client sent so many times; how many octets the lines have.

@@ -4,8 +4,8 @@ use crate::bodies::{cut_bodies, read_requests, read_responses, write_requests, w
 use crate::calls::{call, call_groups};
 use crate::fault::Fault;
 use crate::given::Given;
-use crate::nodes::{load_nodes, read_items};
-use crate::streams::{answer_messages, dissect_octets, read_frames, take_messages};
+use crate::nodes::{load_nodes, read_items, set_items};
+use crate::streams::{answer_among, answer_messages, dissect_octets, read_frames, take_messages};
 use std::alloc::Global;
 use ua_builtin::{MOST_LEVELS, Octets, Source, Wire};
 use ua_services::{ReadRequest, ReadResponse};
@@ -35,6 +35,8 @@ pub enum Work {
     Load,
     /// Reads the items of a Read from the nodes of a node file.
     ReadItem,
+    /// Sets the nodes that the items of a Read name.
+    Set,
     /// Cuts a body into chunks.
     Cut,
     /// Reads frames.
@@ -43,6 +45,8 @@ pub enum Work {
     Channel,
     /// Answers messages.
     Step,
+    /// Answers messages as one of several connections.
+    Connection,
     /// Calls a request, one at a time.
     Call,
     /// Calls requests in groups of 64.
@@ -68,10 +72,12 @@ impl Work {
             "write-request-body" => Some(Work::WriteRequestBody),
             "load" => Some(Work::Load),
             "read-item" => Some(Work::ReadItem),
+            "set" => Some(Work::Set),
             "cut" => Some(Work::Cut),
             "frames" => Some(Work::Frames),
             "channel" => Some(Work::Channel),
             "step" => Some(Work::Step),
+            "connection" => Some(Work::Connection),
             "call" => Some(Work::Call),
             "call-all" => Some(Work::CallAll),
             "dissect" => Some(Work::Dissect),
@@ -97,10 +103,12 @@ impl Work {
             Work::WriteRequestBody => write_requests(alloc, octets, times),
             Work::Load => load_nodes(alloc, octets, times),
             Work::ReadItem => read_items(alloc, given, times),
+            Work::Set => set_items(alloc, given, times),
             Work::Cut => cut_bodies(alloc, octets, times),
             Work::Frames => read_frames(alloc, octets, times),
             Work::Channel => take_messages(alloc, octets, times),
             Work::Step => answer_messages(alloc, given, times),
+            Work::Connection => answer_among(alloc, given, times),
             Work::Call => call(alloc, given, times),
             Work::CallAll => call_groups(alloc, given, times),
             Work::Dissect => dissect_octets(alloc, octets, times),

@@ -1,2 +1,3 @@
 pub mod Talk
 pub mod Serve
+pub mod Application

@@ -3,6 +3,7 @@
 //! over a line, octets that a server serves.
 #![tactic(auto)]
 
+mod application;
 mod requests;
 mod serve;
 mod stream;
@@ -10,6 +11,7 @@ mod tables;
 mod talk;
 mod values;
 
+pub use application::{Pulse, SensorFault, serve_pulse, set_and_step, step_both, take_setpoints};
 pub use requests::take_request;
 pub use serve::{serve_connection, serve_octets};
 pub use stream::take_frames;

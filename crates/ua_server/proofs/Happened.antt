@@ -4,7 +4,7 @@ use Rattle.std.proofs.Common.{refl, sym, ◌∙◌, ap, subst}
 use Rattle.std.proofs.lemmas.List.{map-append}
 use Rattle.ua_builtin.specs.declared.date_time.DateTime.{DateTime}
 use Rattle.ua_frame.specs.declared.limits.Limits.{Limits}
-use Rattle.ua_channel.specs.Line.{Traffic, IfTrafficKnown}
+use Rattle.ua_channel.specs.Line.{Traffic}
 use Rattle.ua_channel.specs.Moments.{Gives}
 use Rattle.ua_channel.specs.Received.{listed}
 use Rattle.ua_server.specs.Happening.{Event, Given, Noted, ticks_in, noted_in, Leads, Happens, IsTold, WasTold}

@@ -1,5 +1,5 @@
 -- Where a server stands over the events of a connection, by each change and each step.
-use Rattle.std.specs.Prelude.{◌≡◌, ℕ, ◌+◌, List, [], ◌∷◌, ◌++◌, length, take, Option, None, Some, Result, Ok, Err, IfOk}
+use Rattle.std.specs.Prelude.{◌≡◌, ℕ, List, [], ◌∷◌, ◌++◌, length, take, Option, None, Some, Result, Ok, Err}
 use Rattle.std.specs.List.{flat_map}
 use Rattle.std.proofs.Common.{refl, sym, ◌∙◌, ap, subst, inl, inr, append_assoc, append-nil, arith}
 use Rattle.ua_builtin.specs.declared.date_time.DateTime.{DateTime}
@@ -64,7 +64,7 @@ agreement-after channel c (Heard (GaveUp id) m ∷ hs) = agreement-after channel
 agreement-after channel c (Heard Closed m ∷ hs) = agreement-after channel (event_answer channel c (Heard Closed m)).1 hs
 agreement-after channel c (Became nodes made ∷ hs) = agreement-after channel (event_answer channel c (Became nodes made)).1 hs
 
-course-after : (x : ServerChannel) (octets : List ℕ) (hs : List ConnectionEvent) (first now : State) → StandsOver x octets hs first now
+pub course-after : (x : ServerChannel) (octets : List ℕ) (hs : List ConnectionEvent) (first now : State) → StandsOver x octets hs first now
     → course_over (channel_of x) (start first []) hs ≡ course now (next_of x) [] (agreed_by (told_in hs))
 course-after x octets hs first now s =
     same-course (course_over (channel_of x) (start first []) hs) now (next_of x) [] (agreed_by (told_in hs)) s.state_is s.number_is (moments-after (channel_of x) (start first []) hs refl) (agreement-after (channel_of x) (start first []) hs)
@@ -120,14 +120,14 @@ one-number channel s n a moment new octets piece k out told (t ∷ []) h = refl
 one-number channel s n a moment new octets piece k out told (t ∷ (u ∷ more)) h = absurd h
 
 -- behind what a server stands after, messages were given up, and then frames told more
-course-behind : (x : ServerChannel) (octets : List ℕ) (hs : List ConnectionEvent) (first before : State) (moment : DateTime) (ids : List ℕ) (more : List Told) → StandsOver x octets hs first before
+pub course-behind : (x : ServerChannel) (octets : List ℕ) (hs : List ConnectionEvent) (first before : State) (moment : DateTime) (ids : List ℕ) (more : List Told) → StandsOver x octets hs first before
     → course_over (channel_of x) (start first []) (hs ++ heard_at moment (given_up ids ++ more)) ≡ course_over (channel_of x) (course before (next_of x) [] (agreed_by (told_in hs))) (heard_at moment more)
 course-behind x octets hs first before moment ids more s =
     course_over-append (channel_of x) (start first []) hs (heard_at moment (given_up ids ++ more))
     ∙ (ap (λ (c : Course). course_over (channel_of x) c (heard_at moment (given_up ids ++ more))) (course-after x octets hs first before s)
     ∙ quiet-after (channel_of x) before (next_of x) (agreed_by (told_in hs)) moment ids more)
 
-output-behind : (x : ServerChannel) (octets : List ℕ) (hs : List ConnectionEvent) (first before : State) (moment : DateTime) (ids : List ℕ) (more : List Told) → StandsOver x octets hs first before
+pub output-behind : (x : ServerChannel) (octets : List ℕ) (hs : List ConnectionEvent) (first before : State) (moment : DateTime) (ids : List ℕ) (more : List Told) → StandsOver x octets hs first before
     → output_over (channel_of x) (start first []) (hs ++ heard_at moment (given_up ids ++ more))
     ≡ output_over (channel_of x) (start first []) hs ++ output_over (channel_of x) (course before (next_of x) [] (agreed_by (told_in hs))) (heard_at moment more)
 output-behind x octets hs first before moment ids more s =
@@ -136,7 +136,7 @@ output-behind x octets hs first before moment ids more s =
     (ap (λ (c : Course). output_over (channel_of x) c (heard_at moment (given_up ids ++ more))) (course-after x octets hs first before s)
     ∙ quiet-output (channel_of x) before (next_of x) (agreed_by (told_in hs)) moment ids more)
 
-told-behind : (hs : List ConnectionEvent) (moment : DateTime) (ids : List ℕ) (more : List Told) → (told_in hs ++ given_up ids) ++ more ≡ told_in (hs ++ heard_at moment (given_up ids ++ more))
+pub told-behind : (hs : List ConnectionEvent) (moment : DateTime) (ids : List ℕ) (more : List Told) → (told_in hs ++ given_up ids) ++ more ≡ told_in (hs ++ heard_at moment (given_up ids ++ more))
 told-behind hs moment ids more = append_assoc (told_in hs) (given_up ids) more ∙ sym (told-heard hs moment (given_up ids ++ more))
 
 -- what a step comes to, apart from the step itself
@@ -151,33 +151,35 @@ with-words : (a b c w : List ℕ) → a ≡ b ++ [] → c ≡ w → a ++ w ≡ b
 with-words a b c w e n = ap (λ (o : List ℕ). o ++ w) (e ∙ append-nil b) ∙ ap (λ (o : List ℕ). b ++ o) (sym n)
 
 module _ (old new : ServerChannel) (moment : DateTime) (piece octets : List ℕ) (hs : List ConnectionEvent) (first before now : State) (s : StandsOver old octets hs first before) (same : channel_of new ≡ channel_of old) where
-  goes-on : (n : ℕ) (out : List ℕ) → NowGoes (channel_of old) (next_of old) moment piece n out new octets (told_in hs) before now
-      → Found new (channel_of old) moment None (octets ++ take n piece) out hs first before now
-  goes-on n out g =
-      let ch = channel_of old in
-      let a = agreed_by (told_in hs) in
+  -- it goes on: the state that all events leave, where it stands behind them, and what is sent over them
+  pub goes-state : (n : ℕ) (out : List ℕ) (g : NowGoes (channel_of old) (next_of old) moment piece n out new octets (told_in hs) before now)
+      → (course_over (channel_of old) (start first []) (hs ++ heard_at moment (given_up g.quiet ++ g.more))).state ≡ now
+  goes-state n out g =
+      ap (λ (c : Course). c.state) (course-behind old octets hs first before moment g.quiet g.more s)
+      ∙ (one-state (channel_of old) before (next_of old) (agreed_by (told_in hs)) moment new octets piece n out (told_in hs ++ given_up g.quiet) g.more g.stops ∙ sym g.state_is)
+
+  pub goes-stands : (n : ℕ) (out : List ℕ) (g : NowGoes (channel_of old) (next_of old) moment piece n out new octets (told_in hs) before now)
+      → StandsOver new (octets ++ take n piece) (hs ++ heard_at moment (given_up g.quiet ++ g.more)) first now
+  goes-stands n out g =
       let told = given_up g.quiet ++ g.more in
-      let behind = course-behind old octets hs first before moment g.quiet g.more s in
-      let state_after : (course_over ch (start first []) (hs ++ heard_at moment told)).state ≡ now =
-      ap (λ (c : Course). c.state) behind ∙ (one-state ch before (next_of old) a moment new octets piece n out (told_in hs ++ given_up g.quiet) g.more g.stops ∙ sym g.state_is) in (
-        told,
-        state_after,
-        (
-          record {
-            goes = subst (λ (t : List Told). Goes new (octets ++ take n piece) t) (told-behind hs moment g.quiet g.more) g.goes;
-            state_is = ap (λ (k : ℕ). (course_over k (start first []) (hs ++ heard_at moment told)).state) same ∙ state_after;
-            number_is = ap (λ (k : ℕ). (course_over k (start first []) (hs ++ heard_at moment told)).number) same ∙ (ap (λ (c : Course). c.number) behind
-                ∙ (one-number ch before (next_of old) a moment new octets piece n out (told_in hs ++ given_up g.quiet) g.more g.stops ∙ sym g.number_is));
-          },
-          output-behind old octets hs first before moment g.quiet g.more s
-              ∙ ap (λ (o : List ℕ). output_over ch (start first []) hs ++ o)
-              (one-output ch before (next_of old) a moment new octets piece n out (told_in hs ++ given_up g.quiet) g.more g.stops ∙ sym g.out_is),
-        ),
-      )
+      record {
+        goes = subst (λ (t : List Told). Goes new (octets ++ take n piece) t) (told-behind hs moment g.quiet g.more) g.goes;
+        state_is = ap (λ (k : ℕ). (course_over k (start first []) (hs ++ heard_at moment told)).state) same ∙ goes-state n out g;
+        number_is = ap (λ (k : ℕ). (course_over k (start first []) (hs ++ heard_at moment told)).number) same
+            ∙ (ap (λ (c : Course). c.number) (course-behind old octets hs first before moment g.quiet g.more s)
+            ∙ (one-number (channel_of old) before (next_of old) (agreed_by (told_in hs)) moment new octets piece n out (told_in hs ++ given_up g.quiet) g.more g.stops ∙ sym g.number_is));
+      }
+
+  pub goes-output : (n : ℕ) (out : List ℕ) (g : NowGoes (channel_of old) (next_of old) moment piece n out new octets (told_in hs) before now)
+      → output_over (channel_of old) (start first []) (hs ++ heard_at moment (given_up g.quiet ++ g.more)) ≡ output_over (channel_of old) (start first []) hs ++ out
+  goes-output n out g =
+      output-behind old octets hs first before moment g.quiet g.more s
+      ∙ ap (λ (o : List ℕ). output_over (channel_of old) (start first []) hs ++ o)
+      (one-output (channel_of old) before (next_of old) (agreed_by (told_in hs)) moment new octets piece n out (told_in hs ++ given_up g.quiet) g.more g.stops ∙ sym g.out_is)
 
   ended : (end : Option Ending) (n : ℕ) (out : List ℕ) → NowBy (channel_of old) (next_of old) moment piece end n out new octets (told_in hs) before now
       → Found new (channel_of old) moment end (octets ++ take n piece) out hs first before now
-  ended None n out g = goes-on n out g
+  ended None n out g = (given_up g.quiet ++ g.more, goes-state n out g, (goes-stands n out g, goes-output n out g))
   ended (Some ending.Closed) n out g =
       let ids = g.0.quiet in
       let more = Closed ∷ [] in (

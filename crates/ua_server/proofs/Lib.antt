@@ -5,6 +5,7 @@ mod Statuses
 mod Replies
 mod GivenUp
 mod ReadBody
+pub mod SoundServices
 mod Steps
 mod Passing
 mod Bounds
@@ -14,7 +15,8 @@ mod Stores
 mod StoredChange
 mod Exchanges
 pub mod LeftOver
-mod Pendings
+mod Acting
+mod Lasting
 mod Advancing
 mod Turning
 mod Handling
@@ -28,6 +30,7 @@ mod Stepped
 mod Thinned
 mod Clean
 mod SentAs
+mod Undisturbed
 pub mod Happened
 pub mod RequestsInParts
 pub mod SaidInParts

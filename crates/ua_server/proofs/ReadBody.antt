@@ -60,7 +60,7 @@ results_octets nodes (item ∷ items) stamps moment =
     ap (λ (b : List ℕ). b ++ flat_map (answer_octets nodes stamps moment) items) (value_octets (read_answer (node_at nodes item.node_id) item stamps moment))
     ∙ ap (λ (b : List ℕ). data_value_format.canonical (value_from (read_answer (node_at nodes item.node_id) item stamps moment)) ++ b) (results_octets nodes items stamps moment)
 
-results_count : (nodes : Nodes) (items : List ReadValueId) (stamps : Stamps) (moment : DateTime) → length items ≡ length (read_answers nodes items stamps moment)
+pub results_count : (nodes : Nodes) (items : List ReadValueId) (stamps : Stamps) (moment : DateTime) → length items ≡ length (read_answers nodes items stamps moment)
 results_count nodes [] stamps moment = refl
 results_count nodes (item ∷ items) stamps moment = ap suc (results_count nodes items stamps moment)
 

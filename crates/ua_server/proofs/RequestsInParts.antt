@@ -14,7 +14,7 @@ use Rattle.ua_server.proofs.SaidInParts.{course, uses-first, enough-left, say-mo
 
 -- ---- in two parts
 
-first-append : (o : Option AnsweredRequest) (xs ys : List AnsweredRequest) → with_first o (xs ++ ys) ≡ with_first o xs ++ ys
+pub first-append : (o : Option AnsweredRequest) (xs ys : List AnsweredRequest) → with_first o (xs ++ ys) ≡ with_first o xs ++ ys
 first-append None xs ys = refl
 first-append (Some x) xs ys = refl
 

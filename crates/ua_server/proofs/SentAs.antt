@@ -1,5 +1,5 @@
 -- What is told of a request once its answer goes, or an abort in its place.
-use Rattle.std.specs.Prelude.{◌≡◌, Bool, true, false, Option, Some, None}
+use Rattle.std.specs.Prelude.{◌≡◌, true, false, Option, Some, None}
 use Rattle.std.specs.Option.{is_some}
 use Rattle.std.proofs.Common.{refl, ap}
 use Rattle.ua_builtin.specs.Status.{of_code}

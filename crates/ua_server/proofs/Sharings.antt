@@ -3,8 +3,7 @@ use Rattle.std.specs.Prelude.{◌≡◌, ℕ, nat_eq, cond, Bool, true, false, L
 use Rattle.std.proofs.Common.{refl, sym, ◌∙◌, ap, subst, append_assoc, append-nil}
 use Rattle.std.proofs.lemmas.Bool.{eq-eqb, eqb-true}
 use Rattle.ua_builtin.specs.declared.date_time.DateTime.{DateTime}
-use Rattle.ua_frame.specs.Run.{End, Stopped, Over, Going}
-use Rattle.ua_frame.specs.declared.limits.Limits.{Limits}
+use Rattle.ua_frame.specs.Run.{End, Stopped, Over}
 use Rattle.ua_channel.specs.ServerStands.{limits_of, channel_of, next_of, Goes}
 use Rattle.ua_channel.specs.ServerTold.{Told, Agreed, Opened, Asked, GaveUp, Closed}
 use Rattle.ua_channel.specs.declared.server.ServerChannel.{ServerChannel}
@@ -22,7 +21,6 @@ use Rattle.ua_server.specs.declared.step.Step.{Step}
 use Rattle.ua_server.specs.declared.step.StepFault.{StepFault}
 use Rattle.ua_server.specs.declared.step.StepFault.TheVariants as step_fault
 use Rattle.ua_server.proofs.EndpointStays.{answered-stays}
-use Rattle.ua_server.proofs.Histories.{told-heard}
 
 -- ---- numbers of connections
 

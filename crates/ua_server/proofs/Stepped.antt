@@ -1,25 +1,27 @@
 -- What a step makes of a connection that is served, whatever moment it is given.
-use Rattle.std.specs.Prelude.{◌≡◌, ℕ, ◌<◌, ℤ, Bool, true, false, List, [], ◌∷◌, ◌++◌, length, map, take, Option, None, Some, Result, Ok, Err}
 use Rattle.std.proofs.Common.{refl, sym, ◌∙◌, ap, subst}
+use Rattle.std.specs.Prelude.{◌≡◌, List, [], ◌∷◌, length, Bool, true, false, Option, Some, None, ◌<◌, ℕ, ◌++◌, ℤ, map, Result, take, Ok, Err}
 use Rattle.ua_builtin.specs.declared.date_time.DateTime.{DateTime}
-use Rattle.ua_frame.specs.declared.limits.Limits.{Limits}
 use Rattle.ua_channel.specs.Received.{listed}
-use Rattle.ua_channel.specs.ServerStands.{limits_of, channel_of}
+use Rattle.ua_channel.specs.ServerStands.{limits_of, channel_of, next_of, Goes}
 use Rattle.ua_channel.specs.ServerTold.{Told}
-use Rattle.ua_server.specs.Served.{channel_in}
+use Rattle.ua_frame.specs.declared.limits.Limits.{Limits}
+use Rattle.ua_server.proofs.Advancing.{advanced-quiet, advanced-saying, advanced-broken}
+use Rattle.ua_server.proofs.Happened.{meeting, meeting-led, meeting-moments, meeting-noted}
 use Rattle.ua_server.specs.Happening.{Event, Happens, IsTold}
+use Rattle.ua_server.specs.History.{told_in}
+use Rattle.ua_server.specs.Now.{AdvanceNowBy, AdvanceNow}
+use Rattle.ua_server.specs.Served.{channel_in}
 use Rattle.ua_server.specs.Serving.{moment_of, moments_in}
-use Rattle.ua_server.specs.ServingParts.{AdvancesTo, Asked, FailsTelling, Keeps, OfEventsBetween, Steps, noted}
+use Rattle.ua_server.specs.ServingOver.{has_acted}
+use Rattle.ua_server.specs.ServingParts.{Asked, Keeps, AdvancesTo, FailsTelling, OfEventsBetween, Steps, noted}
 use Rattle.ua_server.specs.State.{State}
-use Rattle.ua_server.specs.Stepping.{AdvanceBy, Advances, ServerStands}
-use Rattle.ua_server.specs.declared.serve_fault.ServeFault.TheVariants as serve_fault
 use Rattle.ua_server.specs.declared.server.Server.{Server}
 use Rattle.ua_server.specs.declared.serving.Serving.{Serving}
 use Rattle.ua_server.specs.declared.step.Step.{Step}
 use Rattle.ua_server.specs.declared.step.StepFault.{StepFault}
 use Rattle.ua_server.specs.declared.watch.AnsweredRequest.{AnsweredRequest}
-use Rattle.ua_server.proofs.Happened.{meeting, meeting-led, meeting-moments, meeting-noted}
-use Rattle.ua_server.proofs.Advancing.{advanced-quiet, advanced-saying, advanced-broken}
+use Rattle.ua_server.specs.declared.serve_fault.ServeFault.TheVariants as serve_fault
 
 -- an answer is noted
 pub noted-again : (server : Server) (m : Option DateTime) (greeted : Bool) (n : ℕ) → greeted ≡ true
@@ -32,12 +34,12 @@ pub noted-first : (server : Server) (m : Option DateTime) (greeted : Bool) (n : 
 noted-first server m false n e = refl
 noted-first server m true n e = absurd cc
 
-module _ {M W : Type 0} (gives : M → ℤ → M → Type 0) (notes : W → AnsweredRequest → W → Type 0) (m0 m1 : M) (limits : Limits) (channel : ℕ) (first : State) (x mid : Serving) (server : Server) (mom : DateTime) (piece read written : List ℕ) (given : List Event) (now0 now1 : State) (some : 0 < length piece)
+module _ {M W A : Type 0} (changes : A → State → A → State → Type 0) (gives : M → ℤ → M → Type 0) (notes : W → AnsweredRequest → W → Type 0) (m0 m1 : M) (limits : Limits) (channel : ℕ) (first : State × A) (x mid : Serving) (server : Server) (mom : DateTime) (piece read written : List ℕ) (given : List Event) (now0 now1 : State) (app : A) (some : 0 < length piece)
     (kept : mid ≡ record x { moment = Some mom }) (a : Asked gives m0 m1 (λ ts. listed x.moment ++ map moment_of ts ≡ mom ∷ []))
     (lim : limits_of (channel_in server) ≡ limits_of (channel_in mid.server)) (chan : channel_of (channel_in server) ≡ channel_of (channel_in mid.server)) (result : Result (Step × Bool × Option AnsweredRequest) StepFault)
-    (answers : (octets : List ℕ) (told : List Told) (f : State) (moments : List DateTime) → ServerStands (channel_in mid.server) octets told f moments now0
-    → Advances (limits_of (channel_in mid.server)) (channel_of (channel_in mid.server)) mom piece result (channel_in server) octets told f moments now0 now1)
-    (k : Keeps x limits channel first read written given now0) where
+    (answers : (octets : List ℕ) (told : List Told) → Goes (channel_in mid.server) octets told
+    → AdvanceNow (limits_of (channel_in mid.server)) (channel_of (channel_in mid.server)) (next_of (channel_in mid.server)) mom piece result (channel_in server) octets told now0 now1)
+    (k : Keeps changes x limits channel first read written given (now0, app)) (acted : has_acted false k.history ≡ true) where
   abbrev l : Limits
   l = limits_of (channel_in x.server)
 
@@ -53,16 +55,19 @@ module _ {M W : Type 0} (gives : M → ℤ → M → Type 0) (notes : W → Answ
   chan-here : channel_of (channel_in server) ≡ channel_of (channel_in x.server)
   chan-here = chan ∙ ap (λ (s : Server). channel_of (channel_in s)) same
 
-  own : Keeps x l c first read written given now0
-  own = subst (λ (v : Limits). Keeps x v c first read written given now0) (sym k.limits_is) (subst (λ (n : ℕ). Keeps x limits n first read written given now0) (sym k.channel_is) k)
+  -- at its own limits and channel
+  own : (j : Keeps changes x l c first read written given (now0, app)) × (has_acted false j.history ≡ true)
+  own =
+      subst (λ (v : Limits). (j : Keeps changes x v c first read written given (now0, app)) × (has_acted false j.history ≡ true)) (sym k.limits_is)
+      (subst (λ (n : ℕ). (j : Keeps changes x limits n first read written given (now0, app)) × (has_acted false j.history ≡ true)) (sym k.channel_is) (k, acted))
 
-  advanced : Advances l c mom piece result (channel_in server) read own.told first own.used now0 now1
+  advanced : AdvanceNow l c (next_of (channel_in x.server)) mom piece result (channel_in server) read (told_in own.0.history) now0 now1
   advanced =
-      subst (λ (s : Server). Advances (limits_of (channel_in s)) (channel_of (channel_in s)) mom piece result (channel_in server) read own.told first own.used now0 now1) same
-      (answers read own.told first own.used (subst (λ (s : Server). ServerStands (channel_in s) read own.told first own.used now0) (sym same) own.stands))
+      subst (λ (s : Server). AdvanceNow (limits_of (channel_in s)) (channel_of (channel_in s)) (next_of (channel_in s)) mom piece result (channel_in server) read (told_in own.0.history) now0 now1) same
+      (answers read (told_in own.0.history) (subst (λ (s : Server). Goes (channel_in s) read (told_in own.0.history)) (sym same) own.0.stands.goes))
 
-  advanced-at : (r : Result (Step × Bool × Option AnsweredRequest) StepFault) → result ≡ r → Advances l c mom piece r (channel_in server) read own.told first own.used now0 now1
-  advanced-at r is = subst (λ (v : Result (Step × Bool × Option AnsweredRequest) StepFault). Advances l c mom piece v (channel_in server) read own.told first own.used now0 now1) is advanced
+  advanced-at : (r : Result (Step × Bool × Option AnsweredRequest) StepFault) → result ≡ r → AdvanceNow l c (next_of (channel_in x.server)) mom piece r (channel_in server) read (told_in own.0.history) now0 now1
+  advanced-at r is = subst (λ (v : Result (Step × Bool × Option AnsweredRequest) StepFault). AdvanceNow l c (next_of (channel_in x.server)) mom piece v (channel_in server) read (told_in own.0.history) now0 now1) is advanced
 
   -- at the limits and the channel that are named
   there : (P : Limits → ℕ → Type 0) → P l c → P limits channel
@@ -72,37 +77,37 @@ module _ {M W : Type 0} (gives : M → ℤ → M → Type 0) (notes : W → Answ
   kept-moment request = ap (λ (ms : List DateTime). listed x.moment ++ ms) (meeting-moments a.ticks request) ∙ a.holds
 
   pub steps-quiet : (w : W) (found : Step × Bool × Option AnsweredRequest) → result ≡ Ok found → found.1 ≡ false
-      → OfEventsBetween (Happens gives notes) (m0, w) (m1, w) (λ ts. Steps (Ok found.0) (record mid { server = server }) limits channel first piece read written (given ++ ts) now1)
+      → OfEventsBetween (Happens gives notes) (m0, w) (m1, w) (λ ts. Steps changes (Ok found.0) (record mid { server = server }) limits channel first piece read written (given ++ ts) (now1, app))
   steps-quiet w found is quiet =
       let ts = meeting a.ticks None in
       record {
         ticks = ts;
         given = meeting-led gives notes m0 m1 w w a.ticks None a.given refl;
-        holds = subst (λ (z : Serving). AdvancesTo found.0.end (record z { server = server }) limits channel first (read ++ take found.0.taken piece) found.0.out.items written (given ++ ts) now1) (sym kept)
-            (there (λ v n. AdvancesTo found.0.end (record x { server = server; moment = Some mom }) v n first (read ++ take found.0.taken piece) found.0.out.items written (given ++ ts) now1)
-            (advanced-quiet x server mom piece read written given ts first now0 now1 some lim-here chan-here (kept-moment None) own found.2 (meeting-noted a.ticks None) found.0.end found.0.taken found.0.out.items
-            (subst (λ (b : Bool). AdvanceBy b found.2 c mom piece found.0.end found.0.taken found.0.out.items (channel_in server) read own.told first own.used now0 now1) quiet (advanced-at (Ok found) is))));
+        holds = subst (λ (z : Serving). AdvancesTo changes found.0.end (record z { server = server }) limits channel first (read ++ take found.0.taken piece) found.0.out.items written (given ++ ts) (now1, app)) (sym kept)
+            (there (λ v n. AdvancesTo changes found.0.end (record x { server = server; moment = Some mom }) v n first (read ++ take found.0.taken piece) found.0.out.items written (given ++ ts) (now1, app))
+            (advanced-quiet changes x server mom piece read written given ts first now0 now1 app some lim-here chan-here (kept-moment None) own.0 own.1 found.2 (meeting-noted a.ticks None) found.0.end found.0.taken found.0.out.items
+            (subst (λ (b : Bool). AdvanceNowBy b found.2 c (next_of (channel_in x.server)) mom piece found.0.end found.0.taken found.0.out.items (channel_in server) read (told_in own.0.history) now0 now1) quiet (advanced-at (Ok found) is))));
       }
 
   pub steps-saying : (w w' : W) (found : Step × Bool × Option AnsweredRequest) → IsTold notes w found.2 w' → result ≡ Ok found → found.1 ≡ true
-      → OfEventsBetween (Happens gives notes) (m0, w) (m1, w') (λ ts. Steps (Ok found.0) (noted (record mid { server = server })) limits channel first piece read written (given ++ ts) now1)
+      → OfEventsBetween (Happens gives notes) (m0, w) (m1, w') (λ ts. Steps changes (Ok found.0) (noted (record mid { server = server })) limits channel first piece read written (given ++ ts) (now1, app))
   steps-saying w w' found led is said =
       let ts = meeting a.ticks found.2 in
       record {
         ticks = ts;
         given = meeting-led gives notes m0 m1 w w' a.ticks found.2 a.given led;
-        holds = subst (λ (z : Serving). AdvancesTo found.0.end (noted (record z { server = server })) limits channel first (read ++ take found.0.taken piece) found.0.out.items written (given ++ ts) now1) (sym kept)
-            (there (λ v n. AdvancesTo found.0.end (noted (record x { server = server; moment = Some mom })) v n first (read ++ take found.0.taken piece) found.0.out.items written (given ++ ts) now1)
-            (advanced-saying x server mom piece read written given ts first now0 now1 some lim-here chan-here (kept-moment found.2) own found.2 (meeting-noted a.ticks found.2) found.0.end found.0.taken found.0.out.items
-            (subst (λ (b : Bool). AdvanceBy b found.2 c mom piece found.0.end found.0.taken found.0.out.items (channel_in server) read own.told first own.used now0 now1) said (advanced-at (Ok found) is))));
+        holds = subst (λ (z : Serving). AdvancesTo changes found.0.end (noted (record z { server = server })) limits channel first (read ++ take found.0.taken piece) found.0.out.items written (given ++ ts) (now1, app)) (sym kept)
+            (there (λ v n. AdvancesTo changes found.0.end (noted (record x { server = server; moment = Some mom })) v n first (read ++ take found.0.taken piece) found.0.out.items written (given ++ ts) (now1, app))
+            (advanced-saying changes x server mom piece read written given ts first now0 now1 app some lim-here chan-here (kept-moment found.2) own.0 own.1 found.2 (meeting-noted a.ticks found.2) found.0.end found.0.taken found.0.out.items
+            (subst (λ (b : Bool). AdvanceNowBy b found.2 c (next_of (channel_in x.server)) mom piece found.0.end found.0.taken found.0.out.items (channel_in server) read (told_in own.0.history) now0 now1) said (advanced-at (Ok found) is))));
       }
 
-  pub steps-broken : (w : W) (f : StepFault) (y : Serving) → result ≡ Err f → OfEventsBetween (Happens gives notes) (m0, w) (m1, w) (λ ts. Steps (Err f) y limits channel first piece read written (given ++ ts) now1)
+  pub steps-broken : (w : W) (f : StepFault) (y : Serving) → result ≡ Err f → OfEventsBetween (Happens gives notes) (m0, w) (m1, w) (λ ts. Steps changes (Err f) y limits channel first piece read written (given ++ ts) (now1, app))
   steps-broken w f y is =
       let ts = meeting a.ticks None in
       record {
         ticks = ts;
         given = meeting-led gives notes m0 m1 w w a.ticks None a.given refl;
-        holds = there (λ v n. FailsTelling serve_fault.OutOfMemory v n first (read ++ piece) written (given ++ ts) now1)
-            (advanced-broken x server mom piece read written given ts first now0 now1 some lim-here chan-here (kept-moment None) own (meeting-noted a.ticks None) f (advanced-at (Err f) is));
+        holds = there (λ v n. FailsTelling changes serve_fault.OutOfMemory v n first (read ++ piece) written (given ++ ts) (now1, app))
+            (advanced-broken changes x server mom piece read written given ts first now0 now1 app some lim-here chan-here (kept-moment None) own.0 own.1 (meeting-noted a.ticks None) f (advanced-at (Err f) is));
       }

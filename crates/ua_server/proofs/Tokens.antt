@@ -4,7 +4,6 @@ use Rattle.std.proofs.Common.{refl, sym, ◌∙◌, ap, subst, arith}
 use Rattle.ua_builtin.specs.Reasons.{first_reason}
 use Rattle.ua_builtin.specs.declared.date_time.DateTime.{DateTime}
 use Rattle.ua_builtin.specs.declared.node_id.NodeId.{NodeId}
-use Rattle.ua_nodes.specs.Table.{Nodes}
 use Rattle.ua_channel.specs.ServerTold.{Told, Agreed, Opened, Asked, GaveUp, Closed}
 use Rattle.ua_services.specs.Request.{request_read}
 use Rattle.ua_services.specs.declared.fault.RequestFault.{RequestFault}
@@ -15,10 +14,9 @@ use Rattle.ua_opening.specs.declared.header.RequestHeader.{RequestHeader}
 use Rattle.ua_server.specs.Answer.{answer, fault_of, session_header, unless}
 use Rattle.ua_server.specs.Attributes.{read_reasons, values_given, write_reasons, with_written, statuses_given}
 use Rattle.ua_server.specs.Reply.{answered, answered_by}
-use Rattle.ua_server.specs.Said.{first_of}
 use Rattle.ua_server.specs.Sessions.{create_reasons, session_given, activate_reasons, with_activated, activation_given, close_reasons, close_given}
-use Rattle.ua_server.specs.Sharing.{SharedEvent, At, Changed, Own, SharedState, answer_at, course_at, opened, shared_by, shared_over, with_course}
-use Rattle.ua_server.specs.State.{State, activated, begun, is_own, session_token, with_next_session, with_session}
+use Rattle.ua_server.specs.Sharing.{SharedEvent, At, Changed, Own, SharedState, answer_at, course_at, opened, shared_by, shared_over}
+use Rattle.ua_server.specs.State.{State, activated, begun, is_own, session_token, with_next_session}
 use Rattle.ua_server.specs.Status.{bad_session_id_invalid}
 use Rattle.ua_server.specs.declared.session.Session.{Session}
 use Rattle.ua_server.proofs.Sharings.{number-is, other-number, shared-append}

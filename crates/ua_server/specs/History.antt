@@ -5,7 +5,7 @@ use Rattle.ua_nodes.specs.Table.{Nodes}
 use Rattle.ua_frame.specs.Run.{End, Going, Stopped, Over}
 use Rattle.ua_frame.specs.declared.limits.Limits.{Limits}
 use Rattle.ua_channel.specs.ServerStands.{channel_of, next_of, ClosedAt, Goes, IsDone, RefusedAt}
-use Rattle.ua_channel.specs.ServerTold.{Told, Agreed, Opened, Asked, GaveUp, Closed}
+use Rattle.ua_channel.specs.ServerTold.{Told, Asked}
 use Rattle.ua_channel.specs.declared.server.ServerChannel.{ServerChannel}
 use Rattle.ua_server.specs.Said.{Course, last_words, say, start}
 use Rattle.ua_server.specs.State.{State}

@@ -1,5 +1,6 @@
 pub mod Endpoint
 pub mod State
+pub mod Sound
 pub mod Status
 pub mod Sessions
 pub mod Attributes
@@ -16,4 +17,5 @@ pub mod History
 pub mod Sharing
 pub mod Served
 pub mod Serving
+pub mod ServingOver
 pub mod ServingParts

@@ -1,5 +1,5 @@
 -- The requests that a server answers, as they are told: what each one asked, and the code of its answer.
-use Rattle.std.specs.Prelude.{ℕ, nat_eq, Bool, false, List, [], ◌∷◌, length, Option, Some, None, Result, Ok, Err}
+use Rattle.std.specs.Prelude.{ℕ, List, [], ◌∷◌, length, Option, Some, None, Result, Ok, Err}
 use Rattle.ua_builtin.specs.Status.{of_code}
 use Rattle.ua_builtin.specs.declared.date_time.DateTime.{DateTime}
 use Rattle.ua_builtin.specs.declared.status_code.StatusCode.{StatusCode}

@@ -1,7 +1,6 @@
 -- What the parts of serving make of octets.
 use Rattle.std.specs.Prelude.{◌≡◌, ℕ, ◌+◌, ◌<◌, ◌≤◌, ℤ, Bool, true, false, List, [], ◌++◌, cond, min, take, length, Option, Some, None, Result, Ok, Err}
 use Rattle.ua_builtin.specs.declared.date_time.DateTime.{DateTime}
-use Rattle.ua_frame.specs.Run.{Going}
 use Rattle.ua_frame.specs.declared.frame.Frame.{Frame}
 use Rattle.ua_frame.specs.declared.limits.Limits.{Limits}
 use Rattle.ua_channel.specs.Agreement.{Agreement}
@@ -12,12 +11,12 @@ use Rattle.ua_channel.specs.ServerPlaces.{agreed_by}
 use Rattle.ua_channel.specs.ServerStands.{limits_of, channel_of}
 use Rattle.ua_channel.specs.ServerTold.{Told}
 use Rattle.ua_server.specs.Happening.{Event, Leads, noted_in}
-use Rattle.ua_server.specs.Requests.{requests}
-use Rattle.ua_server.specs.Said.{state_after, output_of, used_in}
+use Rattle.ua_server.specs.History.{ConnectionEvent, StandsOver, moments_of, output_over, told_in}
+use Rattle.ua_server.specs.Said.{start}
 use Rattle.ua_server.specs.Served.{channel_in}
-use Rattle.ua_server.specs.Serving.{moments_in, LastWord, told_at, end_at, EndsAt, IsClean, IsUsedUp, AreAsked, EndsBy, EndTells, FailsBy, FailTells, MovesTraffic, greatest}
+use Rattle.ua_server.specs.Serving.{moments_in, told_at, IsClean, IsUsedUp, AreAsked, MovesTraffic, greatest}
+use Rattle.ua_server.specs.ServingOver.{Acts, ActsFirst, EndedOver, FailedOver, LastSaid, requests_over}
 use Rattle.ua_server.specs.State.{State}
-use Rattle.ua_server.specs.Stepping.{ServerStands}
 use Rattle.ua_server.specs.declared.serve_fault.ServeFault.{ServeFault}
 use Rattle.ua_server.specs.declared.serve_fault.ServeFault.TheVariants as fault
 use Rattle.ua_server.specs.declared.serving.Serving.{Serving}
@@ -25,7 +24,6 @@ use Rattle.ua_server.specs.declared.step.End.{End as Ending}
 use Rattle.ua_server.specs.declared.step.End.TheVariants as ending
 use Rattle.ua_server.specs.declared.step.Step.{Step}
 use Rattle.ua_server.specs.declared.step.StepFault.{StepFault}
-use Rattle.ua_server.specs.declared.watch.AnsweredRequest.{AnsweredRequest}
 
 -- ---- the end of the input
 
@@ -64,21 +62,6 @@ abbrev pub is_there : Option Agreement → Bool
 is_there None = false
 is_there (Some a) = true
 
--- a front of what was read ends at the last word of what is said so far; of that these octets are written, and these are not yet
-pub record Pending (requested : List AnsweredRequest) (limits : Limits) (channel : ℕ) (first : State) (read out written : List ℕ) (used : List DateTime) (now : State) : Type 0 where
-  pub front : List ℕ
-  pub behind : List ℕ
-  pub front_is : read ≡ front ++ behind
-  pub before : List Told
-  pub word : LastWord
-  pub ends : EndsAt limits channel front before word
-  pub state_is : (state_after channel first (before ++ told_at word) used).state ≡ now
-  pub all_used : length used ≡ used_in (before ++ told_at word)
-  pub requests_are : requested ≡ requests channel first (before ++ told_at word) used
-  pub part : List ℕ
-  pub written_is : written ≡ output_of channel first before Going used ++ part
-  pub said_is : output_of channel first (before ++ told_at word) (end_at word) used ≡ written ++ out
-
 -- a moment is kept exactly where one that was asked for is left over behind these octets
 abbrev pub IsKept : Limits → ℕ → List ℕ → Option DateTime → Type 0
 IsKept limits channel read None = IsUsedUp limits channel read
@@ -88,73 +71,85 @@ IsKept limits channel read (Some moment) = IsUsedUp limits channel read → ⊥
 abbrev pub AreAskedBy : List ℕ → Limits → ℕ → List ℕ → List Told → List DateTime → Type 0
 AreAskedBy out limits channel front told moments = 0 < length out → AreAsked limits channel front told moments
 
--- a connection that is served goes on: of what is said of the octets read, these are written and these are not yet; and of the moments given
--- all are used, but the one that is kept, if there is one
-pub record Owes (x : Serving) (limits : Limits) (channel : ℕ) (first : State) (read out written : List ℕ) (ticks : List Event) (now : State) : Type 0 where
+-- a connection is served from its beginning
+pub record Begins (x : Serving) (limits : Limits) (channel : ℕ) : Type 0 where
   pub limits_is : limits_of (channel_in x.server) ≡ limits
   pub channel_is : channel_of (channel_in x.server) ≡ channel
-  pub told : List Told
-  pub used : List DateTime
-  pub moments_are : moments_in ticks ≡ used ++ listed x.moment
-  pub stands : ServerStands (channel_in x.server) read told first used now
+  pub stands : (first : State) → StandsOver (channel_in x.server) [] [] first first
+  pub none_kept : x.moment ≡ None
+  pub not_greeted : x.greeted ≡ false
+  pub none_written : x.written ≡ 0
+
+-- a connection that is served goes on, beside an application: of what is said over the events these octets are written and these are not yet; and
+-- of the moments given all are used, but the one that is kept, if there is one
+pub record Owes {A : Type 0} (changes : A → State → A → State → Type 0) (x : Serving) (limits : Limits) (channel : ℕ) (first : State × A) (read out written : List ℕ) (ticks : List Event) (now : State × A) : Type 0 where
+  pub limits_is : limits_of (channel_in x.server) ≡ limits
+  pub channel_is : channel_of (channel_in x.server) ≡ channel
+  pub history : List ConnectionEvent
+  pub acted : Acts changes channel (start first.0 []) first.1 history now.1
+  pub acts_first : ActsFirst false history
+  pub moments_are : moments_in ticks ≡ moments_of history ++ listed x.moment
+  pub stands : StandsOver (channel_in x.server) read history first.0 now.0
   pub kept_is : IsKept limits channel read x.moment
-  pub greeted_is : x.greeted ≡ is_there (agreed_by told)
+  pub greeted_is : x.greeted ≡ is_there (agreed_by (told_in history))
   pub count_is : x.written ≡ min (length written) greatest
-  pub said_is : output_of channel first told Going used ≡ written ++ out
-  pub requests_are : noted_in ticks ≡ requests channel first told used
-  pub pending : Pending (noted_in ticks) limits channel first read out written used now
-  pub asked : AreAskedBy out limits channel pending.front (pending.before ++ told_at pending.word) (moments_in ticks)
+  pub said_is : output_over channel (start first.0 []) history ≡ written ++ out
+  pub requests_are : noted_in ticks ≡ requests_over channel (start first.0 []) history
+  pub last : LastSaid limits channel first.0 read out written history
+  pub asked : AreAskedBy out limits channel last.front (told_in last.before ++ told_at last.word) (moments_in ticks)
 
 -- all that is said is written
-abbrev pub Keeps : Serving → Limits → ℕ → State → List ℕ → List ℕ → List Event → State → Type 0
-Keeps x limits channel first read written ticks now = Owes x limits channel first read [] written ticks now
+abbrev pub Keeps : {A : Type 0} → (A → State → A → State → Type 0) → Serving → Limits → ℕ → State × A → List ℕ → List ℕ → List Event → State × A → Type 0
+Keeps changes x limits channel first read written ticks now = Owes changes x limits channel first read [] written ticks now
 
 -- the connection ended, and of what is said these octets are not written yet
-pub record Ends (x : Serving) (end : Ending) (limits : Limits) (channel : ℕ) (first : State) (read out written : List ℕ) (ticks : List Event) (now : State) : Type 0 where
+pub record Ends {A : Type 0} (changes : A → State → A → State → Type 0) (x : Serving) (end : Ending) (limits : Limits) (channel : ℕ) (first : State × A) (read out written : List ℕ) (ticks : List Event) (now : State × A) : Type 0 where
   pub count_is : x.written ≡ min (length written) greatest
-  pub ends : EndsBy end limits channel first read (written ++ out) (moments_in ticks) now
-  pub tells : EndTells end limits channel first read (written ++ out) (moments_in ticks) now ends (noted_in ticks)
-  pub used : List DateTime
-  pub kept : List DateTime
-  pub moments_are : moments_in ticks ≡ used ++ kept
-  pub one : length kept ≤ 1
-  pub pending : Pending (noted_in ticks) limits channel first read out written used now
-  pub asked : AreAskedBy out limits channel pending.front (pending.before ++ told_at pending.word) (moments_in ticks)
+  pub history : List ConnectionEvent
+  pub acted : Acts changes channel (start first.0 []) first.1 history now.1
+  pub acts_first : ActsFirst false history
+  pub ends : EndedOver end limits channel first.0 read (written ++ out) (moments_in ticks) (noted_in ticks) history now.0
+  pub last : LastSaid limits channel first.0 read out written history
+  pub asked : AreAskedBy out limits channel last.front (told_in last.before ++ told_at last.word) (moments_in ticks)
 
--- how a connection ended, and which requests are told of
-pub record EndsTelling (end : Ending) (limits : Limits) (channel : ℕ) (first : State) (read written : List ℕ) (ticks : List Event) (now : State) : Type 0 where
-  pub ends : EndsBy end limits channel first read written (moments_in ticks) now
-  pub tells : EndTells end limits channel first read written (moments_in ticks) now ends (noted_in ticks)
+-- how a connection ended
+pub record EndsTelling {A : Type 0} (changes : A → State → A → State → Type 0) (end : Ending) (limits : Limits) (channel : ℕ) (first : State × A) (read written : List ℕ) (ticks : List Event) (now : State × A) : Type 0 where
+  pub history : List ConnectionEvent
+  pub acted : Acts changes channel (start first.0 []) first.1 history now.1
+  pub acts_first : ActsFirst false history
+  pub ends : EndedOver end limits channel first.0 read written (moments_in ticks) (noted_in ticks) history now.0
 
--- how an answer failed, and which requests are told of
-pub record FailsTelling (f : ServeFault) (limits : Limits) (channel : ℕ) (first : State) (read written : List ℕ) (ticks : List Event) (now : State) : Type 0 where
-  pub fails : FailsBy f limits channel first read written (moments_in ticks) now
-  pub tells : FailTells f limits channel first read written (moments_in ticks) now fails (noted_in ticks)
+-- how an answer failed
+pub record FailsTelling {A : Type 0} (changes : A → State → A → State → Type 0) (f : ServeFault) (limits : Limits) (channel : ℕ) (first : State × A) (read written : List ℕ) (ticks : List Event) (now : State × A) : Type 0 where
+  pub history : List ConnectionEvent
+  pub acted : Acts changes channel (start first.0 []) first.1 history now.1
+  pub acts_first : ActsFirst false history
+  pub fails : FailedOver f limits channel first.0 read written (moments_in ticks) (noted_in ticks) history now.0
 
 -- what became of the first octets of a piece, by how the connection ended, if it did, before its answer is written
-abbrev pub AdvancesTo : Option Ending → Serving → Limits → ℕ → State → List ℕ → List ℕ → List ℕ → List Event → State → Type 0
-AdvancesTo None x limits channel first read out written ticks now = Owes x limits channel first read out written ticks now
-AdvancesTo (Some end) x limits channel first read out written ticks now = Ends x end limits channel first read out written ticks now
+abbrev pub AdvancesTo : {A : Type 0} → (A → State → A → State → Type 0) → Option Ending → Serving → Limits → ℕ → State × A → List ℕ → List ℕ → List ℕ → List Event → State × A → Type 0
+AdvancesTo changes None x limits channel first read out written ticks now = Owes changes x limits channel first read out written ticks now
+AdvancesTo changes (Some end) x limits channel first read out written ticks now = Ends changes x end limits channel first read out written ticks now
 
 -- a step, whose answer is not written yet
-abbrev pub Steps : Result Step StepFault → Serving → Limits → ℕ → State → List ℕ → List ℕ → List ℕ → List Event → State → Type 0
-Steps (Ok step) x limits channel first piece read written ticks now = AdvancesTo step.end x limits channel first (read ++ take step.taken piece) step.out.items written ticks now
-Steps (Err f) x limits channel first piece read written ticks now = FailsTelling fault.OutOfMemory limits channel first (read ++ piece) written ticks now
+abbrev pub Steps : {A : Type 0} → (A → State → A → State → Type 0) → Result Step StepFault → Serving → Limits → ℕ → State × A → List ℕ → List ℕ → List ℕ → List Event → State × A → Type 0
+Steps changes (Ok step) x limits channel first piece read written ticks now = AdvancesTo changes step.end x limits channel first (read ++ take step.taken piece) step.out.items written ticks now
+Steps changes (Err f) x limits channel first piece read written ticks now = FailsTelling changes fault.OutOfMemory limits channel first (read ++ piece) written ticks now
 
 -- the same by how the connection ended, once the answer is written
-abbrev pub TurnsTo : Option Ending → Serving → Limits → ℕ → State → List ℕ → List ℕ → List Event → State → Type 0
-TurnsTo None x limits channel first read written ticks now = Keeps x limits channel first read written ticks now
-TurnsTo (Some end) x limits channel first read written ticks now = EndsTelling end limits channel first read written ticks now
+abbrev pub TurnsTo : {A : Type 0} → (A → State → A → State → Type 0) → Option Ending → Serving → Limits → ℕ → State × A → List ℕ → List ℕ → List Event → State × A → Type 0
+TurnsTo changes None x limits channel first read written ticks now = Keeps changes x limits channel first read written ticks now
+TurnsTo changes (Some end) x limits channel first read written ticks now = EndsTelling changes end limits channel first read written ticks now
 
 -- a step and its answer
-abbrev pub Turns : Result (ℕ × Option Ending) ServeFault → Serving → Limits → ℕ → State → List ℕ → List ℕ → List ℕ → List Event → State → Type 0
-Turns (Ok turn) x limits channel first piece read written ticks now = TurnsTo turn.1 x limits channel first (read ++ take turn.0 piece) written ticks now
-Turns (Err f) x limits channel first piece read written ticks now = FailsTelling f limits channel first (read ++ piece) written ticks now
+abbrev pub Turns : {A : Type 0} → (A → State → A → State → Type 0) → Result (ℕ × Option Ending) ServeFault → Serving → Limits → ℕ → State × A → List ℕ → List ℕ → List ℕ → List Event → State × A → Type 0
+Turns changes (Ok turn) x limits channel first piece read written ticks now = TurnsTo changes turn.1 x limits channel first (read ++ take turn.0 piece) written ticks now
+Turns changes (Err f) x limits channel first piece read written ticks now = FailsTelling changes f limits channel first (read ++ piece) written ticks now
 
 -- a whole piece, or the octets of it up to the end of the connection
-abbrev pub Handles : Result (Option Ending) ServeFault → Serving → Limits → ℕ → State → List ℕ → List ℕ → List Event → State → Type 0
-Handles (Ok end) x limits channel first read written ticks now = TurnsTo end x limits channel first read written ticks now
-Handles (Err f) x limits channel first read written ticks now = FailsTelling f limits channel first read written ticks now
+abbrev pub Handles : {A : Type 0} → (A → State → A → State → Type 0) → Result (Option Ending) ServeFault → Serving → Limits → ℕ → State × A → List ℕ → List ℕ → List Event → State × A → Type 0
+Handles changes (Ok end) x limits channel first read written ticks now = TurnsTo changes end x limits channel first read written ticks now
+Handles changes (Err f) x limits channel first read written ticks now = FailsTelling changes f limits channel first read written ticks now
 
 -- ---- what is exchanged
 

@@ -1,6 +1,6 @@
 //! One of several connections over one table.
 
-ghost use Rattle.std.specs.Prelude.{◌≡◌, ◌≤◌, [], ℕ, List, Err, None, IfOk, IsErrOf};
+ghost use Rattle.std.specs.Prelude.{◌≡◌, ◌≤◌, ◌↔◌, [], ℕ, List, Err, None, IfOk, IsErrOf, IsTrue};
 ghost use Rattle.ua_channel.specs.Received.{received};
 ghost use Rattle.ua_channel.specs.ServerStands.{limits_of, channel_of, next_of, bound_of, bound_after, held_after, Goes, IsDone, ChannelStands as Holds};
 ghost use Rattle.ua_channel.specs.ServerTold.{Told};
@@ -8,6 +8,7 @@ ghost use Rattle.ua_frame.specs.declared.frame.Frame.{Frame};
 ghost use Rattle.ua_server.specs.History.{ConnectionEvent, StandsOver, StepOver};
 ghost use Rattle.ua_server.specs.Now.{StepNow};
 ghost use Rattle.ua_server.specs.Served.{channel_at, session_at, with_own_session};
+ghost use Rattle.ua_server.specs.Serving.{IsClean};
 ghost use Rattle.ua_server.specs.Sharing.{SharedEvent, StandsAmong, StepAmong, opened, shared_over, told_by};
 ghost use Rattle.ua_server.specs.State.{State};
 ghost use Rattle.ua_server.specs.Stepping.{StepStands, StepTakes};
@@ -69,6 +70,14 @@ impl Connection {
         ensures is { result ≡ bound_of (channel_at self.now) }
     {
         self.server.bound()
+    }
+
+    /// Whether the client's octets may end here: no frame and no message is unfinished.
+    pub fn is_clean(&self) -> bool
+        ensures { (octets : List ℕ) (frames : List Frame) (rest : List ℕ) → Holds (channel_at self.now) octets frames rest
+            → IsTrue result ↔ IsClean frames rest }
+    {
+        self.server.is_clean()
     }
 
     /// What [`Server::step`] does, from the session of this connection; the session that the services

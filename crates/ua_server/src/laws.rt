@@ -1,6 +1,7 @@
-//! Laws of what a server says, each carried by a function without a body.
+//! Laws of what a server says, each the contract of a function that does nothing, or only looks.
 
-ghost use Rattle.std.specs.Prelude.{◌≡◌, ◌≤◌, ◌++◌, ◌∷◌, [], ℕ, List, length, Option, Some, Result, Ok};
+ghost use Rattle.std.specs.Prelude.{◌≡◌, ◌≤◌, ◌++◌, ◌∷◌, [], ℕ, List, length, IsTrue, Option, Some, Result, Ok};
+ghost use Rattle.ua_builtin.specs.DateTime.{date_time};
 ghost use Rattle.ua_builtin.specs.declared.date_time.DateTime.{DateTime};
 ghost use Rattle.ua_channel.specs.ServerStands.{limits_of, channel_of, next_of, ClosedAt, RefusedAt, ChannelStands as Holds};
 ghost use Rattle.ua_channel_laws.specs.ServerReads.{AtServer, ServerCloses, ServerReads};
@@ -22,19 +23,39 @@ ghost use Rattle.ua_server.specs.Said.{Course, start, with_more, said_of, course
 ghost use Rattle.ua_server.specs.Sharing.{SharedEvent, SharedState, Changed, EndsAmong, StandsAmong, at_moment, course_at, opened, seen_by, sent_to, shared_over, told_by};
 ghost use Rattle.ua_services.specs.declared.request.Request.{Request};
 ghost use Rattle.ua_opening.specs.declared.header.RequestHeader.{RequestHeader};
-ghost use Rattle.ua_services.specs.Request.{request_read};
+ghost use Rattle.ua_services.specs.Request.{kind_of, request, request_read};
+ghost use Rattle.ua_services.specs.Response.{Answers, kind_of as answer_kind, response};
 ghost use Rattle.ua_services.specs.declared.request.Request.TheVariants as kinds;
 ghost use Rattle.ua_structures.specs.declared.attribute.ReadRequest.{ReadRequest};
 ghost use Rattle.ua_structures.specs.declared.attribute.WriteRequest.{WriteRequest};
 ghost use Rattle.ua_structures.specs.declared.session.ActivateSessionRequest.{ActivateSessionRequest};
 ghost use Rattle.ua_structures.specs.declared.session.CloseSessionRequest.{CloseSessionRequest};
-ghost use Rattle.ua_server.specs.Answer.{fault_of, session_header};
+ghost use Rattle.ua_server.specs.Answer.{answer, fault_of, session_header};
 ghost use Rattle.ua_server.specs.Reply.{answered};
+ghost use Rattle.ua_server.specs.Sound.{IsSoundState};
 ghost use Rattle.ua_server.specs.Status.{bad_session_id_invalid};
 ghost use Rattle.ua_server.specs.State.{State, begun, session_token, with_nodes, with_session};
 ghost use Rattle.ua_server.specs.Stored.{stored_items};
 ghost use Rattle.ua_structures.specs.declared.attribute.WriteValue.{WriteValue};
 ghost use Rattle.ua_server.specs.declared.session.Session.{Session};
+
+use crate::services::Services;
+
+/// Services are sound, whatever they answered before.
+pub fn services_are_sound(services: &Services)
+    ensures { IsSoundState services.now }
+{
+    let _limit = services.endpoint.message_limit;
+    let _made = services.made;
+}
+
+/// A request is answered by a response of its own kind, or by a ServiceFault (OPC 10000-4, 5.3). Sound
+/// services answer each request that can be encoded by a response that can be encoded, and stay sound.
+pub fn each_request_has_its_answer()
+    ensures kind { (s : State) (moment : DateTime) (m : Request) → Answers (answer_kind (answer s moment m).1) (kind_of m) }
+    ensures encodable { (s : State) (moment : DateTime) (m : Request) → IsSoundState s → IsTrue (date_time.encodable moment) → IsTrue (request.encodable m) → IsTrue (response.encodable (answer s moment m).1) }
+    ensures sound { (s : State) (moment : DateTime) (m : Request) → IsSoundState s → IsTrue (date_time.encodable moment) → IsSoundState (answer s moment m).0 }
+{}
 
 /// What is said of what is told in two parts is said of the first, and then of the second from where
 /// the first leaves the server.

@@ -22,6 +22,7 @@
 //! ```
 #![tactic(auto)]
 
+mod application;
 mod attributes;
 mod connection;
 mod endpoint;
@@ -37,12 +38,13 @@ mod step;
 mod watch;
 mod written;
 
+pub use application::{Application, NoApplication};
 pub use connection::Connection;
 pub use endpoint::Endpoint;
 pub use serve_fault::ServeFault;
 pub use server::Server;
 pub use services::Services;
-pub use serving::{serve, serve_watched};
+pub use serving::{serve, serve_application, serve_watched};
 pub use session::SessionSlot;
 pub use step::{End, Step, StepFault};
 pub use watch::{AnsweredRequest, Unwatched, Watch};

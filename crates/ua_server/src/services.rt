@@ -1,9 +1,10 @@
 //! The services of a server.
 
-ghost use Rattle.std.specs.Prelude.{◌≡◌, IsTrue, IfOk, OnErr, MatchResult, None, Some};
+ghost use Rattle.std.specs.Prelude.{◌≡◌, ◌++◌, ◌∷◌, ◌↔◌, [], IsTrue, IsSome, IfOk, OnOk, OnErr, IsErrOf, MatchResult, None, Some};
 ghost use Rattle.ua_nodes.specs.Set.{after_set, set_refusal};
-ghost use Rattle.ua_nodes.specs.Table.{node_at};
-ghost use Rattle.ua_nodes.specs.Sound.{IsSound};
+ghost use Rattle.ua_nodes.specs.Table.{node_at, variable_of};
+ghost use Rattle.ua_nodes.specs.Sound.{IsSound, is_sound_node};
+ghost use Rattle.ua_nodes.specs.declared.fault.InsertFault.TheVariants as insert_fault;
 ghost use Rattle.ua_services.specs.Response.{response};
 ghost use Rattle.ua_server.specs.Answer.{fault_of, answer};
 ghost use Rattle.ua_server.specs.Endpoint.{Fits};
@@ -16,7 +17,7 @@ use std::alloc::{AllocError, Global};
 use std::marker::Model;
 use std::mem;
 use ua_builtin::{DateTime, NodeId, StatusCode};
-use ua_nodes::{NodeTable, Reading, SetFault};
+use ua_nodes::{InsertFault, Node, NodeTable, Reading, SetFault, a_node_is_sound_where_it_passes};
 use ua_services::{Request, Response, ServiceFault};
 
 /// The state of a server, and what it answers: its nodes, what it says of itself, how many sessions
@@ -91,6 +92,18 @@ impl Services {
         ensures kept { OnErr result (self.new ≡ self.old) }
     {
         self.nodes.set(id, reading)
+    }
+
+    /// Adds a node behind the others, as [`NodeTable::insert`]. [`Node::is_sound`] is the test of what it
+    /// asks for.
+    pub fn insert(&mut self, node: Node) -> Result<(), InsertFault>
+        requires sound { IsTrue (is_sound_node node.id (variable_of node)) }
+        ensures state { OnOk result (self.new ≡ with_nodes self.old (self.old.nodes ++ (node.id, variable_of node) ∷ [])) }
+        ensures duplicate { IsErrOf result insert_fault.Duplicate ↔ IsSome (node_at self.old.nodes node.id) }
+        ensures kept { OnErr result (self.new ≡ self.old) }
+    {
+        a_node_is_sound_where_it_passes();
+        self.nodes.insert(node)
     }
 
     /// The session that there is, if there is one, and that of the slot change places. Takes no memory.

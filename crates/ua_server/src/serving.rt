@@ -3,9 +3,11 @@
 ghost use Rattle.std.specs.Prelude.{◌≡◌, ◌<◌, ℕ, List, [], IfOk, length};
 ghost use Rattle.ua_server.specs.Happening.{WasTold};
 ghost use Rattle.ua_server.specs.Serving.{Serves, ServesTelling, LineFailed};
+ghost use Rattle.ua_server.specs.ServingOver.{ServesApplication};
 ghost use Rattle.ua_server.specs.ServingParts.{most_at_once};
 ghost use Rattle.ua_server.specs.State.{begun};
 
+use crate::application::{Application, NoApplication};
 use crate::serve_fault::ServeFault;
 use crate::server::Server;
 use crate::services::Services;
@@ -62,10 +64,39 @@ pub fn serve_watched<L: Line, M: Moments, W: Watch>(
     ensures told { WasTold W.notes watch.old watch.new }
     ensures failed { LineFailed (L.failures line.old) result (L.failures line.new) }
 {
+    serve_application(
+        alloc,
+        line,
+        services,
+        limits,
+        channel_id,
+        moments,
+        watch,
+        &mut NoApplication,
+    )
+}
+
+/// Does what [`serve_watched`] does, beside an application: before each step of the server, and so before
+/// each answer, it may change the nodes and see what clients wrote. What is written is what is sent over
+/// the events of the connection, changes and steps in order.
+pub fn serve_application<L: Line, M: Moments, W: Watch, A: Application>(
+    alloc: Global,
+    line: &mut L,
+    services: &mut Services,
+    limits: Limits,
+    channel_id: u32,
+    moments: &mut M,
+    watch: &mut W,
+    application: &mut A,
+) -> Result<End, ServeFault>
+    ensures serves { ServesApplication limits channel_id M.gives W.notes A.changes (begun services.old, application.old) (moments.old, watch.old) result (services.new, application.new) (moments.new, watch.new) (L.traffic line.old) (L.traffic line.new) }
+    ensures told { WasTold W.notes watch.old watch.new }
+    ensures failed { LineFailed (L.failures line.old) result (L.failures line.new) }
+{
     services.begin();
     let mut serving = Serving::new(alloc, limits, channel_id);
     match piece(alloc) {
-        Ok(mut buffer) => serving.run(line, services, moments, watch, &mut buffer),
+        Ok(mut buffer) => { serving.run(line, services, moments, watch, application, &mut buffer) }
         Err(_) => Err(ServeFault::OutOfMemory),
     }
 }
@@ -101,14 +132,15 @@ impl Serving {
     ghost use Rattle.ua_frame.specs.declared.limits.Limits.{Limits};
     ghost use Rattle.ua_server.specs.Served.{channel_in};
     ghost use Rattle.ua_server.specs.Happening.{Event, Happens, WasTold};
-    ghost use Rattle.ua_server.specs.Serving.{moment_of, MovesTraffic, ServesTelling, LineFailed};
-    ghost use Rattle.ua_server.specs.ServingParts.{Asked, Exchanged, Finishes, Handles, Keeps, OfEventsBetween, Says, Steps, Turns, noted};
+    ghost use Rattle.ua_server.specs.Serving.{moment_of, MovesTraffic, LineFailed};
+    ghost use Rattle.ua_server.specs.ServingOver.{ServesApplication};
+    ghost use Rattle.ua_server.specs.ServingParts.{Asked, Begins, Exchanged, Finishes, Handles, Keeps, OfEventsBetween, Says, Steps, Turns, noted};
     ghost use Rattle.ua_server.specs.Stepping.{StepTakes};
     ghost use Rattle.ua_server.specs.State.{State};
 
     /// Before the first octet of a client.
     fn new(alloc: Global, limits: Limits, channel_id: u32) -> Serving
-        ensures { (first : State) → Keeps result limits channel_id first [] [] [] first }
+        ensures { Begins result limits channel_id }
     {
         Serving {
             server: Server::new(alloc, limits, channel_id),
@@ -147,21 +179,23 @@ impl Serving {
         }
     }
 
-    /// One step of the server. The moment that it used is kept no longer, and the request that it
-    /// answered is told.
-    fn step<M: Moments, W: Watch>(
+    /// One step of the server, before which the application acts. The moment that it used is kept no
+    /// longer, and the request that it answered is told.
+    fn step<M: Moments, W: Watch, A: Application>(
         &mut self,
         services: &mut Services,
         moments: &mut M,
         watch: &mut W,
+        application: &mut A,
         piece: &[u8],
     ) -> Result<Step, StepFault>
         requires { 0 < length piece.now }
-        ensures steps { (limits : Limits) (channel : ℕ) (first : State) (read written : List ℕ) (given : List Event) → Keeps self.old limits channel first read written given services.old
-            → OfEventsBetween (Happens M.gives W.notes) (moments.old, watch.old) (moments.new, watch.new) (λ events. Steps result self.new limits channel first piece.now read written (given ++ events) services.new) }
+        ensures steps { (limits : Limits) (channel : ℕ) (first : State × A) (read written : List ℕ) (given : List Event) → Keeps A.changes self.old limits channel first read written given (services.old, application.old)
+            → OfEventsBetween (Happens M.gives W.notes) (moments.old, watch.old) (moments.new, watch.new) (λ events. Steps A.changes result self.new limits channel first piece.now read written (given ++ events) (services.new, application.new)) }
         ensures told { WasTold W.notes watch.old watch.new }
         ensures progress { IfOk result (λ step. StepTakes piece.now step) }
     {
+        application.act(services);
         let moment = self.moment(moments);
         let (step, answered, request) = match self.server.advance(services, piece, moment) {
             Ok(found) => found,
@@ -202,23 +236,24 @@ impl Serving {
 
     /// One step of the server, and its answer. Says how many octets were taken, and how the
     /// connection ended, if it did.
-    fn turn<L: Line, M: Moments, W: Watch>(
+    fn turn<L: Line, M: Moments, W: Watch, A: Application>(
         &mut self,
         line: &mut L,
         services: &mut Services,
         moments: &mut M,
         watch: &mut W,
+        application: &mut A,
         piece: &[u8],
     ) -> Result<(usize, Option<End>), ServeFault>
         requires { 0 < length piece.now }
-        ensures turns { (limits : Limits) (channel : ℕ) (first : State) (read written : List ℕ) (given : List Event) → Keeps self.old limits channel first read written given services.old
+        ensures turns { (limits : Limits) (channel : ℕ) (first : State × A) (read written : List ℕ) (given : List Event) → Keeps A.changes self.old limits channel first read written given (services.old, application.old)
             → Exchanged (Happens M.gives W.notes) (moments.old, watch.old) (moments.new, watch.new) [] (L.traffic line.old) (L.traffic line.new)
-            (λ more events. Turns result self.new limits channel first piece.now read (written ++ more) (given ++ events) services.new) }
+            (λ more events. Turns A.changes result self.new limits channel first piece.now read (written ++ more) (given ++ events) (services.new, application.new)) }
         ensures told { WasTold W.notes watch.old watch.new }
         ensures progress { IfOk result (λ turn. (turn.0 ≤ length piece.now) × (turn.1 ≡ None → 0 < length piece.now → 0 < turn.0)) }
         ensures failed { LineFailed (L.failures line.old) result (L.failures line.new) }
     {
-        let step = match self.step(services, moments, watch, piece) {
+        let step = match self.step(services, moments, watch, application, piece) {
             Ok(step) => step,
             Err(_) => return Err(ServeFault::OutOfMemory),
         };
@@ -229,23 +264,31 @@ impl Serving {
     }
 
     /// Answers a piece, up to its end or to that of the connection.
-    fn handle<L: Line, M: Moments, W: Watch>(
+    fn handle<L: Line, M: Moments, W: Watch, A: Application>(
         &mut self,
         line: &mut L,
         services: &mut Services,
         moments: &mut M,
         watch: &mut W,
+        application: &mut A,
         piece: &[u8],
     ) -> Result<Option<End>, ServeFault>
-        ensures handles { (limits : Limits) (channel : ℕ) (first : State) (read written : List ℕ) (given : List Event) → Keeps self.old limits channel first read written given services.old
+        ensures handles { (limits : Limits) (channel : ℕ) (first : State × A) (read written : List ℕ) (given : List Event) → Keeps A.changes self.old limits channel first read written given (services.old, application.old)
             → Exchanged (Happens M.gives W.notes) (moments.old, watch.old) (moments.new, watch.new) [] (L.traffic line.old) (L.traffic line.new)
-            (λ more events. Handles result self.new limits channel first (read ++ piece.now) (written ++ more) (given ++ events) services.new) }
+            (λ more events. Handles A.changes result self.new limits channel first (read ++ piece.now) (written ++ more) (given ++ events) (services.new, application.new)) }
         ensures told { WasTold W.notes watch.old watch.new }
         ensures failed { LineFailed (L.failures line.old) result (L.failures line.new) }
     {
         let mut taken = 0;
         while taken < piece.len() {
-            let (n, end) = match self.turn(line, services, moments, watch, &piece[taken..]) {
+            let (n, end) = match self.turn(
+                line,
+                services,
+                moments,
+                watch,
+                application,
+                &piece[taken..],
+            ) {
                 Ok(turn) => turn,
                 Err(fault) => return Err(fault),
             };
@@ -258,17 +301,18 @@ impl Serving {
     }
 
     /// Reads the line into this buffer again and again, and answers what it reads.
-    fn run<L: Line, M: Moments, W: Watch>(
+    fn run<L: Line, M: Moments, W: Watch, A: Application>(
         &mut self,
         line: &mut L,
         services: &mut Services,
         moments: &mut M,
         watch: &mut W,
+        application: &mut A,
         buffer: &mut [u8],
     ) -> Result<End, ServeFault>
         requires { 0 < length buffer.old }
-        ensures serves { (limits : Limits) (channel : ℕ) (first : State) → Keeps self.old limits channel first [] [] [] services.old
-            → ServesTelling limits channel M.gives W.notes first (moments.old, watch.old) result services.new (moments.new, watch.new) (L.traffic line.old) (L.traffic line.new) }
+        ensures serves { (limits : Limits) (channel : ℕ) (first : State × A) → Keeps A.changes self.old limits channel first [] [] [] (services.old, application.old)
+            → ServesApplication limits channel M.gives W.notes A.changes first (moments.old, watch.old) result (services.new, application.new) (moments.new, watch.new) (L.traffic line.old) (L.traffic line.new) }
         ensures told { WasTold W.notes watch.old watch.new }
         ensures failed { LineFailed (L.failures line.old) result (L.failures line.new) }
     {
@@ -280,7 +324,7 @@ impl Serving {
             if n == 0 {
                 return Ok(self.finish());
             }
-            match self.handle(line, services, moments, watch, &buffer[..n]) {
+            match self.handle(line, services, moments, watch, application, &buffer[..n]) {
                 Ok(None) => {}
                 Ok(Some(end)) => return Ok(end),
                 Err(fault) => return Err(fault),

@@ -1,33 +1,8 @@
-use Rattle.std.proofs.Common.{arith, [], ℕ, ◌<◌, List, length, refl, sym, subst}
-use Rattle.ua_server.specs.ServingParts.{Keeps}
-use Rattle.ua_server.specs.State.{State, begun}
-use Rattle.ua_server.proofs.Happened.{told-none}
-use Rattle.ua_server.proofs.Handling.{serves-nothing}
+use Rattle.ua_server.specs.State.{begun}
+use Rattle.ua_server.proofs.Undisturbed.{serves-alone}
 use Rattle.ua_server.proofs.serving.serve_watched.Goals as goal
-
-pub run-requires : goal.run-requires
-run-requires g c =
-    let room = c.in-Ok.ensures in
-    subst (λ (l : List ℕ). 0 < length l) (sym c.deref_mut.ensures.value) (omega (arith, room))
-
-pub returns-in-Ok-clause-serves : goal.returns-in-Ok-clause-serves
-returns-in-Ok-clause-serves g c =
-    c.run.ensures.serves c.args.limits c.args.channel_id (begun c.args.services.now)
-    (subst (λ (s : State). Keeps c.new-serving.result c.args.limits c.args.channel_id (begun c.args.services.now) [] [] [] s) (sym c.begin.ensures) (c.new-serving.ensures (begun c.args.services.now)))
-
-pub returns-in-Ok-clause-failed : goal.returns-in-Ok-clause-failed
-returns-in-Ok-clause-failed g c = c.run.ensures.failed
 
 pub returns-clause-serves : goal.returns-clause-serves
 returns-clause-serves g c =
-    serves-nothing c.args.limits c.args.channel_id (begun c.args.services.now) g.M.Moments.gives g.W.Watch.notes (c.args.moments.now, c.args.watch.now) (g.L.Line.traffic c.args.line.now) c.new-serving.result c.begin.new.self
-    (subst (λ (s : State). Keeps c.new-serving.result c.args.limits c.args.channel_id (begun c.args.services.now) [] [] [] s) (sym c.begin.ensures) (c.new-serving.ensures (begun c.args.services.now)))
-
-pub returns-clause-failed : goal.returns-clause-failed
-returns-clause-failed g c = refl
-
-pub returns-in-Ok-clause-told : goal.returns-in-Ok-clause-told
-returns-in-Ok-clause-told g c = c.run.ensures.told
-
-pub returns-clause-told : goal.returns-clause-told
-returns-clause-told g c = told-none g.W.Watch.notes c.args.watch.now
+    serves-alone c.args.limits c.args.channel_id g.M.Moments.gives g.W.Watch.notes _ (λ a b s t same. same) (begun c.args.services.now, _) (c.args.moments.now, c.args.watch.now) c.serve_application.result
+    (c.serve_application.new.services, _) (c.serve_application.new.moments, c.serve_application.new.watch) (g.L.Line.traffic c.args.line.now) (g.L.Line.traffic c.serve_application.new.line) c.serve_application.ensures.serves

@@ -1,5 +1,5 @@
-use Rattle.ua_server.proofs.Pendings.{keeps-first}
+use Rattle.std.proofs.Common.{refl}
 use Rattle.ua_server.proofs.serving.Serving.new.Goals as goal
 
 pub returns : goal.returns
-returns c = λ first. keeps-first c.new.result c.args.limits c.args.channel_id first c.new.ensures.limits c.new.ensures.channel (c.new.ensures.stands first)
+returns c = record { limits_is = c.new.ensures.limits; channel_is = c.new.ensures.channel; stands = c.new.ensures.history; none_kept = refl; not_greeted = refl; none_written = refl }

@@ -1,0 +1,31 @@
+//! An application beside the clients of a server.
+
+use crate::services::Services;
+
+/// Who changes nodes while they are served: a plant whose values move, and which takes the setpoints that
+/// clients wrote.
+pub trait Application {
+    ghost use Rattle.std.specs.Prelude.{◌≡◌};
+    ghost use Rattle.ua_server.specs.State.{State, with_nodes};
+
+    /// What it may do: from its state and that of the services to its state and that of the services then.
+    ghost changes: { Self → State → Self → State → Type 0 };
+
+    /// Sets values, and sees those that clients wrote. It changes the nodes alone, as
+    /// [`Services::set`](crate::Services::set) does.
+    fn act(&mut self, services: &mut Services)
+        ensures changes { changes self.old services.old self.new services.new }
+        ensures nodes { services.new ≡ with_nodes services.old services.new.nodes };
+}
+
+/// Nobody: nodes are changed by clients alone.
+#[derive(Clone, Copy)]
+pub struct NoApplication;
+
+impl Application for NoApplication {
+    ghost use Rattle.std.specs.Prelude.{◌≡◌};
+
+    ghost changes = { λ before old after new. new ≡ old };
+
+    fn act(&mut self, services: &mut Services) {}
+}
