@@ -1,9 +1,10 @@
 -- What a client over a line to a server comes to that has the turns of an exchange.
-use Rattle.std.proofs.Common.{◌≡◌, ℕ, IsTrue, List, [], ◌++◌, Option, Some, None, Result, Ok, Err, map, take, drop, refl, sym, ◌∙◌, ap, subst, append-nil, arith}
+use Rattle.std.proofs.Common.{◌≡◌, ◌≤◌, ℕ, IsTrue, List, [], ◌++◌, Option, Some, None, Result, Ok, Err, map, take, drop, refl, sym, ◌∙◌, ap, subst, append-nil, arith}
 use Rattle.std.specs.Prelude.{IfErr, OnOk, codes}
 use Rattle.std.proofs.lemmas.List.{take-append-drop}
 use Rattle.ua_builtin.specs.DateTime.{date_time}
 use Rattle.ua_builtin.specs.declared.date_time.DateTime.{DateTime}
+use Rattle.ua_frame.specs.Agreement.{url_length}
 use Rattle.ua_frame.specs.Run.{Over}
 use Rattle.ua_channel_laws.specs.ServerReads.{ServerCloses}
 use Rattle.ua_channel.specs.ServerTold.{Told}
@@ -15,8 +16,10 @@ use Rattle.ua_server.specs.declared.endpoint.Endpoint.{Endpoint}
 use Rattle.ua_client.specs.declared.fault.ClientFault.{ClientFault}
 use Rattle.ua_client.specs.declared.reply.Reply.{Reply}
 use Rattle.ua_loopback.specs.Accepted as judged
+use Rattle.ua_loopback.specs.Faults.{FailsAt}
 use Rattle.ua_loopback.specs.Says.{times_of_answers}
 use Rattle.ua_loopback.specs.declared.conversation.Transcript.{Transcript}
+use Rattle.ua_loopback.specs.declared.stage.Stage.{Stage}
 use Rattle.ua_loopback.proofs.Conversing.{conversation_read}
 use Rattle.ua_loopback.proofs.Saying.{said_by_run}
 use Rattle.ua_exchange.specs.Accepted.{AreAccepted, fault_at}
@@ -102,6 +105,12 @@ refused-turn first moment turns found t fault f k is =
     let refused : judged.IsTurnFault fault → judged.FirstRefused acknowledged (served_turns (front_of found turns)) t.taken fault =
     subst (λ (r : Result (Unit {0}) ClientFault). IfErr r (λ g. judged.IsTurnFault g → judged.FirstRefused acknowledged (served_turns (front_of found turns)) t.taken g)) is k.refused in
     subst (λ (ts : List Turn). IsRefusedFor ts (fault_at t.taken fault)) more.1 (refused-for (front_of found turns) more.0 t.taken fault refused (room-front turns found f))
+
+-- and what it failed for
+pub served-fault : (first : State) (moment : DateTime) (turns : List Turn) (t : Transcript) (fault : ClientFault) → IsConversed first moment turns t → t.outcome ≡ Err fault → (stage : Stage) × FailsAt stage fault
+served-fault first moment turns t fault k is =
+    let fails = subst (λ (r : Result (Unit {0}) ClientFault). IfErr r (λ g. url_length (Some url) ≤ 4095 → FailsAt t.stage g)) is k.fails in
+    (t.stage, fails (omega arith))
 
 -- it took all in front of a renewal for which too many tokens are held
 pub refused-crowded : (first : State) (moment : DateTime) (turns : List Turn) (place : ℕ) (t : Transcript) (done : Unit {0}) → FirstCrowded turns place → IsConversed first moment (take place turns) t → t.outcome ≡ Ok done

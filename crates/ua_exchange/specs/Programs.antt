@@ -13,12 +13,16 @@ use Rattle.ua_server.specs.declared.endpoint.Endpoint.{Endpoint}
 use Rattle.ua_loopback.specs.Accepted as judged
 use Rattle.ua_loopback.specs.Beginning.{Beginning}
 
+-- the most octets of a message
+abbrev pub message_size : ℕ
+message_size = 1048576
+
 -- the limits of both: frames of 65535 octets each way, messages of 1048576 octets and 256 chunks
 abbrev pub program_limits : Limits
 program_limits = record {
   receive_buffer_size = 65535;
   send_buffer_size = 65535;
-  max_message_size = 1048576;
+  max_message_size = message_size;
   max_chunk_count = 256;
   receives = lit≤ tt;
   sends = lit≤ tt;
@@ -28,7 +32,7 @@ program_limits = record {
 
 -- limits of these sizes
 abbrev pub AreOurs : Limits → Type 0
-AreOurs limits = HasSizes limits 65535 65535 1048576 256
+AreOurs limits = HasSizes limits 65535 65535 message_size 256
 
 -- where the server is found
 abbrev pub url : List ℕ
@@ -36,7 +40,7 @@ url = codes "opc.tcp://localhost:4840"
 
 -- what the server says of itself
 abbrev pub endpoint : Endpoint
-endpoint = record { url = Some url; application_uri = Some (codes "urn:ua:server"); name = Some (codes "ua"); message_limit = 1048576 }
+endpoint = record { url = Some url; application_uri = Some (codes "urn:ua:server"); name = Some (codes "ua"); message_limit = message_size }
 
 -- the id of the channel
 abbrev pub channel : ℕ
@@ -60,4 +64,4 @@ beginning first moment = record { limits = program_limits; channel = channel; fi
 
 -- the most octets that either end holds of what is not whole: of a frame 65535, and of 4 unfinished messages 1048576 each
 abbrev pub most_held : ℕ
-most_held = 65535 + 4 * 1048576
+most_held = 65535 + 4 * message_size

@@ -118,7 +118,7 @@ pub fn exchange(
         return Err(PairFault::Request(place, AskFault::TooManyTokens));
     }
     let Stage::Ended(end) = found.stage else {
-        return Err(PairFault::OutOfMemory);
+        unreachable!();
     };
     Ok(Transcript {
         up: found.up,

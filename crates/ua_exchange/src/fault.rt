@@ -15,18 +15,21 @@ pub enum PairFault {
     /// The request of this turn has no encoding.
     #[error("the request of turn {0} can't be encoded")]
     NotWritable(usize),
-    /// Memory was refused; or the client met any other fault that is no reason against a turn.
+    /// Memory was refused, to the client or to its server.
     #[error("out of memory")]
     OutOfMemory,
 }
 
 impl PairFault {
     ghost use Rattle.std.specs.Prelude.{◌≡◌};
+    ghost use Rattle.ua_loopback.specs.Faults.{FailsAt};
+    ghost use Rattle.ua_loopback.specs.declared.stage.Stage.{Stage};
     ghost use Rattle.ua_exchange.specs.Accepted.{fault_at};
 
-    /// Why a client does not take the turn at this place; want of memory where its fault is no reason
-    /// against a turn.
+    /// Why a client does not take the turn at this place. A line to a server in the same process fails
+    /// where the server lacks memory, and nothing else of it fails a client but its own want of memory.
     pub(crate) fn of_client(place: usize, fault: ClientFault) -> PairFault
+        requires { (stage : Stage) × FailsAt stage fault }
         ensures { result ≡ fault_at place fault }
     {
         match fault {
@@ -34,7 +37,16 @@ impl PairFault {
             ClientFault::Exhausted => PairFault::Request(place, AskFault::Exhausted),
             ClientFault::TooLarge => PairFault::Request(place, AskFault::RequestTooLarge),
             ClientFault::TooManyTokens => PairFault::Request(place, AskFault::TooManyTokens),
-            _ => PairFault::OutOfMemory,
+            ClientFault::OutOfMemory | ClientFault::Read | ClientFault::Write => {
+                PairFault::OutOfMemory
+            }
+            ClientFault::Peer(_)
+            | ClientFault::Refused(_)
+            | ClientFault::Service(_)
+            | ClientFault::Ended
+            | ClientFault::TooLong
+            | ClientFault::UnknownResponse
+            | ClientFault::Closed => unreachable!(),
         }
     }
 }

@@ -18,6 +18,7 @@ mod turn;
 
 pub use exchanging::exchange;
 pub use fault::PairFault;
+pub use programs::{MESSAGE_SIZE, limits};
 pub use transcript::Transcript;
 pub use turn::Turn;
 pub use ua_client::Reply;

@@ -11,8 +11,8 @@ use ua_server::Endpoint;
 /// The most octets of a frame, each way.
 const FRAME_SIZE: u32 = 65535;
 
-/// The most octets of a message.
-const MESSAGE_SIZE: u32 = 1_048_576;
+/// The most octets of a message of the program.
+pub const MESSAGE_SIZE: u32 = 1_048_576;
 
 /// The most chunks of a message.
 const CHUNK_COUNT: u32 = 256;
@@ -20,7 +20,8 @@ const CHUNK_COUNT: u32 = 256;
 /// Where the server is found.
 const URL: &str = "opc.tcp://localhost:4840";
 
-/// The limits of both ends.
+/// The limits of the program, at either end: frames of 65535 octets each way, messages of 1048576
+/// octets and 256 chunks.
 pub fn limits() -> Limits
     ensures { AreOurs result }
 {

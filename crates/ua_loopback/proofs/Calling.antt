@@ -1,15 +1,14 @@
 -- What calls of a client over a line to a server come to, behind a talk so far.
-use Rattle.std.proofs.Common.{◌≡◌, ◌⊎◌, inl, inr, ℕ, IsTrue, List, [], ◌∷◌, ◌++◌, Option, Some, None, Result, Ok, Err, map, ◌∙◌, ap, subst}
+use Rattle.std.proofs.Common.{◌≡◌, ◌⊎◌, inl, inr, ℕ, IsTrue, List, [], ◌∷◌, ◌++◌, Option, Some, None, Result, Ok, Err, map, refl, sym, ◌∙◌, ap, subst}
 use Rattle.ua_builtin.specs.DateTime.{date_time}
 use Rattle.ua_builtin.specs.declared.date_time.DateTime.{DateTime}
 use Rattle.ua_frame.specs.declared.limits.Limits.{Limits}
 use Rattle.ua_channel.specs.Client.{SameClient}
-use Rattle.ua_channel.specs.Line.{Traffic, IfTrafficKnown}
+use Rattle.ua_channel.specs.Line.{Traffic}
 use Rattle.ua_channel_laws.specs.ServerReads.{ServerCloses}
 use Rattle.ua_channel.specs.ServerTold.{Closed}
 use Rattle.ua_services.specs.declared.request.Request.{Request}
 use Rattle.ua_server.specs.State.{State}
-use Rattle.ua_client.specs.Carried.{Carries}
 use Rattle.ua_client.specs.Calls.{AnsweredAll, BrokenAll, CallsAll, all_of}
 use Rattle.ua_client.specs.Client.{Closes, IsLeft, IsReady, OpensClient, OpensNothing, client_channel, connection_of}
 use Rattle.ua_client.specs.Hearing.{MovesConnection, StopsAt, most_reads}
@@ -29,11 +28,11 @@ use Rattle.ua_loopback.specs.Faults.{FailsBehind, IsOutside}
 use Rattle.ua_loopback.specs.Replies.{HaveMisanswer, lane_back, requests_replies, turn_state}
 use Rattle.ua_loopback.specs.Says.{services_after, server_output}
 use Rattle.ua_loopback.specs.Sends.{closing_behind}
-use Rattle.ua_loopback.specs.Talking.{IsBehindFirst, IsLineTo, IsSentOver, IsTalking, Reads, SoFar, acked_in, closed_octets, id_in, newest_in, octets_of, opening, state_in, told_in, with_turn}
+use Rattle.ua_loopback.specs.Talking.{IsBehindFirst, IsLineTo, IsSentOver, IsTalking, Reads, SoFar, StopsOver, acked_in, closed_octets, id_in, newest_in, octets_of, opening, state_in, told_in, with_turn}
 use Rattle.ua_loopback.specs.Turns.{turn_told}
 use Rattle.ua_loopback.specs.inside.Talking.{CanOpen}
 use Rattle.ua_loopback.proofs.Begun.{SettlesOpened, opened_ready, opened_talk, settled_there}
-use Rattle.ua_loopback.proofs.Faults.{calls_fail, close_fails, renewal_fails}
+use Rattle.ua_loopback.proofs.Faults.{calls_fail, calls_stop, close_fails, close_stops, renewal_fails, renewal_stops, sent_over}
 use Rattle.ua_loopback.proofs.OneTurn.{calls_refused, calls_replied, calls_sent, calls_talk, closes_left, closes_read, closes_silent, closing_is, first_talk, renewing_not, renewing_sent, renewing_talks, turn_left, turn_read}
 use Rattle.ua_loopback.proofs.Replying.{some-append}
 use Rattle.ua_loopback.proofs.Staying.{ToldBehind}
@@ -48,13 +47,6 @@ opens_talk limits url moment before after client law (inr o) b able line = recor
   site = (settled_there b limits url moment before after client law o able line).0;
   talks = opened_talk b limits url moment before after client law o able line;
 }
-
--- ---- what is sent
-
-pub sent_over : (got sent octets : List ℕ) (before after : Option Traffic) → sent ≡ octets → IfTrafficKnown (Carries got sent) before after → IsSentOver octets before after
-sent_over got sent octets None after is carried = carried
-sent_over got sent octets (Some f) None is carried = absurd carried
-sent_over got sent octets (Some f) (Some g) is carried = carried.written ∙ ap (λ (o : List ℕ). f.written ++ o) is
 
 -- ---- behind a turn
 
@@ -132,6 +124,21 @@ module _ (t : SoFar) (x : Client) (before : Option Traffic) (k : IsTalking t x b
           subst (λ (s : State). FailsBehind (HaveMisanswer s t.server.moment requests) f) k.talks.state_is
           (calls_fail t.server t.limits t.url t.octets (told_in t) (newest_in t) (id_in t) (tokens_held 1 t.turns) k.site (connection_of x) before k.talks.talking (connection_of y) after sent moves same law never_before requests f q A stops)
 
+      pub asks_stop : (A : Type 0) → StopsAt {A = A} most_reads most_reads moves.got (connection_of y) after (Err f) → StopsOver f t.server t.octets before after
+      asks_stop A stops = (
+        sent,
+        sent_over moves.got sent sent before after refl moves.carried,
+        calls_stop t.server t.limits t.url t.octets (told_in t) (newest_in t) (id_in t) (tokens_held 1 t.turns) k.site (connection_of x) before k.talks.talking (connection_of y) after sent moves same law never_before requests f q A stops,
+      )
+
+  pub all_stops : {A : Type 0} {view : A → List Reply} (y : Client) (after : Option Traffic) (law : NonePending) (moment : DateTime) (requests : List Request) (never_before : ToldBehind) (f : ClientFault)
+      → CallsAll {A = A} view requests (connection_of x) (connection_of y) before after (Err f) → StopsOver f t.server t.octets before after
+  all_stops {A} {view} y after law moment requests never_before f c = asks_stop y after law moment requests c.sent c.moves c.same never_before f (c.answers k.site stands_there) A c.stops
+
+  pub into_stops : (y : Client) (after : Option Traffic) (law : NonePending) (moment : DateTime) (requests : List Request) (never_before : ToldBehind) (f : CallsFault) (had have : List Reply)
+      → CallsInto {A = Unit {0}} requests (connection_of x) (connection_of y) before after (Err f) had have → StopsOver f.fault t.server t.octets before after
+  into_stops y after law moment requests never_before f had have c = asks_stop y after law moment requests c.sent c.moves c.same never_before f.fault (c.answers k.site stands_there).broken (Unit {0}) c.stops
+
   pub all_fails : {A : Type 0} {view : A → List Reply} (y : Client) (after : Option Traffic) (law : NonePending) (moment : DateTime) (requests : List Request) (never_before : ToldBehind) (f : ClientFault)
       → CallsAll {A = A} view requests (connection_of x) (connection_of y) before after (Err f) → FailsBehind (HaveMisanswer (state_in t) t.server.moment requests) f
   all_fails {A} {view} y after law moment requests never_before f c = asks_fails y after law moment requests c.sent c.moves c.same never_before f (c.answers k.site stands_there) A c.stops
@@ -163,6 +170,14 @@ module _ (t : SoFar) (x : Client) (before : Option Traffic) (k : IsTalking t x b
         renewal_fails t.server t.limits t.url t.octets (told_in t) (newest_in t) (id_in t) (tokens_held 1 t.turns) k.site (connection_of x) before k.talks.talking (connection_of y) after c.sent c.moves c.same moment dated k.talks.dated
         (Unit {0}) f (c.answers k.site stands_there) (c.judged k.site stands_there) c.stops
 
+    pub renews_stop : IsTrue (date_time.encodable moment) → (f : ClientFault) → Renews {A = Unit {0}} moment (connection_of x) (connection_of y) before after (Err f) → StopsOver f t.server t.octets before after
+    renews_stop dated f c = (
+      c.sent,
+      sent_over c.moves.got c.sent c.sent before after refl c.moves.carried,
+      renewal_stops t.server t.limits t.url t.octets (told_in t) (newest_in t) (id_in t) (tokens_held 1 t.turns) k.site (connection_of x) before k.talks.talking (connection_of y) after c.sent c.moves c.same moment dated k.talks.dated
+          (Unit {0}) f (c.answers k.site stands_there) (c.judged k.site stands_there) c.stops,
+    )
+
   -- ---- it closes
 
   module _ (moment : DateTime) where
@@ -182,3 +197,12 @@ module _ (t : SoFar) (x : Client) (before : Option Traffic) (k : IsTalking t x b
 
     pub closes_fails : (after : Option Traffic) (f : ClientFault) → Closes {A = Unit {0}} moment (client_channel x) before after (Err f) → IsOutside f
     closes_fails after f c = close_fails (Unit {0}) k.site moment c.sent f (c.answers k.site stands_there)
+
+    pub closes_stop : (after : Option Traffic) (f : ClientFault) → Closes {A = Unit {0}} moment (client_channel x) before after (Err f) → StopsOver f t.server t.octets before after
+    closes_stop after f c = (
+      c.sent,
+      sent_over [] c.sent c.sent before after refl c.carried,
+      close_stops t.server (Unit {0}) k.site moment t.octets c.sent (told_in t ++ Closed ∷ []) f
+          (subst (λ (o : List ℕ). ServerCloses t.server.limits t.server.channel (t.octets ++ o) (told_in t ++ Closed ∷ [])) (sym (closing_is t k.site (connection_of x) before k.talks moment)) closes_there)
+          (c.answers k.site stands_there),
+    )

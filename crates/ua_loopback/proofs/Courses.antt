@@ -4,7 +4,6 @@ use Rattle.std.specs.Prelude.{IfErr, OnOk}
 use Rattle.std.proofs.lemmas.List.{length-map, length-take-le, map-append, take-append-drop, take_all, take_more}
 use Rattle.ua_builtin.specs.DateTime.{date_time}
 use Rattle.ua_builtin.specs.declared.date_time.DateTime.{DateTime}
-use Rattle.ua_frame.specs.Agreement.{url_length}
 use Rattle.ua_frame.specs.Run.{End, Going, Over, Stopped}
 use Rattle.ua_frame.specs.declared.limits.Limits.{Limits}
 use Rattle.ua_channel.specs.Line.{Traffic, IfTrafficKnown}
@@ -37,16 +36,16 @@ use Rattle.ua_loopback.specs.Course.{Converses, Course, Stays, opening_octets}
 use Rattle.ua_loopback.specs.Course.Course.{Asked, Renewed}
 use Rattle.ua_loopback.specs.Kept.{EndsAt, LeavesAt, Served, traffic_of}
 use Rattle.ua_loopback.specs.Faults.{BehindRefused, FailsBehind}
-use Rattle.ua_loopback.specs.Replies.{HasMisanswer, HaveMisanswers, lane_back, turn_replies, turns_replies, turns_state}
+use Rattle.ua_loopback.specs.Replies.{lane_back, turn_replies, turns_replies, turns_state}
 use Rattle.ua_loopback.specs.Sends.{closing_behind, conversation_octets, turns_octets}
 use Rattle.ua_loopback.specs.Says.{end_by, services_after, server_output, state_told}
-use Rattle.ua_loopback.specs.Talking.{IsLineTo, IsTalking, SoFar, TalksAt, acked_in, closed_octets, octets_of, state_in, newest_in, with_turn}
-use Rattle.ua_loopback.specs.inside.Talking.{CanOpen, StaysBefore, StaysBehind, StaysTalking, Talked, Went, WentBefore}
+use Rattle.ua_loopback.specs.Talking.{IsLineTo, IsTalking, SoFar, StopsOver, TalksAt, acked_in, closed_octets, octets_of, state_in, newest_in, with_turn}
+use Rattle.ua_loopback.specs.inside.Talking.{CanOpen, HasMisanswer, HaveMisanswers, StaysBefore, StaysBehind, StaysTalking, Talked, Went, WentBefore}
 use Rattle.ua_loopback.specs.Turns.{conversation_told, opening_told, turns_told}
 use Rattle.ua_loopback.specs.declared.stage.Stage.{Stage}
 use Rattle.ua_loopback.specs.declared.stage.Stage.TheVariants as stage
 use Rattle.ua_loopback.proofs.Begun.{SettlesOpened, went_first}
-use Rattle.ua_loopback.proofs.Faults.{fails_by, misanswers_in}
+use Rattle.ua_loopback.proofs.Faults.{fails_by, misanswers_in, sent_both, sent_over}
 use Rattle.ua_loopback.proofs.OneTurn.{calls_refused, calls_replied, calls_sent, calls_talk, closes_read, closes_silent, closing_is, first_at, first_octets, first_replied, first_sent, first_talk, renewing_not, renewing_sent, renewing_talks, talk_left}
 use Rattle.ua_loopback.proofs.Pushes.{octets_push, replies_push}
 use Rattle.ua_loopback.proofs.Replying.{some-append, state_closed}
@@ -251,6 +250,14 @@ asked_fails b limits url moment opened turns x first now had s ready t asked is 
     let talk : SoFar = record { server = b; limits = limits; url = url; turns = turns; octets = opening_octets limits url moment ++ s.stays.sent } in
     subst (λ (o : Option (List Request)). FailsBehind (HasMisanswer (turns_state b.first b.moment turns) b.moment o) f) (sym is)
     (fails talk (record { ready = ready; site = s.stays.site; talks = s.talks }))
+
+-- and what the server makes of all that was sent
+pub asked_stops : (b : Beginning) (limits : Limits) (url : Option (List ℕ)) (moment : DateTime) (opened : ClientPlace) (turns : List (Option (List Request))) (x : Client) (first now after : Option Traffic) (had : List Reply)
+    → StaysTalking b limits url moment opened turns (connection_of x) first now had → IsReady x → (f : ClientFault) → ((talk : SoFar) → IsTalking talk x now → StopsOver f talk.server talk.octets now after) → StopsOver f b [] first after
+asked_stops b limits url moment opened turns x first now after had s ready f stops =
+    let before : List ℕ = opening_octets limits url moment ++ s.stays.sent in
+    let there = stops (record { server = b; limits = limits; url = url; turns = turns; octets = before }) (record { ready = ready; site = s.stays.site; talks = s.talks }) in
+    (before ++ there.0, sent_both before there.0 first now after (sent_over s.stays.got before before first now refl s.stays.carried) there.1, there.2)
 
 -- ---- the end
 
@@ -600,15 +607,6 @@ before_on (Err f) b limits channel services url moment turns old new place repli
     subst (λ (u : List ℕ). BehindRefused (record { limits = limits; channel = channel; first = services; moment = moment }) limits url moment turns place u replies) (sym p)
     (subst (λ (d : Beginning). BehindRefused d limits url moment turns place new.up replies) is
     (behind_refused b limits url moment turns place old new replies none (t reason b (subst (λ (d : Beginning). CanOpen d limits url moment) (sym is) able) (line_begins b old none nothing_read))))
-
--- it does not fail for what the server says
-pub fails_on : (r : Result (Unit {0}) ClientFault) (b : Beginning) (limits : Limits) (channel : ℕ) (services : State) (url : Option (List ℕ)) (moment : DateTime) (turns : List (Option (List Request))) (old : Served)
-    → b ≡ record { limits = limits; channel = channel; first = services; moment = moment } → CanOpen (record { limits = limits; channel = channel; first = services; moment = moment }) limits url moment → old.up ≡ [] → old.read ≡ 0
-    → IfErr r (λ f. (b' : Beginning) → CanOpen b' limits url moment → IsLineTo b' [] [] (Some (traffic_of b old)) → url_length url ≤ 4095 → FailsBehind (HaveMisanswers b'.first b'.moment turns) f)
-    → IfErr r (λ f. url_length url ≤ 4095 → FailsBehind (HaveMisanswers services moment turns) f)
-fails_on (Ok found) b limits channel services url moment turns old is able none nothing_read t = tt
-fails_on (Err f) b limits channel services url moment turns old is able none nothing_read t = λ short.
-    subst (λ (d : Beginning). FailsBehind (HaveMisanswers d.first d.moment turns) f) is (t b (subst (λ (d : Beginning). CanOpen d limits url moment) (sym is) able) (line_begins b old none nothing_read) short)
 
 -- and the client sent just these octets
 pub sent_on : (r : Result (Unit {0}) ClientFault) (b : Beginning) (limits : Limits) (channel : ℕ) (services : State) (url : Option (List ℕ)) (moment : DateTime) (turns : List (Option (List Request))) (old new : Served) (replies : List Reply) (up : List ℕ)

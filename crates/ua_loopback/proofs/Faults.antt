@@ -1,5 +1,5 @@
 -- That a call of a client behind a talk does not fail for what the server says.
-use Rattle.std.proofs.Common.{◌≡◌, ◌⊎◌, inl, inr, ℕ, ◌+◌, ◌<◌, ◌≤◌, true, false, IsTrue, List, [], ◌∷◌, ◌++◌, Option, Some, None, Result, Err, length, sym, ◌∙◌, ap, subst, arith, append-nil, append_assoc}
+use Rattle.std.proofs.Common.{◌≡◌, ◌⊎◌, inl, inr, ℕ, ◌+◌, ◌<◌, ◌≤◌, true, false, IsTrue, List, [], ◌∷◌, ◌++◌, Option, Some, None, Result, Err, length, length-append, refl, sym, ◌∙◌, ap, subst, arith, append-nil, append_assoc}
 use Rattle.std.specs.List.{list_any}
 use Rattle.std.proofs.lemmas.List.{append_cancel_left}
 use Rattle.ua_wire.specs.Format.{Extends}
@@ -17,8 +17,8 @@ use Rattle.ua_channel.specs.Client.{ClientEnded, ClientGoes, SameClient, client_
 use Rattle.ua_channel_laws.specs.ClientReads.{AtClient, ClientAgrees, ClientReads, opened_at, with_answer, with_renewal}
 use Rattle.ua_channel.specs.ClientSends.{hello_to}
 use Rattle.ua_channel.specs.ClientTold.{ClientTold as Heard, ClientTold as heard, Why, ours, peers}
-use Rattle.ua_channel.specs.Line.{Traffic}
-use Rattle.ua_channel_laws.specs.ServerReads.{AtServer}
+use Rattle.ua_channel.specs.Line.{Traffic, IfTrafficKnown}
+use Rattle.ua_channel_laws.specs.ServerReads.{AtServer, ServerCloses}
 use Rattle.ua_channel.specs.ServerTold.{Told, Agreed}
 use Rattle.ua_channel.specs.declared.client.channel.ClientChannel.{ClientChannel}
 use Rattle.ua_channel_laws.proofs.ClientReading.{reads_ack}
@@ -29,10 +29,10 @@ use Rattle.ua_services.specs.declared.request.Request.{Request}
 use Rattle.ua_server.specs.Said.{output_of}
 use Rattle.ua_server.specs.State.{State}
 use Rattle.ua_client.specs.Calls.{BreaksAt, BrokenAll, ClientGoesOn, Rounds, all_of, asked_at, refusal_at, sent_at}
-use Rattle.ua_client.specs.Carried.{IsAtEnd}
-use Rattle.ua_client.specs.Client.{ClosesAt, OpensClient, OpensNothing}
+use Rattle.ua_client.specs.Carried.{Carries, IsAtEnd, IsPart}
+use Rattle.ua_client.specs.Client.{ClosesAt, OpensClient, OpensNothing, closing_at}
 use Rattle.ua_client.specs.Hearing.{MovesConnection, StopsAt, channel_of, most_reads, untaken_of}
-use Rattle.ua_client.specs.Opening.{BreaksOpening, GoesWithout, hello_octets, open_octets}
+use Rattle.ua_client.specs.Opening.{BreaksOpening, BreaksSending, BreaksWaiting, GoesWithout, hello_octets, open_octets}
 use Rattle.ua_client.specs.Renewing.{RenewsAt, asks_renewed, is_renewed, refused_by, renewal_at, renewal_refusal}
 use Rattle.ua_client.specs.Replies.{AreAwaited, IsMisanswered}
 use Rattle.ua_client.specs.Sent.{bodies_of}
@@ -45,20 +45,20 @@ use Rattle.ua_client.specs.declared.reply.Reply.{Reply}
 use Rattle.ua_client.proofs.Settled.{NonePending}
 use Rattle.ua_loopback.specs.Accepted.{acknowledged, held_behind_calls}
 use Rattle.ua_loopback.specs.Beginning.{Beginning}
-use Rattle.ua_loopback.specs.Faults.{FailsBehind, IsOutside}
-use Rattle.ua_loopback.specs.Replies.{HasMisanswer, HaveMisanswer, HaveMisanswers, turn_state, turns_state}
-use Rattle.ua_loopback.specs.Says.{server_output, times_of_answers, state_told}
-use Rattle.ua_loopback.specs.Talking.{AreTalking, IsLineTo}
+use Rattle.ua_loopback.specs.Faults.{FailsBehind, IsOutside, StopsAfter}
+use Rattle.ua_loopback.specs.Replies.{HaveMisanswer, turn_state, turns_state}
+use Rattle.ua_loopback.specs.Says.{end_by, server_output, times_of_answers, state_told}
+use Rattle.ua_loopback.specs.Talking.{AreTalking, IsLineTo, IsSentOver, StopsOver}
 use Rattle.ua_loopback.specs.Together.{opening_answer}
 use Rattle.ua_loopback.specs.Turns.{calls_told}
-use Rattle.ua_loopback.specs.inside.Talking.{CanOpen}
+use Rattle.ua_loopback.specs.inside.Talking.{CanOpen, HasMisanswer, HaveMisanswers}
 use Rattle.ua_loopback.proofs.Ending.{all_last}
 use Rattle.ua_loopback.proofs.Opened.{answer_read, opening_said}
-use Rattle.ua_loopback.proofs.Reaching.{writable}
-use Rattle.ua_loopback.proofs.Renewed.{renewal_heard}
+use Rattle.ua_loopback.proofs.Reaching.{opening_read, requests_read, writable}
+use Rattle.ua_loopback.proofs.Renewed.{renewal_heard, server_renewed}
 use Rattle.ua_loopback.proofs.Replying.{AreWritable, misanswered_among, misanswered_behind, state_calls}
 use Rattle.ua_loopback.proofs.Rounds.{AreSome, Behind, all_front, refused_there, rounds_served, some_in}
-use Rattle.ua_loopback.proofs.Saying.{said_by_run, said_further}
+use Rattle.ua_loopback.proofs.Saying.{closing_waits, end_is, front_waits, said_by_run, said_further}
 use Rattle.ua_loopback.proofs.Staying.{ToldBehind, asked_fails_not, asked_misanswered, asked_misses_not}
 use Rattle.ua_loopback.proofs.Talks.{fronts, got_on, line_on, rounds_octets}
 
@@ -96,6 +96,34 @@ fails_by M N fault.TooLarge more h = tt
 fails_by M N fault.TooManyTokens more h = tt
 fails_by M N fault.Closed more h = h
 
+-- nothing is said of want of memory
+memory_stops : (b : Beginning) (up : List ℕ) (f : ClientFault) → f ≡ fault.OutOfMemory → StopsAfter f b up
+memory_stops b up f is = record {
+  read = λ e. let no : fault.OutOfMemory ≡ fault.Read = sym is ∙ e in absurd cc;
+  write = λ e. let no : fault.OutOfMemory ≡ fault.Write = sym is ∙ e in absurd cc;
+  long = λ e. let no : fault.OutOfMemory ≡ fault.TooLong = sym is ∙ e in absurd cc;
+}
+
+-- ---- what is sent
+
+pub sent_over : (got sent octets : List ℕ) (before after : Option Traffic) → sent ≡ octets → IfTrafficKnown (Carries got sent) before after → IsSentOver octets before after
+sent_over got sent octets None after is carried = carried
+sent_over got sent octets (Some f) None is carried = absurd carried
+sent_over got sent octets (Some f) (Some g) is carried = carried.written ∙ ap (λ (o : List ℕ). f.written ++ o) is
+
+nothing_sent : (before after : Option Traffic) → after ≡ before → IsSentOver [] before after
+nothing_sent None after is = is
+nothing_sent (Some f) (Some g) is = let same : g ≡ f = cc in ap (λ (t : Traffic). t.written) same ∙ sym (append-nil f.written)
+nothing_sent (Some f) None is = let no : None ≡ Some f = is in absurd cc
+
+-- these octets and then those
+pub sent_both : (first second : List ℕ) (before mid after : Option Traffic) → IsSentOver first before mid → IsSentOver second mid after → IsSentOver (first ++ second) before after
+sent_both first second (Some f) (Some g) (Some h) p q = q ∙ (ap (λ (o : List ℕ). o ++ second) p ∙ append_assoc f.written first second)
+sent_both first second (Some f) (Some g) None p q = absurd q
+sent_both first second (Some f) None after p q = absurd p
+sent_both first second None None after p q = q
+sent_both first second None (Some g) after p q = let no : ◌≡◌ {A = Option Traffic} (Some g) None = p in absurd cc
+
 -- ---- octets
 
 front_of_front : (octets more all : List ℕ) → Extends (octets ++ more) all → Extends octets all
@@ -108,6 +136,13 @@ took_said b (Some g) sent got taken untaken line is none end =
     let said_is : server_output b sent ≡ got ++ g.coming [] = ap (server_output b) (sym (append-nil sent)) ∙ line [] in
     let got_is : got ≡ taken = is ∙ (ap (λ (o : List ℕ). taken ++ o) none ∙ append-nil taken) in
     sym (said_is ∙ (ap (λ (o : List ℕ). got ++ o) end ∙ (append-nil got ∙ got_is)))
+
+-- what was got of it the server said
+said_enough : (b : Beginning) (now : Option Traffic) (sent got more : List ℕ) (n : ℕ) → IsLineTo b sent (got ++ more) now → n ≤ length more → n ≤ length (server_output b sent)
+said_enough b None sent got more n line few = absurd line
+said_enough b (Some g) sent got more n line few =
+    let said_is : server_output b sent ≡ (got ++ more) ++ g.coming [] = ap (server_output b) (sym (append-nil sent)) ∙ line [] in
+    omega (arith, few, ap length said_is, length-append (got ++ more) (g.coming []), length-append got more)
 
 -- ---- behind a talk
 
@@ -210,6 +245,26 @@ module _ (b : Beginning) (limits : Limits) (url : Option (List ℕ)) (octets : L
     group_fails A (fault.Service code) h stops = h
     group_fails A fault.Closed h stops = h
 
+    reads_here : refusal_at behind group ≡ None → end_by b ((octets ++ sent_before) ++ sent_at behind group) ≡ Going
+    reads_here judged =
+        let r = requests_read b.limits url b.channel (octets ++ sent_before) told_here first.served.at_server first.channel behind first.served.at_client first.served.on first.served.serving.together group judged in
+        end_is b ((octets ++ sent_before) ++ sent_at behind group) r.frames [] Going r.run
+
+    pub group_stops : (A : Type 0) (f : ClientFault) → BreaksAt group behind y sent_then taken_then f → StopsAt {A = A} most_reads most_reads moves.got y after (Err f) → StopsAfter f b (octets ++ sent)
+    group_stops A f h stops = record {
+      read = λ is.
+          let there : BreaksAt group behind y sent_then taken_then fault.Read = subst (BreaksAt group behind y sent_then taken_then) is h in
+          ap (end_by b) (all_sent ∙ ap (λ (o : List ℕ). (octets ++ sent_before) ++ o) there.0.1) ∙ reads_here there.0.0;
+      write = λ is.
+          let there : BreaksAt group behind y sent_then taken_then fault.Write = subst (BreaksAt group behind y sent_then taken_then) is h in
+          ap (end_by b) all_sent
+          ∙ front_waits b ((octets ++ sent_before) ++ sent_then) there.1.more
+          (ap (end_by b) (append_assoc (octets ++ sent_before) sent_then there.1.more ∙ ap (λ (o : List ℕ). (octets ++ sent_before) ++ o) (sym there.1.parts)) ∙ reads_here there.0);
+      long = λ is.
+          let there : StopsAt {A = A} most_reads most_reads moves.got y after (Err fault.TooLong) = subst (λ (g : ClientFault). StopsAt {A = A} most_reads most_reads moves.got y after (Err g)) is stops in
+          said_enough b after (octets ++ sent) t.got moves.got most_reads line_then there.1;
+    }
+
   pub calls_fail : NonePending → ToldBehind → (requests : List Request) (f : ClientFault) → BrokenAll requests site y sent moves.taken f → (A : Type 0) → StopsAt {A = A} most_reads most_reads moves.got y after (Err f)
       → FailsBehind (HaveMisanswer (state_told b told) b.moment requests) f
   calls_fail law never_before requests f q A stops =
@@ -218,6 +273,10 @@ module _ (b : Beginning) (limits : Limits) (url : Option (List ℕ)) (octets : L
       fails_by (HaveMisanswer (state_told b told) b.moment asked) (HaveMisanswer (state_told b told) b.moment requests) f
       (λ h. subst (λ (ms : List Request). HaveMisanswer (state_told b told) b.moment ms) parts (misanswered_among (state_told b told) b.moment asked q.others h))
       (group_fails law never_before q.groups q.group q.behind q.sent_before q.sent_then q.taken_before q.taken_then q.replies q.rounds (some_in (q.groups ++ q.group ∷ []) q.sized) q.sent_parts q.taken_parts A f q.breaks stops)
+
+  pub calls_stop : NonePending → ToldBehind → (requests : List Request) (f : ClientFault) → BrokenAll requests site y sent moves.taken f → (A : Type 0) → StopsAt {A = A} most_reads most_reads moves.got y after (Err f) → StopsAfter f b (octets ++ sent)
+  calls_stop law never_before requests f q A stops =
+      group_stops law never_before q.groups q.group q.behind q.sent_before q.sent_then q.taken_before q.taken_then q.replies q.rounds (some_in (q.groups ++ q.group ∷ []) q.sized) q.sent_parts q.taken_parts A f q.breaks stops
 
   -- ---- a renewal
 
@@ -274,6 +333,27 @@ module _ (b : Beginning) (limits : Limits) (url : Option (List ℕ)) (octets : L
 
     pub renewal_fails : (A : Type 0) (f : ClientFault) → RenewsAt {A = A} site moment (channel_of y) sent moves.taken (Err f) → refused_by {A = A} (Err f) ≡ renewal_refusal site → StopsAt {A = A} most_reads most_reads moves.got y after (Err f) → FailsBehind ⊥ f
     renewal_fails A f h e stops = renewal_by_fault A f h e stops
+
+    reads_renewed : renewal_refusal site ≡ None → end_by b (octets ++ renewal_at site moment) ≡ Going
+    reads_renewed judged =
+        let r = server_renewed b url octets told s (channel_of x) site c moment t.served.on t.served.serving judged dated in
+        end_is b (octets ++ renewal_at site moment) r.frames [] Going r.run
+
+    pub renewal_stops : (A : Type 0) (f : ClientFault) → RenewsAt {A = A} site moment (channel_of y) sent moves.taken (Err f) → refused_by {A = A} (Err f) ≡ renewal_refusal site → StopsAt {A = A} most_reads most_reads moves.got y after (Err f)
+        → StopsAfter f b (octets ++ sent)
+    renewal_stops A f h e stops = record {
+      read = λ is.
+          let there : RenewsAt {A = A} site moment (channel_of y) sent moves.taken (Err fault.Read) = subst (λ (g : ClientFault). RenewsAt {A = A} site moment (channel_of y) sent moves.taken (Err g)) is h in
+          let judged : None ≡ renewal_refusal site = subst (λ (g : ClientFault). refused_by {A = A} (Err g) ≡ renewal_refusal site) is e in
+          ap (λ (o : List ℕ). end_by b (octets ++ o)) there.0 ∙ reads_renewed (sym judged);
+      write = λ is.
+          let there : RenewsAt {A = A} site moment (channel_of y) sent moves.taken (Err fault.Write) = subst (λ (g : ClientFault). RenewsAt {A = A} site moment (channel_of y) sent moves.taken (Err g)) is h in
+          let judged : None ≡ renewal_refusal site = subst (λ (g : ClientFault). refused_by {A = A} (Err g) ≡ renewal_refusal site) is e in
+          front_waits b (octets ++ sent) there.0.0.more (ap (end_by b) (append_assoc octets sent there.0.0.more ∙ ap (λ (o : List ℕ). octets ++ o) (sym there.0.0.parts)) ∙ reads_renewed (sym judged));
+      long = λ is.
+          let there : StopsAt {A = A} most_reads most_reads moves.got y after (Err fault.TooLong) = subst (λ (g : ClientFault). StopsAt {A = A} most_reads most_reads moves.got y after (Err g)) is stops in
+          said_enough b after (octets ++ sent) t.got moves.got most_reads line_then there.1;
+    }
 
 -- ---- the opening
 
@@ -394,6 +474,34 @@ module _ (b : Beginning) (limits : Limits) (url : Option (List ℕ)) (moment : D
       opening_by_fault Client why_not
       (subst (λ (h : List ℕ). BreaksOpening h opening x sent taken why_not) hello_is (o.opens.answers o.fresh.goes)) o.opens.stops
 
+  reads_opening : end_by b (hello ++ opening) ≡ Going
+  reads_opening =
+      let r = opening_read b.limits b.channel limits url moment able.hello_fits short able.dated in
+      end_is b (hello ++ opening) r.frames [] Going r.run
+
+  waits_front : (more : List ℕ) → sent ++ more ≡ hello ++ opening → end_by b sent ≡ Going
+  waits_front more parts = front_waits b sent more (ap (end_by b) parts ∙ reads_opening)
+
+  waits_read : BreaksWaiting hello opening x sent taken fault.Read → end_by b sent ≡ Going
+  waits_read (inl h) = waits_front opening (ap (λ (u : List ℕ). u ++ opening) h.0)
+  waits_read (inr h) = ap (end_by b) h.0 ∙ reads_opening
+
+  waits_written : BreaksSending hello opening x sent taken → end_by b sent ≡ Going
+  waits_written (inl h) = waits_front (h.0.0.more ++ opening) (sym (append_assoc sent h.0.0.more opening) ∙ ap (λ (u : List ℕ). u ++ opening) (sym h.0.0.parts))
+  waits_written (inr (part, is, front, ack)) =
+      waits_front front.0.more (ap (λ (u : List ℕ). u ++ front.0.more) is ∙ (append_assoc hello part front.0.more ∙ ap (λ (u : List ℕ). hello ++ u) (sym front.0.parts)))
+
+  opening_stops : StopsAfter why_not b sent
+  opening_stops =
+      let breaks : BreaksOpening hello opening x sent taken why_not = subst (λ (h : List ℕ). BreaksOpening h opening x sent taken why_not) hello_is (o.opens.answers o.fresh.goes) in
+      record {
+        read = λ is. waits_read (subst (BreaksOpening hello opening x sent taken) is breaks);
+        write = λ is. waits_written (subst (BreaksOpening hello opening x sent taken) is breaks);
+        long = λ is.
+            let there : StopsAt {A = Client} most_reads most_reads o.opens.moves.got o.last after (Err fault.TooLong) = subst (λ (g : ClientFault). StopsAt {A = Client} most_reads most_reads o.opens.moves.got o.last after (Err g)) is o.opens.stops in
+            said_enough b after sent [] o.opens.moves.got most_reads line_open there.1;
+      }
+
 pub open_fails : (b : Beginning) (limits : Limits) (url : Option (List ℕ)) (moment : DateTime) (first after : Option Traffic) (f : ClientFault) → (OpensNothing first after (Err f) ⊎ OpensClient limits url moment first after (Err f))
     → CanOpen b limits url moment → url_length url ≤ 4095 → IsLineTo b [] [] first → IsOutside f
 open_fails b limits url moment first after f (inl nothing) able short line = subst IsOutside (sym (same_fault f fault.OutOfMemory nothing.0)) tt
@@ -401,6 +509,14 @@ open_fails b limits url moment first after f (inl nothing) able short line = sub
     same_fault : (g h : ClientFault) → ◌≡◌ {A = Result Client ClientFault} (Err g) (Err h) → g ≡ h
     same_fault g h e = cc
 open_fails b limits url moment first after f (inr o) able short line = opening_fails b limits url moment first after f o able short line
+
+pub open_stops : (b : Beginning) (limits : Limits) (url : Option (List ℕ)) (moment : DateTime) (first after : Option Traffic) (f : ClientFault) → (OpensNothing first after (Err f) ⊎ OpensClient limits url moment first after (Err f))
+    → CanOpen b limits url moment → url_length url ≤ 4095 → IsLineTo b [] [] first → StopsOver f b [] first after
+open_stops b limits url moment first after f (inl nothing) able short line = ([], nothing_sent first after nothing.1, memory_stops b [] f (same_fault f fault.OutOfMemory nothing.0))
+  where
+    same_fault : (g h : ClientFault) → ◌≡◌ {A = Result Client ClientFault} (Err g) (Err h) → g ≡ h
+    same_fault g h e = cc
+open_stops b limits url moment first after f (inr o) able short line = (o.opens.sent, sent_over o.opens.moves.got o.opens.sent o.opens.sent first after refl o.opens.moves.carried, opening_stops b limits url moment first after f o able short line)
 
 -- ---- the close
 
@@ -419,6 +535,18 @@ close_fails A s moment out fault.Exhausted h = h
 close_fails A s moment out fault.TooLarge h = h
 close_fails A s moment out fault.TooManyTokens h = h
 close_fails A s moment out fault.Closed h = h
+
+pub close_stops : (b : Beginning) (A : Type 0) (s : ClientPlace) (moment : DateTime) (octets sent : List ℕ) (told : List Told) (f : ClientFault) → ServerCloses b.limits b.channel (octets ++ closing_at s moment) told → ClosesAt {A = A} s moment sent (Err f)
+    → StopsAfter f b (octets ++ sent)
+close_stops b A s moment octets sent told f reads h = record {
+  read = λ is. absurd (subst (λ (g : ClientFault). ClosesAt {A = A} s moment sent (Err g)) is h);
+  write = λ is.
+      let there : IsPart sent (closing_at s moment) = subst (λ (g : ClientFault). ClosesAt {A = A} s moment sent (Err g)) is h in
+      closing_waits b (octets ++ sent) there.0.more told
+      (subst (λ (o : List ℕ). ServerCloses b.limits b.channel o told) (ap (λ (o : List ℕ). octets ++ o) there.0.parts ∙ sym (append_assoc octets sent there.0.more)) reads)
+      (omega (arith, there.1, ap length there.0.parts, length-append sent there.0.more));
+  long = λ is. absurd (subst (λ (g : ClientFault). ClosesAt {A = A} s moment sent (Err g)) is h);
+}
 
 -- ---- turns
 

@@ -17,11 +17,13 @@ mod Rounds
 mod Talks
 mod OneTurn
 mod Faults
+mod Sounds
 mod Refused
 mod Begun
 pub mod Pushes
 pub mod Conversing
 mod Courses
+mod Failing
 mod Fitting
 mod Calling
 mod Sessions

@@ -195,8 +195,11 @@ misanswered_at back state moments id k (msg ∷ ms) m rest before all zero asked
     let here : told_of k all ≡ x ∷ told_of k behind = ap (told_of k) is ∙ picks k before x behind none (of_itself (cut_refusal back body) id k body (omega (arith, k_is))) in
     let there : told_of k all ≡ last ∷ told_of k ws = ap (told_of k) parts ∙ picks k us last ws first (ap (is_told_of k) h.1 ∙ eq-eqb k k refl) in
     let same : x ≡ last = first_is (told_of k behind) (told_of k ws) x last (sym here ∙ there) in
-    inl (subst (λ (g : State × Response). IsNoAnswer (kind_of msg) (response.canonical g.1)) given_is
-    (subst (λ (o : List ℕ). IsNoAnswer (kind_of msg) o) (answered_by_it (cut_refusal back body) id k body h.0 (same ∙ h.1)) (subst (λ (r : Request). IsNoAnswer (kind_of r) h.0) at h.2)))
+    inl (
+      fits.0,
+      subst (λ (g : State × Response). IsNoAnswer (kind_of msg) (response.canonical g.1)) given_is
+          (subst (λ (o : List ℕ). IsNoAnswer (kind_of msg) o) (answered_by_it (cut_refusal back body) id k body h.0 (same ∙ h.1)) (subst (λ (r : Request). IsNoAnswer (kind_of r) h.0) at h.2)),
+    )
 misanswered_at back state moments id k (msg ∷ ms) m rest before all (suc n) asked us last ws fits e is k_is none at parts first h =
     let given : State × Response = answered state (first_of moments) (request.canonical msg) in
     let body : List ℕ = response.canonical given.1 in

@@ -1,5 +1,5 @@
 -- What a server says of octets, by a reading of them; and that it says nothing else of more octets first.
-use Rattle.std.proofs.Common.{◌≡◌, ℕ, ◌≤◌, List, [], ◌∷◌, ◌++◌, length, replicate, sym, ◌∙◌, ap, arith, append-nil}
+use Rattle.std.proofs.Common.{◌≡◌, ℕ, ◌<◌, ◌≤◌, List, [], ◌∷◌, ◌++◌, length, length-append, replicate, refl, sym, ◌∙◌, ap, arith, append-nil}
 use Rattle.std.proofs.lemmas.List.{replicate-append-replicate, length-replicate}
 use Rattle.ua_builtin.specs.declared.date_time.DateTime.{DateTime}
 use Rattle.ua_frame.specs.declared.frame.Frame.{Frame}
@@ -9,6 +9,7 @@ use Rattle.ua_frame.proofs.Ends.{ends_stay}
 use Rattle.ua_frame.proofs.Readings.{reading}
 use Rattle.ua_frame.proofs.Unique.{unique}
 use Rattle.ua_channel_laws.proofs.ReadOn.{events_on}
+use Rattle.ua_channel_laws.specs.ServerReads.{ServerCloses}
 use Rattle.ua_channel.specs.ServerRules.{server_rules}
 use Rattle.ua_channel.specs.ServerTold.{Told, Closed}
 use Rattle.ua_server.specs.Said.{Course, last_words, state_after, course_after as course_by, output_of, said_of, used_in, with_more}
@@ -38,6 +39,38 @@ module _ (b : Beginning) (octets : List ℕ) (fs : List Frame) (rest : List ℕ)
   pub left_by_run : services_after b octets ≡ (state_after b.channel b.first (events (rules_by b) fs) (times_of_answers (events (rules_by b) fs) b.moment)).state
   unfolding services_after
   left_by_run = ap (λ (t : List Told). (state_after b.channel b.first t (times_of_answers t b.moment)).state) told_is
+
+-- ---- a front of octets
+
+-- a server that waits behind octets waits behind a front of them
+pub front_waits : (b : Beginning) (octets more : List ℕ) → end_by b (octets ++ more) ≡ Going → end_by b octets ≡ Going
+front_waits b octets more goes = by (end_by b octets) refl
+  where
+    stays : (end_by b octets ≡ Going → ⊥) → end_by b octets ≡ Going
+    stays over =
+        sym (end_is b (octets ++ more) (reading_at_server b octets).frames ((reading_at_server b octets).rest ++ more) (end_by b octets)
+        (ends_stay (rules_by b) octets more (reading_at_server b octets).frames (reading_at_server b octets).rest (end_by b octets) over (reading_at_server b octets).run))
+        ∙ goes
+
+    by : (end : End ℕ) → end_by b octets ≡ end → end_by b octets ≡ Going
+    by Going is = is
+    by (Stopped why) is = stays (λ going. let no : ◌≡◌ {A = End ℕ} (Stopped why) Going = sym is ∙ going in absurd cc)
+    by Over is = stays (λ going. let no : ◌≡◌ {A = End ℕ} Over Going = sym is ∙ going in absurd cc)
+
+-- and behind a front of octets that close its channel, where some of them are missing
+pub closing_waits : (b : Beginning) (octets more : List ℕ) (told : List Told) → ServerCloses b.limits b.channel (octets ++ more) told → 0 < length more → end_by b octets ≡ Going
+closing_waits b octets more told c some = by (end_by b octets) refl
+  where
+    never : (end_by b octets ≡ Going → ⊥) → ⊥
+    never over =
+        let run = ends_stay (rules_by b) octets more (reading_at_server b octets).frames (reading_at_server b octets).rest (end_by b octets) over (reading_at_server b octets).run in
+        let same = unique (rules_by b) (octets ++ more) (reading_at_server b octets).frames c.frames ((reading_at_server b octets).rest ++ more) [] (end_by b octets) Over run c.run in
+        omega (arith, some, ap length same.rests, length-append (reading_at_server b octets).rest more)
+
+    by : (end : End ℕ) → end_by b octets ≡ end → end_by b octets ≡ Going
+    by Going is = is
+    by (Stopped why) is = absurd (never (λ going. let no : ◌≡◌ {A = End ℕ} (Stopped why) Going = sym is ∙ going in absurd cc))
+    by Over is = absurd (never (λ going. let no : ◌≡◌ {A = End ℕ} Over Going = sym is ∙ going in absurd cc))
 
 -- ---- more octets
 

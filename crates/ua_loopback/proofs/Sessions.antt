@@ -28,7 +28,7 @@ use Rattle.ua_loopback.specs.Faults.{FailsBehind}
 use Rattle.ua_loopback.specs.Replies.{HaveMisanswer, lane_back, requests_replies}
 use Rattle.ua_loopback.specs.Says.{state_told}
 use Rattle.ua_loopback.specs.Talking.{AreSession, FailsSession, IsSentOver, IsTalking, MisanswersSession, SoFar, id_in, newest_in, octets_of, session_requests, told_in, with_turn}
-use Rattle.ua_loopback.proofs.Calling.{sent_over}
+use Rattle.ua_loopback.proofs.Faults.{sent_over}
 use Rattle.ua_loopback.proofs.Faults.{fails_by, group_fails}
 use Rattle.ua_loopback.proofs.OneTurn.{asked_more, asked_sent}
 use Rattle.ua_loopback.proofs.Rounds.{Behind}

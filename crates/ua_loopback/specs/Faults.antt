@@ -1,8 +1,10 @@
 -- Why a call of a client may fail that talks to a server, and what was done before a turn that is refused.
-use Rattle.std.specs.Prelude.{◌≡◌, ℕ, ◌++◌, List, [], ◌∷◌, length, map, Option, Some, None}
+use Rattle.std.specs.Prelude.{◌≡◌, ◌≤◌, ℕ, ◌++◌, List, [], ◌∷◌, length, map, Option, Some, None}
 use Rattle.ua_builtin.specs.declared.date_time.DateTime.{DateTime}
+use Rattle.ua_frame.specs.Run.{Going}
 use Rattle.ua_frame.specs.declared.limits.Limits.{Limits}
 use Rattle.ua_services.specs.declared.request.Request.{Request}
+use Rattle.ua_client.specs.Hearing.{most_reads}
 use Rattle.ua_client.specs.declared.fault.ClientFault.{ClientFault}
 use Rattle.ua_client.specs.declared.fault.ClientFault.TheVariants as fault
 use Rattle.ua_client.specs.declared.reply.Reply.{Reply}
@@ -10,8 +12,10 @@ use Rattle.ua_loopback.specs.Accepted.{acknowledged}
 use Rattle.ua_loopback.specs.Beginning.{Beginning}
 use Rattle.ua_loopback.specs.Course.{opening_octets}
 use Rattle.ua_loopback.specs.Replies.{turns_replies, turns_state}
-use Rattle.ua_loopback.specs.Says.{services_after}
+use Rattle.ua_loopback.specs.Says.{end_by, services_after, server_output}
 use Rattle.ua_loopback.specs.Sends.{turns_octets}
+use Rattle.ua_loopback.specs.declared.stage.Stage.{Stage}
+use Rattle.ua_loopback.specs.declared.stage.Stage.TheVariants.{Broken}
 
 -- ---- faults
 
@@ -32,6 +36,25 @@ FailsBehind Misanswers fault.Exhausted = Unit {0}
 FailsBehind Misanswers fault.TooLarge = Unit {0}
 FailsBehind Misanswers fault.TooManyTokens = Unit {0}
 FailsBehind Misanswers other = IsOutside other
+
+-- what such a server makes of all octets that a client wrote to it up to such a fault: where the line failed it refuses nothing of them, no
+-- CLO in them closed its channel, and it waits for more; behind as many reads as a call may make it said at least so many octets
+pub record StopsAfter (f : ClientFault) (b : Beginning) (up : List ℕ) : Type 0 where
+  pub read : f ≡ fault.Read → end_by b up ≡ Going
+  pub write : f ≡ fault.Write → end_by b up ≡ Going
+  pub long : f ≡ fault.TooLong → most_reads ≤ length (server_output b up)
+
+-- why a client fails at a server in its own process, whose connection is so far: memory was refused, to the client, or to the server, so that
+-- their line is broken; or there is a reason against a turn
+abbrev pub FailsAt : Stage → ClientFault → Type 0
+FailsAt stage fault.Read = stage ≡ Broken
+FailsAt stage fault.Write = stage ≡ Broken
+FailsAt stage fault.OutOfMemory = Unit {0}
+FailsAt stage fault.NotWritable = Unit {0}
+FailsAt stage fault.Exhausted = Unit {0}
+FailsAt stage fault.TooLarge = Unit {0}
+FailsAt stage fault.TooManyTokens = Unit {0}
+FailsAt stage other = ⊥
 
 -- ---- a turn that is refused
 

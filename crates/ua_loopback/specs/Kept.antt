@@ -29,6 +29,18 @@ pub record Served : Type 0 where
 abbrev pub traffic_of : Beginning → Served → Traffic
 traffic_of b l = record { coming = λ (more : List ℕ). drop l.read (server_output b (l.up ++ more)); written = l.up }
 
+-- the connection goes no further: it ended, or memory was refused
+abbrev pub IsOver : Stage → Type 0
+IsOver Going = ⊥
+IsOver (Ended end) = Unit {0}
+IsOver Broken = Unit {0}
+
+-- how far the connection is before a write that fails, and behind it: it was over, and stays as it was; or memory is refused
+abbrev pub StopsWriting : Stage → Stage → Type 0
+StopsWriting Going new = new ≡ Broken
+StopsWriting (Ended end) new = new ≡ Ended end
+StopsWriting Broken new = new ≡ Broken
+
 -- the server took all that was written
 pub record Serves (b : Beginning) (server : Server) (now : State) (up : List ℕ) : Type 0 where
   pub told : List Told

@@ -1,5 +1,5 @@
 -- What becomes of a client's requests at a server: each is answered in the state that those before it left.
-use Rattle.std.specs.Prelude.{ℕ, ◌⊎◌, ◌++◌, List, [], ◌∷◌, Option, Some, None, Result, Ok, Err}
+use Rattle.std.specs.Prelude.{IsTrue, ℕ, ◌⊎◌, ◌++◌, List, [], ◌∷◌, Option, Some, None, Result, Ok, Err}
 use Rattle.ua_builtin.specs.Status.{of_code}
 use Rattle.ua_builtin.specs.declared.date_time.DateTime.{DateTime}
 use Rattle.ua_frame.specs.declared.limits.Limits.{Limits}
@@ -8,7 +8,7 @@ use Rattle.ua_chunk.specs.declared.fault.CutFault.{CutFault}
 use Rattle.ua_chunk.specs.declared.lane.Lane.{Lane}
 use Rattle.ua_channel.specs.Agreement.{agreement_of, lane_of}
 use Rattle.ua_channel.specs.ClientSends.{hello_to}
-use Rattle.ua_services.specs.Request.{kind_of}
+use Rattle.ua_services.specs.Request.{kind_of, request}
 use Rattle.ua_services.specs.Response.{response, response_read}
 use Rattle.ua_services.specs.declared.fault.ResponseFault.{ResponseFault}
 use Rattle.ua_services.specs.declared.request.Request.{Request}
@@ -36,21 +36,16 @@ abbrev pub state_behind : State → DateTime → List Request → State
 state_behind s moment [] = s
 state_behind s moment (m ∷ ms) = state_behind (answer s moment m).0 moment ms
 
--- the answer to one of these requests, each in the state that those before it left, is no response that answers it
+-- the answer to one of these requests, each in the state that those before it left, is no response that answers it, though it can be encoded
 abbrev pub HaveMisanswer : State → DateTime → List Request → Type 0
 HaveMisanswer s moment [] = ⊥
-HaveMisanswer s moment (m ∷ ms) = IsNoAnswer (kind_of m) (response.canonical (answer s moment m).1) ⊎ HaveMisanswer (answer s moment m).0 moment ms
+HaveMisanswer s moment (m ∷ ms) = (IsTrue (request.encodable m) × IsNoAnswer (kind_of m) (response.canonical (answer s moment m).1)) ⊎ HaveMisanswer (answer s moment m).0 moment ms
 
 -- the replies to requests, that go back in this lane
 abbrev pub requests_replies : Lane → State → DateTime → List Request → List (Option Reply)
 requests_replies back s moment [] = []
 requests_replies back s moment (m ∷ ms) =
     reply_unless (cut_refusal back (response.canonical (answer s moment m).1)) (response.canonical (answer s moment m).1) ∷ requests_replies back (answer s moment m).0 moment ms
-
--- of one turn; a renewal is none
-abbrev pub HasMisanswer : State → DateTime → Option (List Request) → Type 0
-HasMisanswer s moment (Some requests) = HaveMisanswer s moment requests
-HasMisanswer s moment None = ⊥
 
 -- of one turn; a renewal has none, and leaves the state
 abbrev pub turn_replies : Lane → State → DateTime → Option (List Request) → List (Option Reply)
@@ -77,8 +72,3 @@ turns_replies b client url s token (t ∷ turns) =
 abbrev pub turns_state : State → DateTime → List (Option (List Request)) → State
 turns_state s moment [] = s
 turns_state s moment (t ∷ turns) = turns_state (turn_state s moment t) moment turns
-
--- the answer to a request of one of them is no response that answers it
-abbrev pub HaveMisanswers : State → DateTime → List (Option (List Request)) → Type 0
-HaveMisanswers s moment [] = ⊥
-HaveMisanswers s moment (t ∷ turns) = HasMisanswer s moment t ⊎ HaveMisanswers (turn_state s moment t) moment turns

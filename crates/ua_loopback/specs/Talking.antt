@@ -29,7 +29,7 @@ use Rattle.ua_client.specs.declared.reply.Reply.{Reply}
 use Rattle.ua_loopback.specs.Accepted.{AreAccepted, acknowledged, tokens_held}
 use Rattle.ua_loopback.specs.Beginning.{Beginning}
 use Rattle.ua_loopback.specs.Course.{opening_octets}
-use Rattle.ua_loopback.specs.Faults.{FailsBehind}
+use Rattle.ua_loopback.specs.Faults.{FailsBehind, StopsAfter}
 use Rattle.ua_loopback.specs.Replies.{HaveMisanswer, lane_back, requests_replies, turns_state}
 use Rattle.ua_loopback.specs.Says.{server_output, state_told}
 use Rattle.ua_loopback.specs.Sends.{closing_behind, turn_octets, turns_number}
@@ -47,6 +47,11 @@ IsLineTo b sent got (Some traffic) = (more : List ℕ) → server_output b (sent
 -- just these octets were sent over a line, if it tells them, between two moments
 abbrev pub IsSentOver : List ℕ → Option Traffic → Option Traffic → Type 0
 IsSentOver octets before after = IfTrafficKnown (λ (a b : Traffic). b.written ≡ a.written ++ octets) before after
+
+-- behind a call of a client that failed so over a line, on which these octets stood before, some were sent, and this is what the server makes of
+-- all of them
+abbrev pub StopsOver : ClientFault → Beginning → List ℕ → Option Traffic → Option Traffic → Type 0
+StopsOver f b octets before after = (sent : List ℕ) × IsSentOver sent before after × StopsAfter f b (octets ++ sent)
 
 -- the numbers of a server have 32 bits, as its ACK and its channel give them, and its moment can be written (OPC 10000-6, 7.1.2.4)
 pub record CanBegin (b : Beginning) : Type 0 where

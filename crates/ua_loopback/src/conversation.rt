@@ -1,12 +1,13 @@
 //! A client and a server that talk to each other.
 
-ghost use Rattle.std.specs.Prelude.{◌≡◌, ◌≤◌, ◌∷◌, ◌++◌, [], ℕ, List, Option, Some, IsTrue, IfErr, IfOk, OnOk, length, map};
+ghost use Rattle.std.specs.Prelude.{◌≡◌, ◌<◌, ◌≤◌, ◌∷◌, ◌++◌, [], ℕ, List, Option, Some, IsTrue, IfErr, IfOk, OnOk, length, map};
 ghost use Rattle.ua_wire.specs.Counted.{text};
 ghost use Rattle.ua_frame.specs.Agreement.{url_length};
 ghost use Rattle.ua_frame.specs.declared.limits.Limits.{Limits};
 ghost use Rattle.ua_channel.specs.Line.{Traffic};
 ghost use Rattle.ua_channel_laws.specs.ServerReads.{ServerCloses};
 ghost use Rattle.ua_client.specs.Client.{IsReady, connection_of};
+ghost use Rattle.ua_client.specs.Hearing.{failures_behind, most_reads};
 ghost use Rattle.ua_client.specs.ClientPlace.{ClientPlace};
 ghost use Rattle.ua_loopback.specs.Accepted.{AreAccepted, FirstRefused, IsTurnFault, acknowledged, turn_refusal};
 ghost use Rattle.ua_loopback.specs.Beginning.{Beginning};
@@ -14,14 +15,14 @@ ghost use Rattle.ua_loopback.specs.Course.{Converses};
 ghost use Rattle.ua_server.specs.declared.step.End.TheVariants.{Closed};
 ghost use Rattle.ua_loopback.specs.Kept.{EndsAt, LeavesAt};
 ghost use Rattle.ua_loopback.specs.Says.{services_after, server_output};
-ghost use Rattle.ua_loopback.specs.Faults.{BehindRefused, FailsBehind, IsOutside};
-ghost use Rattle.ua_loopback.specs.Replies.{HasMisanswer, HaveMisanswers, turns_replies, turns_state};
+ghost use Rattle.ua_loopback.specs.Faults.{BehindRefused, FailsAt, FailsBehind, IsOutside};
+ghost use Rattle.ua_loopback.specs.Replies.{turns_replies, turns_state};
 ghost use Rattle.ua_loopback.specs.Sends.{conversation_octets};
 ghost use Rattle.ua_loopback.specs.Turns.{conversation_told};
 ghost use Rattle.ua_loopback.specs.declared.stage.Stage.TheVariants.{Ended};
 ghost use Rattle.ua_services.specs.declared.request.Request.{Request};
-ghost use Rattle.ua_loopback.specs.Talking.{IsLineTo};
-ghost use Rattle.ua_loopback.specs.inside.Talking.{CanOpen, StaysBefore, StaysBehind, StaysTalking, Talked, Went, WentBefore};
+ghost use Rattle.ua_loopback.specs.Talking.{IsLineTo, StopsOver};
+ghost use Rattle.ua_loopback.specs.inside.Talking.{CanOpen, HasMisanswer, HaveMisanswers, StaysBefore, StaysBehind, StaysTalking, Talked, Went, WentBefore};
 
 use crate::served_line::{Began, ServedLine};
 use crate::stage::Stage;
@@ -35,6 +36,7 @@ use ua_client::laws::clients_are_settled;
 use ua_client::{Client, ClientFault, Reply};
 use ua_frame::Limits;
 use ua_server::Services;
+use ua_server::laws::services_are_sound;
 
 /// What went over a connection, and what is left behind it.
 #[derive(Drop)]
@@ -68,6 +70,8 @@ fn begin<L: Line>(
     ensures ready { IfOk result (λ client. IsReady client) }
     ensures faults { IfErr result (λ fault. IsTurnFault fault → ⊥) }
     ensures fails { IfErr result (λ fault. (b : Beginning) → CanOpen b limits url moment → IsLineTo b [] [] (L.traffic line.old) → url_length url ≤ 4095 → IsOutside fault) }
+    ensures stops { IfErr result (λ fault. (b : Beginning) → CanOpen b limits url moment → IsLineTo b [] [] (L.traffic line.old) → url_length url ≤ 4095 → StopsOver fault b [] (L.traffic line.old) (L.traffic line.new)) }
+    ensures failed { L.failures line.new ≡ failures_behind (L.failures line.old) result }
 {
     clients_are_settled();
     match talking::open(alloc, line, limits, url, moment) {
@@ -91,6 +95,9 @@ fn take_turn<T: AsTurn, L: Line>(
         → turn_refusal (acknowledged b.limits limits url) turns (T.turn turn.now) ≡ Some fault) }
     ensures fails { IfErr result (λ fault. (b : Beginning) (limits : Limits) (url : Option (List ℕ)) (opened : ClientPlace) (turns : List (Option (List Request))) (first : Option Traffic) → StaysTalking b limits url moment opened turns (connection_of client.old) first (L.traffic line.old) replies.old.items
         → FailsBehind (HasMisanswer (turns_state b.first b.moment turns) b.moment (T.turn turn.now)) fault) }
+    ensures stops { IfErr result (λ fault. (b : Beginning) (limits : Limits) (url : Option (List ℕ)) (opened : ClientPlace) (turns : List (Option (List Request))) (first : Option Traffic) → StaysTalking b limits url moment opened turns (connection_of client.old) first (L.traffic line.old) replies.old.items
+        → StopsOver fault b [] first (L.traffic line.new)) }
+    ensures failed { L.failures line.new ≡ failures_behind (L.failures line.old) result }
     ensures before { IfErr result (λ fault. IsTurnFault fault → (b : Beginning) (limits : Limits) (url : Option (List ℕ)) (opened : ClientPlace) (turns : List (Option (List Request))) (first : Option Traffic) → StaysTalking b limits url moment opened turns (connection_of client.old) first (L.traffic line.old) replies.old.items
         → StaysBehind b limits url moment opened turns (T.turn turn.now) (connection_of client.new) first (L.traffic line.new) replies.new.items) }
     ensures ready { OnOk result (IsReady client.new) }
@@ -126,6 +133,9 @@ fn take_turns<T: AsTurn, L: Line>(
         → FirstRefused (acknowledged b.limits limits url) (map T.turn turns.now) taken.new fault) }
     ensures fails { IfErr result (λ fault. (b : Beginning) (limits : Limits) (url : Option (List ℕ)) (opened : ClientPlace) (first : Option Traffic) → StaysTalking b limits url moment opened [] (connection_of client.old) first (L.traffic line.old) replies.old.items
         → FailsBehind (HaveMisanswers b.first b.moment (map T.turn turns.now)) fault) }
+    ensures stops { IfErr result (λ fault. (b : Beginning) (limits : Limits) (url : Option (List ℕ)) (opened : ClientPlace) (first : Option Traffic) → StaysTalking b limits url moment opened [] (connection_of client.old) first (L.traffic line.old) replies.old.items
+        → StopsOver fault b [] first (L.traffic line.new)) }
+    ensures failed { L.failures line.new ≡ failures_behind (L.failures line.old) result }
     ensures before { IfErr result (λ fault. IsTurnFault fault → (b : Beginning) (limits : Limits) (url : Option (List ℕ)) (opened : ClientPlace) (first : Option Traffic) → StaysTalking b limits url moment opened [] (connection_of client.old) first (L.traffic line.old) replies.old.items
         → StaysBefore b limits url moment opened (map T.turn turns.now) taken.new (connection_of client.new) first (L.traffic line.new) replies.new.items) }
     ensures ready { OnOk result (IsReady client.new) }
@@ -157,6 +167,8 @@ fn talk<T: AsTurn, L: Line>(
     ensures taken { OnOk result (taken.new ≡ length turns.now) }
     ensures refused { IfErr result (λ fault. IsTurnFault fault → (b : Beginning) → CanOpen b limits url moment → IsLineTo b [] [] (L.traffic line.old) → FirstRefused (acknowledged b.limits limits url) (map T.turn turns.now) taken.new fault) }
     ensures fails { IfErr result (λ fault. (b : Beginning) → CanOpen b limits url moment → IsLineTo b [] [] (L.traffic line.old) → url_length url ≤ 4095 → FailsBehind (HaveMisanswers b.first b.moment (map T.turn turns.now)) fault) }
+    ensures stops { IfErr result (λ fault. (b : Beginning) → CanOpen b limits url moment → IsLineTo b [] [] (L.traffic line.old) → url_length url ≤ 4095 → StopsOver fault b [] (L.traffic line.old) (L.traffic line.new)) }
+    ensures failed { L.failures line.new ≡ failures_behind (L.failures line.old) result }
     ensures before { IfErr result (λ fault. IsTurnFault fault → (b : Beginning) → CanOpen b limits url moment → IsLineTo b [] [] (L.traffic line.old) → WentBefore b limits url moment (map T.turn turns.now) taken.new (L.traffic line.old) (L.traffic line.new) replies.new.items) }
 {
     let mut client = match begin(alloc, line, limits, url, moment) {
@@ -171,6 +183,13 @@ fn talk<T: AsTurn, L: Line>(
         Ok(()) => Ok(()),
         Err(fault) => Err(fault),
     }
+}
+
+/// No slice has as many octets as a call may make reads.
+fn fewer_than_reads(octets: &[u8])
+    ensures { length octets.now < most_reads }
+{
+    let _len = octets.len();
 }
 
 /// Lets a client talk to a server over these services, of the beginning that the parameter names.
@@ -200,9 +219,10 @@ fn converse_with<T: AsTurn, W: Began>(
     ensures accepted { OnOk result.outcome (AreAccepted (acknowledged limits limits url) (map T.turn turns.now)) }
     ensures taken { OnOk result.outcome (result.taken ≡ length turns.now) }
     ensures refused { IfErr result.outcome (λ fault. IsTurnFault fault → FirstRefused (acknowledged limits limits url) (map T.turn turns.now) result.taken fault) }
-    ensures fails { IfErr result.outcome (λ fault. url_length url ≤ 4095 → FailsBehind (HaveMisanswers services moment (map T.turn turns.now)) fault) }
+    ensures fails { IfErr result.outcome (λ fault. url_length url ≤ 4095 → FailsAt result.stage fault) }
     ensures before { IfErr result.outcome (λ fault. IsTurnFault fault → BehindRefused (record { limits = limits; channel = channel_id; first = services; moment = moment }) limits url moment (map T.turn turns.now) result.taken result.up.items result.replies.items) }
 {
+    services_are_sound(&services);
     let mut line: ServedLine<W> = ServedLine::new(
         alloc, limits, channel_id, services, moment, writes, reads,
     );
@@ -218,6 +238,7 @@ fn converse_with<T: AsTurn, W: Began>(
         &mut replies,
         &mut taken,
     );
+    fewer_than_reads(line.down());
     let stage = line.stage();
     let (up, down, services) = line.into_parts();
     Transcript {
@@ -277,9 +298,9 @@ pub fn converse<T: AsTurn>(
     // Then what was sent, the replies and the state that was left are those of what stands before it, and of no more.
     ensures before { IfErr result.outcome (λ fault. IsTurnFault fault → BehindRefused (record { limits = limits; channel = channel_id; first = services; moment = moment }) limits url moment (map T.turn turns.now) result.taken result.up.items result.replies.items) }
 
-    // It does not fail for what the server says, which takes a URL of at most 4095 octets (OPC 10000-6, 7.1.2.3): UnknownResponse comes
-    // only where the server answered a request by no response.
-    ensures fails { IfErr result.outcome (λ fault. url_length url ≤ 4095 → FailsBehind (HaveMisanswers services moment (map T.turn turns.now)) fault) }
+    // The client fails for a reason against a turn, or for want of memory: its own, or the server's, whose line is then broken. The
+    // server takes a URL of at most 4095 octets (OPC 10000-6, 7.1.2.3).
+    ensures fails { IfErr result.outcome (λ fault. url_length url ≤ 4095 → FailsAt result.stage fault) }
 {
     converse_with::<T, Brand>(
         alloc, services, limits, channel_id, url, turns, moment, writes, reads,

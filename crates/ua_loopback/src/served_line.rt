@@ -1,8 +1,9 @@
 //! A line to a server in the same process.
 
 ghost use Rattle.std.specs.Prelude.{◌≡◌, ◌++◌, ◌<◌, ◌≤◌, [], None, Some, IfOk, IfSome, OnErr, length, take};
+ghost use Rattle.ua_channel.specs.Line.{HandsOut, WriteTakes, failures_after};
 ghost use Rattle.ua_loopback.specs.Beginning.{Beginning, no_server};
-ghost use Rattle.ua_loopback.specs.Kept.{EndsAt, Keeps, LeavesAt, Served, traffic_of};
+ghost use Rattle.ua_loopback.specs.Kept.{EndsAt, IsOver, Keeps, LeavesAt, Served, StopsWriting, traffic_of};
 ghost use Rattle.ua_loopback.specs.Says.{server_output};
 ghost use Rattle.ua_loopback.specs.declared.stage.Stage.TheVariants.{Going};
 
@@ -72,7 +73,8 @@ pub struct ServedLine<W: Began> {
 impl<W: Began> Model for ServedLine<W> {
     ghost use Rattle.std.specs.Coded.{codes};
     ghost use Rattle.ua_nodes.specs.contracts.node.NodeValue as value;
-    ghost use Rattle.ua_loopback.specs.Kept.{Keeps, Served};
+    ghost use Rattle.std.specs.Prelude.{◌<◌};
+    ghost use Rattle.ua_loopback.specs.Kept.{IsOver, Keeps, Served};
 
     ghost Value = { Served };
 
@@ -80,7 +82,7 @@ impl<W: Began> Model for ServedLine<W> {
 
     ghost view = { λ l. record { up = l.up.items; down = l.down.items; read = l.read; services = l.services; stage = l.stage; failures = l.failures } };
 
-    ghost invariant = { λ l. Keeps W.beginning l.server l.services l.moment l.up.items l.down.items l.read l.stage };
+    ghost invariant = { λ l. Keeps W.beginning l.server l.services l.moment l.up.items l.down.items l.read l.stage × (0 < l.failures → IsOver l.stage) };
 }
 
 impl<W: Began> ServedLine<W> {
@@ -131,7 +133,9 @@ impl<W: Began> ServedLine<W> {
 
     /// How far the connection is.
     pub fn stage(&self) -> Stage
-        ensures { result ≡ self.now.stage }
+        ensures is { result ≡ self.now.stage }
+        // Where a call failed the connection is over.
+        ensures over { 0 < self.now.failures → IsOver result }
     {
         self.stage
     }
@@ -159,6 +163,7 @@ impl<W: Began> ServedLine<W> {
         ensures some { 0 < length piece.now → IfSome result (λ n. 0 < n) }
         ensures up { IfSome result (λ n. self.new.up ≡ self.old.up ++ take n piece.now) }
         ensures same { result ≡ None → self.new.up ≡ self.old.up }
+        ensures stops { result ≡ None → StopsWriting self.old.stage self.new.stage }
         ensures read { self.new.read ≡ self.old.read }
         ensures failures { self.new.failures ≡ self.old.failures }
     {
@@ -189,7 +194,14 @@ impl<W: Began> Line for ServedLine<W> {
 
     ghost failures = { λ l. l.failures };
 
-    fn read(&mut self, buffer: &mut [u8]) -> Result<usize, LineFault> {
+    /// It never fails.
+    fn read(&mut self, buffer: &mut [u8]) -> Result<usize, LineFault>
+        ensures within { IfOk result (λ n. n ≤ length buffer.new) }
+        ensures failed { self.new.failures ≡ failures_after self.old.failures result }
+        ensures octets { HandsOut result buffer.new (traffic_of W.beginning self.old) (traffic_of W.beginning self.new) }
+        ensures never { OnErr result ⊥ }
+        ensures stage { self.new.stage ≡ self.old.stage }
+    {
         let left = self.down.len() - self.read;
         let n = self.reads.front(left.min(buffer.len()));
         buffer[..n].copy_from_slice(&self.down[self.read..self.read + n]);
@@ -197,7 +209,15 @@ impl<W: Began> Line for ServedLine<W> {
         Ok(n)
     }
 
-    fn write(&mut self, octets: &[u8]) -> Result<usize, LineFault> {
+    /// It fails only where the connection was over before, which it then stays, or where memory is refused,
+    /// which breaks the line.
+    fn write(&mut self, octets: &[u8]) -> Result<usize, LineFault>
+        ensures within { IfOk result (λ n. n ≤ length octets.now) }
+        ensures some { 0 < length octets.now → IfOk result (λ n. 0 < n) }
+        ensures failed { self.new.failures ≡ failures_after self.old.failures result }
+        ensures octets { WriteTakes result octets.now (traffic_of W.beginning self.old) (traffic_of W.beginning self.new) }
+        ensures stops { OnErr result (StopsWriting self.old.stage self.new.stage) }
+    {
         if octets.is_empty() {
             return Ok(0);
         }

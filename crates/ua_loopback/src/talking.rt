@@ -19,13 +19,14 @@ ghost use Rattle.ua_client.specs.Kept.{CallsInto, closed_at};
 ghost use Rattle.ua_client.specs.Renewing.{IsRefusal, Renews};
 ghost use Rattle.ua_client.specs.Sent.{bodies_of};
 ghost use Rattle.ua_client.specs.Session.{BeginsSessionAs};
-ghost use Rattle.ua_client.specs.declared.fault.ClientFault.TheVariants.{Closed};
+ghost use Rattle.ua_client.specs.declared.fault.ClientFault.TheVariants.{Closed, UnknownResponse};
+ghost use Rattle.ua_server.specs.Sound.{IsSoundState};
 ghost use Rattle.ua_loopback.specs.Accepted.{IsTurnFault, turn_refusal};
 ghost use Rattle.ua_loopback.specs.Beginning.{Beginning};
 ghost use Rattle.ua_loopback.specs.Faults.{FailsBehind, IsOutside};
 ghost use Rattle.ua_loopback.specs.Replies.{HaveMisanswer, lane_back, requests_replies, state_behind};
 ghost use Rattle.ua_loopback.specs.Says.{services_after, server_output};
-ghost use Rattle.ua_loopback.specs.Talking.{CanBegin, FailsSession, IsBehindFirst, IsLineTo, IsSentOver, IsTalking, Reads, SoFar, acked_in, closed_octets, id_in, opening, session_requests, state_in, newest_in, octets_of, told_in, with_turn};
+ghost use Rattle.ua_loopback.specs.Talking.{CanBegin, FailsSession, IsBehindFirst, IsLineTo, IsSentOver, IsTalking, Reads, SoFar, StopsOver, acked_in, closed_octets, id_in, opening, session_requests, state_in, newest_in, octets_of, told_in, with_turn};
 ghost use Rattle.ua_loopback.specs.Sends.{closing_behind};
 ghost use Rattle.ua_loopback.specs.Turns.{calls_told};
 
@@ -53,6 +54,8 @@ pub fn open<L: Line>(
     ensures begins { IfOk result (λ client. (b : Beginning) → CanBegin b → IsLineTo b [] [] (L.traffic line.old) → IsTalking (opening b limits url moment) client (L.traffic line.new)) }
     // It does not fail for what the server says, which takes a URL of at most 4095 octets (OPC 10000-6, 7.1.2.3).
     ensures fails { IfErr result (λ fault. (b : Beginning) → CanBegin b → IsLineTo b [] [] (L.traffic line.old) → url_length url ≤ 4095 → IsOutside fault) }
+    // Where the line failed the server refused nothing of what was sent, and waits for more.
+    ensures stops { IfErr result (λ fault. (b : Beginning) → CanBegin b → IsLineTo b [] [] (L.traffic line.old) → url_length url ≤ 4095 → StopsOver fault b [] (L.traffic line.old) (L.traffic line.new)) }
 {
     clients_are_settled();
     match Client::open(alloc, line, limits, url, moment) {
@@ -82,6 +85,7 @@ pub fn begin_session_as<L: Line>(
     ensures state { IfOk result (λ token. (t : SoFar) → IsTalking t client.old (L.traffic line.old) → services_after t.server (with_turn t moment (Some (session_requests t policy_id token moment))).octets ≡ state_behind (state_in t) t.server.moment (session_requests t policy_id token moment)) }
     // It does not fail for what the server says but where that says so: Service comes only where its reply to one of the two is that the service failed, with this code.
     ensures fails { IfErr result (λ fault. (t : SoFar) → IsTalking t client.old (L.traffic line.old) → FailsSession t policy_id moment fault) }
+    ensures answered { IfErr result (λ fault. (t : SoFar) → IsTalking t client.old (L.traffic line.old) → IsSoundState t.server.first → fault ≡ UnknownResponse → ⊥) }
 {
     clients_are_settled();
     calls_are_told_behind();
@@ -116,8 +120,12 @@ pub fn call_all<L: Line>(
     // A fault that is a reason against a request is the first against them, and the talk goes on with the first of these requests, which were asked.
     ensures refused { IfErr result (λ fault. IsTurnFault fault → (t : SoFar) → IsTalking t client.old (L.traffic line.old) → turn_refusal (acked_in t) t.turns (Some requests.now) ≡ Some fault) }
     ensures before { IfErr result (λ fault. IsTurnFault fault → (t : SoFar) → IsTalking t client.old (L.traffic line.old) → IsBehindFirst t moment requests.now client.new (L.traffic line.new)) }
-    // It does not fail for what the server says, whose replies come and are read: UnknownResponse comes only where the server answered no response.
+    // It does not fail for what the server says, whose replies come and are read: UnknownResponse comes only where the server answered no response,
+    // so that it never comes where its services are sound, as those of each server are.
     ensures fails { IfErr result (λ fault. (t : SoFar) → IsTalking t client.old (L.traffic line.old) → FailsBehind (HaveMisanswer (state_in t) t.server.moment requests.now) fault) }
+    ensures answered { IfErr result (λ fault. (t : SoFar) → IsTalking t client.old (L.traffic line.old) → IsSoundState t.server.first → fault ≡ UnknownResponse → ⊥) }
+    // Where the line failed the server refused nothing of what was sent, and waits for more.
+    ensures stops { IfErr result (λ fault. (t : SoFar) → IsTalking t client.old (L.traffic line.old) → StopsOver fault t.server t.octets (L.traffic line.old) (L.traffic line.new)) }
 {
     clients_are_settled();
     calls_are_told_behind();
@@ -151,6 +159,8 @@ pub fn call_into<L: Line>(
     ensures refused { IfErr result (λ calls. IsTurnFault calls.fault → (t : SoFar) → IsTalking t client.old (L.traffic line.old) → turn_refusal (acked_in t) t.turns (Some requests.now) ≡ Some calls.fault) }
     ensures before { IfErr result (λ calls. IsTurnFault calls.fault → (t : SoFar) → IsTalking t client.old (L.traffic line.old) → IsBehindFirst t moment requests.now client.new (L.traffic line.new)) }
     ensures fails { IfErr result (λ calls. (t : SoFar) → IsTalking t client.old (L.traffic line.old) → FailsBehind (HaveMisanswer (state_in t) t.server.moment requests.now) calls.fault) }
+    ensures answered { IfErr result (λ calls. (t : SoFar) → IsTalking t client.old (L.traffic line.old) → IsSoundState t.server.first → calls.fault ≡ UnknownResponse → ⊥) }
+    ensures stops { IfErr result (λ calls. (t : SoFar) → IsTalking t client.old (L.traffic line.old) → StopsOver calls.fault t.server t.octets (L.traffic line.old) (L.traffic line.new)) }
 {
     clients_are_settled();
     calls_are_told_behind();
@@ -184,6 +194,7 @@ pub fn renew<L: Line>(
     ensures refused { IfErr result (λ fault. IsTurnFault fault → (t : SoFar) → IsTalking t client.old (L.traffic line.old) → turn_refusal (acked_in t) t.turns None ≡ Some fault) }
     // It does not fail for what the server says.
     ensures fails { IfErr result (λ fault. (t : SoFar) → IsTalking t client.old (L.traffic line.old) → FailsBehind ⊥ fault) }
+    ensures stops { IfErr result (λ fault. (t : SoFar) → IsTalking t client.old (L.traffic line.old) → StopsOver fault t.server t.octets (L.traffic line.old) (L.traffic line.new)) }
 {
     match client.renew(line, moment) {
         Ok(()) => Ok(()),
@@ -210,6 +221,7 @@ pub fn close<L: Line>(
     ensures silent { OnOk result ((t : SoFar) → IsTalking t client.old (L.traffic line.old) → server_output t.server (closed_octets t moment) ≡ server_output t.server t.octets) }
     ensures state { OnOk result ((t : SoFar) → IsTalking t client.old (L.traffic line.old) → services_after t.server (closed_octets t moment) ≡ state_in t) }
     ensures fails { IfErr result (λ fault. (t : SoFar) → IsTalking t client.old (L.traffic line.old) → IsOutside fault) }
+    ensures stops { IfErr result (λ fault. (t : SoFar) → IsTalking t client.old (L.traffic line.old) → StopsOver fault t.server t.octets (L.traffic line.old) (L.traffic line.new)) }
 {
     match client.close(line, moment) {
         Ok(()) => Ok(()),

@@ -1,6 +1,7 @@
 -- What an exchange needs of what a `Client` and a `Server` in one process come to.
-use Rattle.std.specs.Prelude.{◌≡◌, ℕ, List, map, Option, Some, OnOk, IfErr}
+use Rattle.std.specs.Prelude.{◌≡◌, ◌≤◌, ℕ, List, map, Option, Some, OnOk, IfErr}
 use Rattle.ua_builtin.specs.declared.date_time.DateTime.{DateTime}
+use Rattle.ua_frame.specs.Agreement.{url_length}
 use Rattle.ua_frame.specs.declared.limits.Limits.{Limits}
 use Rattle.ua_channel_laws.specs.ServerReads.{ServerCloses}
 use Rattle.ua_server.specs.State.{State}
@@ -8,6 +9,7 @@ use Rattle.ua_server.specs.declared.step.End.TheVariants.{Closed}
 use Rattle.ua_client.specs.declared.reply.Reply.{Reply}
 use Rattle.ua_loopback.specs.Accepted as judged
 use Rattle.ua_loopback.specs.Beginning.{Beginning}
+use Rattle.ua_loopback.specs.Faults.{FailsAt}
 use Rattle.ua_loopback.specs.Replies.{turns_replies, turns_state}
 use Rattle.ua_loopback.specs.Says.{server_output}
 use Rattle.ua_loopback.specs.Sends.{conversation_octets}
@@ -33,6 +35,7 @@ pub record ConversesBy (limits : Limits) (address : Option (List ℕ)) (first : 
   pub state : OnOk t.outcome (t.services ≡ turns_state first moment (served_turns turns))
   pub accepted : OnOk t.outcome (judged.AreAccepted (judged.acknowledged limits limits address) (served_turns turns))
   pub refused : IfErr t.outcome (λ fault. judged.IsTurnFault fault → judged.FirstRefused (judged.acknowledged limits limits address) (served_turns turns) t.taken fault)
+  pub fails : IfErr t.outcome (λ fault. url_length address ≤ 4095 → FailsAt t.stage fault)
 
 -- the same with the limits and the address of the program
 abbrev pub IsConversed : State → DateTime → List Turn → Transcript → Type 0

@@ -1,5 +1,5 @@
 -- The turns of a client over a line to a server, one behind the other, each done where those before it left it.
-use Rattle.std.specs.Prelude.{◌≡◌, ℕ, ◌<◌, ◌^◌, ◌++◌, IsTrue, List, [], map, Option, Some}
+use Rattle.std.specs.Prelude.{◌≡◌, ◌⊎◌, ℕ, ◌<◌, ◌^◌, ◌++◌, IsTrue, List, [], ◌∷◌, map, Option, Some, None}
 use Rattle.ua_wire.specs.Counted.{text}
 use Rattle.ua_builtin.specs.DateTime.{date_time}
 use Rattle.ua_builtin.specs.declared.date_time.DateTime.{DateTime}
@@ -11,6 +11,7 @@ use Rattle.ua_channel.specs.Line.{Traffic, IfTrafficKnown}
 use Rattle.ua_channel_laws.specs.ServerReads.{ServerCloses}
 use Rattle.ua_channel.specs.declared.client.channel.ClientChannel.{ClientChannel}
 use Rattle.ua_services.specs.declared.request.Request.{Request}
+use Rattle.ua_server.specs.State.{State}
 use Rattle.ua_client.specs.Carried.{Carries}
 use Rattle.ua_client.specs.Client.{closing_at}
 use Rattle.ua_client.specs.Opening.{IsOpened}
@@ -21,11 +22,21 @@ use Rattle.ua_loopback.specs.Accepted.{AreAccepted, acknowledged}
 use Rattle.ua_loopback.specs.Beginning.{Beginning}
 use Rattle.ua_loopback.specs.Course.{Course, Stays, opening_octets}
 use Rattle.ua_loopback.specs.Faults.{DoneBefore, IsDoneOf}
-use Rattle.ua_loopback.specs.Replies.{turns_replies, turns_state}
+use Rattle.ua_loopback.specs.Replies.{HaveMisanswer, turn_state, turns_replies, turns_state}
 use Rattle.ua_loopback.specs.Says.{server_output, state_told}
 use Rattle.ua_loopback.specs.Sends.{conversation_octets, turns_octets}
 use Rattle.ua_loopback.specs.Talking.{TalksAt}
 use Rattle.ua_loopback.specs.Turns.{conversation_told, opening_told, turns_told}
+
+-- the answer to a request of a turn is no response that answers it
+abbrev pub HasMisanswer : State → DateTime → Option (List Request) → Type 0
+HasMisanswer s moment (Some requests) = HaveMisanswer s moment requests
+HasMisanswer s moment None = ⊥
+
+-- the same of turns, each in the state that those before it left
+abbrev pub HaveMisanswers : State → DateTime → List (Option (List Request)) → Type 0
+HaveMisanswers s moment [] = ⊥
+HaveMisanswers s moment (t ∷ turns) = HasMisanswer s moment t ⊎ HaveMisanswers (turn_state s moment t) moment turns
 
 -- what a client with these limits and such a server send to open a channel can be written
 pub record CanOpen (b : Beginning) (limits : Limits) (url : Option (List ℕ)) (moment : DateTime) : Type 0 where

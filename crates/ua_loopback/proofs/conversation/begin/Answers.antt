@@ -1,5 +1,5 @@
 use Rattle.ua_loopback.proofs.Courses.{opens_by, ready_by, went_by}
-use Rattle.ua_loopback.proofs.Faults.{open_fails}
+use Rattle.ua_loopback.proofs.Faults.{open_fails, open_stops}
 use Rattle.ua_loopback.proofs.conversation.begin.Goals as goal
 
 pub returns-in-Ok-clause-went : goal.returns-in-Ok-clause-went
@@ -15,3 +15,7 @@ returns-in-Err-clause-faults g c = λ reason. opens_by c.args.limits c.args.url 
 pub returns-in-Err-clause-fails : goal.returns-in-Err-clause-fails
 returns-in-Err-clause-fails g c = λ b able line short.
     open_fails b c.args.limits c.args.url c.args.moment (g.L.Line.traffic c.args.line.now) (g.L.Line.traffic c.open.new.line) c.in-Err.fault c.in-Err.ensures.opens able short line
+
+pub returns-in-Err-clause-stops : goal.returns-in-Err-clause-stops
+returns-in-Err-clause-stops g c = λ b able line short.
+    open_stops b c.args.limits c.args.url c.args.moment (g.L.Line.traffic c.args.line.now) (g.L.Line.traffic c.open.new.line) c.in-Err.fault c.in-Err.ensures.opens able short line

@@ -1,9 +1,11 @@
-use Rattle.std.proofs.Common.{Fits, FitsSigned, ap, map, rules, subst, sym, w32, w64}
+use Rattle.std.proofs.Common.{◌<◌, Fits, FitsSigned, ap, length, map, rules, subst, sym, w32, w64}
 use Rattle.std.specs.Prelude.{List, ℕ}
+use Rattle.ua_client.specs.Hearing.{most_reads}
 use Rattle.ua_loopback.specs.Kept.{EndsAt, LeavesAt, Served}
 use Rattle.ua_loopback.specs.Turns.{conversation_told}
 use Rattle.ua_loopback.specs.declared.stage.Stage.{Stage}
-use Rattle.ua_loopback.proofs.Courses.{accepted_on, before_on, closed_on, closed_well, conversed_on, fails_on, left_well, refused_on, replied_on, sent_on, state_on}
+use Rattle.ua_loopback.proofs.Courses.{accepted_on, before_on, closed_on, closed_well, conversed_on, left_well, refused_on, replied_on, sent_on, state_on}
+use Rattle.ua_loopback.proofs.Failing.{fails_on}
 use Rattle.ua_loopback.proofs.Fitting.{can_open}
 use Rattle.ua_loopback.proofs.conversation.converse_with.Goals as goal
 
@@ -11,14 +13,14 @@ pub returns-clause-services : goal.returns-clause-services
 returns-clause-services g c =
     let b = g.W.Began.beginning in
     let parts = c.into_parts-up.result in
-    subst (λ (s : Stage). LeavesAt s b parts.0.items parts.2) (sym c.stage-stage.ensures)
+    subst (λ (s : Stage). LeavesAt s b parts.0.items parts.2) (sym c.stage-stage.ensures.is)
     (subst (λ (u : List ℕ). LeavesAt c.talk-outcome.new.line.stage b u parts.2) (sym c.into_parts-up.ensures.up) c.into_parts-up.ensures.services)
 
 pub returns-clause-ends : goal.returns-clause-ends
 returns-clause-ends g c =
     let b = g.W.Began.beginning in
     let parts = c.into_parts-up.result in
-    subst (λ (s : Stage). EndsAt s b parts.0.items) (sym c.stage-stage.ensures)
+    subst (λ (s : Stage). EndsAt s b parts.0.items) (sym c.stage-stage.ensures.is)
     (subst (λ (u : List ℕ). EndsAt c.talk-outcome.new.line.stage b u) (sym c.into_parts-up.ensures.up) c.into_parts-up.ensures.ends)
 
 pub returns-clause-converses : goal.returns-clause-converses
@@ -116,15 +118,18 @@ returns-clause-state g c =
 
 pub returns-clause-fails : goal.returns-clause-fails
 returns-clause-fails g c =
+    let b = g.W.Began.beginning in
     let dated : FitsSigned w64 c.args.moment.ticks = search rules in
     let channel : Fits w32 c.args.channel_id = search rules in
     let receive : Fits w32 c.args.limits.receive_buffer_size = search rules in
     let send : Fits w32 c.args.limits.send_buffer_size = search rules in
     let octets : Fits w32 c.args.limits.max_message_size = search rules in
     let chunks : Fits w32 c.args.limits.max_chunk_count = search rules in
-    fails_on c.talk-outcome.result g.W.Began.beginning c.args.limits c.args.channel_id c.args.services c.args.url c.args.moment (map g.T.AsTurn.turn c.args.turns.now) c.new-line.result
-    c.requires.began (can_open c.args.limits c.args.channel_id c.args.services c.args.url c.args.moment receive send octets chunks channel dated c.requires.url)
-    (ap (λ (l : Served). l.up) c.new-line.ensures) (ap (λ (l : Served). l.read) c.new-line.ensures) c.talk-outcome.ensures.fails
+    let here : EndsAt c.stage-stage.result b c.talk-outcome.new.line.up = subst (λ (s : Stage). EndsAt s b c.talk-outcome.new.line.up) (sym c.stage-stage.ensures.is) c.into_parts-up.ensures.ends in
+    fails_on c.talk-outcome.result c.stage-stage.result b c.args.limits c.args.channel_id c.args.services c.args.url c.args.moment (map g.T.AsTurn.turn c.args.turns.now) c.new-line.result c.talk-outcome.new.line
+    c.requires.began (can_open c.args.limits c.args.channel_id c.args.services c.args.url c.args.moment receive send octets chunks channel dated c.requires.url) c.services_are_sound.ensures
+    (ap (λ (l : Served). l.up) c.new-line.ensures) (ap (λ (l : Served). l.read) c.new-line.ensures) (ap (λ (l : Served). l.failures) c.new-line.ensures) c.talk-outcome.ensures.failed c.stage-stage.ensures.over here
+    (subst (λ (o : List ℕ). length o < most_reads) c.down.ensures.said c.fewer_than_reads.ensures) c.talk-outcome.ensures.fails c.talk-outcome.ensures.stops
 
 pub returns-clause-before : goal.returns-clause-before
 returns-clause-before g c =

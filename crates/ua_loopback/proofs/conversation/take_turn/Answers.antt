@@ -1,7 +1,7 @@
 use Rattle.std.proofs.Common.{FitsSigned, ap, refl, rules, w64}
 use Rattle.std.specs.Prelude.{None, Some}
 use Rattle.ua_client.specs.Client.{connection_of}
-use Rattle.ua_loopback.proofs.Courses.{asked_fails, asked_not, renewed_before, renewed_not, stays_asked, stays_before, stays_renewed}
+use Rattle.ua_loopback.proofs.Courses.{asked_fails, asked_not, asked_stops, renewed_before, renewed_not, stays_asked, stays_before, stays_renewed}
 use Rattle.ua_loopback.proofs.Fitting.{moment_fits}
 use Rattle.ua_loopback.proofs.conversation.take_turn.Goals as goal
 
@@ -49,3 +49,11 @@ returns-in-Err-renew-clause-before g c = λ reason b limits url opened turns fir
     renewed_before b limits url c.args.moment opened turns (connection_of c.args.client.now) (connection_of c.renew.new.client) first (g.L.Line.traffic c.args.line.now) (g.L.Line.traffic c.renew.new.line)
     c.args.replies.now.items c.args.replies.now.items s (g.T.AsTurn.turn c.args.turn.now) c.in-Err-renew.fault (c.in-None.ensures.renews refl) (c.in-Err-renew.ensures.renews c.requires)
     (λ refused. let same = c.in-Err-renew.ensures.unchanged refused in (ap connection_of same.0, ap g.L.Line.traffic same.1)) refl reason
+
+pub returns-in-Err-clause-stops : goal.returns-in-Err-clause-stops
+returns-in-Err-clause-stops g c = λ b limits url opened turns first s.
+    asked_stops b limits url c.args.moment opened turns c.args.client.now first (g.L.Line.traffic c.args.line.now) (g.L.Line.traffic c.call_into.new.line) c.args.replies.now.items s c.requires c.in-Err.calls.fault c.in-Err.ensures.stops
+
+pub returns-in-Err-renew-clause-stops : goal.returns-in-Err-renew-clause-stops
+returns-in-Err-renew-clause-stops g c = λ b limits url opened turns first s.
+    asked_stops b limits url c.args.moment opened turns c.args.client.now first (g.L.Line.traffic c.args.line.now) (g.L.Line.traffic c.renew.new.line) c.args.replies.now.items s c.requires c.in-Err-renew.fault c.in-Err-renew.ensures.stops

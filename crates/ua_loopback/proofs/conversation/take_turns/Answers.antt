@@ -1,4 +1,5 @@
-use Rattle.std.proofs.Common.{◌+◌, ℕ, ap, map, subst, sym}
+use Rattle.std.proofs.Common.{◌+◌, ◌∙◌, ℕ, Err, ap, map, refl, subst, sym, take}
+use Rattle.ua_client.specs.Hearing.{failures_behind}
 use Rattle.ua_client.specs.Client.{connection_of}
 use Rattle.ua_loopback.specs.Accepted.{FirstRefused, acknowledged}
 use Rattle.ua_loopback.specs.inside.Talking.{StaysBefore}
@@ -6,13 +7,14 @@ use Rattle.ua_loopback.proofs.Courses.{before_next, fails_next, refused_next, ta
 use Rattle.ua_loopback.proofs.conversation.take_turns.Goals as goal
 
 pub loop-turn-init : goal.loop-turn-init
-loop-turn-init g c = (taken_none g.T.AsTurn.turn c.args.moment c.args.turns.now c.args.client.now (g.L.Line.traffic c.args.line.now) c.args.replies.now.items c.requires.ready, c.requires.none)
+loop-turn-init g c = (taken_none g.T.AsTurn.turn c.args.moment c.args.turns.now c.args.client.now (g.L.Line.traffic c.args.line.now) c.args.replies.now.items c.requires.ready, c.requires.none, refl)
 
 pub loop-turn-preserved : goal.loop-turn-preserved
 loop-turn-preserved g c = (
   taken_more g.T.AsTurn.turn c.args.moment c.args.turns.now c.loop-turn.turn-index c.args.client.now c.loop-turn.client c.take_turn.new.client (g.L.Line.traffic c.args.line.now) (g.L.Line.traffic c.loop-turn.line) (g.L.Line.traffic c.take_turn.new.line)
       c.args.replies.now.items c.loop-turn.replies.items c.take_turn.new.replies.items c.turn-item.result c.loop-turn.invariant.0 c.loop-turn-test.true c.turn-item.is c.in-Ok.ensures.stays c.in-Ok.ensures.ready,
   ap (λ (n : ℕ). n + 1) c.loop-turn.invariant.1,
+  c.in-Ok.ensures.failed ∙ c.loop-turn.invariant.2,
 )
 
 pub returns-clause-stays : goal.returns-clause-stays
@@ -37,3 +39,10 @@ returns-in-Err-clause-before g c = λ reason b limits url opened first s.
     (before_next g.T.AsTurn.turn c.args.moment c.args.turns.now c.loop-turn.turn-index c.args.client.now c.loop-turn.client c.take_turn.new.client (g.L.Line.traffic c.args.line.now) (g.L.Line.traffic c.loop-turn.line) (g.L.Line.traffic c.take_turn.new.line)
     c.args.replies.now.items c.loop-turn.replies.items c.take_turn.new.replies.items c.turn-item.result c.loop-turn.invariant.0 c.loop-turn-test.true c.turn-item.is
     (λ b' limits' url' opened' done first' s'. c.in-Err.ensures.before reason b' limits' url' opened' done first' s') b limits url opened first s)
+
+pub returns-in-Err-clause-stops : goal.returns-in-Err-clause-stops
+returns-in-Err-clause-stops g c = λ b limits url opened first s.
+    c.in-Err.ensures.stops b limits url opened (map g.T.AsTurn.turn (take c.loop-turn.turn-index c.args.turns.now)) first (c.loop-turn.invariant.0.stays b limits url opened first s)
+
+pub returns-in-Err-clause-failed : goal.returns-in-Err-clause-failed
+returns-in-Err-clause-failed g c = c.in-Err.ensures.failed ∙ ap (λ (n : ℕ). failures_behind {A = Unit {0}} n (Err c.in-Err.fault)) c.loop-turn.invariant.2

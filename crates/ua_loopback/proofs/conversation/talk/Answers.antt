@@ -2,9 +2,8 @@ use Rattle.std.proofs.Common.{[], map, subst, sym}
 use Rattle.std.specs.Prelude.{List}
 use Rattle.ua_client.specs.Client.{connection_of}
 use Rattle.ua_client.specs.declared.reply.Reply.{Reply}
-use Rattle.ua_loopback.specs.inside.Talking.{StaysTalking}
-use Rattle.ua_loopback.specs.Replies.{HaveMisanswers}
-use Rattle.ua_loopback.proofs.Courses.{closes_by, talked_all}
+use Rattle.ua_loopback.specs.inside.Talking.{HaveMisanswers, StaysTalking}
+use Rattle.ua_loopback.proofs.Courses.{asked_stops, closes_by, talked_all}
 use Rattle.ua_loopback.proofs.Faults.{close_fails, outside_fails}
 use Rattle.ua_loopback.proofs.conversation.talk.Goals as goal
 
@@ -90,3 +89,25 @@ returns-clause-before g c = λ reason b able line.
     (subst (λ (rs : List Reply). StaysTalking b c.args.limits c.args.url c.args.moment w.opened [] (connection_of c.in-Ok.client) t0 t1 rs) (sym c.requires.none) w.stays) in
     let closes = c.in-Err-close.ensures.closes c.in-Ok-take_turns.ensures.ready in
     absurd (closes_by s.stays.site c.args.moment closes.sent c.in-Err-close.fault reason (closes.answers s.stays.site s.stays.at))
+
+pub returns-in-Err-clause-stops : goal.returns-in-Err-clause-stops
+returns-in-Err-clause-stops g c = λ b able line short. c.in-Err.ensures.stops b able line short
+
+pub returns-in-Err-take_turns-clause-stops : goal.returns-in-Err-take_turns-clause-stops
+returns-in-Err-take_turns-clause-stops g c = λ b able line short.
+    let w = c.in-Ok.ensures.went b able line in
+    let t0 = g.L.Line.traffic c.args.line.now in
+    let t1 = g.L.Line.traffic c.begin.new.line in
+    c.in-Err-take_turns.ensures.stops b c.args.limits c.args.url w.opened t0
+    (subst (λ (rs : List Reply). StaysTalking b c.args.limits c.args.url c.args.moment w.opened [] (connection_of c.in-Ok.client) t0 t1 rs) (sym c.requires.none) w.stays)
+
+pub returns-clause-stops : goal.returns-clause-stops
+returns-clause-stops g c = λ b able line short.
+    let w = c.in-Ok.ensures.went b able line in
+    let t0 = g.L.Line.traffic c.args.line.now in
+    let t1 = g.L.Line.traffic c.begin.new.line in
+    let s =
+    c.in-Ok-take_turns.ensures.stays b c.args.limits c.args.url w.opened t0
+    (subst (λ (rs : List Reply). StaysTalking b c.args.limits c.args.url c.args.moment w.opened [] (connection_of c.in-Ok.client) t0 t1 rs) (sym c.requires.none) w.stays) in
+    asked_stops b c.args.limits c.args.url c.args.moment w.opened (map g.T.AsTurn.turn c.args.turns.now) c.take_turns.new.client t0 (g.L.Line.traffic c.take_turns.new.line) (g.L.Line.traffic c.close.new.line) c.take_turns.new.replies.items s
+    c.in-Ok-take_turns.ensures.ready c.in-Err-close.fault c.in-Err-close.ensures.stops

@@ -2,6 +2,7 @@ use Rattle.std.specs.Prelude.{Some}
 use Rattle.ua_loopback.specs.Talking.{session_requests}
 use Rattle.ua_loopback.proofs.Calling.{leaves_turn, reads_turn}
 use Rattle.ua_loopback.proofs.Sessions.{session_fails, session_on, session_sent}
+use Rattle.ua_loopback.proofs.Sounds.{session_answered}
 use Rattle.ua_loopback.proofs.talking.begin_session_as.Goals as goal
 
 pub returns-in-Ok-clause-stays : goal.returns-in-Ok-clause-stays
@@ -26,3 +27,6 @@ pub returns-in-Err-clause-fails : goal.returns-in-Err-clause-fails
 returns-in-Err-clause-fails g c = λ t k.
     session_fails t c.args.client.now (g.L.Line.traffic c.args.line.now) k c.begin_session_as.new.self (g.L.Line.traffic c.begin_session_as.new.line) c.clients_are_settled.ensures.none_pending c.args.policy_id c.args.moment
     c.calls_are_told_behind.ensures c.in-Err.fault (c.in-Err.ensures.begins k.ready)
+
+pub returns-in-Err-clause-answered : goal.returns-in-Err-clause-answered
+returns-in-Err-clause-answered g c = λ t k sound is. session_answered t c.args.policy_id c.args.moment c.in-Err.fault sound k.talks.dated (returns-in-Err-clause-fails g c t k) is

@@ -1,4 +1,5 @@
-use Rattle.ua_loopback.proofs.Calling.{all_fails, asks_first, asks_on, asks_refused, asks_replied, asks_sent, leaves_turn, reads_turn, stands_there}
+use Rattle.ua_loopback.proofs.Calling.{all_fails, all_stops, asks_first, asks_on, asks_refused, asks_replied, asks_sent, leaves_turn, reads_turn, stands_there}
+use Rattle.ua_loopback.proofs.Sounds.{always_answered}
 use Rattle.ua_loopback.proofs.talking.call_all.Goals as goal
 use Rattle.std.specs.Prelude.{Some}
 
@@ -52,3 +53,11 @@ pub returns-in-Err-clause-fails : goal.returns-in-Err-clause-fails
 returns-in-Err-clause-fails g c = λ t k.
     all_fails t c.args.client.now (g.L.Line.traffic c.args.line.now) k c.call_all.new.self (g.L.Line.traffic c.call_all.new.line) c.clients_are_settled.ensures.none_pending c.args.moment c.args.requests.now
     c.calls_are_told_behind.ensures c.in-Err.fault (c.in-Err.ensures.calls k.ready)
+
+pub returns-in-Err-clause-stops : goal.returns-in-Err-clause-stops
+returns-in-Err-clause-stops g c = λ t k.
+    all_stops t c.args.client.now (g.L.Line.traffic c.args.line.now) k c.call_all.new.self (g.L.Line.traffic c.call_all.new.line) c.clients_are_settled.ensures.none_pending c.args.moment c.args.requests.now
+    c.calls_are_told_behind.ensures c.in-Err.fault (c.in-Err.ensures.calls k.ready)
+
+pub returns-in-Err-clause-answered : goal.returns-in-Err-clause-answered
+returns-in-Err-clause-answered g c = λ t k sound is. always_answered t c.args.requests.now c.in-Err.fault sound k.talks.dated (returns-in-Err-clause-fails g c t k) is

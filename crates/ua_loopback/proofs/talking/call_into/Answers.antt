@@ -1,4 +1,5 @@
-use Rattle.ua_loopback.proofs.Calling.{asks_first, asks_on, asks_refused, asks_sent, asks_added, into_fails, leaves_turn, reads_turn, stands_there}
+use Rattle.ua_loopback.proofs.Calling.{asks_first, asks_on, asks_refused, asks_sent, asks_added, into_fails, into_stops, leaves_turn, reads_turn, stands_there}
+use Rattle.ua_loopback.proofs.Sounds.{always_answered}
 use Rattle.ua_loopback.proofs.talking.call_into.Goals as goal
 use Rattle.std.specs.Prelude.{Some}
 
@@ -52,3 +53,11 @@ pub returns-in-Err-clause-fails : goal.returns-in-Err-clause-fails
 returns-in-Err-clause-fails g c = λ t k.
     into_fails t c.args.client.now (g.L.Line.traffic c.args.line.now) k c.call_into.new.self (g.L.Line.traffic c.call_into.new.line) c.clients_are_settled.ensures.none_pending c.args.moment c.args.requests.now
     c.calls_are_told_behind.ensures c.in-Err.calls c.args.replies.now.items c.call_into.new.replies.items (c.in-Err.ensures.calls k.ready)
+
+pub returns-in-Err-clause-stops : goal.returns-in-Err-clause-stops
+returns-in-Err-clause-stops g c = λ t k.
+    into_stops t c.args.client.now (g.L.Line.traffic c.args.line.now) k c.call_into.new.self (g.L.Line.traffic c.call_into.new.line) c.clients_are_settled.ensures.none_pending c.args.moment c.args.requests.now
+    c.calls_are_told_behind.ensures c.in-Err.calls c.args.replies.now.items c.call_into.new.replies.items (c.in-Err.ensures.calls k.ready)
+
+pub returns-in-Err-clause-answered : goal.returns-in-Err-clause-answered
+returns-in-Err-clause-answered g c = λ t k sound is. always_answered t c.args.requests.now c.in-Err.calls.fault sound k.talks.dated (returns-in-Err-clause-fails g c t k) is

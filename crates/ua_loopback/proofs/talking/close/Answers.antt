@@ -1,4 +1,4 @@
-use Rattle.ua_loopback.proofs.Calling.{closes_fails, closes_sent, closes_there, left_there, silent_there}
+use Rattle.ua_loopback.proofs.Calling.{closes_fails, closes_sent, closes_stop, closes_there, left_there, silent_there}
 use Rattle.ua_loopback.proofs.talking.close.Goals as goal
 
 pub returns-in-Ok-clause-reaches : goal.returns-in-Ok-clause-reaches
@@ -17,3 +17,7 @@ returns-in-Ok-clause-sends g c = λ t k.
 pub returns-in-Err-clause-fails : goal.returns-in-Err-clause-fails
 returns-in-Err-clause-fails g c = λ t k.
     closes_fails t c.args.client.now (g.L.Line.traffic c.args.line.now) k c.args.moment (g.L.Line.traffic c.close.new.line) c.in-Err.fault (c.in-Err.ensures.closes k.ready)
+
+pub returns-in-Err-clause-stops : goal.returns-in-Err-clause-stops
+returns-in-Err-clause-stops g c = λ t k.
+    closes_stop t c.args.client.now (g.L.Line.traffic c.args.line.now) k c.args.moment (g.L.Line.traffic c.close.new.line) c.in-Err.fault (c.in-Err.ensures.closes k.ready)

@@ -1,6 +1,6 @@
 use Rattle.std.proofs.Common.{FitsSigned, rules, w64}
 use Rattle.std.specs.Prelude.{None}
-use Rattle.ua_loopback.proofs.Calling.{leaves_turn, reads_turn, renews_fails, renews_not, renews_on, renews_sent}
+use Rattle.ua_loopback.proofs.Calling.{leaves_turn, reads_turn, renews_fails, renews_not, renews_on, renews_sent, renews_stop}
 use Rattle.ua_loopback.proofs.Fitting.{moment_fits}
 use Rattle.ua_loopback.proofs.talking.renew.Goals as goal
 
@@ -27,3 +27,8 @@ pub returns-in-Err-clause-fails : goal.returns-in-Err-clause-fails
 returns-in-Err-clause-fails g c = λ t k.
     let dated : FitsSigned w64 c.args.moment.ticks = search rules in
     renews_fails t c.args.client.now (g.L.Line.traffic c.args.line.now) k c.renew.new.self (g.L.Line.traffic c.renew.new.line) c.args.moment (moment_fits c.args.moment dated) c.in-Err.fault (c.in-Err.ensures.renews k.ready)
+
+pub returns-in-Err-clause-stops : goal.returns-in-Err-clause-stops
+returns-in-Err-clause-stops g c = λ t k.
+    let dated : FitsSigned w64 c.args.moment.ticks = search rules in
+    renews_stop t c.args.client.now (g.L.Line.traffic c.args.line.now) k c.renew.new.self (g.L.Line.traffic c.renew.new.line) c.args.moment (moment_fits c.args.moment dated) c.in-Err.fault (c.in-Err.ensures.renews k.ready)

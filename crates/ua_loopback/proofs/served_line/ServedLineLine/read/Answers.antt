@@ -18,12 +18,12 @@ returns-clause-octets g c =
       λ more.
           ap (λ (k : ℕ). drop k (server_output b (c.args.self.now.up ++ more))) (sym read)
           ∙ (ap (λ (o : List ℕ). drop i.read (server_output b (o ++ more))) (sym up)
-          ∙ (read_more b i.up.items i.down.items c.args.buffer.now i.read n c.self.invariant.down_is few more
+          ∙ (read_more b i.up.items i.down.items c.args.buffer.now i.read n c.self.invariant.0.down_is few more
           ∙ ap (λ (t : List ℕ). take n (t ++ drop n c.args.buffer.now) ++ drop (i.read + n) (server_output b (i.up.items ++ more))) (sym put))),
       up,
       λ none roomy.
           ap (λ (k : ℕ). drop k (server_output b (c.args.self.now.up ++ []))) (sym read)
           ∙ (ap (λ (o : List ℕ). drop i.read (server_output b (o ++ []))) (sym up)
-          ∙ read_none b i.up.items i.down.items i.read c.self.invariant.down_is
+          ∙ read_none b i.up.items i.down.items i.read c.self.invariant.0.down_is
           (none_left i.down.items i.read (length c.args.buffer.now) n (subst (λ (k : ℕ). 0 < k → 0 < n) least c.front-n.ensures.some) none (subst (λ (k : ℕ). 0 < k) room roomy))),
     )
