@@ -1,4 +1,4 @@
-# Completion of the words of `ua` for bash; written by tools/write_pages.
+# Completion of the words of `ua` for bash; written by tools/write_pages.py.
 _ua() {
     local word=${COMP_WORDS[COMP_CWORD]} before=${COMP_WORDS[COMP_CWORD - 1]} words= files= place=0 at
     COMPREPLY=()
@@ -18,7 +18,7 @@ _ua() {
         words='dissect serve endpoints read write loop version help --help'
     elif [ -z "$words" ]; then
         case ${COMP_WORDS[1]} in
-        dissect) words='--help --hex --server --fields --names --why'; files='0' ;;
+        dissect) words='--help --hex --server --fields --names --strict --why'; files='0' ;;
         serve) words='--help --connections --requests --why'; files='0' ;;
         endpoints) words='--help --policies --json --why' ;;
         read) words='--help --attribute --range --names --times --json --policy --strict --why' ;;

@@ -1,18 +1,19 @@
 //! The answer to each kind of row.
 
-use crate::ask::{ask, ask_tcp};
+use crate::ask::{ask, ask_out, ask_tcp, flushed};
 use crate::asked::asked;
 use crate::carried::{carry, carry_pieces};
 use crate::client::client;
+use crate::failing_listener::accepts;
 use crate::fault::Fault;
 use crate::files::{file, text};
 use crate::lines::{carried, gathering, moment, stream};
 use crate::names::{client_fault, end, loop_fault, named_end, outcome};
 use crate::offline::offline_row;
-use crate::run::{pipe_row, run_row, words_row};
+use crate::run::{broken_row, pipe_row, run_row, words_row};
 use crate::script::script;
-use crate::serve::{connections, request_lines, serve, serve_none, serve_tcp};
-use crate::writers::{err_row, no_words_row, out_row};
+use crate::serve::{connections, memory_refused, request_lines, serve, serve_none, serve_tcp};
+use crate::writers::{err_row, no_words_row, out_row, out_told_row};
 use std::alloc::AllocError;
 use std::net::Net;
 use std::rt::Files;
@@ -48,18 +49,23 @@ fn answer<R: Files + Net + Clock + AllocGlobal>(
         "text" => text(rt, words),
         "run" => run_row(rt, taken, words),
         "pipe" => pipe_row(rt, taken, words),
+        "broken" => broken_row(rt, taken, words),
         "words" => words_row(rt, taken, words),
         "script" => script(rt, words),
         "ask" => ask(rt, words),
         "ask-tcp" => ask_tcp(rt, words),
+        "ask-out" => ask_out(rt, words),
+        "flushed" => flushed(rt, words),
         "serve" => serve(rt, words),
         "serve-tcp" => serve_tcp(rt, words),
         "connections" => connections(rt, words),
         "request-lines" => request_lines(rt, words),
         "serve-none" => serve_none(rt),
+        "accepts" => accepts(rt, words),
         "client" => client(rt, words),
         "asked" => asked(rt, taken, words),
         "out" => out_row(rt, taken, words),
+        "out-told" => out_told_row(rt, taken, words),
         "err" => err_row(rt, taken, words),
         "offline" => offline_row(rt, taken, words),
         "carry" => carry(rt, words),
@@ -73,6 +79,7 @@ fn text_answer<R: AllocGlobal>(rt: &R, kind: &str, words: &str) -> Result<String
     let alloc = rt.alloc();
     match kind {
         "no-words" => no_words_row(rt, words),
+        "no-memory" => memory_refused(alloc, words),
         "carry-pieces" => carry_pieces(alloc, words),
         "stream" => stream(alloc, words),
         "gathering" => gathering(alloc, words),

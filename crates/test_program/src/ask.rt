@@ -6,11 +6,14 @@ use crate::octets::digits;
 use crate::serve::moments;
 use crate::tcp::pair;
 use crate::texts::{first_word, marked};
+use crate::writers::Failing;
 use std::alloc::Global;
+use std::cell::Cell;
+use std::io;
 use std::io::{Read, Write};
 use std::net::Net;
 use std::rt::Files;
-use ua_channel::{Line, MemoryLine};
+use ua_channel::{Line, LineFault, MemoryLine};
 use ua_program::{ListEndpoints, Task, limits, parse, policy_of, read_question, write_question};
 use ua_session::{AskFault, Question, TokenPolicy, Verdict, WordFault, ask_over, endpoints_over};
 use ua_texts::LineStyle;
@@ -22,8 +25,7 @@ const PORT: u16 = 4840;
 pub fn ask<R: Files + AllocGlobal>(rt: &R, words: &str) -> Result<String, Fault> {
     let alloc = rt.alloc();
     let (file, question) = first_word(words);
-    let coming = content(rt, file)?;
-    let mut line = MemoryLine::new(alloc, coming, Vec::new(alloc), Vec::new(alloc), None, None);
+    let mut line = line_of(alloc, content(rt, file)?);
     let told = told(alloc, &mut line, question)?;
     with_octets(alloc, &told, line.written())
 }
@@ -40,6 +42,94 @@ pub fn ask_tcp<R: Files + Net + AllocGlobal>(rt: &R, words: &str) -> Result<Stri
     with_octets(rt.alloc(), &told, &asked)
 }
 
+/// `ask-out WRITER FILE QUESTION`: the same as `ask`, where the lines go to a writer that fails.
+pub fn ask_out<R: Files + AllocGlobal>(rt: &R, words: &str) -> Result<String, Fault> {
+    let alloc = rt.alloc();
+    let (writer, words) = first_word(words);
+    let (file, question) = first_word(words);
+    let mut line = line_of(alloc, content(rt, file)?);
+    let ended = asked(alloc, &mut line, question, &mut Failing::of(writer)?)?;
+    let told = end_text(alloc, ended)?;
+    with_octets(alloc, &told, line.written())
+}
+
+/// A line that counts the octets that are written to it.
+#[derive(Drop)]
+struct Counting<'a, L> {
+    line: L,
+    written: &'a Cell<usize>,
+}
+
+impl<L: Line> Line for Counting<'_, L> {
+    ghost traffic = { λ l. L.traffic l.line };
+
+    ghost failures = { λ l. L.failures l.line };
+
+    fn read(&mut self, buffer: &mut [u8]) -> Result<usize, LineFault> {
+        self.line.read(buffer)
+    }
+
+    fn write(&mut self, octets: &[u8]) -> Result<usize, LineFault> {
+        let written = self.line.write(octets);
+        if let Ok(n) = written {
+            self.written.set(self.written.get().saturating_add(n));
+        }
+        written
+    }
+}
+
+/// A writer that keeps how many octets were written to a line when it was flushed.
+#[derive(Drop)]
+struct FlushMarks<'a> {
+    written: &'a Cell<usize>,
+    last: Option<usize>,
+}
+
+impl Write for FlushMarks<'_> {
+    fn write(&mut self, octets: &[u8]) -> io::Result<usize> {
+        Ok(octets.len())
+    }
+
+    fn flush(&mut self) -> io::Result<()> {
+        self.last = Some(self.written.get());
+        Ok(())
+    }
+}
+
+/// `flushed FILE QUESTION`: how many octets had been sent when the answers were written and flushed, and
+/// how many were in all.
+pub fn flushed<R: Files + AllocGlobal>(rt: &R, words: &str) -> Result<String, Fault> {
+    let alloc = rt.alloc();
+    let (file, question) = first_word(words);
+    let written = Cell::new(0);
+    let mut line = Counting {
+        line: line_of(alloc, content(rt, file)?),
+        written: &written,
+    };
+    let mut out = FlushMarks {
+        written: &written,
+        last: None,
+    };
+    let ended = asked(alloc, &mut line, question, &mut out)?;
+    let told = end_text(alloc, ended)?;
+    let last = out.last.unwrap_or(0);
+    let all = written.get();
+    Ok(format!(in alloc; "at {last} of {all} {told}")?)
+}
+
+/// A line from which these octets come.
+fn line_of(alloc: Global, coming: Vec<u8>) -> MemoryLine {
+    MemoryLine::new(alloc, coming, Vec::new(alloc), Vec::new(alloc), None, None)
+}
+
+/// How asking ended: `done` or `bad`, or the fault.
+fn end_text(alloc: Global, ended: Result<&'static str, AskFault>) -> Result<String, Fault> {
+    match ended {
+        Ok(end) => Ok(String::from_str(alloc, end)?),
+        Err(fault) => Ok(format!(in alloc; "fault \"{fault}\"")?),
+    }
+}
+
 /// A text, and the octets that were sent behind it.
 pub fn with_octets(alloc: Global, told: &str, octets: &[u8]) -> Result<String, Fault> {
     let digits = digits(alloc, octets)?;
@@ -49,21 +139,19 @@ pub fn with_octets(alloc: Global, told: &str, octets: &[u8]) -> Result<String, F
 /// What is printed of the answers, and how it ended: `done`, with `--strict` `bad` where a code is, or
 /// the fault that is told.
 fn told<L: Line>(alloc: Global, line: &mut L, question: &str) -> Result<String, Fault> {
-    let mut out = String::new(alloc);
+    let mut out = Vec::new(alloc);
     let end = asked(alloc, line, question, &mut out)?;
-    let out = marked(alloc, out.as_bytes())?;
-    match end {
-        Ok(end) => Ok(format!(in alloc; "out \"{out}\" {end}")?),
-        Err(fault) => Ok(format!(in alloc; "out \"{out}\" fault \"{fault}\"")?),
-    }
+    let out = marked(alloc, &out)?;
+    let end = end_text(alloc, end)?;
+    Ok(format!(in alloc; "out \"{out}\" {end}")?)
 }
 
 /// Asks what the words of a command ask for, without its port, and gives what came of it.
-fn asked<L: Line>(
+fn asked<L: Line, O: Write>(
     alloc: Global,
     line: &mut L,
     words: &str,
-    out: &mut String,
+    out: &mut O,
 ) -> Result<Result<&'static str, AskFault>, Fault> {
     let (command, rest) = first_word(words);
     let mut list: Vec<&str> = Vec::new(alloc);
@@ -97,11 +185,11 @@ fn task_of<'a>(alloc: Global, words: &'a [&'a str]) -> Result<Task<'a>, Fault> {
     }
 }
 
-fn endpoints<L: Line>(
+fn endpoints<L: Line, O: Write>(
     alloc: Global,
     line: &mut L,
     asked: &ListEndpoints,
-    out: &mut String,
+    out: &mut O,
 ) -> Result<Result<&'static str, AskFault>, Fault> {
     let mut moments = moments(alloc)?;
     let ended = endpoints_over(
@@ -140,11 +228,11 @@ fn asking_of(
     })
 }
 
-fn answers<L: Line>(
+fn answers<L: Line, O: Write>(
     alloc: Global,
     line: &mut L,
     asking: &Asking,
-    out: &mut String,
+    out: &mut O,
 ) -> Result<Result<&'static str, AskFault>, Fault> {
     let mut moments = moments(alloc)?;
     let ended = ask_over(

@@ -10,6 +10,7 @@ mod ask;
 mod asked;
 mod carried;
 mod client;
+mod failing_listener;
 mod fault;
 mod files;
 mod lines;

@@ -4,6 +4,8 @@ use crate::fault::Fault;
 use crate::files::content;
 use crate::tcp::free_port;
 use crate::texts::{first_word, marked, unmarked};
+use std::io;
+use std::io::Read;
 use std::net::Net;
 use std::rt::Files;
 use std::time::Clock;
@@ -35,6 +37,31 @@ pub fn pipe_row<R: Files + Net + Clock + AllocGlobal>(
     let (name, words) = first_word(words);
     let input = content(rt, name)?;
     told(rt, &run_words(rt, &words_of(rt, taken, words)?, &input))
+}
+
+/// An input that fails behind what it holds.
+#[derive(Drop)]
+struct Broken<'a>(&'a [u8]);
+
+impl Read for Broken<'_> {
+    fn read(&mut self, buffer: &mut [u8]) -> io::Result<usize> {
+        if self.0.is_empty() {
+            return Err(io::Error::from(io::ErrorKind::Other));
+        }
+        self.0.read(buffer)
+    }
+}
+
+/// `broken NAME WORDS`: the same of a run whose input fails behind what a file holds.
+pub fn broken_row<R: Files + Net + Clock + AllocGlobal>(
+    rt: &R,
+    taken: u16,
+    words: &str,
+) -> Result<String, Fault> {
+    let (name, words) = first_word(words);
+    let input = content(rt, name)?;
+    let words = words_of(rt, taken, words)?;
+    told(rt, &run_reading(rt, &words, &mut Broken(&input)))
 }
 
 fn told<R: AllocGlobal>(rt: &R, ran: &Ran) -> Result<String, Fault> {
@@ -72,9 +99,18 @@ fn run_words<R: Files + Net + Clock + AllocGlobal>(
     words: &[String],
     mut input: &[u8],
 ) -> Ran {
+    run_reading(rt, words, &mut input)
+}
+
+/// The same of a run with this input.
+fn run_reading<R: Files + Net + Clock + AllocGlobal, I: Read>(
+    rt: &R,
+    words: &[String],
+    input: &mut I,
+) -> Ran {
     let mut out = Vec::new(rt.alloc());
     let mut err = Vec::new(rt.alloc());
-    let status = run(rt, words, &mut input, &mut out, &mut err);
+    let status = run(rt, words, input, &mut out, &mut err);
     Ran { status, out, err }
 }
 

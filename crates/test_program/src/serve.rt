@@ -1,18 +1,21 @@
 //! What a server answers, and what is said of its connections.
 
 use crate::ask::with_octets;
-use crate::fault::Fault;
+use crate::fault::{Fault, or_no_row};
 use crate::files::content;
 use crate::octets::{digits, number_of, octets_of};
 use crate::tcp::pair;
 use crate::texts::{first_word, marked};
 use std::alloc::{AllocError, Global};
 use std::io::{Read, Write};
-use std::net::{Net, OpenListener, OpenStream, Shutdown, TcpListener, TcpStream};
+use std::net::{Net, OpenListener, OpenStream, Shutdown, SocketAddr, TcpListener, TcpStream};
 use std::rt::Files;
 use std::time::Clock;
 use ua_channel::{Line, ListMoments, MemoryLine};
-use ua_program::{Serve, Stop, serve_all, serve_line, services};
+use ua_program::{
+    ALL_CONNECTIONS, Serve, Stop, Telling, say_no_memory, serve_all, serve_line, services,
+};
+use ua_server::Services;
 
 /// 1970-01-01, at which all is said.
 const MOMENT: i64 = 116_444_736_000_000_000;
@@ -71,15 +74,28 @@ pub fn serve_tcp<R: Files + Net + AllocGlobal>(rt: &R, words: &str) -> Result<St
     with_octets(rt.alloc(), &said, &answer)
 }
 
+/// The services of a server of one node.
+pub fn served_services(alloc: Global) -> Result<Services, Fault> {
+    or_no_row(services(alloc, NODES, PORT))
+}
+
+/// `no-memory NUMBER`: the line of a connection of this number at which memory was refused.
+pub fn memory_refused(alloc: Global, number: &str) -> Result<String, Fault> {
+    let Ok(number) = number.parse::<u32>() else {
+        return Err(Fault::NoRow);
+    };
+    let mut out = Vec::new(alloc);
+    or_no_row(say_no_memory(number, &mut out))?;
+    marked(alloc, &out)
+}
+
 /// What is said of a connection over a line.
 fn said<L: Line>(alloc: Global, line: &mut L, number: &str) -> Result<String, Fault> {
     let Ok(number) = number.parse::<u32>() else {
         return Err(Fault::NoRow);
     };
     let mut moments = moments(alloc)?;
-    let Ok(mut served) = services(alloc, NODES, PORT) else {
-        return Err(Fault::NoRow);
-    };
+    let mut served = served_services(alloc)?;
     let text = serve_line(alloc, line, &mut served, number, &mut moments)?;
     drop(served);
     let text = marked(alloc, text.as_bytes())?;
@@ -120,11 +136,20 @@ pub fn request_lines<R: Files + Net + Clock + AllocGlobal>(
 pub fn serve_none<R: Net + Clock + AllocGlobal>(rt: &R) -> Result<String, Fault> {
     let listener = TcpListener::bind(rt, "127.0.0.1:0")?;
     listener.set_nonblocking(true)?;
-    let Ok(mut served) = services(rt.alloc(), NODES, PORT) else {
-        return Err(Fault::NoRow);
-    };
+    let mut served = served_services(rt.alloc())?;
     let mut out = Vec::new(rt.alloc());
-    let stopped = serve_all(rt, &listener, &mut served, &asked(1, false), &mut out);
+    let mut err = Vec::new(rt.alloc());
+    let telling = telling(rt.alloc());
+    let asked = asked(1, false);
+    let stopped = serve_all(
+        rt,
+        &listener,
+        &mut served,
+        &asked,
+        &mut out,
+        telling,
+        &mut err,
+    );
     drop(served);
     let out = marked(rt.alloc(), &out)?;
     match stopped {
@@ -141,17 +166,27 @@ fn asked(connections: u32, requests: bool) -> Serve<'static> {
         nodes: "nodes.txt",
         port: PORT,
         connections,
+        goes_on: connections == ALL_CONNECTIONS,
         requests,
     }
 }
 
+/// Faults are told with their reasons.
+pub fn telling(alloc: Global) -> Telling {
+    Telling {
+        alloc,
+        why: true,
+        aloud: true,
+    }
+}
+
 /// A connection that has sent octets, and sends no more.
-fn client<R: Files + Net + AllocGlobal>(
+pub fn client<R: Files + Net + AllocGlobal>(
     rt: &R,
-    listener: &R::Listener,
+    address: SocketAddr,
     octets: &str,
 ) -> Result<R::Stream, Fault> {
-    let mut client = TcpStream::connect(rt, listener.local_addr()?)?;
+    let mut client = TcpStream::connect(rt, address)?;
     client.write_all(&octets_of(rt, octets)?)?;
     client.shutdown(Shutdown::Write)?;
     Ok(client)
@@ -165,7 +200,7 @@ fn clients<R: Files + Net + AllocGlobal>(
 ) -> Result<Vec<R::Stream>, Fault> {
     let mut clients = Vec::new(rt.alloc());
     for word in words.split_whitespace() {
-        clients.push(client(rt, listener, word)?)?;
+        clients.push(client(rt, listener.local_addr()?, word)?)?;
     }
     Ok(clients)
 }
@@ -180,12 +215,20 @@ fn served_all<R: Net + Clock + AllocGlobal>(
     let Ok(connections) = u32::try_from(count) else {
         return Err(Fault::NoRow);
     };
-    let Ok(mut served) = services(rt.alloc(), NODES, PORT) else {
-        return Err(Fault::NoRow);
-    };
+    let mut served = served_services(rt.alloc())?;
     let mut out = Vec::new(rt.alloc());
     let asked = asked(connections, requests);
-    let stopped = serve_all(rt, listener, &mut served, &asked, &mut out);
+    let mut err = Vec::new(rt.alloc());
+    let telling = telling(rt.alloc());
+    let stopped = serve_all(
+        rt,
+        listener,
+        &mut served,
+        &asked,
+        &mut out,
+        telling,
+        &mut err,
+    );
     drop(served);
     match stopped {
         Ok(()) => marked(rt.alloc(), &out),

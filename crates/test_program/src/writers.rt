@@ -13,14 +13,14 @@ use ua_program::{refuse_words, run};
 
 /// A writer that has room for so many octets, and then fails. It may fail where it is flushed.
 #[derive(Drop)]
-struct Failing {
+pub struct Failing {
     room: usize,
     flushes: bool,
 }
 
 impl Failing {
     /// `N` has room for so many octets; `unflushed` takes each octet, and can't be flushed.
-    fn of(word: &str) -> Result<Failing, Fault> {
+    pub fn of(word: &str) -> Result<Failing, Fault> {
         if word == "unflushed" {
             return Ok(Failing {
                 room: usize::MAX,
@@ -65,6 +65,20 @@ pub fn out_row<R: Files + Net + Clock + AllocGlobal>(
     let status = status_of(rt, &words_of(rt, taken, words)?, &mut out, &mut err);
     let err = presence(&err);
     Ok(format!(in rt.alloc(); "{status} err {err}")?)
+}
+
+/// `out-told WRITER WORDS`: a run that prints to such a writer: the status, and what is told.
+pub fn out_told_row<R: Files + Net + Clock + AllocGlobal>(
+    rt: &R,
+    taken: u16,
+    words: &str,
+) -> Result<String, Fault> {
+    let (writer, words) = first_word(words);
+    let mut err = Vec::new(rt.alloc());
+    let mut out = Failing::of(writer)?;
+    let status = status_of(rt, &words_of(rt, taken, words)?, &mut out, &mut err);
+    let err = marked(rt.alloc(), &err)?;
+    Ok(format!(in rt.alloc(); "{status} err \"{err}\"")?)
 }
 
 /// `err WRITER WORDS`: a run that tells its faults to such a writer: the status, and whether something is

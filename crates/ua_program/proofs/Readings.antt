@@ -1,5 +1,6 @@
 -- How far the lines of a file have come.
 use Rattle.std.proofs.Common.{◌≡◌, ◌⊎◌, inl, inr, ℕ, zero, suc, ◌<◌, take, ◌+◌, ◌%◌, ◌∷◌, length, length-append, arith, Bool, true, false, List, [], ◌++◌, Option, Some, None, is_none, unwrap_or, Result, Ok, Err, OnOk, refl, sym, ap, subst, ◌∙◌, append_assoc, append-nil}
+use Rattle.std.proofs.lemmas.List.{append_cancel_left}
 use Rattle.std.specs.Io.KnownBytes.{Appends, Consumes, IsAtEnd}
 use Rattle.std.specs.Borrow.{Bor}
 use Rattle.ua_pair.specs.declared.dissector.Dissector.{Dissector}
@@ -9,13 +10,15 @@ use Rattle.hex.specs.Hex.{decode_of}
 use Rattle.hex.proofs.HexLemmas.{decode_of-ok}
 use Rattle.ua_program.specs.Looped.{HasLoopedUntil}
 use Rattle.ua_program.specs.Served.{HasServedSome}
-use Rattle.ua_program.specs.Printed.{HasBegun, HasDissected, HasToldSome}
+use Rattle.ua_program.specs.Printed.{HasBegun, HasDissected, HasListed, HasToldSome}
+use Rattle.ua_texts.specs.declared.style.EndpointStyle.{EndpointStyle}
 use Rattle.ua_program.specs.Digits.{digits_in, HexSoFar, HoldsSoFar, HoldsOctets, HoldsNever, HoldsNone}
 use Rattle.ua_program.specs.declared.fault.Fault.{Fault}
 use Rattle.ua_program.specs.declared.fault.Fault.TheVariants.{CannotRead, NoMemory, NotHexadecimal}
+use Rattle.ua_session.specs.declared.verdict.Verdict.{Verdict}
 use Rattle.ua_program.specs.declared.output.Stop.{Stop}
 use Rattle.ua_program.specs.declared.output.Stop.TheVariants as stop
-use Rattle.ua_program.specs.Dissects.{AreLinesOf, DissectsAll, EndsFile, GivesNone, HasBegunDissecting, LeavesNone, PrintsLast, PrintsNext, PrintsPiece, Reads, StopsNext, StopsReading, TellsPiece, ToldSoFar}
+use Rattle.ua_program.specs.Dissects.{AreLinesOf, DissectsAll, EndsFile, GivesNone, HasBegunDissecting, IsJudged, LeavesNone, PrintsLast, PrintsNext, PrintsPiece, Reads, StopsLast, StopsNext, StopsReading, TellsPiece, ToldSoFar}
 use Rattle.ua_program.proofs.HexParts.{hex_first}
 
 -- nothing yet
@@ -121,20 +124,69 @@ pub reason_left : {fault : Fault} {file : Bor (List ℕ)} {P Q : Type 0} → (P 
 reason_left f (inl memory) = inl memory
 reason_left f (inr refused) = inr (refused.0, f refused.1)
 
--- the last line is printed
-pub prints_last : (hex : Bool) (options : DissectOptions) (content told cleared text said : List ℕ) (before after old new : Option (List ℕ)) (read : List ℕ) → read ≡ [] → Consumes before after read → IsAtEnd after → cleared ≡ [] → EndsFile hex options content told cleared text → said ≡ text → Appends old new said → PrintsLast hex options content told before after old new
-prints_last hex options content told cleared text said before after old new read none consumed end empty e same printed = record {
+-- a fault of a file at its last line, as what stops the command
+pub stops_last : (hex : Bool) (file : Bor (List ℕ)) (content : List ℕ) (fault : Fault) (why : Stop) → why ≡ stop.Fault fault → (fault ≡ NoMemory) ⊎ ((fault ≡ NotHexadecimal file) × HoldsNone hex content) → StopsLast hex file content why
+stops_last hex file content fault why is (inl memory) = inr (inl (is ∙ ap stop.Fault memory))
+stops_last hex file content fault why is (inr refused) = inr (inr (is ∙ ap stop.Fault refused.0, refused.1))
+
+-- what stops at the last line stops the last read
+pub last_stops : (hex : Bool) (file : Bor (List ℕ)) (content all : List ℕ) (known : Option (List ℕ)) (why : Stop) → (HoldsNone hex all → LeavesNone hex content known) → StopsLast hex file all why → StopsNext hex file content known why
+last_stops hex file content all known why leaves (inl output) = inl output
+last_stops hex file content all known why leaves (inr (inl memory)) = inr (inl memory)
+last_stops hex file content all known why leaves (inr (inr refused)) = inr (inr (inr (refused.0, leaves refused.1)))
+
+-- the last line is printed, at the end
+pub prints_last : (verdict : Verdict) (hex : Bool) (options : DissectOptions) (content told cleared text : List ℕ) (before after old new : Option (List ℕ)) (read : List ℕ) → read ≡ [] → Consumes before after read → IsAtEnd after → cleared ≡ [] → EndsFile hex options content told cleared text × IsJudged verdict hex options content → Appends old new text → PrintsLast verdict hex options content told before after old new
+prints_last verdict hex options content told cleared text before after old new read none consumed end empty e printed = record {
+  piece = [];
   consumed = subst (λ (u : List ℕ). Consumes before after u) none consumed;
-  at_end = end;
-  line = e.line;
-  added = subst (λ (u : List ℕ). Appends old new u) (same ∙ e.added ∙ ap (λ (u : List ℕ). u ++ e.line) empty) printed;
-  lines = e.lines;
+  line = e.0.line;
+  added = subst (λ (u : List ℕ). Appends old new u) (e.0.added ∙ ap (λ (u : List ℕ). u ++ e.0.line) empty) printed;
+  lines = subst (λ (u : List ℕ). AreLinesOf hex options u (told ++ e.0.line)) (sym (append-nil content)) e.0.lines;
+  whole = inl end;
+  judged = subst (λ (u : List ℕ). IsJudged verdict hex options u) (sym (append-nil content)) e.1;
 }
+
+-- the last line is printed at a frame that is refused
+pub prints_refused : (verdict : Verdict) (hex : Bool) (options : DissectOptions) (half : Option ℕ) (d : Dissector) (content piece told cleared mid text : List ℕ) (before after old new : Option (List ℕ)) → hex ≡ false
+    → ((octets lines more : List ℕ) → StandsBehind d options octets lines → StandsBehind d options (octets ++ more) lines)
+    → Consumes before after piece → cleared ≡ [] → TellsPiece hex options half d (content ++ piece) told cleared mid
+    → ((c t : List ℕ) → ToldSoFar hex options half d c t → EndsFile hex options c t mid text × IsJudged verdict hex options c)
+    → Appends old new text → PrintsLast verdict hex options content told before after old new
+prints_refused verdict hex options half d content piece told cleared mid text before after old new plain stays consumed empty t ends printed =
+    let all = content ++ piece in
+    let lines = told ++ t.lines in
+    let s = t.so_far in
+    let e = (ends all lines s).0 in
+    record {
+      piece = piece;
+      consumed = consumed;
+      line = t.lines ++ e.line;
+      added = subst (λ (u : List ℕ). Appends old new u)
+          (e.added ∙ ap (λ (u : List ℕ). u ++ e.line) (t.added ∙ ap (λ (u : List ℕ). u ++ t.lines) empty)
+          ∙ append_assoc [] t.lines e.line) printed;
+      lines = subst (λ (u : List ℕ). AreLinesOf hex options all u) (append_assoc told t.lines e.line) e.lines;
+      whole = inr (λ more.
+          let s2 : ToldSoFar hex options half d (all ++ more) lines = record {
+            octets = s.octets ++ more;
+            holds = plain_piece hex half half all s.octets more plain s.holds;
+            stands = stays s.octets lines more s.stands;
+          } in
+          let e2 = (ends (all ++ more) lines s2).0 in
+          let same : e2.line ≡ e.line = append_cancel_left mid e2.line e.line (sym e2.added ∙ e.added) in
+          subst (λ (u : List ℕ). AreLinesOf hex options (all ++ more) u) (ap (λ (u : List ℕ). lines ++ u) same ∙ append_assoc told t.lines e.line) e2.lines);
+      judged = (ends all lines s).1;
+    }
 
 -- nothing was read, so nothing is left
 pub nothing_read : (n : ℕ) (known after : Option (List ℕ)) (piece : List ℕ) → Reads (Some n) known after piece → n ≡ 0 → 0 < length piece → (take n piece ≡ []) × IsAtEnd after
 nothing_read zero known after piece r none room = (refl, r.2 refl room)
 nothing_read (suc n) known after piece r none room = absurd cc
+
+-- octets as they are stand for octets
+pub none_plain : {P : Type 0} (hex : Bool) (content : List ℕ) → hex ≡ false → HoldsNone hex content → P
+none_plain false content is none = absurd (none content refl)
+none_plain true content is none = absurd cc
 
 -- ---- all that is read
 
@@ -172,16 +224,15 @@ reads_on hex options half half2 d e before now after old held new s p = record {
   added = appends_more old held new s.told p.lines s.added p.added;
 }
 
-pub reads_all : (hex : Bool) (options : DissectOptions) (half : Option ℕ) (d : Dissector) (before now after old held new : Option (List ℕ)) (s : ReadSoFar hex options half d before now old held) → PrintsLast hex options s.content s.told now after held new → DissectsAll hex options before after old new
-reads_all hex options half d before now after old held new s p = record {
-  content = s.content;
-  consumed = subst (λ (u : List ℕ). Consumes before after u) (append-nil s.content) (consumes_more before now after s.content [] s.consumed p.consumed);
-  at_end = p.at_end;
-  printed = record {
-    text = s.told ++ p.line;
-    lines = p.lines;
-    added = appends_more old held new s.told p.line s.added p.added;
-  };
+pub reads_all : (verdict : Verdict) (hex : Bool) (options : DissectOptions) (half : Option ℕ) (d : Dissector) (before now after old held new : Option (List ℕ)) (s : ReadSoFar hex options half d before now old held) → PrintsLast verdict hex options s.content s.told now after held new → DissectsAll verdict hex options before after old new
+reads_all verdict hex options half d before now after old held new s p = record {
+  content = s.content ++ p.piece;
+  consumed = consumes_more before now after s.content p.piece s.consumed p.consumed;
+  text = s.told ++ p.line;
+  lines = p.lines;
+  whole = p.whole;
+  judged = p.judged;
+  added = appends_more old held new s.told p.line s.added p.added;
 }
 
 pub has_begun : (hex : Bool) (options : DissectOptions) (half : Option ℕ) (d : Dissector) (before now old held : Option (List ℕ)) → ReadSoFar hex options half d before now old held → HasBegunDissecting hex options before old held
@@ -211,21 +262,23 @@ stops_reading hex file before now content why h (inr (inr (inl read))) = inr (in
 stops_reading hex file before now content why h (inr (inr (inr refused))) = inr (inr (inr (refused.0, gives_none hex before now content h refused.1)))
 
 -- a read that is the last one, or is not
-pub as_piece : (ended hex : Bool) (options : DissectOptions) (half : Option ℕ) (d : Dissector) (content told : List ℕ) (before after old new : Option (List ℕ)) → ended ≡ false → PrintsNext ended hex options half d content told before after old new → PrintsPiece hex options half d content told before after old new
-as_piece false hex options half d content told before after old new is p = p
-as_piece true hex options half d content told before after old new is p = absurd cc
+pub as_piece : (ended : Option Verdict) (hex : Bool) (options : DissectOptions) (half : Option ℕ) (d : Dissector) (content told : List ℕ) (before after old new : Option (List ℕ)) → ended ≡ None → PrintsNext ended hex options half d content told before after old new → PrintsPiece hex options half d content told before after old new
+as_piece None hex options half d content told before after old new is p = p
+as_piece (Some v) hex options half d content told before after old new is p = absurd cc
 
-pub as_last : (ended hex : Bool) (options : DissectOptions) (half : Option ℕ) (d : Dissector) (content told : List ℕ) (before after old new : Option (List ℕ)) → ended ≡ true → PrintsNext ended hex options half d content told before after old new → PrintsLast hex options content told before after old new
-as_last true hex options half d content told before after old new is p = p
-as_last false hex options half d content told before after old new is p = absurd cc
+pub as_last : (ended : Option Verdict) (verdict : Verdict) (hex : Bool) (options : DissectOptions) (half : Option ℕ) (d : Dissector) (content told : List ℕ) (before after old new : Option (List ℕ)) → ended ≡ Some verdict → PrintsNext ended hex options half d content told before after old new → PrintsLast verdict hex options content told before after old new
+as_last (Some v) verdict hex options half d content told before after old new is p =
+    let same : v ≡ verdict = cc in
+    subst (λ (w : Verdict). PrintsLast w hex options content told before after old new) same p
+as_last None verdict hex options half d content told before after old new is p = absurd cc
 
 -- ---- what a run leaves
 
-pub dissected : (hex : Bool) (options : DissectOptions) (before after old new : Option (List ℕ)) → DissectsAll hex options before after old new → HasDissected old new
-dissected hex options before after old new d = record {
-  text = d.printed.text;
-  lines = record { options = options; octets = d.printed.lines.octets; lines = d.printed.lines.lines };
-  added = d.printed.added;
+pub dissected : (verdict : Verdict) (hex : Bool) (options : DissectOptions) (before after old new : Option (List ℕ)) → DissectsAll verdict hex options before after old new → HasDissected old new
+dissected verdict hex options before after old new d = record {
+  text = d.text;
+  lines = record { options = options; octets = d.lines.octets; lines = d.lines.lines };
+  added = d.added;
 }
 
 pub told_some : (hex : Bool) (options : DissectOptions) (source old new : Option (List ℕ)) → HasBegunDissecting hex options source old new → HasToldSome old new
@@ -238,13 +291,34 @@ loop_stops names why old new (inr (inl b)) = inr (inl b)
 loop_stops names why old new (inr (inr h)) = inr (inr (inr (inr (inr (inr (record { names = names; fault = Some h.fault; looped = h.looped }))))))
 
 -- serving that stopped has begun
-pub serve_stops : {A B : Type 0} (requests : Bool) (port connections : ℕ) (old new : Option (List ℕ)) → A ⊎ (B ⊎ HasServedSome requests port connections old new) → A ⊎ (B ⊎ HasBegun old new)
-serve_stops requests port connections old new (inl a) = inl a
-serve_stops requests port connections old new (inr (inl b)) = inr (inl b)
-serve_stops requests port connections old new (inr (inr h)) = inr (inr (inr (inl (record { requests = requests; port = port; connections = connections; lines = inr h }))))
+pub serve_stops : {A B : Type 0} (requests goes_on : Bool) (port connections : ℕ) (old new : Option (List ℕ)) → A ⊎ (B ⊎ HasServedSome requests goes_on port connections old new) → A ⊎ (B ⊎ HasBegun old new)
+serve_stops requests goes_on port connections old new (inl a) = inl a
+serve_stops requests goes_on port connections old new (inr (inl b)) = inr (inl b)
+serve_stops requests goes_on port connections old new (inr (inr h)) = inr (inr (inr (inl (record { requests = requests; goes_on = goes_on; port = port; connections = connections; lines = inr h }))))
 
--- where only the writer failed, nothing is told
-pub told_or_not : {A B C D : Type 0} → A ⊎ (B ⊎ C) → (A → D) → B ⊎ (D ⊎ C)
-told_or_not (inl a) f = inr (inl (f a))
-told_or_not (inr (inl b)) f = inl b
-told_or_not (inr (inr c)) f = inr (inr c)
+-- asking for endpoints that stopped has begun
+pub listed_stops : {A B : Type 0} (style : EndpointStyle) (old new : Option (List ℕ)) → A ⊎ (B ⊎ HasListed style old new) → A ⊎ (B ⊎ HasBegun old new)
+listed_stops style old new (inl a) = inl a
+listed_stops style old new (inr (inl b)) = inr (inl b)
+listed_stops style old new (inr (inr h)) = inr (inr (inr (inr (inl (record { style = style; listed = h })))))
+
+-- where only the writer failed nothing is told, but for a reason that is asked for, and of a server that goes on
+pub told_or_not : {A B C Kept D S W : Type 0} → A ⊎ (B ⊎ C) → (A → Kept ⊎ W) → (aloud : Bool) → (aloud ≡ true → S) → (aloud ≡ false → Kept → D) → B ⊎ (D ⊎ (C ⊎ (S ⊎ W)))
+told_or_not (inl a) f aloud says keeps = untold (f a) aloud says keeps
+  where
+    untold : {B C Kept D S W : Type 0} → Kept ⊎ W → (aloud : Bool) → (aloud ≡ true → S) → (aloud ≡ false → Kept → D) → B ⊎ (D ⊎ (C ⊎ (S ⊎ W)))
+    untold (inl kept) true says keeps = inr (inr (inr (inl (says refl))))
+    untold (inl kept) false says keeps = inr (inl (keeps refl kept))
+    untold (inr why) aloud says keeps = inr (inr (inr (inr why)))
+told_or_not (inr (inl b)) f aloud says keeps = inl b
+told_or_not (inr (inr c)) f aloud says keeps = inr (inr (inl c))
+
+-- nothing is told but by a server that goes on
+pub untold_or : {D S : Type 0} → (aloud : Bool) → (aloud ≡ true → S) → (aloud ≡ false → D) → D ⊎ S
+untold_or true says keeps = inr (says refl)
+untold_or false says keeps = inl (keeps refl)
+
+-- the same beside what is told, where the command is done
+pub untold_streams : {B C D S W : Type 0} → (aloud : Bool) → (aloud ≡ true → S) → (aloud ≡ false → D) → B ⊎ (D ⊎ (C ⊎ (S ⊎ W)))
+untold_streams true says keeps = inr (inr (inr (inl (says refl))))
+untold_streams false says keeps = inr (inl (keeps refl))

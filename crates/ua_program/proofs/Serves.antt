@@ -1,5 +1,5 @@
 -- The lines of `ua serve`, one connection after the other.
-use Rattle.std.proofs.Common.{◌≡◌, ◌<◌, ◌^◌, ◌⊎◌, inl, inr, ℕ, zero, suc, ◌+◌, Bool, true, List, [], ◌∷◌, ◌++◌, length, Option, Some, None, Result, Ok, Err, IsErrAnd, IfErr, ap, sym, subst, ◌∙◌, append_assoc, length-append, refl, arith}
+use Rattle.std.proofs.Common.{◌≡◌, ◌<◌, ◌^◌, ◌⊎◌, inl, inr, ℕ, zero, suc, ◌+◌, Bool, true, false, List, [], ◌∷◌, ◌++◌, length, Option, Some, None, Result, Ok, Err, IsErrAnd, IfErr, OnOk, ap, sym, subst, ◌∙◌, append_assoc, length-append, refl, arith}
 use Rattle.std.proofs.lemmas.List.{append-nil}
 use Rattle.std.proofs.KnownBytes.{Appends-nil, Appends-trans}
 use Rattle.std.specs.Io.KnownBytes.{Appends}
@@ -12,11 +12,13 @@ use Rattle.ua_server.specs.Happening.{Leads}
 use Rattle.ua_server.specs.declared.serve_fault.ServeFault.{ServeFault}
 use Rattle.ua_server.specs.declared.step.End.{End}
 use Rattle.ua_server.specs.declared.watch.AnsweredRequest.{AnsweredRequest}
+use Rattle.ua_program.specs.Reasons.{StopsWriting, is_starved}
 use Rattle.ua_program.specs.declared.output.Stop.{Stop}
+use Rattle.ua_program.specs.declared.output.Stop.TheVariants as stop
 use Rattle.ua_program.specs.declared.serve.Halt.{Halt}
 use Rattle.ua_program.specs.declared.serve.Halt.TheVariants.{Memory, Output}
 use Rattle.ua_program.specs.declared.serve.RequestLines.{RequestLines}
-use Rattle.ua_program.specs.Served.{Connection, HasServed, HasServedSome, HasTold, IsConnection, IsConnectionLine, Prints, PrintsNext, PrintsRequest, SaysOutcome, ServesOne, TellsOf, connection_line, connection_lines, connection_text, endpoint_on, listening_line, request_line, request_lines}
+use Rattle.ua_program.specs.Served.{Connection, HasServed, HasServedSome, HasTold, IsConnection, IsConnectionLine, Prints, PrintsNext, PrintsRequest, SaysOutcome, ServesOne, TellsOf, connection_line, connection_lines, connection_text, endpoint_on, listening_line, no_memory, request_line, request_lines}
 
 -- one more of which it holds
 all_then : {X : Type 0} (P : X → Type 0) (xs : List X) (x : X) → AllByRecursion P xs → P x → AllByRecursion P (xs ++ x ∷ [])
@@ -34,8 +36,8 @@ lines_then first number (d ∷ before) c is =
     ∙ sym (append_assoc (connection_text first d) (connection_lines (suc first) before) (connection_text number c))
 
 -- no connection yet
-pub none_served : (requests : Bool) (port : ℕ) (old new : Option (List ℕ)) → Appends old new (listening_line port) → HasServed requests port 0 old new
-none_served requests port old new added = record {
+pub none_served : (requests goes_on : Bool) (port : ℕ) (old new : Option (List ℕ)) → Appends old new (listening_line port) → HasServed requests goes_on port 0 old new
+none_served requests goes_on port old new added = record {
   served = [];
   each = tt;
   count = refl;
@@ -43,9 +45,9 @@ none_served requests port old new added = record {
 }
 
 -- one connection more
-pub one_served : (requests : Bool) (port number more count : ℕ) (old mid new : Option (List ℕ)) → HasServed requests port number old mid → ServesOne requests more mid new
-    → more ≡ number + 1 → count ≡ number + 1 → HasServed requests port count old new
-one_served requests port number more count old mid new all one next counts =
+pub one_served : (requests goes_on : Bool) (port number more count : ℕ) (old mid new : Option (List ℕ)) → HasServed requests goes_on port number old mid → ServesOne requests goes_on more mid new
+    → more ≡ number + 1 → count ≡ number + 1 → HasServed requests goes_on port count old new
+one_served requests goes_on port number more count old mid new all one next counts =
     let counted = all.count in
     let behind = lines_then 1 more all.served one.connection (omega (arith, counted, next)) in
     let lines = append_assoc (listening_line port) (connection_lines 1 all.served) (connection_text more one.connection)
@@ -53,7 +55,7 @@ one_served requests port number more count old mid new all one next counts =
     let long = length-append all.served (one.connection ∷ []) in
     record {
       served = all.served ++ one.connection ∷ [];
-      each = all_then (IsConnection requests) all.served one.connection all.each one.is;
+      each = all_then (IsConnection requests goes_on) all.served one.connection all.each one.is;
       count = omega (arith, counted, counts, long);
       added = subst (λ t. Appends old new t) lines (Appends-trans old mid new _ _ all.added one.added);
     }
@@ -68,10 +70,15 @@ pub at_any_stop : {T : Type 0} (P : Stop → Type 0) (r : Result T Stop) → ((s
 at_any_stop P (Ok x) all = tt
 at_any_stop P (Err e) all = all e
 
+-- what holds at any end that is none
+pub at_any_ok : {T E P : Type 0} (r : Result T E) → P → OnOk r P
+at_any_ok (Ok x) p = p
+at_any_ok (Err e) p = tt
+
 -- what a stop behind some connections leaves
-pub some_served : (requests : Bool) (port number more connections : ℕ) (old mid new : Option (List ℕ)) → HasServed requests port number old mid → number < connections
-    → HasTold requests more mid new → more ≡ number + 1 → HasServedSome requests port connections old new
-some_served requests port number more connections old mid new all fewer told next = record {
+pub some_served : (requests goes_on : Bool) (port number more connections : ℕ) (old mid new : Option (List ℕ)) → HasServed requests goes_on port number old mid → number < connections
+    → HasTold requests more mid new → more ≡ number + 1 → HasServedSome requests goes_on port connections old new
+some_served requests goes_on port number more connections old mid new all fewer told next = record {
   served = number;
   fewer = fewer;
   between = mid;
@@ -84,13 +91,37 @@ pub own_fits : (port : ℕ) → port < 2 ^ 16 → Fits (endpoint_on port)
 own_fits port small = record { url = local_url_fits port small; application_uri = server_uri_fits; name = name_fits }
 
 -- the line of a connection that was served, and added to a writer behind the lines of its requests
-pub one_said : (requests : Bool) (number : ℕ) (line shown : List ℕ) (old mid new : Option (List ℕ)) → HasTold requests number old mid → IsConnectionLine number line
-    → shown ≡ line → Appends mid new shown → ServesOne requests number old new
-one_said requests number line shown old mid new told is same added = record {
+pub one_said : (requests goes_on : Bool) (number : ℕ) (line shown : List ℕ) (old mid new : Option (List ℕ)) → HasTold requests number old mid → IsConnectionLine number line
+    → shown ≡ line → Appends mid new shown → ServesOne requests goes_on number old new
+one_said requests goes_on number line shown old mid new told is same added = record {
   connection = record { told = told.told; outcome = is.text };
-  is = record { is = is.is; wanted = told.wanted };
+  is = record { is = inl is.is; wanted = told.wanted };
   added = Appends-trans old mid new _ _ told.added (subst (λ w. Appends mid new w) (same ∙ is.line_is) added);
 }
+
+-- the line of a connection at which memory was refused, behind the lines of its requests
+pub memory_said : (requests goes_on : Bool) (number : ℕ) (old mid new : Option (List ℕ)) → HasTold requests number old mid → goes_on ≡ true → Appends mid new (connection_line number no_memory)
+    → ServesOne requests goes_on number old new
+memory_said requests goes_on number old mid new told on added = record {
+  connection = record { told = told.told; outcome = no_memory };
+  is = record { is = inr (on, refl); wanted = told.wanted };
+  added = Appends-trans old mid new _ _ told.added added;
+}
+
+-- what is left where memory was refused: the writer did not fail
+pub starved_left : {P : Type 0} (why : Stop) → is_starved why ≡ true → StopsWriting why ⊎ P → P
+starved_left (stop.Output error) is (inl output) = absurd cc
+starved_left (stop.Fault fault) is (inl output) = absurd output
+starved_left (stop.Because fault reason) is (inl output) = absurd output
+starved_left why is (inr left) = left
+
+-- what stops a connection, or the server, leaves what it left
+pub outlived_left : {O : Type 0} (contents : O → Option (List ℕ)) (requests : Bool) (number : ℕ) (old : Option (List ℕ)) (mid new : O) (first why : Stop)
+    → StopsWriting first ⊎ HasTold requests number old (contents mid) → StopsWriting why ⊎ ((why ≡ first) × (new ≡ mid)) → StopsWriting why ⊎ HasTold requests number old (contents new)
+outlived_left contents requests number old mid new first why left (inl output) = inl output
+outlived_left {O} contents requests number old mid new first why left (inr same) =
+    subst (λ (o : O). StopsWriting why ⊎ HasTold requests number old (contents o)) (sym same.1)
+    (subst (λ (w : Stop). StopsWriting w ⊎ HasTold requests number old (contents mid)) (sym same.0) left)
 
 -- the line of a connection that was served, and of one that ended so
 pub line_told : (number : ℕ) (Served : Limits → Result End ServeFault → Type 0) (line : List ℕ) → TellsOf number Served line → IsConnectionLine number line
@@ -117,12 +148,12 @@ told_first number r old mid new added rest = record {
 abbrev pub ComesTo : Option Halt → ℕ → Option (List ℕ) → Option (List ℕ) → Type 0
 ComesTo None number old new = HasTold true number old new
 ComesTo (Some Memory) number old new = HasTold true number old new
-ComesTo (Some Output) number old new = ⊤
+ComesTo (Some (Output e)) number old new = ⊤
 
 comes_first : (h : Option Halt) (number : ℕ) (r : AnsweredRequest) (old mid new : Option (List ℕ)) → Appends old mid (request_line number r) → ComesTo h number mid new → ComesTo h number old new
 comes_first None number r old mid new added rest = told_first number r old mid new added rest
 comes_first (Some Memory) number r old mid new added rest = told_first number r old mid new added rest
-comes_first (Some Output) number r old mid new added rest = tt
+comes_first (Some (Output e)) number r old mid new added rest = tt
 
 module _ {O : Type 0} (contents : O → Option (List ℕ)) where
   abbrev Goes : RequestLines O → List AnsweredRequest → RequestLines O → Type 0
@@ -150,8 +181,8 @@ module _ {O : Type 0} (contents : O → Option (List ℕ)) where
   comes_behind (Some Memory) r p mid q rs is number same led rest =
       let end = halted Memory mid q rs is led in
       subst (λ h. ComesTo h p.number (contents p.out.now) (contents q.out.now)) (sym end.0) (none_told true p.number _ _ (end.1 ∙ same))
-  comes_behind (Some Output) r p mid q rs is number any led rest =
-      let end = halted Output mid q rs is led in
+  comes_behind (Some (Output e)) r p mid q rs is number any led rest =
+      let end = halted (Output e) mid q rs is led in
       subst (λ h. ComesTo h p.number (contents p.out.now) (contents q.out.now)) (sym end.0) tt
 
   comes : (p q : RequestLines O) (rs : List AnsweredRequest) → p.halt ≡ None → Goes p rs q → ComesTo q.halt p.number (contents p.out.now) (contents q.out.now)

@@ -1,15 +1,18 @@
 -- What `ua dissect` prints of a file that is read in pieces, and what stops it.
-use Rattle.std.specs.Prelude.{◌≡◌, ◌⊎◌, ◌<◌, ◌≤◌, ℕ, Bool, true, false, List, [], ◌++◌, length, take, Option, Some, None}
+use Rattle.std.specs.Prelude.{◌≡◌, ◌⊎◌, ◌<◌, ◌≤◌, ℕ, Bool, true, false, cond, List, [], ◌++◌, length, take, Option, Some, None}
 use Rattle.std.specs.Borrow.{Bor}
 use Rattle.std.specs.Io.KnownBytes.{Appends, Consumes, IsAtEnd}
 use Rattle.ua_pair.specs.declared.dissector.Dissector.{Dissector}
 use Rattle.ua_pair.specs.declared.options.DissectOptions.{DissectOptions}
 use Rattle.ua_pair.specs.Dissected.{AreLines, AreTold}
-use Rattle.ua_pair.specs.Dissecting.{StandsBehind}
+use Rattle.ua_pair.specs.Dissecting.{StandsBehind, is_stopped}
+use Rattle.ua_frame.specs.Run.{End}
+use Rattle.ua_session.specs.declared.verdict.Verdict.{Verdict}
+use Rattle.ua_session.specs.declared.verdict.Verdict.TheVariants.{AllGood, SomeBad}
 use Rattle.ua_program.specs.Digits.{HoldsNever, HoldsNone, HoldsOctets, HoldsSoFar}
 use Rattle.ua_program.specs.declared.fault.Fault.TheVariants.{CannotRead, NoMemory, NotHexadecimal}
 use Rattle.ua_program.specs.declared.output.Stop.{Stop}
-use Rattle.ua_program.specs.declared.output.Stop.TheVariants.{Output}
+use Rattle.ua_program.specs.Reasons.{StopsWriting}
 use Rattle.ua_program.specs.declared.output.Stop.TheVariants as stop
 
 -- the text is the lines of the octets of this side that a file with this content holds, with `--hex` or without
@@ -18,11 +21,21 @@ pub record AreLinesOf (hex : Bool) (options : DissectOptions) (content text : Li
   pub holds : HoldsOctets hex content octets
   pub lines : AreLines options octets text
 
--- a writer that held the old octets then holds behind them the lines of a file with this content
-pub record HasDissectedAll (hex : Bool) (options : DissectOptions) (content : List ℕ) (old new : Option (List ℕ)) : Type 0 where
-  pub text : List ℕ
-  pub lines : AreLinesOf hex options content text
-  pub added : Appends old new text
+-- what is said of octets that end so: whether a frame among them is refused
+abbrev pub verdict_at : End ℕ → Verdict
+verdict_at end = cond (is_stopped end) SomeBad AllGood
+
+-- it is said whether a frame is refused among the octets that a file with this content holds
+pub record IsJudged (verdict : Verdict) (hex : Bool) (options : DissectOptions) (content : List ℕ) : Type 0 where
+  pub octets : List ℕ
+  pub holds : HoldsOctets hex content octets
+  pub told : List ℕ
+  pub are : AreTold options octets told
+  pub is : verdict ≡ verdict_at are.end
+
+-- nothing is left of a source, or whatever follows has no lines: a file whose content begins so has these lines
+abbrev pub IsWhole : Bool → DissectOptions → Option (List ℕ) → List ℕ → List ℕ → Type 0
+IsWhole hex options after content text = IsAtEnd after ⊎ ((more : List ℕ) → AreLinesOf hex options (content ++ more) text)
 
 -- content was read from the front of a source, and a writer that held the old octets then holds behind them the lines of the frames of what it holds so far, but for the last line
 pub record HasBegunDissecting (hex : Bool) (options : DissectOptions) (before old new : Option (List ℕ)) : Type 0 where
@@ -36,12 +49,16 @@ pub record HasBegunDissecting (hex : Bool) (options : DissectOptions) (before ol
   pub told : AreTold options octets text
   pub added : Appends old new text
 
--- a source is read to its end, and a writer that held the old octets then holds behind them the lines of all that was read
-pub record DissectsAll (hex : Bool) (options : DissectOptions) (before after old new : Option (List ℕ)) : Type 0 where
+-- a source is read to its end, or to a frame behind which nothing has lines; a writer that held the old octets then holds behind them the
+-- lines of all that was read, and it is said whether a frame is refused
+pub record DissectsAll (verdict : Verdict) (hex : Bool) (options : DissectOptions) (before after old new : Option (List ℕ)) : Type 0 where
   pub content : List ℕ
   pub consumed : Consumes before after content
-  pub at_end : IsAtEnd after
-  pub printed : HasDissectedAll hex options content old new
+  pub text : List ℕ
+  pub lines : AreLinesOf hex options content text
+  pub whole : IsWhole hex options after content text
+  pub judged : IsJudged verdict hex options content
+  pub added : Appends old new text
 
 -- a source of known octets holds no octets of messages: with `--hex`, its digits stand for none
 abbrev pub GivesNone : Bool → Option (List ℕ) → Type 0
@@ -50,7 +67,7 @@ GivesNone hex known = (content : List ℕ) → known ≡ Some content → HoldsN
 -- why no more is read: the writer fails, memory is refused, the file cannot be read, or it is not hexadecimal
 abbrev pub StopsReading : Bool → Bor (List ℕ) → Option (List ℕ) → Stop → Type 0
 StopsReading hex file known why =
-    (why ≡ Output) ⊎ (why ≡ stop.Fault NoMemory) ⊎ (why ≡ stop.Fault (CannotRead file)) ⊎ ((why ≡ stop.Fault (NotHexadecimal file)) × GivesNone hex known)
+    StopsWriting why ⊎ (why ≡ stop.Fault NoMemory) ⊎ (why ≡ stop.Fault (CannotRead file)) ⊎ ((why ≡ stop.Fault (NotHexadecimal file)) × GivesNone hex known)
 
 -- ---- a file whose content comes in pieces
 
@@ -87,18 +104,25 @@ pub record PrintsPiece (hex : Bool) (options : DissectOptions) (half : Option �
   pub added : Appends old new lines
   pub so_far : ToldSoFar hex options half d (content ++ piece) (told ++ lines)
 
--- nothing is left, and the last line was printed
-pub record PrintsLast (hex : Bool) (options : DissectOptions) (content told : List ℕ) (before after old new : Option (List ℕ)) : Type 0 where
-  pub consumed : Consumes before after []
-  pub at_end : IsAtEnd after
+-- a piece more was read, none at the end, and the lines of what is whole with it were printed, with the last line: nothing more has lines
+pub record PrintsLast (verdict : Verdict) (hex : Bool) (options : DissectOptions) (content told : List ℕ) (before after old new : Option (List ℕ)) : Type 0 where
+  pub piece : List ℕ
+  pub consumed : Consumes before after piece
   pub line : List ℕ
   pub added : Appends old new line
-  pub lines : AreLinesOf hex options content (told ++ line)
+  pub lines : AreLinesOf hex options (content ++ piece) (told ++ line)
+  pub whole : IsWhole hex options after (content ++ piece) (told ++ line)
+  pub judged : IsJudged verdict hex options (content ++ piece)
 
--- what one read more prints, at the end or not
-abbrev pub PrintsNext : Bool → Bool → DissectOptions → Option ℕ → Dissector → List ℕ → List ℕ → Option (List ℕ) → Option (List ℕ) → Option (List ℕ) → Option (List ℕ) → Type 0
-PrintsNext false hex options half d content told before after old new = PrintsPiece hex options half d content told before after old new
-PrintsNext true hex options half d content told before after old new = PrintsLast hex options content told before after old new
+-- what one read more prints, as the last one or not
+abbrev pub PrintsNext : Option Verdict → Bool → DissectOptions → Option ℕ → Dissector → List ℕ → List ℕ → Option (List ℕ) → Option (List ℕ) → Option (List ℕ) → Option (List ℕ) → Type 0
+PrintsNext None hex options half d content told before after old new = PrintsPiece hex options half d content told before after old new
+PrintsNext (Some verdict) hex options half d content told before after old new = PrintsLast verdict hex options content told before after old new
+
+-- why the last line is not printed
+abbrev pub StopsLast : Bool → Bor (List ℕ) → List ℕ → Stop → Type 0
+StopsLast hex file content why =
+    StopsWriting why ⊎ (why ≡ stop.Fault NoMemory) ⊎ ((why ≡ stop.Fault (NotHexadecimal file)) × HoldsNone hex content)
 
 -- behind this content, what is left to read stands for no octets
 abbrev pub LeavesNone : Bool → List ℕ → Option (List ℕ) → Type 0
@@ -107,4 +131,4 @@ LeavesNone hex content known = (rest : List ℕ) → known ≡ Some rest → Hol
 -- why one read more stops
 abbrev pub StopsNext : Bool → Bor (List ℕ) → List ℕ → Option (List ℕ) → Stop → Type 0
 StopsNext hex file content known why =
-    (why ≡ Output) ⊎ (why ≡ stop.Fault NoMemory) ⊎ (why ≡ stop.Fault (CannotRead file)) ⊎ ((why ≡ stop.Fault (NotHexadecimal file)) × LeavesNone hex content known)
+    StopsWriting why ⊎ (why ≡ stop.Fault NoMemory) ⊎ (why ≡ stop.Fault (CannotRead file)) ⊎ ((why ≡ stop.Fault (NotHexadecimal file)) × LeavesNone hex content known)

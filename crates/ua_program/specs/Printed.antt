@@ -3,7 +3,7 @@ use Rattle.std.specs.Prelude.{◌⊎◌, ℕ, Bool, List, Option, codes}
 use Rattle.std.specs.Io.KnownBytes.{Appends}
 use Rattle.ua_pair.specs.declared.options.DissectOptions.{DissectOptions}
 use Rattle.ua_pair.specs.Dissected.{AreLines}
-use Rattle.ua_session.specs.Printed.{AreAnswerLines, AreEndpointLines}
+use Rattle.ua_session.specs.Printed.{AreAnswerLines, AreEndpointLines, HasAdded}
 use Rattle.ua_texts.specs.declared.style.EndpointStyle.{EndpointStyle}
 use Rattle.ua_texts.specs.declared.style.LineStyle.{LineStyle}
 use Rattle.ua_program.specs.Dissects.{HasBegunDissecting}
@@ -22,17 +22,11 @@ pub record HasDissected (old new : Option (List ℕ)) : Type 0 where
   pub lines : AreSomeLines text
   pub added : Appends old new text
 
--- a writer that held the old octets then holds behind them a text of which this holds
-pub record HasAdded (Is : List ℕ → Type 0) (old new : Option (List ℕ)) : Type 0 where
-  pub text : List ℕ
-  pub is : Is text
-  pub added : Appends old new text
-
--- such a writer then holds behind them the lines of the answers of a server, in this style
+-- a writer that held the old octets then holds behind them the lines of the answers of a server, in this style
 abbrev pub HasAnswered : LineStyle → Option (List ℕ) → Option (List ℕ) → Type 0
 HasAnswered style old new = HasAdded (AreAnswerLines style) old new
 
--- such a writer then holds behind them the lines of the endpoints of a server, in this style
+-- the same with the lines of the endpoints of a server, in this style
 abbrev pub HasListed : EndpointStyle → Option (List ℕ) → Option (List ℕ) → Type 0
 HasListed style old new = HasAdded (AreEndpointLines style) old new
 
@@ -49,9 +43,10 @@ pub record HasListedSome (old new : Option (List ℕ)) : Type 0 where
 -- a writer that held the old octets then holds behind them the lines of `ua serve` on some port: of so many connections, or of fewer
 pub record HasBegunServing (old new : Option (List ℕ)) : Type 0 where
   pub requests : Bool
+  pub goes_on : Bool
   pub port : ℕ
   pub connections : ℕ
-  pub lines : HasServed requests port connections old new ⊎ HasServedSome requests port connections old new
+  pub lines : HasServed requests goes_on port connections old new ⊎ HasServedSome requests goes_on port connections old new
 
 -- a writer that held the old octets then holds behind them the lines of the frames of one side that the front of some source holds, without a last line
 pub record HasToldSome (old new : Option (List ℕ)) : Type 0 where

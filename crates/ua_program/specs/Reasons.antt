@@ -1,9 +1,11 @@
 -- Why a command stopped, whether more is known of it or not.
-use Rattle.std.specs.Prelude.{◌≡◌, ◌⊎◌, List, ℕ}
+use Rattle.std.specs.Prelude.{◌≡◌, ◌⊎◌, Bool, true, false, List, ℕ}
 use Rattle.std.specs.Borrow.{Bor}
+use Rattle.ua_session.specs.declared.fault.AskFault.{AskFault}
+use Rattle.ua_session.specs.declared.fault.AskFault.TheVariants.{Output}
 use Rattle.ua_program.specs.Refused.{RefusesNodes}
 use Rattle.ua_program.specs.declared.fault.Fault.{Fault}
-use Rattle.ua_program.specs.declared.fault.Fault.TheVariants.{CannotRead, NoMemory}
+use Rattle.ua_program.specs.declared.fault.Fault.TheVariants.{Asking, CannotListen, CannotRead, NoMemory}
 use Rattle.ua_program.specs.declared.output.Stop.{Stop}
 use Rattle.ua_program.specs.declared.output.Stop.TheVariants as stop
 
@@ -11,7 +13,35 @@ use Rattle.ua_program.specs.declared.output.Stop.TheVariants as stop
 abbrev pub StopsBy : (Fault → Type 0) → Stop → Type 0
 StopsBy Is (stop.Fault fault) = Is fault
 StopsBy Is (stop.Because fault reason) = Is fault
-StopsBy Is stop.Output = ⊥
+StopsBy Is (stop.Output error) = ⊥
+
+-- a command stopped since what it prints cannot be written
+abbrev pub StopsWriting : Stop → Type 0
+StopsWriting (stop.Output error) = Unit {0}
+StopsWriting other = ⊥
+
+-- a command stopped since memory was refused
+abbrev pub is_starved : Stop → Bool
+is_starved (stop.Fault NoMemory) = true
+is_starved (stop.Because NoMemory reason) = true
+is_starved other = false
+
+-- why serving a connection stops: what is printed cannot be written, or memory was refused
+abbrev pub StopsConnection : Stop → Type 0
+StopsConnection why = StopsWriting why ⊎ (is_starved why ≡ true)
+
+-- a listener gave no connection in 18446744073709551615 calls; any other fault of it has its reason with it
+abbrev pub NeverAccepts : Stop → Type 0
+NeverAccepts why = why ≡ stop.Fault CannotListen
+
+-- what ends a server that goes on, once it listens: what it prints cannot be written, or its listener gives no connection
+abbrev pub EndsServing : Stop → Type 0
+EndsServing why = StopsWriting why ⊎ NeverAccepts why
+
+-- why a command stops at a fault of a conversation: the writer failed in it, or the fault is told
+abbrev pub stop_of : AskFault → Stop
+stop_of (Output error) = stop.Output error
+stop_of other = stop.Fault (Asking other)
 
 -- a command stopped at this fault, or since memory was refused
 abbrev pub StopsAt : Fault → Stop → Type 0

@@ -1,9 +1,10 @@
 -- The lines of `ua serve`, and what it answers from.
-use Rattle.std.specs.Prelude.{◌≡◌, ◌<◌, ◌+◌, ℕ, suc, Bool, false, ⊤, List, [], ◌∷◌, ◌++◌, length, flat_map, Option, Some, None, Result, Ok, Err, codes}
+use Rattle.std.specs.Prelude.{◌≡◌, ◌<◌, ◌+◌, ◌⊎◌, ℕ, ℤ, pos, suc, Bool, true, false, ◌||◌, ⊤, List, [], ◌∷◌, ◌++◌, length, flat_map, Option, Some, None, Result, Ok, Err, codes}
 use Rattle.std.specs.Fmt.{decimal}
 use Rattle.std.specs.Io.KnownBytes.{Appends}
 use Rattle.std.specs.List.{AllByRecursion}
-use Rattle.ua_frame.specs.Limits.{HasSizes}
+use Rattle.std.specs.Ordering.{int_eq}
+use Rattle.ua_exchange.specs.Programs.{AreOurs, message_size}
 use Rattle.ua_frame.specs.declared.limits.Limits.{Limits}
 use Rattle.ua_nodes.specs.NodeFile.{WriteNodes, node_lines}
 use Rattle.ua_nodes.specs.Table.{Nodes}
@@ -24,17 +25,9 @@ use Rattle.ua_program.specs.declared.serve.RequestLines.{RequestLines}
 
 -- ---- what is served
 
--- the most octets of a message
-abbrev pub message_limit : ℕ
-message_limit = 1048576
-
--- the limits of the program: frames of 65535 octets each way, and messages of 256 chunks
-abbrev pub AreOwn : Limits → Type 0
-AreOwn limits = HasSizes limits 65535 65535 message_limit 256
-
 -- what the program says of itself on a port of this machine
 abbrev pub endpoint_on : ℕ → Endpoint
-endpoint_on port = record { url = Some (local_url port); application_uri = Some (codes "urn:ua:server"); name = Some (codes "ua"); message_limit = message_limit }
+endpoint_on port = record { url = Some (local_url port); application_uri = Some (codes "urn:ua:server"); name = Some (codes "ua"); message_limit = message_size }
 
 -- no session was made yet, over the nodes that the lines of this text write
 pub record BeginsWith (text : List ℕ) (port : ℕ) (services : State) : Type 0 where
@@ -68,7 +61,7 @@ connection_line number outcome = codes "connection " ++ decimal number ++ codes 
 -- the line of a connection that was served with this outcome, under the limits of the program
 pub record TellsOf (number : ℕ) (Served : Limits → Result End ServeFault → Type 0) (line : List ℕ) : Type 0 where
   pub limits : Limits
-  pub own : AreOwn limits
+  pub own : AreOurs limits
   pub outcome : Result End ServeFault
   pub served : Served limits outcome
   pub text : List ℕ
@@ -85,6 +78,14 @@ pub record SaysOutcome (number : ℕ) (outcome : Result End ServeFault) (line : 
 pub record IsOutcome (text : List ℕ) : Type 0 where
   pub outcome : Result End ServeFault
   pub text_is : outcome_text outcome ≡ Some text
+
+-- what is said of a connection at which memory was refused, where the next one is served
+abbrev pub no_memory : List ℕ
+no_memory = codes "NoMemory"
+
+-- the text is what is said of a connection: what became of it, or that memory was refused at it, where the server goes on
+abbrev pub IsSaid : Bool → List ℕ → Type 0
+IsSaid goes_on text = IsOutcome text ⊎ ((goes_on ≡ true) × (text ≡ no_memory))
 
 -- the line of a connection, whatever became of it
 pub record IsConnectionLine (number : ℕ) (line : List ℕ) : Type 0 where
@@ -111,7 +112,7 @@ request_lines number requests = flat_map (request_line number) requests
 abbrev pub Prints : Option Halt → List ℕ → Option (List ℕ) → Option (List ℕ) → Type 0
 Prints None line old new = Appends old new line
 Prints (Some Memory) line old new = new ≡ old
-Prints (Some Output) line old new = ⊤
+Prints (Some (Output error)) line old new = ⊤
 
 -- the same, unless a line before it could not be printed: then no line more is
 abbrev pub PrintsNext : Option Halt → Option Halt → List ℕ → Option (List ℕ) → Option (List ℕ) → Type 0
@@ -130,6 +131,16 @@ pub record HasTold (requests : Bool) (number : ℕ) (old new : Option (List ℕ)
   pub wanted : requests ≡ false → told ≡ []
   pub added : Appends old new (request_lines number told)
 
+-- ---- a listener that fails
+
+-- an error of `accept` is one of the connection that would have been next, by its number in Linux (accept(2)): EPERM, EINTR, ENONET, EPROTO, ENOPROTOOPT,
+-- EOPNOTSUPP, ENETUNREACH, ECONNABORTED, EHOSTDOWN and EHOSTUNREACH; one without a number is none
+abbrev pub is_of_connection : Option ℤ → Bool
+is_of_connection None = false
+is_of_connection (Some code) =
+    int_eq code (pos 1) || (int_eq code (pos 4) || (int_eq code (pos 64) || (int_eq code (pos 71) || (int_eq code (pos 92)
+    || (int_eq code (pos 95) || (int_eq code (pos 101) || (int_eq code (pos 103) || (int_eq code (pos 112) || int_eq code (pos 113)))))))))
+
 -- ---- all lines
 
 -- what is said of a connection: which requests were answered, and what became of it
@@ -138,8 +149,8 @@ pub record Connection : Type 0 where
   pub outcome : List ℕ
 
 -- it is said what became of it, and of requests only where they are wanted
-pub record IsConnection (requests : Bool) (c : Connection) : Type 0 where
-  pub is : IsOutcome c.outcome
+pub record IsConnection (requests goes_on : Bool) (c : Connection) : Type 0 where
+  pub is : IsSaid goes_on c.outcome
   pub wanted : requests ≡ false → c.told ≡ []
 
 -- the lines of a connection: those of its requests, and its own behind them
@@ -156,22 +167,22 @@ unfoldable pub listening_line : ℕ → List ℕ
 listening_line port = codes "listening " ++ decimal port ++ codes "\n"
 
 -- a writer that held the old octets then holds the lines of so many connections on a port behind them
-pub record HasServed (requests : Bool) (port connections : ℕ) (old new : Option (List ℕ)) : Type 0 where
+pub record HasServed (requests goes_on : Bool) (port connections : ℕ) (old new : Option (List ℕ)) : Type 0 where
   pub served : List Connection
-  pub each : AllByRecursion (IsConnection requests) served
+  pub each : AllByRecursion (IsConnection requests goes_on) served
   pub count : length served ≡ connections
   pub added : Appends old new (listening_line port ++ connection_lines 1 served)
 
 -- the same of some connections, fewer than this, and behind them the lines of requests of the next one
-pub record HasServedSome (requests : Bool) (port connections : ℕ) (old new : Option (List ℕ)) : Type 0 where
+pub record HasServedSome (requests goes_on : Bool) (port connections : ℕ) (old new : Option (List ℕ)) : Type 0 where
   pub served : ℕ
   pub fewer : served < connections
   pub between : Option (List ℕ)
-  pub lines : HasServed requests port served old between
+  pub lines : HasServed requests goes_on port served old between
   pub next : HasTold requests (served + 1) between new
 
 -- one connection more was served on a port: its lines are added
-pub record ServesOne (requests : Bool) (number : ℕ) (old new : Option (List ℕ)) : Type 0 where
+pub record ServesOne (requests goes_on : Bool) (number : ℕ) (old new : Option (List ℕ)) : Type 0 where
   pub connection : Connection
-  pub is : IsConnection requests connection
+  pub is : IsConnection requests goes_on connection
   pub added : Appends old new (connection_text number connection)

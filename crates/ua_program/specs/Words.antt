@@ -1,5 +1,5 @@
 -- What the words of the command line ask for.
-use Rattle.std.specs.Prelude.{◌≡◌, ◌≤◌, ℕ, ⊤, true, cond, List, Some, codes}
+use Rattle.std.specs.Prelude.{◌≡◌, ◌⊎◌, ◌≤◌, Any, ℕ, ⊤, true, cond, List, Some, codes}
 use Rattle.std.specs.Str.{bytes_eq}
 use Rattle.ua_session.specs.declared.policy.TokenPolicy.{TokenPolicy}
 use Rattle.ua_session.specs.declared.policy.TokenPolicy.TheVariants.{Named, Auto}
@@ -20,8 +20,17 @@ CountsFromOne (Write asked) = 1 ≤ asked.port
 CountsFromOne (Loop asked) = 1 ≤ asked.cut
 CountsFromOne Version = ⊤
 
--- a bad status code has a status of its own
+-- a word asks for all connections, in one of the two ways in which `--connections all` is written
+abbrev pub SaysAll : {S : Type 0} → (S → List ℕ) → List S → Type 0
+SaysAll text words = Any (λ word. text word ≡ codes "all") words ⊎ Any (λ word. text word ≡ codes "--connections=all") words
+
+-- a word asks for reasons
+abbrev pub SaysWhy : {S : Type 0} → (S → List ℕ) → List S → Type 0
+SaysWhy text words = Any (λ word. text word ≡ codes "--why") words
+
+-- a bad status code, or a frame that is refused, has a status of its own
 abbrev pub IsStrict : Task → Type 0
+IsStrict (Dissect asked) = asked.strict ≡ true
 IsStrict (Read asked) = asked.strict ≡ true
 IsStrict (Write asked) = asked.strict ≡ true
 IsStrict (Loop asked) = asked.strict ≡ true

@@ -69,6 +69,8 @@ pub struct Dissect<'a> {
     pub hex: bool,
     /// Which side sent the octets, and what is wanted of them.
     pub options: DissectOptions,
+    /// Whether a frame that is refused has a status of its own.
+    pub strict: bool,
 }
 
 /// As many connections as have numbers of their own: a channel's id is its connection's number.
@@ -83,6 +85,8 @@ pub struct Serve<'a> {
     pub port: u16,
     /// How many connections are served; [`ALL_CONNECTIONS`] where no end is set.
     pub connections: u32,
+    /// Whether neither want of memory at a connection nor a failure of the listener ends the server.
+    pub goes_on: bool,
     /// Whether each request has its line as it is answered.
     pub requests: bool,
 }
@@ -190,11 +194,16 @@ fn style_of(matches: &ArgMatches<'_>) -> LineStyle {
     }
 }
 
+/// Whether all connections are to be served.
+fn serves_all(matches: &ArgMatches<'_>) -> bool {
+    text_of(matches, "connections") == "all"
+}
+
 /// How many connections are to be served: a number from 1 to 65535, or `all`.
 fn connections_of<'a>(matches: &ArgMatches<'a>) -> Result<u32, BadNumber<'a>>
     ensures { IfOk result (λ connections. 1 ≤ connections) }
 {
-    if text_of(matches, "connections") == "all" {
+    if serves_all(matches) {
         return Ok(ALL_CONNECTIONS);
     }
     Ok(u32::from(number_of(matches, "connections")?))
@@ -223,6 +232,7 @@ fn dissect_of<'a>(matches: &ArgMatches<'a>) -> Task<'a>
         file: text_of(matches, "FILE"),
         hex: matches.get_flag("hex"),
         options,
+        strict: matches.get_flag("strict"),
     })
 }
 
@@ -235,6 +245,7 @@ fn serve_of<'a>(matches: &ArgMatches<'a>) -> Result<Task<'a>, BadNumber<'a>>
         nodes: text_of(matches, "NODES"),
         port,
         connections,
+        goes_on: serves_all(matches),
         requests: matches.get_flag("requests"),
     }))
 }

@@ -5,17 +5,17 @@ ghost use Rattle.ua_session.specs.Words.{GivesRead, GivesWrite};
 ghost use Rattle.ua_session.specs.declared.verdict.Verdict.TheVariants.{AllGood, SomeBad};
 ghost use Rattle.ua_program.specs.Printed.{HasAnswered, HasListed};
 ghost use Rattle.ua_program.specs.Words.{policy_named};
-ghost use Rattle.ua_program.specs.declared.output.Stop.TheVariants.{Output};
+ghost use Rattle.ua_program.specs.Reasons.{StopsWriting};
 
 use crate::arguments::{ListEndpoints, ReadNodes, WriteNode};
-use crate::output::{Stop, say_lines};
+use crate::output::Stop;
 use crate::reason::cannot_connect;
-use crate::serve::limits;
 use std::alloc::{AllocError, Global};
 use std::io::Write;
 use std::net::{Ipv4Addr, Net, TcpStream};
 use std::time::Clock;
 use ua_builtin::UaString;
+use ua_exchange::limits;
 use ua_session::{Question, TokenPolicy, Verdict, WordFault, ask_over, endpoints_over};
 use ua_tcp::{ClockMoments, TcpLine, without_delay};
 use ua_texts::LineStyle;
@@ -35,11 +35,10 @@ pub fn endpoints<'a, R: Net + Clock + AllocGlobal, O: Write>(
     out: &mut O,
 ) -> Result<(), Stop<'a>>
     ensures answered { OnOk result (HasListed asked.now.style (O.contents out.old) (O.contents out.new)) }
-    ensures stopped { IfErr result (λ stop. (stop ≡ Output) ⊎ (out.new ≡ out.old) ⊎ HasListed asked.now.style (O.contents out.old) (O.contents out.new)) }
+    ensures stopped { IfErr result (λ stop. StopsWriting stop ⊎ (out.new ≡ out.old) ⊎ HasListed asked.now.style (O.contents out.old) (O.contents out.new)) }
 {
     let mut line = connect(rt, asked.port)?;
     let mut moments = ClockMoments::new(rt);
-    let mut text = String::new(rt.alloc());
     let ended = endpoints_over(
         rt.alloc(),
         &mut line,
@@ -47,10 +46,9 @@ pub fn endpoints<'a, R: Net + Clock + AllocGlobal, O: Write>(
         asked.port,
         asked.style,
         &mut moments,
-        &mut text,
+        out,
     );
     drop(line);
-    say_lines(out, &text)?;
     Ok(ended?)
 }
 
@@ -86,12 +84,11 @@ fn ask<'a, R: Net + Clock + AllocGlobal, O: Write>(
     out: &mut O,
 ) -> Result<Verdict, Stop<'a>>
     ensures answered { OnOk result (HasAnswered how.now.style (O.contents out.old) (O.contents out.new)) }
-    ensures stopped { IfErr result (λ stop. (stop ≡ Output) ⊎ (out.new ≡ out.old) ⊎ HasAnswered how.now.style (O.contents out.old) (O.contents out.new)) }
+    ensures stopped { IfErr result (λ stop. StopsWriting stop ⊎ (out.new ≡ out.old) ⊎ HasAnswered how.now.style (O.contents out.old) (O.contents out.new)) }
 {
     let policy = policy_of(rt.alloc(), how.policy)?;
     let mut line = connect(rt, how.port)?;
     let mut moments = ClockMoments::new(rt);
-    let mut text = String::new(rt.alloc());
     let ended = ask_over(
         rt.alloc(),
         &mut line,
@@ -101,16 +98,15 @@ fn ask<'a, R: Net + Clock + AllocGlobal, O: Write>(
         &policy,
         how.style,
         &mut moments,
-        &mut text,
+        out,
     );
     drop(line);
     drop(policy);
-    say_lines(out, &text)?;
     Ok(ended?)
 }
 
-/// What counts of the codes of answers: bad ones only where `--strict` asks for them.
-fn counted(verdict: Verdict, strict: bool) -> Verdict
+/// What counts of codes that are bad: they do only where `--strict` asks for it.
+pub fn counted(verdict: Verdict, strict: bool) -> Verdict
     ensures strict { result ≡ SomeBad → strict ≡ true }
     ensures same { strict ≡ true → result ≡ verdict }
     ensures lax { strict ≡ false → result ≡ AllGood }
@@ -141,7 +137,7 @@ fn ask_counted<'a, R: Net + Clock + AllocGlobal, O: Write>(
 ) -> Result<Verdict, Stop<'a>>
     ensures answered { OnOk result (HasAnswered how.now.style (O.contents out.old) (O.contents out.new)) }
     ensures strict { IfOk result (λ verdict. verdict ≡ SomeBad → how.now.strict ≡ true) }
-    ensures stopped { IfErr result (λ stop. (stop ≡ Output) ⊎ (out.new ≡ out.old) ⊎ HasAnswered how.now.style (O.contents out.old) (O.contents out.new)) }
+    ensures stopped { IfErr result (λ stop. StopsWriting stop ⊎ (out.new ≡ out.old) ⊎ HasAnswered how.now.style (O.contents out.old) (O.contents out.new)) }
 {
     let question = question?;
     match ask(rt, &question, how, out) {
@@ -158,7 +154,7 @@ pub fn read<'a, R: Net + Clock + AllocGlobal, O: Write>(
 ) -> Result<Verdict, Stop<'a>>
     ensures answered { OnOk result (HasAnswered asked.now.style (O.contents out.old) (O.contents out.new)) }
     ensures strict { IfOk result (λ verdict. verdict ≡ SomeBad → asked.now.strict ≡ true) }
-    ensures stopped { IfErr result (λ stop. (stop ≡ Output) ⊎ (out.new ≡ out.old) ⊎ HasAnswered asked.now.style (O.contents out.old) (O.contents out.new)) }
+    ensures stopped { IfErr result (λ stop. StopsWriting stop ⊎ (out.new ≡ out.old) ⊎ HasAnswered asked.now.style (O.contents out.old) (O.contents out.new)) }
 {
     let how = Asking {
         port: asked.port,
@@ -177,7 +173,7 @@ pub fn write<'a, R: Net + Clock + AllocGlobal, O: Write>(
 ) -> Result<Verdict, Stop<'a>>
     ensures answered { OnOk result (HasAnswered asked.now.style (O.contents out.old) (O.contents out.new)) }
     ensures strict { IfOk result (λ verdict. verdict ≡ SomeBad → asked.now.strict ≡ true) }
-    ensures stopped { IfErr result (λ stop. (stop ≡ Output) ⊎ (out.new ≡ out.old) ⊎ HasAnswered asked.now.style (O.contents out.old) (O.contents out.new)) }
+    ensures stopped { IfErr result (λ stop. StopsWriting stop ⊎ (out.new ≡ out.old) ⊎ HasAnswered asked.now.style (O.contents out.old) (O.contents out.new)) }
 {
     let how = Asking {
         port: asked.port,

@@ -71,7 +71,7 @@ const POLICY: Word = Word {
 const STRICT: Word = Word {
     name: "strict",
     kind: Kind::Flag,
-    help: "the status is 3 where a status code that is printed is bad",
+    help: "the status is 3 where a status code of an answer is bad",
 };
 
 const WHY: Word = Word {
@@ -105,6 +105,11 @@ const DISSECT: &[Word] = &[
         name: "names",
         kind: Kind::Flag,
         help: "each status code has its standard name behind it",
+    },
+    Word {
+        name: "strict",
+        kind: Kind::Flag,
+        help: "the status is 3 where a frame is refused",
     },
     WHY,
 ];

@@ -1,10 +1,14 @@
 //! The lines of what a source gives.
 
-ghost use Rattle.std.specs.Prelude.{◌≡◌, ◌++◌, ◌⊎◌, ◌<◌, [], ℕ, List, length, true, string_bytes, IfOk, IfErr, OnOk};
-ghost use Rattle.ua_program.specs.Digits.{HoldsNone, HoldsNever, HoldsSoFar};
-ghost use Rattle.ua_program.specs.Dissects.{DissectsAll, EndsFile, HasBegunDissecting, PrintsNext, Reads, StopsNext, StopsReading, TellsPiece, ToldSoFar};
+ghost use Rattle.std.specs.Prelude.{◌≡◌, ◌++◌, ◌⊎◌, ◌<◌, [], ℕ, List, length, true, false, cond, string_bytes, IfOk, IfErr, OnOk};
+ghost use Rattle.std.specs.Io.KnownBytes.{Appends};
+ghost use Rattle.ua_pair.specs.Dissecting.{StandsBehind};
+ghost use Rattle.ua_pair.specs.declared.options.DissectOptions.{DissectOptions};
+ghost use Rattle.ua_session.specs.declared.verdict.Verdict.TheVariants.{AllGood, SomeBad};
+ghost use Rattle.ua_program.specs.Digits.{HoldsNone, HoldsNever, HoldsOctets, HoldsSoFar};
+ghost use Rattle.ua_program.specs.Dissects.{DissectsAll, EndsFile, HasBegunDissecting, IsJudged, PrintsNext, Reads, StopsLast, StopsNext, StopsReading, TellsPiece, ToldSoFar};
 ghost use Rattle.ua_program.specs.declared.fault.Fault.TheVariants.{CannotRead, NoMemory, NotHexadecimal};
-ghost use Rattle.ua_program.specs.declared.output.Stop.TheVariants.{Output};
+ghost use Rattle.ua_program.specs.Reasons.{StopsWriting};
 ghost use Rattle.ua_program.specs.declared.output.Stop.TheVariants as stop;
 
 use crate::arguments::Dissect;
@@ -14,6 +18,7 @@ use crate::output::{Stop, say, say_lines};
 use std::alloc::Global;
 use std::io::{ErrorKind, Read, Write};
 use ua_pair::Dissector;
+use ua_session::Verdict;
 
 /// The most octets that are read at once.
 const PIECE: usize = 65536;
@@ -52,6 +57,8 @@ fn push_last<'a>(
         → OnOk result (EndsFile asked.now.hex asked.now.options content told (string_bytes text.old) (string_bytes text.new)) }
     ensures faults { (content told : List ℕ) → ToldSoFar asked.now.hex asked.now.options digits.now.half dissector.now content told
         → IfErr result (λ fault. (fault ≡ NoMemory) ⊎ ((fault ≡ NotHexadecimal asked.now.file) × HoldsNone asked.now.hex content)) }
+    ensures whole { (content told : List ℕ) → (s : ToldSoFar asked.now.hex asked.now.options digits.now.half dissector.now content told)
+        → OnOk result (HoldsOctets asked.now.hex content s.octets) }
 {
     if asked.hex && !digits.is_whole() {
         return Err(Fault::NotHexadecimal(asked.file));
@@ -79,8 +86,48 @@ fn read_piece<'a, I: Read>(
     }
 }
 
-/// Reads once more, and prints the lines of what is whole by then; at the end, the last line. Whether
-/// that was the end.
+/// Prints a text and behind it the last line of a file whose content is there, or of one in which a frame
+/// is refused. Says whether one is.
+fn print_last<'a, O: Write>(
+    asked: &Dissect<'a>,
+    digits: &HexPieces,
+    dissector: &Dissector,
+    text: &mut String,
+    out: &mut O,
+) -> Result<Verdict, Stop<'a>>
+    ensures prints { (content told : List ℕ) → ToldSoFar asked.now.hex asked.now.options digits.now.half dissector.now content told
+        → IfOk result (λ verdict. EndsFile asked.now.hex asked.now.options content told (string_bytes text.old) (string_bytes text.new) × IsJudged verdict asked.now.hex asked.now.options content) }
+    ensures added { OnOk result (Appends (O.contents out.old) (O.contents out.new) (string_bytes text.new)) }
+    ensures kept { IfErr result (λ stop. StopsWriting stop ⊎ (out.new ≡ out.old)) }
+    ensures stopped { (content told : List ℕ) → ToldSoFar asked.now.hex asked.now.options digits.now.half dissector.now content told
+        → IfErr result (λ stop. StopsLast asked.now.hex asked.now.file content stop) }
+{
+    push_last(asked, digits, dissector, text)?;
+    say(out, text)?;
+    Ok(verdict_of(dissector.has_refused()))
+}
+
+/// What is said of octets: whether a frame among them is refused.
+fn verdict_of(has_refused: bool) -> Verdict
+    ensures { result ≡ cond has_refused SomeBad AllGood }
+{
+    if has_refused {
+        Verdict::SomeBad
+    } else {
+        Verdict::AllGood
+    }
+}
+
+/// Whether a frame is refused in a file of octets as they are: whatever follows has no lines.
+fn is_told(asked: &Dissect<'_>, dissector: &Dissector) -> bool
+    ensures plain { result ≡ true → asked.now.hex ≡ false }
+    ensures stays { (options : DissectOptions) (octets told more : List ℕ) → result ≡ true → StandsBehind dissector.now options octets told → StandsBehind dissector.now options (octets ++ more) told }
+{
+    !asked.hex && dissector.has_refused()
+}
+
+/// Reads once more, and prints the lines of what is whole by then; at the end, or at a frame that is
+/// refused, the last line, and whether one is. Digits are read to their end.
 fn print_next<'a, I: Read, O: Write>(
     alloc: Global,
     asked: &Dissect<'a>,
@@ -90,39 +137,42 @@ fn print_next<'a, I: Read, O: Write>(
     piece: &mut [u8],
     text: &mut String,
     out: &mut O,
-) -> Result<bool, Stop<'a>>
+) -> Result<Option<Verdict>, Stop<'a>>
     requires room { 0 < length piece.old }
     ensures prints { (content told : List ℕ) → ToldSoFar asked.now.hex asked.now.options digits.old.half dissector.old content told
         → IfOk result (λ ended. PrintsNext ended asked.now.hex asked.now.options digits.new.half dissector.new content told (I.remaining source.old) (I.remaining source.new) (O.contents out.old) (O.contents out.new)) }
-    ensures kept { IfErr result (λ stop. (stop ≡ Output) ⊎ (out.new ≡ out.old)) }
+    ensures kept { IfErr result (λ stop. StopsWriting stop ⊎ (out.new ≡ out.old)) }
     ensures stopped { (content told : List ℕ) → ToldSoFar asked.now.hex asked.now.options digits.old.half dissector.old content told
         → IfErr result (λ stop. StopsNext asked.now.hex asked.now.file content (I.remaining source.old) stop) }
 {
     text.clear();
     let Some(n) = read_piece(asked.file, source, piece)? else {
-        return Ok(false);
+        return Ok(None);
     };
     if n == 0 {
-        push_last(asked, digits, dissector, text)?;
-        say(out, text)?;
-        return Ok(true);
+        return Ok(Some(print_last(asked, digits, dissector, text, out)?));
     }
     push_piece(alloc, asked, digits, dissector, &piece[..n], text)?;
+    let done = is_told(asked, dissector);
+    if done {
+        return Ok(Some(print_last(asked, digits, dissector, text, out)?));
+    }
     say_lines(out, text)?;
-    Ok(false)
+    Ok(None)
 }
 
-/// Prints the lines of all that a source gives, each as soon as what it tells is whole. What stops it
-/// is told behind the lines of what was read before. A source that gives no end within
-/// 18446744073709551615 reads cannot be read.
+/// Prints the lines of all that a source gives, each as soon as what it tells is whole, and says whether a
+/// frame is refused. Behind such a frame it reads no further, but for the digits of a file, which are
+/// all judged. What stops it is told behind the lines of what was read before. A source that gives no
+/// end within 18446744073709551615 reads cannot be read.
 pub fn dissect_source<'a, I: Read, O: Write>(
     alloc: Global,
     asked: &Dissect<'a>,
     source: &mut I,
     out: &mut O,
-) -> Result<(), Stop<'a>>
-    ensures lines { OnOk result (DissectsAll asked.now.hex asked.now.options (I.remaining source.old) (I.remaining source.new) (O.contents out.old) (O.contents out.new)) }
-    ensures begun { IfErr result (λ stop. (stop ≡ Output) ⊎ HasBegunDissecting asked.now.hex asked.now.options (I.remaining source.old) (O.contents out.old) (O.contents out.new)) }
+) -> Result<Verdict, Stop<'a>>
+    ensures lines { IfOk result (λ verdict. DissectsAll verdict asked.now.hex asked.now.options (I.remaining source.old) (I.remaining source.new) (O.contents out.old) (O.contents out.new)) }
+    ensures begun { IfErr result (λ stop. StopsWriting stop ⊎ HasBegunDissecting asked.now.hex asked.now.options (I.remaining source.old) (O.contents out.old) (O.contents out.new)) }
     ensures stopped { IfErr result (λ stop. StopsReading asked.now.hex asked.now.file (I.remaining source.old) stop) }
 {
     let mut digits = HexPieces::new();
@@ -130,7 +180,7 @@ pub fn dissect_source<'a, I: Read, O: Write>(
     let mut text = String::new(alloc);
     let mut piece = [0u8; PIECE];
     for _reads in 0..u64::MAX {
-        let has_ended = print_next(
+        let ended = print_next(
             alloc,
             asked,
             source,
@@ -140,8 +190,8 @@ pub fn dissect_source<'a, I: Read, O: Write>(
             &mut text,
             out,
         )?;
-        if has_ended {
-            return Ok(());
+        if let Some(verdict) = ended {
+            return Ok(verdict);
         }
     }
     Err(Stop::Fault(Fault::CannotRead(asked.file)))

@@ -6,7 +6,7 @@ use ua_nodes::LineReason;
 use ua_session::{AskFault, LoopFault, WordFault};
 
 /// Why a command stopped; its text stands behind `ua: ` on standard error.
-#[derive(Clone, Copy, PartialEq, Eq, Debug, Error)]
+#[derive(Clone, Copy, Debug, Error)]
 pub enum Fault<'a> {
     /// This file cannot be read, or is not UTF-8 where it has to be.
     #[error("cannot read {0}")]
@@ -23,6 +23,9 @@ pub enum Fault<'a> {
     /// A port takes no connection.
     #[error("cannot connect")]
     CannotConnect,
+    /// What is printed cannot be written.
+    #[error("cannot write")]
+    CannotWrite,
     /// Words ask for nothing, and why.
     #[error("{0}")]
     Words(WordFault),

@@ -24,11 +24,13 @@ mod output;
 mod program;
 mod reason;
 mod serve;
+mod tell;
 mod version;
 mod watched;
 
 pub use arguments::{
-    BadNumber, Dissect, ListEndpoints, Loop, Parsed, ReadNodes, Serve, Task, WriteNode, parse,
+    ALL_CONNECTIONS, BadNumber, Dissect, ListEndpoints, Loop, Parsed, ReadNodes, Serve, Task,
+    WriteNode, parse,
 };
 pub use ask::{policy_of, read_question, write_question};
 pub use fault::Fault;
@@ -37,4 +39,6 @@ pub use looping::{carry_over, run_script};
 pub use output::Stop;
 pub use program::{refuse_words, run};
 pub use reason::Reason;
-pub use serve::{limits, push_outcome, serve_all, serve_line, services};
+pub use serve::{push_outcome, say_no_memory, serve_all, serve_line, services};
+pub use tell::Telling;
+pub use ua_exchange::limits;

@@ -2,7 +2,7 @@
 
 ghost use Rattle.std.specs.Prelude.{◌≡◌, ◌⊎◌, [], true, false, None, Ok, IfOk, OnOk, IfErr};
 ghost use Rattle.ua_program.specs.Looped.{HasLooped, HasLoopedUntil, RefusesScript, RunsScript};
-ghost use Rattle.ua_program.specs.declared.output.Stop.TheVariants.{Output};
+ghost use Rattle.ua_program.specs.Reasons.{StopsWriting};
 ghost use Rattle.ua_session.specs.declared.verdict.Verdict.TheVariants.{SomeBad};
 ghost use Rattle.ua_nodes.specs.Sound.{IsSound};
 ghost use Rattle.ua_server.specs.declared.step.End.TheVariants.{Closed};
@@ -13,13 +13,14 @@ use crate::input::{load_nodes, read_text};
 use crate::loop_line::LoopLine;
 use crate::output::{Stop, say_lines};
 use crate::reason::{blame_step, cannot_connect, cannot_listen};
-use crate::serve::{limits, services};
+use crate::serve::services;
 use std::alloc::{AllocError, Global};
 use std::io::{Read, Write};
 use std::net::{Ipv4Addr, Net, OpenListener, TcpListener, TcpStream};
 use std::rt::Files;
 use ua_channel::ListMoments;
 use ua_client::ClientFault;
+use ua_exchange::limits;
 use ua_nodes::NodeTable;
 use ua_server::{End, ServeFault, serve};
 use ua_session::{AskFault, LoopFault, Looped, Verdict, parse_lines, run_lines};
@@ -161,7 +162,7 @@ pub fn run_files<'a, R: Files + Net + AllocGlobal, O: Write>(
 ) -> Result<Verdict, Stop<'a>>
     ensures strict { IfOk result (λ verdict. verdict ≡ SomeBad → asked.now.strict ≡ true) }
     ensures looped { OnOk result (HasLooped asked.now.names None (O.contents out.old) (O.contents out.new)) }
-    ensures stopped { IfErr result (λ stop. (stop ≡ Output) ⊎ (out.new ≡ out.old) ⊎ HasLoopedUntil asked.now.names stop (O.contents out.old) (O.contents out.new)) }
+    ensures stopped { IfErr result (λ stop. StopsWriting stop ⊎ (out.new ≡ out.old) ⊎ HasLoopedUntil asked.now.names stop (O.contents out.old) (O.contents out.new)) }
 {
     let text = read_text(rt, asked.nodes)?;
     let nodes = load_nodes(rt.alloc(), &text)?;

@@ -2,7 +2,7 @@
 
 ghost use Rattle.std.specs.Prelude.{◌≡◌, [], IfErr, OnOk};
 ghost use Rattle.std.specs.Io.KnownBytes.{Appends};
-ghost use Rattle.ua_program.specs.declared.output.Stop.TheVariants.{Output};
+ghost use Rattle.ua_program.specs.Reasons.{StopsWriting, is_starved};
 
 use crate::fault::Fault;
 use crate::reason::Reason;
@@ -18,8 +18,20 @@ pub enum Stop<'a> {
     Fault(Fault<'a>),
     /// A fault, which is told, and what more is known of it.
     Because(Fault<'a>, Reason),
-    /// What it prints cannot be written.
-    Output,
+    /// What it prints cannot be written, and why.
+    Output(io::Error),
+}
+
+impl Stop<'_> {
+    /// Whether memory was refused.
+    pub fn is_starved(&self) -> bool
+        ensures { result ≡ is_starved self.now }
+    {
+        match self {
+            Stop::Fault(Fault::NoMemory) | Stop::Because(Fault::NoMemory, _) => true,
+            _ => false,
+        }
+    }
 }
 
 impl<'a> From<Fault<'a>> for Stop<'a> {
@@ -59,13 +71,15 @@ impl From<WordFault> for Stop<'_> {
 
 impl From<AskFault> for Stop<'_> {
     ghost use Rattle.std.specs.Prelude.{◌≡◌};
-    ghost use Rattle.ua_program.specs.declared.fault.Fault.TheVariants.{Asking};
-    ghost use Rattle.ua_program.specs.declared.output.Stop.TheVariants as stop;
+    ghost use Rattle.ua_program.specs.Reasons.{stop_of};
 
-    ghost from_gives = { λ fault stopped. stopped ≡ stop.Fault (Asking fault) };
+    ghost from_gives = { λ fault stopped. stopped ≡ stop_of fault };
 
     fn from(fault: AskFault) -> Self {
-        Stop::Fault(Fault::Asking(fault))
+        match fault {
+            AskFault::Output(error) => Stop::Output(error),
+            fault => Stop::Fault(Fault::Asking(fault)),
+        }
     }
 }
 
@@ -84,11 +98,11 @@ impl From<LoopFault> for Stop<'_> {
 /// Prints a text, whole.
 pub fn say<'a, O: Write>(out: &mut O, text: &str) -> Result<(), Stop<'a>>
     ensures said { OnOk result (Appends (O.contents out.old) (O.contents out.new) text.now) }
-    ensures failed { IfErr result (λ stop. stop ≡ Output) }
+    ensures failed { IfErr result (λ stop. StopsWriting stop) }
 {
     match write_text(out, text) {
         Ok(()) => Ok(()),
-        Err(_) => Err(Stop::Output),
+        Err(error) => Err(Stop::Output(error)),
     }
 }
 
@@ -96,7 +110,7 @@ pub fn say<'a, O: Write>(out: &mut O, text: &str) -> Result<(), Stop<'a>>
 pub fn say_lines<'a, O: Write>(out: &mut O, lines: &str) -> Result<(), Stop<'a>>
     ensures said { OnOk result (Appends (O.contents out.old) (O.contents out.new) lines.now) }
     ensures none { lines.now ≡ [] → out.new ≡ out.old }
-    ensures failed { IfErr result (λ stop. stop ≡ Output) }
+    ensures failed { IfErr result (λ stop. StopsWriting stop) }
 {
     if lines.is_empty() {
         return Ok(());

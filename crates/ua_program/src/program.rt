@@ -1,23 +1,23 @@
 //! The program's commands.
 
-ghost use Rattle.std.specs.Prelude.{◌≡◌, ◌≤◌, ◌≢◌, ◌⊎◌, ◌↔◌, Any, IsTrue, codes, IfErr, IfOk, OnOk};
-ghost use Rattle.std.specs.Io.KnownBytes.{Appends};
+ghost use Rattle.std.specs.Prelude.{◌≡◌, ◌≤◌, ◌≢◌, ◌⊎◌, ◌↔◌, Any, IsTrue, codes, true, false, IfErr, IfOk, OnOk};
 ghost use Rattle.std.specs.IoError.{error_kind};
 ghost use Rattle.std.specs.declared.io.ErrorKind.TheVariants.{OutOfMemory};
 ghost use Rattle.ua_session.specs.declared.verdict.Verdict.TheVariants.{AllGood, SomeBad};
-ghost use Rattle.ua_program.specs.Words.{IsStrict};
+ghost use Rattle.ua_program.specs.Words.{IsStrict, SaysAll, SaysWhy};
 ghost use Rattle.ua_program.specs.Printed.{HasBegun, HasDissected, HasPrinted, HasToldSome};
-ghost use Rattle.ua_program.specs.declared.output.Stop.TheVariants.{Output};
+ghost use Rattle.ua_program.specs.Reasons.{StopsWriting};
 
 use crate::arguments::{self, BadNumber, Dissect, Parsed, Task};
-use crate::ask::{endpoints, read, write};
+use crate::ask::{counted, endpoints, read, write};
 use crate::dissect::dissect_source;
 use crate::fault::Fault;
 use crate::input::open_file;
 use crate::looping::run_files;
-use crate::output::{Stop, say, write_text};
-use crate::reason::{Reason, push_reason, push_word};
+use crate::output::{Stop, say};
+use crate::reason::{Reason, push_word};
 use crate::serve::serve_connections;
+use crate::tell::{Telling, print};
 use crate::version::version_line;
 use crate::watched::Watched;
 use clap::error::ErrorKind;
@@ -44,9 +44,9 @@ pub fn run<S: AsStr, R: Files + Net + Clock + AllocGlobal, I: Read, O: Write, E:
     ensures status { result ≤ 3 }
     ensures strict { result ≡ 3 → Any (λ word. S.text word ≡ codes "--strict") words.now }
     ensures done { (result ≡ 0) ⊎ (result ≡ 3) → HasPrinted (O.contents out.old) (O.contents out.new) }
-    ensures silent { (result ≡ 0) ⊎ (result ≡ 3) → err.new ≡ err.old }
+    ensures silent { (result ≡ 0) ⊎ (result ≡ 3) → (err.new ≡ err.old) ⊎ SaysAll (λ word. S.text word) words.now }
     ensures refused { result ≡ 2 → out.new ≡ out.old }
-    ensures streams { (out.new ≡ out.old) ⊎ (err.new ≡ err.old) ⊎ HasBegun (O.contents out.old) (O.contents out.new) }
+    ensures streams { (out.new ≡ out.old) ⊎ (err.new ≡ err.old) ⊎ HasBegun (O.contents out.old) (O.contents out.new) ⊎ SaysAll (λ word. S.text word) words.now ⊎ SaysWhy (λ word. S.text word) words.now }
 {
     let Parsed { task, why } = match arguments::parse(rt.alloc(), words) {
         Ok(parsed) => parsed,
@@ -56,21 +56,37 @@ pub fn run<S: AsStr, R: Files + Net + Clock + AllocGlobal, I: Read, O: Write, E:
         Ok(task) => task,
         Err(bad) => return tell_number(rt.alloc(), bad, why, err),
     };
-    match perform(rt, task, input, out) {
+    let telling = Telling {
+        alloc: rt.alloc(),
+        why,
+        aloud: says_all(words),
+    };
+    match perform(rt, task, telling, input, out, err) {
         Ok(verdict) => status_of(words, verdict),
-        Err(stop) => tell_stop(rt.alloc(), &stop, why, err),
+        Err(stop) => tell_stop(words, telling, &stop, err),
     }
 }
 
-/// Tells why a command stopped, and with `why` the reason that is known of it. The status is 1.
-fn tell_stop<E: Write>(alloc: Global, stop: &Stop<'_>, why: bool, err: &mut E) -> u8
+/// Whether a word asks for all connections: `ua serve` may tell and go on then.
+fn says_all<S: AsStr>(words: &[S]) -> bool
+    ensures { result ≡ true → SaysAll (λ word. S.text word) words.now }
+{
+    has_word(words, "all") || has_word(words, "--connections=all")
+}
+
+/// Tells why a command stopped, and where it is to be told the reason that is known of it. That what it
+/// prints cannot be written is told with its reason alone. The status is 1.
+fn tell_stop<S: AsStr, E: Write>(words: &[S], telling: Telling, stop: &Stop<'_>, err: &mut E) -> u8
     ensures status { result ≡ 1 }
-    ensures silent { stop.now ≡ Output → err.new ≡ err.old }
+    ensures silent { StopsWriting stop.now → (err.new ≡ err.old) ⊎ SaysWhy (λ word. S.text word) words.now }
 {
     match stop {
-        Stop::Because(fault, reason) if why => tell_why(alloc, fault, reason, err),
-        Stop::Fault(fault) | Stop::Because(fault, _) => tell(alloc, fault, err),
-        Stop::Output => 1,
+        // That the word is there where reasons are told is known, but by no clause.
+        Stop::Output(error) if telling.why && has_word(words, "--why") => {
+            telling.tell_why(&Fault::CannotWrite, &Reason::System(*error), err)
+        }
+        Stop::Output(_) => 1,
+        _ => telling.tell(stop, err),
     }
 }
 
@@ -96,25 +112,25 @@ fn has_word<S: AsStr>(words: &[S], wanted: &str) -> bool
 }
 
 /// Does what the words ask for.
-fn perform<'a, R: Files + Net + Clock + AllocGlobal, I: Read, O: Write>(
+fn perform<'a, R: Files + Net + Clock + AllocGlobal, I: Read, O: Write, E: Write>(
     rt: &R,
     task: Task<'a>,
+    telling: Telling,
     input: &mut I,
     out: &mut O,
+    err: &mut E,
 ) -> Result<Verdict, Stop<'a>>
     ensures done { OnOk result (HasPrinted (O.contents out.old) (O.contents out.new)) }
     ensures strict { IfOk result (λ verdict. verdict ≡ SomeBad → IsStrict task.entry) }
-    ensures stopped { IfErr result (λ stop. (stop ≡ Output) ⊎ (out.new ≡ out.old) ⊎ HasBegun (O.contents out.old) (O.contents out.new)) }
+    ensures stopped { IfErr result (λ stop. StopsWriting stop ⊎ (out.new ≡ out.old) ⊎ HasBegun (O.contents out.old) (O.contents out.new)) }
+    ensures quiet { telling.aloud ≡ false → err.new ≡ err.old }
 {
     match task {
         Task::Read(asked) => read(rt, &asked, out),
         Task::Write(asked) => write(rt, &asked, out),
         Task::Loop(asked) => run_files(rt, &asked, out),
-        Task::Dissect(asked) => match dissect(rt, &asked, input, out) {
-            Ok(()) => Ok(Verdict::AllGood),
-            Err(stop) => Err(stop),
-        },
-        Task::Serve(asked) => match serve_connections(rt, &asked, out) {
+        Task::Dissect(asked) => dissect(rt, &asked, input, out),
+        Task::Serve(asked) => match serve_connections(rt, &asked, out, telling, err) {
             Ok(()) => Ok(Verdict::AllGood),
             Err(stop) => Err(stop),
         },
@@ -162,42 +178,16 @@ fn number_text(alloc: Global, bad: BadNumber<'_>, why: bool) -> Result<String, A
     Ok(text)
 }
 
-/// Tells a fault. The status is 1.
-fn tell<E: Write>(alloc: Global, fault: &Fault<'_>, err: &mut E) -> u8
-    ensures { result ≡ 1 }
-{
-    match format!(in alloc; "ua: {fault}\n") {
-        Ok(text) => print(err, text.as_str(), 1),
-        Err(_) => print(err, "ua: no memory\n", 1),
-    }
-}
-
-/// Tells a fault, and behind it its reason. The status is 1.
-fn tell_why<E: Write>(alloc: Global, fault: &Fault<'_>, reason: &Reason, err: &mut E) -> u8
-    ensures { result ≡ 1 }
-{
-    match fault_text(alloc, fault, reason) {
-        Ok(text) => print(err, text.as_str(), 1),
-        Err(AllocError) => print(err, "ua: no memory\n", 1),
-    }
-}
-
-/// What is told of a fault and its reason.
-fn fault_text(alloc: Global, fault: &Fault<'_>, reason: &Reason) -> Result<String, AllocError> {
-    let mut text = format!(in alloc; "ua: {fault}\n")?;
-    push_reason(&mut text, reason)?;
-    Ok(text)
-}
-
 /// Prints the frames and messages of a file, or of the input where it is named `-`.
 fn dissect<'a, R: Files + AllocGlobal, I: Read, O: Write>(
     rt: &R,
     asked: &Dissect<'a>,
     input: &mut I,
     out: &mut O,
-) -> Result<(), Stop<'a>>
+) -> Result<Verdict, Stop<'a>>
+    ensures strict { IfOk result (λ verdict. verdict ≡ SomeBad → asked.now.strict ≡ true) }
     ensures dissected { OnOk result (HasDissected (O.contents out.old) (O.contents out.new)) }
-    ensures stopped { IfErr result (λ stop. (stop ≡ Output) ⊎ (out.new ≡ out.old) ⊎ HasToldSome (O.contents out.old) (O.contents out.new)) }
+    ensures stopped { IfErr result (λ stop. StopsWriting stop ⊎ (out.new ≡ out.old) ⊎ HasToldSome (O.contents out.old) (O.contents out.new)) }
 {
     if asked.file == "-" {
         return dissect_watched(rt.alloc(), asked, input, out);
@@ -212,9 +202,10 @@ fn dissect_watched<'a, I: Read, O: Write>(
     asked: &Dissect<'a>,
     source: &mut I,
     out: &mut O,
-) -> Result<(), Stop<'a>>
+) -> Result<Verdict, Stop<'a>>
+    ensures strict { IfOk result (λ verdict. verdict ≡ SomeBad → asked.now.strict ≡ true) }
     ensures dissected { OnOk result (HasDissected (O.contents out.old) (O.contents out.new)) }
-    ensures stopped { IfErr result (λ stop. (stop ≡ Output) ⊎ HasToldSome (O.contents out.old) (O.contents out.new)) }
+    ensures stopped { IfErr result (λ stop. StopsWriting stop ⊎ HasToldSome (O.contents out.old) (O.contents out.new)) }
 {
     let mut watched = Watched::new(source);
     match dissect_some(alloc, asked, &mut watched, out) {
@@ -223,17 +214,21 @@ fn dissect_watched<'a, I: Read, O: Write>(
     }
 }
 
-/// Prints the lines of what a source gives.
+/// Prints the lines of what a source gives, and says what counts of a frame that is refused.
 fn dissect_some<'a, I: Read, O: Write>(
     alloc: Global,
     asked: &Dissect<'a>,
     source: &mut I,
     out: &mut O,
-) -> Result<(), Stop<'a>>
+) -> Result<Verdict, Stop<'a>>
+    ensures strict { IfOk result (λ verdict. verdict ≡ SomeBad → asked.now.strict ≡ true) }
     ensures dissected { OnOk result (HasDissected (O.contents out.old) (O.contents out.new)) }
-    ensures stopped { IfErr result (λ stop. (stop ≡ Output) ⊎ HasToldSome (O.contents out.old) (O.contents out.new)) }
+    ensures stopped { IfErr result (λ stop. StopsWriting stop ⊎ HasToldSome (O.contents out.old) (O.contents out.new)) }
 {
-    dissect_source(alloc, asked, source, out)
+    match dissect_source(alloc, asked, source, out) {
+        Ok(verdict) => Ok(counted(verdict, asked.strict)),
+        Err(stop) => Err(stop),
+    }
 }
 
 /// Tells why the words of the command line could not be gathered. The status is 2 where a word is
@@ -245,16 +240,5 @@ pub fn refuse_words<E: Write>(error: &io::Error, err: &mut E) -> u8
     match error.kind() {
         io::ErrorKind::OutOfMemory => print(err, "ua: no memory\n", 1),
         _ => print(err, "ua: a word is not UTF-8\n", 2),
-    }
-}
-
-/// Writes a text: the status that follows, or 1 where the writer fails.
-fn print<W: Write>(to: &mut W, text: &str, status: u8) -> u8
-    ensures status { (result ≡ status) ⊎ (result ≡ 1) }
-    ensures printed { result ≢ 1 → Appends (W.contents to.old) (W.contents to.new) text.now }
-{
-    match write_text(to, text) {
-        Ok(()) => status,
-        Err(_) => 1,
     }
 }

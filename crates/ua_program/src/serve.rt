@@ -1,26 +1,30 @@
 //! `ua serve`: serves connections on a port of this machine, one after the other.
 
-ghost use Rattle.std.specs.Prelude.{◌≡◌, ◌⊎◌, IfOk, IfErr, OnOk, string_bytes, true};
+ghost use Rattle.std.specs.Prelude.{◌≡◌, ◌⊎◌, Some, IfOk, IfErr, OnOk, string_bytes, true, false};
 ghost use Rattle.std.specs.Io.KnownBytes.{Appends};
+ghost use Rattle.std.specs.IoError.{raw_os_error};
 ghost use Rattle.ua_server.specs.Serving.{Serves};
 ghost use Rattle.ua_server.specs.State.{begun};
 ghost use Rattle.ua_program.specs.Refused.{RefusesNodes};
-ghost use Rattle.ua_program.specs.Served.{AddsOutcome, AreOwn, BeginsWith, HasServed, HasServedSome, HasTold, IsConnectionLine, Prints, SaysOutcome, ServesOne, TellsOf, endpoint_on, kind_name, listening_line, request_line};
-ghost use Rattle.ua_program.specs.declared.output.Stop.TheVariants.{Output};
+ghost use Rattle.ua_program.specs.Served.{AddsOutcome, BeginsWith, HasServed, HasServedSome, HasTold, IsConnectionLine, Prints, SaysOutcome, ServesOne, TellsOf, connection_line, endpoint_on, is_of_connection, kind_name, listening_line, no_memory, request_line};
+ghost use Rattle.ua_program.specs.Reasons.{EndsServing, NeverAccepts, StopsAt, StopsConnection, StopsWriting, is_starved};
+ghost use Rattle.ua_program.specs.declared.fault.Fault.TheVariants.{CannotListen};
 
 use crate::arguments::Serve;
 use crate::fault::Fault;
 use crate::input::{parse_nodes, read_text};
-use crate::output::{Stop, say};
+use crate::output::{Stop, say, write_text};
 use crate::reason::{blame_line, cannot_listen};
+use crate::tell::Telling;
 use std::alloc::{AllocError, Global};
 use std::io::{Read, Write};
 use std::net::{Ipv4Addr, Net, OpenListener, TcpListener};
 use std::rt::Files;
-use std::time::Clock;
+use std::time::{Clock, Duration};
+use std::{io, thread};
 use ua_builtin::UaString;
 use ua_channel::{Line, Moments};
-use ua_frame::Limits;
+use ua_exchange::{MESSAGE_SIZE, limits};
 use ua_server::{
     AnsweredRequest, End, Endpoint, ServeFault, Services, Watch, serve, serve_watched,
 };
@@ -28,19 +32,6 @@ use ua_services::RequestKind;
 use ua_services::session_requests::local_url;
 use ua_tcp::{ClockMoments, GatheringLine, TcpLine, without_delay};
 use ua_texts::push_code;
-
-/// The most octets of a message.
-const MESSAGE_LIMIT: u32 = 1_048_576;
-
-/// What the program allows.
-pub fn limits() -> Limits
-    ensures { AreOwn result }
-{
-    match Limits::new(65535, 65535, MESSAGE_LIMIT, 256) {
-        Some(limits) => limits,
-        None => unreachable!(),
-    }
-}
 
 /// What the program says of itself on a port of this machine.
 fn endpoint(alloc: Global, port: u16) -> Result<Endpoint, AllocError>
@@ -50,7 +41,7 @@ fn endpoint(alloc: Global, port: u16) -> Result<Endpoint, AllocError>
         url: local_url(alloc, port)?,
         application_uri: UaString::from_str(alloc, "urn:ua:server")?,
         name: UaString::from_str(alloc, "ua")?,
-        message_limit: MESSAGE_LIMIT,
+        message_limit: MESSAGE_SIZE,
     })
 }
 
@@ -139,8 +130,8 @@ fn request_text(alloc: Global, number: u32, request: AnsweredRequest) -> Result<
 enum Halt {
     /// Memory was refused. Nothing was printed of that line.
     Memory,
-    /// What is printed cannot be written.
-    Output,
+    /// What is printed cannot be written, and why.
+    Output(io::Error),
 }
 
 /// Prints the line of a request.
@@ -153,9 +144,9 @@ fn say_request<O: Write>(
     ensures { Prints result (request_line number request) (O.contents out.old) (O.contents out.new) }
 {
     match request_text(alloc, number, request) {
-        Ok(text) => match say(out, &text) {
+        Ok(text) => match write_text(out, &text) {
             Ok(()) => None,
-            Err(_) => Some(Halt::Output),
+            Err(error) => Some(Halt::Output(error)),
         },
         Err(_) => Some(Halt::Memory),
     }
@@ -196,7 +187,8 @@ fn serve_telling<'a, L: Line, M: Moments, O: Write>(
     out: &mut O,
 ) -> Result<String, Stop<'a>>
     ensures served { IfOk result (λ text. HasTold true number (O.contents out.old) (O.contents out.new) × IsConnectionLine number (string_bytes text)) }
-    ensures stopped { IfErr result (λ stop. (stop ≡ Output) ⊎ HasTold true number (O.contents out.old) (O.contents out.new)) }
+    ensures stopped { IfErr result (λ stop. StopsWriting stop ⊎ HasTold true number (O.contents out.old) (O.contents out.new)) }
+    ensures only { IfErr result StopsConnection }
 {
     let mut lines = RequestLines {
         alloc,
@@ -216,7 +208,7 @@ fn serve_telling<'a, L: Line, M: Moments, O: Write>(
     match halt {
         None => Ok(outcome_line(alloc, number, outcome)?),
         Some(Halt::Memory) => Err(Stop::Fault(Fault::NoMemory)),
-        Some(Halt::Output) => Err(Stop::Output),
+        Some(Halt::Output(error)) => Err(Stop::Output(error)),
     }
 }
 
@@ -232,7 +224,8 @@ fn serve_client<'a, L: Line, M: Moments, O: Write>(
     out: &mut O,
 ) -> Result<String, Stop<'a>>
     ensures served { IfOk result (λ text. HasTold requests number (O.contents out.old) (O.contents out.new) × IsConnectionLine number (string_bytes text)) }
-    ensures stopped { IfErr result (λ stop. (stop ≡ Output) ⊎ HasTold requests number (O.contents out.old) (O.contents out.new)) }
+    ensures stopped { IfErr result (λ stop. StopsWriting stop ⊎ HasTold requests number (O.contents out.old) (O.contents out.new)) }
+    ensures only { IfErr result StopsConnection }
 {
     if requests {
         serve_telling(alloc, line, services, number, moments, out)
@@ -253,7 +246,8 @@ fn serve_stream<'a, S: Read + Write + Drop, M: Moments, O: Write>(
     out: &mut O,
 ) -> Result<String, Stop<'a>>
     ensures served { IfOk result (λ text. HasTold requests number (O.contents out.old) (O.contents out.new) × IsConnectionLine number (string_bytes text)) }
-    ensures stopped { IfErr result (λ stop. (stop ≡ Output) ⊎ HasTold requests number (O.contents out.old) (O.contents out.new)) }
+    ensures stopped { IfErr result (λ stop. StopsWriting stop ⊎ HasTold requests number (O.contents out.old) (O.contents out.new)) }
+    ensures only { IfErr result StopsConnection }
 {
     let mut line = GatheringLine::new(alloc, TcpLine::new(stream));
     let served = serve_client(alloc, &mut line, services, number, requests, moments, out);
@@ -262,33 +256,126 @@ fn serve_stream<'a, S: Read + Write + Drop, M: Moments, O: Write>(
     served
 }
 
-/// Waits for the next connection, serves it and says what became of it.
-fn serve_next<'a, R: Net + Clock + AllocGlobal, O: Write>(
+/// How many seconds a server that goes on waits where the system gives no connection.
+const PAUSE: u64 = 1;
+
+/// Whether an error of a listener is one of the connection that would have been next, and says nothing of
+/// those behind it.
+fn is_of_connection(error: &io::Error) -> bool
+    ensures { result ≡ is_of_connection (raw_os_error error.now) }
+{
+    match error.raw_os_error() {
+        Some(code) => is_number_of_connection(code),
+        None => false,
+    }
+}
+
+/// The same of the number of an error: EPERM, EINTR, ENONET, EPROTO, ENOPROTOOPT, EOPNOTSUPP,
+/// ENETUNREACH, ECONNABORTED, EHOSTDOWN and EHOSTUNREACH, in Linux (accept(2)).
+fn is_number_of_connection(code: i32) -> bool
+    ensures { result ≡ is_of_connection (Some code) }
+{
+    matches!(code, 1 | 4 | 64 | 71 | 92 | 95 | 101 | 103 | 112 | 113)
+}
+
+/// The next connection. Where the server goes on, an error of one connection is passed over, and one of
+/// the system is told and tried again behind a pause; else any ends it.
+fn next_stream<'a, R: Net + Clock, E: Write>(
+    rt: &R,
+    listener: &R::Listener,
+    goes_on: bool,
+    telling: Telling,
+    err: &mut E,
+) -> Result<R::Stream, Stop<'a>>
+    ensures quiet { telling.aloud ≡ false → err.new ≡ err.old }
+    ensures stopped { IfErr result (StopsAt CannotListen) }
+    ensures lasts { goes_on ≡ true → IfErr result NeverAccepts }
+{
+    for _tries in 0..u64::MAX {
+        let error = match listener.accept() {
+            Ok((stream, _)) => return Ok(stream),
+            Err(error) => error,
+        };
+        if !goes_on {
+            return Err(cannot_listen(error));
+        }
+        if !is_of_connection(&error) {
+            telling.tell_on(&cannot_listen(error), err);
+            thread::sleep(rt, Duration::from_secs(PAUSE));
+        }
+    }
+    Err(Stop::Fault(Fault::CannotListen))
+}
+
+/// Says that memory was refused at a connection. That takes none.
+pub fn say_no_memory<'a, O: Write>(number: u32, out: &mut O) -> Result<(), Stop<'a>>
+    ensures said { OnOk result (Appends (O.contents out.old) (O.contents out.new) (connection_line number no_memory)) }
+    ensures failed { IfErr result (λ stop. StopsWriting stop) }
+{
+    match write_no_memory(number, out) {
+        Ok(()) => Ok(()),
+        Err(error) => Err(Stop::Output(error)),
+    }
+}
+
+/// Writes the line of a connection at which memory was refused, and flushes it.
+fn write_no_memory<O: Write>(number: u32, out: &mut O) -> io::Result<()>
+    ensures { OnOk result (Appends (O.contents out.old) (O.contents out.new) (connection_line number no_memory)) }
+{
+    write!(out, "connection {number} NoMemory\n")?;
+    out.flush()
+}
+
+/// Waits for the next connection, serves it and says what became of it. Where the server goes on, want of
+/// memory ends that connection alone.
+fn serve_next<'a, R: Net + Clock + AllocGlobal, O: Write, E: Write>(
     rt: &R,
     listener: &R::Listener,
     services: &mut Services,
     number: u32,
-    requests: bool,
+    asked: &Serve<'a>,
     out: &mut O,
+    telling: Telling,
+    err: &mut E,
 ) -> Result<(), Stop<'a>>
-    ensures served { OnOk result (ServesOne requests number (O.contents out.old) (O.contents out.new)) }
-    ensures stopped { IfErr result (λ stop. (stop ≡ Output) ⊎ HasTold requests number (O.contents out.old) (O.contents out.new)) }
+    ensures served { OnOk result (ServesOne asked.now.requests asked.now.goes_on number (O.contents out.old) (O.contents out.new)) }
+    ensures stopped { IfErr result (λ stop. StopsWriting stop ⊎ HasTold asked.now.requests number (O.contents out.old) (O.contents out.new)) }
+    ensures lasts { asked.now.goes_on ≡ true → IfErr result EndsServing }
+    ensures quiet { telling.aloud ≡ false → err.new ≡ err.old }
 {
-    let stream = match listener.accept() {
-        Ok((stream, _)) => stream,
-        Err(error) => return Err(cannot_listen(error)),
-    };
+    let stream = next_stream(rt, listener, asked.goes_on, telling, err)?;
     let mut moments = ClockMoments::new(rt);
-    let text = serve_stream(
+    let served = serve_stream(
         rt.alloc(),
         without_delay(stream),
         services,
         number,
-        requests,
+        asked.requests,
         &mut moments,
         out,
-    )?;
-    say(out, &text)
+    );
+    match served {
+        Ok(text) => say(out, &text),
+        Err(stop) => outlive(stop, asked.goes_on, number, out),
+    }
+}
+
+/// Says that memory was refused at a connection, where that is why it stopped and the server goes on; else
+/// it stops the server.
+fn outlive<'a, O: Write>(
+    stop: Stop<'a>,
+    goes_on: bool,
+    number: u32,
+    out: &mut O,
+) -> Result<(), Stop<'a>>
+    ensures said { OnOk result ((goes_on ≡ true) × (is_starved stop.entry ≡ true) × Appends (O.contents out.old) (O.contents out.new) (connection_line number no_memory)) }
+    ensures stopped { IfErr result (λ why. StopsWriting why ⊎ ((why ≡ stop.entry) × (out.new ≡ out.old))) }
+    ensures lasts { goes_on ≡ true → StopsConnection stop.entry → IfErr result StopsWriting }
+{
+    if goes_on && stop.is_starved() {
+        return say_no_memory(number, out);
+    }
+    Err(stop)
 }
 
 /// The services over the nodes of a file.
@@ -311,40 +398,50 @@ fn listen<'a, R: Net>(rt: &R, port: u16) -> Result<R::Listener, Stop<'a>> {
 /// Says that connections are taken.
 fn say_listening<'a, O: Write>(alloc: Global, port: u16, out: &mut O) -> Result<(), Stop<'a>>
     ensures said { OnOk result (Appends (O.contents out.old) (O.contents out.new) (listening_line port)) }
-    ensures stopped { IfErr result (λ stop. (stop ≡ Output) ⊎ (out.new ≡ out.old)) }
+    ensures stopped { IfErr result (λ stop. StopsWriting stop ⊎ (out.new ≡ out.old)) }
 {
     let text = format!(in alloc; "listening {port}\n")?;
     say(out, &text)
 }
 
-/// Serves so many connections, numbered from 1.
-pub fn serve_all<'a, R: Net + Clock + AllocGlobal, O: Write>(
+/// Serves so many connections, numbered from 1. Where the server goes on, as with `--connections all`,
+/// neither want of memory nor a failure of the listener ends it, which is told.
+pub fn serve_all<'a, R: Net + Clock + AllocGlobal, O: Write, E: Write>(
     rt: &R,
     listener: &R::Listener,
     services: &mut Services,
     asked: &Serve<'a>,
     out: &mut O,
+    telling: Telling,
+    err: &mut E,
 ) -> Result<(), Stop<'a>>
-    ensures served { OnOk result (HasServed asked.now.requests asked.now.port asked.now.connections (O.contents out.old) (O.contents out.new)) }
-    ensures stopped { IfErr result (λ stop. (stop ≡ Output) ⊎ (out.new ≡ out.old) ⊎ HasServedSome asked.now.requests asked.now.port asked.now.connections (O.contents out.old) (O.contents out.new)) }
+    ensures served { OnOk result (HasServed asked.now.requests asked.now.goes_on asked.now.port asked.now.connections (O.contents out.old) (O.contents out.new)) }
+    ensures stopped { IfErr result (λ stop. StopsWriting stop ⊎ (out.new ≡ out.old) ⊎ HasServedSome asked.now.requests asked.now.goes_on asked.now.port asked.now.connections (O.contents out.old) (O.contents out.new)) }
+    // Once it listens, neither want of memory nor a fault of the listener ends a server that goes on.
+    ensures lasts { asked.now.goes_on ≡ true → IfErr result (λ why. EndsServing why ⊎ (out.new ≡ out.old)) }
+    ensures quiet { telling.aloud ≡ false → err.new ≡ err.old }
 {
     say_listening(rt.alloc(), asked.port, out)?;
     for number in 0..asked.connections {
-        serve_next(rt, listener, services, number + 1, asked.requests, out)?;
+        serve_next(rt, listener, services, number + 1, asked, out, telling, err)?;
     }
     Ok(())
 }
 
 /// Serves connections on a port of this machine, one after the other, and says what became of each.
-pub fn serve_connections<'a, R: Files + Net + Clock + AllocGlobal, O: Write>(
+pub fn serve_connections<'a, R: Files + Net + Clock + AllocGlobal, O: Write, E: Write>(
     rt: &R,
     asked: &Serve<'a>,
     out: &mut O,
+    telling: Telling,
+    err: &mut E,
 ) -> Result<(), Stop<'a>>
-    ensures served { OnOk result (HasServed asked.now.requests asked.now.port asked.now.connections (O.contents out.old) (O.contents out.new)) }
-    ensures stopped { IfErr result (λ stop. (stop ≡ Output) ⊎ (out.new ≡ out.old) ⊎ HasServedSome asked.now.requests asked.now.port asked.now.connections (O.contents out.old) (O.contents out.new)) }
+    ensures served { OnOk result (HasServed asked.now.requests asked.now.goes_on asked.now.port asked.now.connections (O.contents out.old) (O.contents out.new)) }
+    ensures stopped { IfErr result (λ stop. StopsWriting stop ⊎ (out.new ≡ out.old) ⊎ HasServedSome asked.now.requests asked.now.goes_on asked.now.port asked.now.connections (O.contents out.old) (O.contents out.new)) }
+    ensures lasts { asked.now.goes_on ≡ true → IfErr result (λ why. EndsServing why ⊎ (out.new ≡ out.old)) }
+    ensures quiet { telling.aloud ≡ false → err.new ≡ err.old }
 {
     let mut services = load(rt, asked)?;
     let listener = listen(rt, asked.port)?;
-    serve_all(rt, &listener, &mut services, asked, out)
+    serve_all(rt, &listener, &mut services, asked, out, telling, err)
 }

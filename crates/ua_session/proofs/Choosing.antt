@@ -5,7 +5,7 @@ use Rattle.ua_client.specs.declared.reply.Reply.{Reply}
 use Rattle.ua_session.specs.Policy.{ChoosesAmong, ChoosesBy, listed}
 use Rattle.ua_session.specs.Replies.{endpoints_of}
 use Rattle.ua_session.specs.declared.fault.AskFault.{AskFault}
-use Rattle.ua_session.specs.declared.fault.AskFault.TheVariants.{Connection, NoMemory, NoPolicy, Service}
+use Rattle.ua_session.specs.declared.fault.AskFault.TheVariants.{Connection, NoMemory, NoPolicy, Output, Service}
 
 -- what is chosen among the endpoints of a reply is chosen by it
 pub chosen_by : (reply : Reply) (list : Option (List EndpointDescription)) (result : Result (Option (List ℕ)) AskFault) → endpoints_of reply ≡ Some list → ChoosesAmong (listed list) result → ChoosesBy (Ok reply) result
@@ -14,3 +14,4 @@ chosen_by reply list (Err NoPolicy) has chooses = (list, has, chooses)
 chosen_by reply list (Err NoMemory) has chooses = tt
 chosen_by reply list (Err (Service code)) has chooses = absurd chooses
 chosen_by reply list (Err (Connection fault)) has chooses = absurd chooses
+chosen_by reply list (Err (Output error)) has chooses = absurd chooses

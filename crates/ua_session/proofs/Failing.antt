@@ -17,8 +17,9 @@ use Rattle.ua_texts.specs.declared.style.LineStyle.{LineStyle}
 use Rattle.ua_session.specs.Endpoints.{AsksEndpoints}
 use Rattle.ua_session.specs.Line.{LineFailed, LineState}
 use Rattle.ua_session.specs.Policy.{ChoosesBy}
+use Rattle.ua_session.specs.Printed.{IsOutput}
 use Rattle.ua_session.specs.Question.{PrintsAnswers}
-use Rattle.ua_session.specs.Replies.{Expects, IsRefusedBy, PrintsEndpoints}
+use Rattle.ua_session.specs.Replies.{Expects, IsRefusedBy, IsUnprinted, PrintsEndpoints}
 use Rattle.ua_session.specs.Session.{AsksByPolicy, AsksInSession, AsksUnder, EndsUnbegun, FindsPolicy, handle_unbegun}
 use Rattle.ua_session.specs.Steps.{Asks, Begins, CallsClient, ClosesClient, OpensPort, first_of, told, told_session}
 use Rattle.ua_session.specs.Told.{of_client}
@@ -26,7 +27,7 @@ use Rattle.ua_client.specs.Session.{session_alone}
 use Rattle.ua_client.specs.declared.fault.SessionFault.{SessionFault}
 use Rattle.ua_session.specs.declared.fault.NotBegun.{NotBegun}
 use Rattle.ua_session.specs.declared.fault.AskFault.{AskFault}
-use Rattle.ua_session.specs.declared.fault.AskFault.TheVariants.{Connection, NoMemory, NoPolicy, Service}
+use Rattle.ua_session.specs.declared.fault.AskFault.TheVariants.{Connection, NoMemory, NoPolicy, Output, Service}
 use Rattle.ua_session.specs.declared.policy.TokenPolicy.{TokenPolicy}
 use Rattle.ua_session.specs.declared.policy.TokenPolicy.TheVariants.{Auto, Named}
 use Rattle.ua_session.specs.declared.question.Question.{Question}
@@ -114,6 +115,7 @@ found_joins found result = (λ g h. h, λ f. absurd f, λ f. f)
 first_joins : {A : Type 0} (one : Result A AskFault) (two : Result (Unit {0}) AskFault) → Joins one two (first_of one two)
 first_joins (Ok found) (Ok done) = (λ g h. refl, λ f. f, λ f. f)
 first_joins (Ok found) (Err f) = (λ g h. h, λ x. absurd x, λ x. x)
+first_joins (Err (Output e)) two = (λ g h. refl, λ x. tt, λ x. tt)
 first_joins (Err f) (Ok done) = (λ g h. g, λ x. x, λ x. absurd x)
 first_joins (Err f) (Err NoMemory) = (λ g h. refl, λ x. tt, λ x. tt)
 first_joins (Err f) (Err other) = (λ g h. g, λ x. x, λ x. x)
@@ -188,42 +190,56 @@ refused_untold P reply (Service code) h = refl
 refused_untold P reply (Connection client.UnknownResponse) h = refl
 refused_untold P reply (Connection other) h = absurd h
 refused_untold P reply NoPolicy h = refl
+refused_untold P reply (Output e) h = refl
 refused_untold P reply NoMemory h = refl
+
+output_untold : (f : AskFault) → IsOutput f → is_of_line f ≡ false
+output_untold (Output e) h = refl
+output_untold (Service code) h = refl
+output_untold (Connection f) h = absurd h
+output_untold NoPolicy h = refl
+output_untold NoMemory h = refl
+
+unprinted_untold : {O : Type 0} (AreLines : List ℕ → Type 0) (P : Type 0) (reply : Reply) (had have : O) (f : AskFault) → IsUnprinted AreLines P reply had have f → is_of_line f ≡ false
+unprinted_untold AreLines P reply had have f (inl refused) = refused_untold P reply f refused.1
+unprinted_untold AreLines P reply had have f (inr written) = output_untold f written.0
 
 expects_hands : (called : Result Reply AskFault) (result : Result (Unit {0}) AskFault) → Expects called result → Hands called result
 expects_hands (Ok reply) (Ok done) h = (λ u. refl, λ f. f)
 expects_hands (Ok reply) (Err (Service code)) h = (λ u. refl, λ f. tt)
 expects_hands (Ok reply) (Err (Connection f)) h = absurd h
 expects_hands (Ok reply) (Err NoPolicy) h = absurd h
+expects_hands (Ok reply) (Err (Output e)) h = absurd h
 expects_hands (Ok reply) (Err NoMemory) h = absurd h
 expects_hands (Err f) result h = same_hands Reply f result h
 
-endpoints_hands : (style : EndpointStyle) (had have : List ℕ) (called : Result Reply AskFault) (result : Result (Unit {0}) AskFault) → PrintsEndpoints style had have called result → Hands called result
-endpoints_hands style had have (Ok reply) (Ok done) h = (λ u. refl, λ f. f)
-endpoints_hands style had have (Ok reply) (Err f) h = (λ u. refused_untold _ reply f h.1, λ f. tt)
-endpoints_hands style had have (Err f) result h = same_hands Reply f result h.1
+endpoints_hands : {O : Type 0} (contents : O → Option (List ℕ)) (style : EndpointStyle) (had have : O) (called : Result Reply AskFault) (result : Result (Unit {0}) AskFault) → PrintsEndpoints contents style had have called result → Hands called result
+endpoints_hands contents style had have (Ok reply) (Ok done) h = (λ u. refl, λ f. f)
+endpoints_hands contents style had have (Ok reply) (Err f) h = (λ u. unprinted_untold _ _ reply had have f h, λ f. tt)
+endpoints_hands contents style had have (Err f) result h = same_hands Reply f result h.1
 
-answers_hands : (style : LineStyle) (question : Question) (had have : List ℕ) (called : Result Reply AskFault) (result : Result Verdict AskFault) → PrintsAnswers style question had have called result → Hands called result
-answers_hands style question had have (Ok reply) (Ok verdict) h = (λ u. refl, λ f. f)
-answers_hands style question had have (Ok reply) (Err f) h = (λ u. refused_untold _ reply f h.1, λ f. tt)
-answers_hands style question had have (Err f) result h = same_hands Reply f result h.1
+answers_hands : {O : Type 0} (contents : O → Option (List ℕ)) (style : LineStyle) (question : Question) (had have : O) (called : Result Reply AskFault) (result : Result Verdict AskFault) → PrintsAnswers contents style question had have called result → Hands called result
+answers_hands contents style question had have (Ok reply) (Ok verdict) h = (λ u. refl, λ f. f)
+answers_hands contents style question had have (Ok reply) (Err f) h = (λ u. unprinted_untold _ _ reply had have f h, λ f. tt)
+answers_hands contents style question had have (Err f) result h = same_hands Reply f result h.1
 
 chooses_hands : (called : Result Reply AskFault) (result : Result (Option (List ℕ)) AskFault) → ChoosesBy called result → Hands called result
 chooses_hands (Ok reply) (Ok id) h = (λ u. refl, λ f. f)
 chooses_hands (Ok reply) (Err NoPolicy) h = (λ u. refl, λ f. tt)
 chooses_hands (Ok reply) (Err (Service code)) h = (λ u. refl, λ f. tt)
 chooses_hands (Ok reply) (Err (Connection f)) h = (λ u. refused_untold _ reply (Connection f) h, λ f. tt)
+chooses_hands (Ok reply) (Err (Output e)) h = absurd h
 chooses_hands (Ok reply) (Err NoMemory) h = (λ u. refl, λ f. tt)
 chooses_hands (Err f) result h = same_hands Reply f result h
 
 -- ---- a session
 
-under_stage : {M : Type 0} {gives : M → ℤ → M → Type 0} {style : LineStyle} {question : Question} {token : NodeId} {handle : ℕ} {first last : M} {old new : Client} {before after : LineState} {had have : List ℕ} (result : Result Verdict AskFault)
-    → AsksUnder gives style question token handle first last old new before after had have result → Stage old.is_done new.is_done before.failures after.failures result
-under_stage {style = style} {question = question} {old = old} {new = new} {before = before} {after = after} {had = had} {have = have} result under =
+under_stage : {M O : Type 0} {gives : M → ℤ → M → Type 0} {contents : O → Option (List ℕ)} {style : LineStyle} {question : Question} {token : NodeId} {handle : ℕ} {first last : M} {old new : Client} {before after : LineState} {had have : O} (result : Result Verdict AskFault)
+    → AsksUnder gives contents style question token handle first last old new before after had have result → Stage old.is_done new.is_done before.failures after.failures result
+under_stage {contents = contents} {style = style} {question = question} {old = old} {new = new} {before = before} {after = after} {had = had} {have = have} result under =
     subst (λ (r : Result Verdict AskFault). Stage old.is_done new.is_done before.failures after.failures r) (sym under.result_is)
     (joined old.is_done under.asked.is_done new.is_done under.printed under.ended (first_of under.printed under.ended) (first_joins under.printed under.ended)
-    (handed under.called under.printed (answers_hands style question had have under.called under.printed under.prints) (asks_stage under.called under.asks))
+    (handed under.called under.printed (answers_hands contents style question had have under.called under.printed under.prints) (asks_stage under.called under.asks))
     (handed under.ends.called under.ended (expects_hands under.ends.called under.ended under.ends.expects) (call_stage under.ends.called under.ends.calls)))
 
 -- what was done behind a stage, by what that found; behind a fault nothing was
@@ -266,14 +282,14 @@ unbegun_stage gives (Some token) handle first last old new before after d n faul
     joined {A = NodeId} d old.is_done new.is_done (Err fault) h.ended (Err fault) (λ g k. g, λ x. tt, λ x. tt) stage
     (handed h.ends.called h.ended (expects_hands h.ends.called h.ended h.ends.expects) (call_stage h.ends.called h.ends.calls))
 
-session_stage : {M : Type 0} {gives : M → ℤ → M → Type 0} {style : LineStyle} {question : Question} {policy_id : Option (List ℕ)} {handle : ℕ} {first last : M} {old new : Client} {before after : LineState} {had have : List ℕ} (result : Result Verdict AskFault)
-    → AsksInSession gives style question policy_id handle first last old new before after had have result → Stage old.is_done new.is_done before.failures after.failures result
-session_stage {gives = gives} {style = style} {question = question} {handle = handle} {last = last} {old = old} {new = new} {before = before} {after = after} {had = had} {have = have} result asks =
+session_stage : {M O : Type 0} {gives : M → ℤ → M → Type 0} {contents : O → Option (List ℕ)} {style : LineStyle} {question : Question} {policy_id : Option (List ℕ)} {handle : ℕ} {first last : M} {old new : Client} {before after : LineState} {had have : O} (result : Result Verdict AskFault)
+    → AsksInSession gives contents style question policy_id handle first last old new before after had have result → Stage old.is_done new.is_done before.failures after.failures result
+session_stage {gives = gives} {contents = contents} {style = style} {question = question} {handle = handle} {last = last} {old = old} {new = new} {before = before} {after = after} {had = had} {have = have} result asks =
     begun_stage asks.begun asks.further (begins_stage asks.begun asks.begins)
   where
     begun_stage : (begun : Result NodeId NotBegun)
         → MatchResult begun
-        (λ token. AsksUnder gives style question token handle asks.behind last asks.client new asks.once_begun after had have result)
+        (λ token. AsksUnder gives contents style question token handle asks.behind last asks.client new asks.once_begun after had have result)
         (λ refused. (result ≡ Err refused.fault) × (have ≡ had) × EndsUnbegun gives refused.token (handle_unbegun handle refused.fault) asks.behind last asks.client new asks.once_begun after)
         → Stage old.is_done asks.client.is_done before.failures asks.once_begun.failures (alone begun) → Stage old.is_done new.is_done before.failures after.failures result
     begun_stage (Ok token) under stage = joined old.is_done asks.client.is_done new.is_done (Ok token) result result (found_joins token result) stage (under_stage result under)
@@ -292,18 +308,18 @@ finds_stage gives port (Named id) first last old new before after found h = idle
     named_untold r (inr is) = ap tells_line is
 finds_stage gives port Auto first last old new before after found asks = handed asks.called found (chooses_hands asks.called found asks.chooses) (asks_stage asks.called asks.asks)
 
-policy_stage : {M : Type 0} {gives : M → ℤ → M → Type 0} {port : ℕ} {policy : TokenPolicy} {style : LineStyle} {question : Question} {first last : M} {old new : Client} {before after : LineState} {had have : List ℕ} (result : Result Verdict AskFault)
-    → AsksByPolicy gives port policy style question first last old new before after had have result → Stage old.is_done new.is_done before.failures after.failures result
+policy_stage : {M O : Type 0} {gives : M → ℤ → M → Type 0} {contents : O → Option (List ℕ)} {port : ℕ} {policy : TokenPolicy} {style : LineStyle} {question : Question} {first last : M} {old new : Client} {before after : LineState} {had have : O} (result : Result Verdict AskFault)
+    → AsksByPolicy gives contents port policy style question first last old new before after had have result → Stage old.is_done new.is_done before.failures after.failures result
 policy_stage {gives = gives} {port = port} {policy = policy} {first = first} {old = old} {new = new} {before = before} result asks =
     stage_behind old.is_done asks.client.is_done new.is_done asks.found result _ _ asks.further
     (λ policy_id within. session_stage result within)
     (λ f h. (h.0, ap (λ (x : Client). x.is_done) h.2, ap (λ (s : LineState). s.failures) h.3))
     (finds_stage gives port policy first asks.behind old asks.client before asks.once_found asks.found asks.finds)
 
-endpoints_stage : {M : Type 0} {gives : M → ℤ → M → Type 0} {port : ℕ} {style : EndpointStyle} {first last : M} {old new : Client} {before after : LineState} {had have : List ℕ} (result : Result (Unit {0}) AskFault)
-    → AsksEndpoints gives port style first last old new before after had have result → Stage old.is_done new.is_done before.failures after.failures result
-endpoints_stage {style = style} {had = had} {have = have} result asks =
-    handed asks.called result (endpoints_hands style had have asks.called result asks.prints) (asks_stage asks.called asks.asks)
+endpoints_stage : {M O : Type 0} {gives : M → ℤ → M → Type 0} {contents : O → Option (List ℕ)} {port : ℕ} {style : EndpointStyle} {first last : M} {old new : Client} {before after : LineState} {had have : O} (result : Result (Unit {0}) AskFault)
+    → AsksEndpoints gives contents port style first last old new before after had have result → Stage old.is_done new.is_done before.failures after.failures result
+endpoints_stage {contents = contents} {style = style} {had = had} {have = have} result asks =
+    handed asks.called result (endpoints_hands contents style had have asks.called result asks.prints) (asks_stage asks.called asks.asks)
 
 -- behind it a client is done
 closes_stage : {moment : DateTime} {x : Client} {before after : LineState} (result : Result (Unit {0}) AskFault) → ClosesClient moment x before after result → Stage x.is_done true before.failures after.failures result
@@ -351,17 +367,17 @@ opens_fails {before = before} {after = after} result (inr opens) =
 
 -- ---- all of it
 
-pub endpoints_failed : {M : Type 0} (gives : M → ℤ → M → Type 0) (limits : Limits) (port : ℕ) (opened_at closed_at : DateTime) (style : EndpointStyle) (first last : M) (opened asked : Client) (before once answered after : LineState) (had have : List ℕ) (printed closed result : Result (Unit {0}) AskFault)
-    → OpensPort limits port opened_at before once (Ok opened) → IsReady opened → AsksEndpoints gives port style first last opened asked once answered had have printed → ClosesClient closed_at asked answered after closed → result ≡ first_of printed closed
+pub endpoints_failed : {M O : Type 0} (gives : M → ℤ → M → Type 0) (contents : O → Option (List ℕ)) (limits : Limits) (port : ℕ) (opened_at closed_at : DateTime) (style : EndpointStyle) (first last : M) (opened asked : Client) (before once answered after : LineState) (had have : O) (printed closed result : Result (Unit {0}) AskFault)
+    → OpensPort limits port opened_at before once (Ok opened) → IsReady opened → AsksEndpoints gives contents port style first last opened asked once answered had have printed → ClosesClient closed_at asked answered after closed → result ≡ first_of printed closed
     → LineFailed before.failures result after.failures
-endpoints_failed gives limits port opened_at closed_at style first last opened asked before once answered after had have printed closed result opens ready asks closes is =
+endpoints_failed gives contents limits port opened_at closed_at style first last opened asked before once answered after had have printed closed result opens ready asks closes is =
     subst (λ (n : ℕ). LineFailed n result after.failures) (found_fails opened (opens_fails (Ok opened) opens))
     (run_failed opened asked.is_done printed closed result ready is (endpoints_stage printed asks) (closes_stage closed closes))
 
-pub question_failed : {M : Type 0} (gives : M → ℤ → M → Type 0) (limits : Limits) (port : ℕ) (opened_at closed_at : DateTime) (policy : TokenPolicy) (style : LineStyle) (question : Question) (first last : M) (opened asked : Client) (before once answered after : LineState) (had have : List ℕ)
+pub question_failed : {M O : Type 0} (gives : M → ℤ → M → Type 0) (contents : O → Option (List ℕ)) (limits : Limits) (port : ℕ) (opened_at closed_at : DateTime) (policy : TokenPolicy) (style : LineStyle) (question : Question) (first last : M) (opened asked : Client) (before once answered after : LineState) (had have : O)
     (printed : Result Verdict AskFault) (closed : Result (Unit {0}) AskFault) (result : Result Verdict AskFault)
-    → OpensPort limits port opened_at before once (Ok opened) → IsReady opened → AsksByPolicy gives port policy style question first last opened asked once answered had have printed → ClosesClient closed_at asked answered after closed → result ≡ first_of printed closed
+    → OpensPort limits port opened_at before once (Ok opened) → IsReady opened → AsksByPolicy gives contents port policy style question first last opened asked once answered had have printed → ClosesClient closed_at asked answered after closed → result ≡ first_of printed closed
     → LineFailed before.failures result after.failures
-question_failed gives limits port opened_at closed_at policy style question first last opened asked before once answered after had have printed closed result opens ready asks closes is =
+question_failed gives contents limits port opened_at closed_at policy style question first last opened asked before once answered after had have printed closed result opens ready asks closes is =
     subst (λ (n : ℕ). LineFailed n result after.failures) (found_fails opened (opens_fails (Ok opened) opens))
     (run_failed opened asked.is_done printed closed result ready is (policy_stage printed asks) (closes_stage closed closes))

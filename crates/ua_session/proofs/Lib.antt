@@ -1,4 +1,5 @@
 mod Runs
+mod Printing
 mod Failing
 mod Choosing
 mod Naming

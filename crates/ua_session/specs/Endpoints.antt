@@ -1,5 +1,5 @@
 -- What `ua endpoints` asks a server, and what is printed of it.
-use Rattle.std.specs.Prelude.{ℕ, ℤ, List, Some, Result}
+use Rattle.std.specs.Prelude.{ℕ, ℤ, List, Option, Some, Result}
 use Rattle.ua_builtin.specs.declared.date_time.DateTime.{DateTime}
 use Rattle.ua_client.specs.declared.client.Client.{Client}
 use Rattle.ua_client.specs.declared.reply.Reply.{Reply}
@@ -17,14 +17,14 @@ abbrev pub CallsEndpoints : ℕ → DateTime → Client → Client → LineState
 CallsEndpoints port moment old new before after called = Asks (get_endpoints (Some (local_url port)) moment 2) old new before after called
 
 -- GetEndpoints was asked at the next moment, and the reply was printed
-pub record AsksEndpoints {M : Type 0} (gives : M → ℤ → M → Type 0) (port : ℕ) (style : EndpointStyle) (first last : M) (old new : Client) (before after : LineState) (had have : List ℕ) (result : Result (Unit {0}) AskFault) : Type 0 where
+pub record AsksEndpoints {M O : Type 0} (gives : M → ℤ → M → Type 0) (contents : O → Option (List ℕ)) (port : ℕ) (style : EndpointStyle) (first last : M) (old new : Client) (before after : LineState) (had have : O) (result : Result (Unit {0}) AskFault) : Type 0 where
   pub moment : DateTime
   pub given : gives first moment.ticks last
   pub called : Result Reply AskFault
   pub asks : CallsEndpoints port moment old new before after called
-  pub prints : PrintsEndpoints style had have called result
+  pub prints : PrintsEndpoints contents style had have called result
 
 -- a client was opened, asked for the endpoints, and closed
-abbrev pub RunsEndpoints : {M : Type 0} → (M → ℤ → M → Type 0) → Limits → ℕ → EndpointStyle → M → M → LineState → LineState → List ℕ → List ℕ → Result (Unit {0}) AskFault → Type 0
-RunsEndpoints gives limits port style first last before after had have result =
-    Runs gives limits port first last before after had have (λ x y m n s t printed. AsksEndpoints gives port style m n x y s t had have printed) result
+abbrev pub RunsEndpoints : {M O : Type 0} → (M → ℤ → M → Type 0) → (O → Option (List ℕ)) → Limits → ℕ → EndpointStyle → M → M → LineState → LineState → O → O → Result (Unit {0}) AskFault → Type 0
+RunsEndpoints gives contents limits port style first last before after had have result =
+    Runs gives limits port first last before after had have (λ x y m n s t printed. AsksEndpoints gives contents port style m n x y s t had have printed) result

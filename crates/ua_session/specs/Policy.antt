@@ -8,7 +8,7 @@ use Rattle.ua_structures.specs.declared.discovery.UserTokenPolicy.{UserTokenPoli
 use Rattle.ua_client.specs.declared.reply.Reply.{Reply}
 use Rattle.ua_session.specs.Replies.{IsRefusedBy, endpoints_of}
 use Rattle.ua_session.specs.declared.fault.AskFault.{AskFault}
-use Rattle.ua_session.specs.declared.fault.AskFault.TheVariants.{Connection, NoMemory, NoPolicy, Service}
+use Rattle.ua_session.specs.declared.fault.AskFault.TheVariants.{Connection, NoMemory, NoPolicy, Output, Service}
 
 -- ---- the choice among endpoints
 
@@ -54,6 +54,7 @@ ChoosesAmong endpoints (Err NoPolicy) = chosen_id endpoints ≡ None
 ChoosesAmong endpoints (Err NoMemory) = Unit {0}
 ChoosesAmong endpoints (Err (Service code)) = ⊥
 ChoosesAmong endpoints (Err (Connection fault)) = ⊥
+ChoosesAmong endpoints (Err (Output error)) = ⊥
 
 -- ---- the choice by a reply
 
@@ -63,5 +64,6 @@ ChoosesBy (Ok reply) (Ok id) = (list : Option (List EndpointDescription)) × (en
 ChoosesBy (Ok reply) (Err NoPolicy) = (list : Option (List EndpointDescription)) × (endpoints_of reply ≡ Some list) × (chosen_id (listed list) ≡ None)
 ChoosesBy (Ok reply) (Err (Service code)) = IsRefusedBy (endpoints_of reply ≡ None) reply (Service code)
 ChoosesBy (Ok reply) (Err (Connection fault)) = IsRefusedBy (endpoints_of reply ≡ None) reply (Connection fault)
+ChoosesBy (Ok reply) (Err (Output error)) = ⊥
 ChoosesBy (Ok reply) (Err NoMemory) = Unit {0}
 ChoosesBy (Err fault) result = result ≡ Err fault

@@ -1,5 +1,6 @@
--- What a run adds to a text.
-use Rattle.std.specs.Prelude.{◌≡◌, ◌⊎◌, ◌++◌, ℕ, List, length, Option}
+-- What a run writes.
+use Rattle.std.specs.Prelude.{◌≡◌, ◌⊎◌, ℕ, List, length, Option}
+use Rattle.std.specs.Io.KnownBytes.{Appends}
 use Rattle.ua_builtin.specs.declared.node_id.NodeId.{NodeId}
 use Rattle.ua_builtin.specs.declared.status_code.StatusCode.{StatusCode}
 use Rattle.ua_structures.specs.declared.discovery.EndpointDescription.{EndpointDescription}
@@ -7,6 +8,8 @@ use Rattle.ua_texts.specs.Answers.{read_lines, write_lines}
 use Rattle.ua_texts.specs.Replies.{endpoint_lines}
 use Rattle.ua_texts.specs.declared.style.EndpointStyle.{EndpointStyle}
 use Rattle.ua_texts.specs.declared.style.LineStyle.{LineStyle}
+use Rattle.ua_session.specs.declared.fault.AskFault.{AskFault}
+use Rattle.ua_session.specs.declared.fault.AskFault.TheVariants.{Output}
 use Rattle.ua_variant.specs.declared.values.DataValue.{DataValue}
 
 -- the lines of answers in a style: of a Read of nodes, or of a Write to nodes
@@ -18,20 +21,17 @@ pub data AreAnswerLines (style : LineStyle) : List ℕ → Type 0 where
 pub data AreEndpointLines (style : EndpointStyle) : List ℕ → Type 0 where
   OfEndpoints : (list : Option (List EndpointDescription)) → AreEndpointLines style (endpoint_lines style list)
 
--- such lines were added
-pub record AddsLines (AreLines : List ℕ → Type 0) (had have : List ℕ) : Type 0 where
+-- a writer that held the old octets then holds behind them a text of which this holds
+pub record HasAdded (Is : List ℕ → Type 0) (old new : Option (List ℕ)) : Type 0 where
   pub text : List ℕ
-  pub lines : AreLines text
-  pub added : have ≡ had ++ text
+  pub is : Is text
+  pub added : Appends old new text
 
--- such lines were added, or none
-abbrev pub AddsOrNone : (List ℕ → Type 0) → List ℕ → List ℕ → Type 0
-AddsOrNone AreLines had have = (have ≡ had) ⊎ AddsLines AreLines had have
+-- the writer failed
+abbrev pub IsOutput : AskFault → Type 0
+IsOutput (Output error) = Unit {0}
+IsOutput other = ⊥
 
--- the lines of answers were added
-abbrev pub AddsAnswers : LineStyle → List ℕ → List ℕ → Type 0
-AddsAnswers style had have = AddsLines (AreAnswerLines style) had have
-
--- the lines of endpoints were added
-abbrev pub AddsEndpoints : EndpointStyle → List ℕ → List ℕ → Type 0
-AddsEndpoints style had have = AddsLines (AreEndpointLines style) had have
+-- what is left of a writer by a fault: it failed itself; else it is as it was, or such lines were written
+abbrev pub LeavesLines : {O : Type 0} → (O → Option (List ℕ)) → (List ℕ → Type 0) → AskFault → O → O → Type 0
+LeavesLines contents AreLines fault had have = IsOutput fault ⊎ ((have ≡ had) ⊎ HasAdded AreLines (contents had) (contents have))

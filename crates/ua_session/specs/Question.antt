@@ -16,7 +16,8 @@ use Rattle.ua_texts.specs.declared.style.LineStyle.{LineStyle}
 use Rattle.ua_variant.specs.View.{variant_of}
 use Rattle.ua_variant.specs.declared.values.DataValue.{DataValue}
 use Rattle.ua_variant.specs.declared.values.Variant.{Variant}
-use Rattle.ua_session.specs.Replies.{IsRefusedBy, is_bad_response}
+use Rattle.ua_session.specs.Printed.{HasAdded}
+use Rattle.ua_session.specs.Replies.{IsUnprinted, is_bad_response}
 use Rattle.ua_session.specs.declared.fault.AskFault.{AskFault}
 use Rattle.ua_session.specs.declared.question.Question.{Question}
 use Rattle.ua_session.specs.declared.question.Question.TheVariants.{Read, Write}
@@ -65,8 +66,8 @@ abbrev pub verdict_of : Reply → Verdict
 verdict_of (Responds m) = cond (is_bad_response m) SomeBad AllGood
 verdict_of (Aborted code) = AllGood
 
--- the lines of the answers in a reply are added, or none, and why not is told
-abbrev pub PrintsAnswers : LineStyle → Question → List ℕ → List ℕ → Result Reply AskFault → Result Verdict AskFault → Type 0
-PrintsAnswers style question had have (Ok reply) (Ok verdict) = AnswersQuestion style question reply had have × (verdict ≡ verdict_of reply)
-PrintsAnswers style question had have (Ok reply) (Err fault) = (have ≡ had) × IsRefusedBy (AnswersNothing question reply) reply fault
-PrintsAnswers style question had have (Err fault) result = (have ≡ had) × (result ≡ Err fault)
+-- the lines of the answers in a reply are written, in this style, or why not is told
+abbrev pub PrintsAnswers : {O : Type 0} → (O → Option (List ℕ)) → LineStyle → Question → O → O → Result Reply AskFault → Result Verdict AskFault → Type 0
+PrintsAnswers contents style question had have (Ok reply) (Ok verdict) = HasAdded (AnswersQuestion style question reply []) (contents had) (contents have) × (verdict ≡ verdict_of reply)
+PrintsAnswers contents style question had have (Ok reply) (Err fault) = IsUnprinted (AnswersQuestion style question reply []) (AnswersNothing question reply) reply had have fault
+PrintsAnswers contents style question had have (Err fault) result = (have ≡ had) × (result ≡ Err fault)

@@ -1,5 +1,5 @@
 -- What is made of replies.
-use Rattle.std.specs.Prelude.{◌≡◌, ◌||◌, ℕ, Bool, false, List, Option, Some, None, Result, Ok, Err}
+use Rattle.std.specs.Prelude.{◌≡◌, ◌⊎◌, ◌||◌, ℕ, Bool, false, List, [], Option, Some, None, Result, Ok, Err}
 use Rattle.ua_builtin.specs.Status.{is_bad}
 use Rattle.ua_builtin.specs.declared.status_code.StatusCode.{StatusCode}
 use Rattle.ua_client.specs.declared.fault.ClientFault.TheVariants.{UnknownResponse}
@@ -11,7 +11,8 @@ use Rattle.ua_structures.specs.declared.discovery.EndpointDescription.{EndpointD
 use Rattle.ua_texts.specs.Replies.{AreEndpoints, endpoints_in, fault_in, has_bad}
 use Rattle.ua_texts.specs.declared.style.EndpointStyle.{EndpointStyle}
 use Rattle.ua_session.specs.declared.fault.AskFault.{AskFault}
-use Rattle.ua_session.specs.declared.fault.AskFault.TheVariants.{Service, Connection, NoMemory, NoPolicy}
+use Rattle.ua_session.specs.declared.fault.AskFault.TheVariants.{Service, Connection, NoMemory, NoPolicy, Output}
+use Rattle.ua_session.specs.Printed.{HasAdded, IsOutput}
 
 -- ---- what a reply has
 
@@ -50,6 +51,7 @@ IsRefusedBy IsUnknown reply (Service code) = failure_in reply ≡ Some code
 IsRefusedBy IsUnknown reply (Connection UnknownResponse) = (failure_in reply ≡ None) × IsUnknown
 IsRefusedBy IsUnknown reply (Connection other) = ⊥
 IsRefusedBy IsUnknown reply NoPolicy = ⊥
+IsRefusedBy IsUnknown reply (Output error) = ⊥
 IsRefusedBy IsUnknown reply NoMemory = Unit {0}
 
 -- a reply that only says that the service is done; a fault, and that the service failed, are told
@@ -58,11 +60,16 @@ Expects (Ok reply) (Ok done) = failure_in reply ≡ None
 Expects (Ok reply) (Err (Service code)) = failure_in reply ≡ Some code
 Expects (Ok reply) (Err (Connection fault)) = ⊥
 Expects (Ok reply) (Err NoPolicy) = ⊥
+Expects (Ok reply) (Err (Output error)) = ⊥
 Expects (Ok reply) (Err NoMemory) = ⊥
 Expects (Err fault) result = result ≡ Err fault
 
--- the lines of the endpoints in a reply are added, in this style, or none, and why not is told
-abbrev pub PrintsEndpoints : EndpointStyle → List ℕ → List ℕ → Result Reply AskFault → Result (Unit {0}) AskFault → Type 0
-PrintsEndpoints style had have (Ok reply) (Ok done) = AreEndpoints style (endpoints_of reply) had have
-PrintsEndpoints style had have (Ok reply) (Err fault) = (have ≡ had) × IsRefusedBy (endpoints_of reply ≡ None) reply fault
-PrintsEndpoints style had have (Err fault) result = (have ≡ had) × (result ≡ Err fault)
+-- why a reply was not printed: nothing was written, and it is no answer, for this reason; or the writer failed at its lines, of which this holds
+abbrev pub IsUnprinted : {O : Type 0} → (List ℕ → Type 0) → Type 0 → Reply → O → O → AskFault → Type 0
+IsUnprinted AreLines IsUnknown reply had have fault = ((have ≡ had) × IsRefusedBy IsUnknown reply fault) ⊎ (IsOutput fault × ((lines : List ℕ) × AreLines lines))
+
+-- the lines of the endpoints in a reply are written, in this style, or why not is told
+abbrev pub PrintsEndpoints : {O : Type 0} → (O → Option (List ℕ)) → EndpointStyle → O → O → Result Reply AskFault → Result (Unit {0}) AskFault → Type 0
+PrintsEndpoints contents style had have (Ok reply) (Ok done) = HasAdded (AreEndpoints style (endpoints_of reply) []) (contents had) (contents have)
+PrintsEndpoints contents style had have (Ok reply) (Err fault) = IsUnprinted (AreEndpoints style (endpoints_of reply) []) (endpoints_of reply ≡ None) reply had have fault
+PrintsEndpoints contents style had have (Err fault) result = (have ≡ had) × (result ≡ Err fault)

@@ -74,9 +74,9 @@ abbrev pub EndsUnbegun : {M : Type 0} → (M → ℤ → M → Type 0) → Optio
 EndsUnbegun gives None handle first last old new before after = (last ≡ first) × (new ≡ old) × (after ≡ before)
 EndsUnbegun gives (Some token) handle first last old new before after = ClosesUnbegun gives token handle first last old new before after
 
--- a question was asked under the token of a session, with this RequestHandle, the reply printed, and the session ended, also behind a
--- fault; each RequestHandle is the request id of its call
-pub record AsksUnder {M : Type 0} (gives : M → ℤ → M → Type 0) (style : LineStyle) (question : Question) (token : NodeId) (handle : ℕ) (first last : M) (old new : Client) (before after : LineState) (had have : List ℕ) (result : Result Verdict AskFault) : Type 0 where
+-- a question was asked under the token of a session, with this RequestHandle, the reply printed, and the session ended behind
+-- that, also behind a fault; each RequestHandle is the request id of its call
+pub record AsksUnder {M O : Type 0} (gives : M → ℤ → M → Type 0) (contents : O → Option (List ℕ)) (style : LineStyle) (question : Question) (token : NodeId) (handle : ℕ) (first last : M) (old new : Client) (before after : LineState) (had have : O) (result : Result Verdict AskFault) : Type 0 where
   pub asked_at : DateTime
   pub behind : M
   pub asking_given : gives first asked_at.ticks behind
@@ -85,7 +85,7 @@ pub record AsksUnder {M : Type 0} (gives : M → ℤ → M → Type 0) (style : 
   pub answered : LineState
   pub asks : Asks (request_of question token asked_at handle) old asked before answered called
   pub printed : Result Verdict AskFault
-  pub prints : PrintsAnswers style question had have called printed
+  pub prints : PrintsAnswers contents style question had have called printed
   pub ended_at : DateTime
   pub ending_given : gives behind ended_at.ticks last
   pub ended : Result (Unit {0}) AskFault
@@ -93,8 +93,8 @@ pub record AsksUnder {M : Type 0} (gives : M → ℤ → M → Type 0) (style : 
   pub result_is : result ≡ first_of printed ended
 
 -- a session was begun by the token policy with this PolicyId, a question asked in it, and the session ended; where none was begun that is
--- told, and no line was added, but one that stands at the server nevertheless was ended
-pub record AsksInSession {M : Type 0} (gives : M → ℤ → M → Type 0) (style : LineStyle) (question : Question) (policy_id : Option (List ℕ)) (handle : ℕ) (first last : M) (old new : Client) (before after : LineState) (had have : List ℕ) (result : Result Verdict AskFault) : Type 0 where
+-- told, and nothing was written, but one that stands at the server nevertheless was ended
+pub record AsksInSession {M O : Type 0} (gives : M → ℤ → M → Type 0) (contents : O → Option (List ℕ)) (style : LineStyle) (question : Question) (policy_id : Option (List ℕ)) (handle : ℕ) (first last : M) (old new : Client) (before after : LineState) (had have : O) (result : Result Verdict AskFault) : Type 0 where
   pub begun_at : DateTime
   pub behind : M
   pub given : gives first begun_at.ticks behind
@@ -103,21 +103,21 @@ pub record AsksInSession {M : Type 0} (gives : M → ℤ → M → Type 0) (styl
   pub once_begun : LineState
   pub begins : Begins policy_id begun_at old client before once_begun begun
   pub further : MatchResult begun
-      (λ token. AsksUnder gives style question token handle behind last client new once_begun after had have result)
+      (λ token. AsksUnder gives contents style question token handle behind last client new once_begun after had have result)
       (λ refused. (result ≡ Err refused.fault) × (have ≡ had) × EndsUnbegun gives refused.token (handle_unbegun handle refused.fault) behind last client new once_begun after)
 
--- the PolicyId was found, and a question asked in a session that is begun by it; where none was found that is told, and no line was added
-pub record AsksByPolicy {M : Type 0} (gives : M → ℤ → M → Type 0) (port : ℕ) (policy : TokenPolicy) (style : LineStyle) (question : Question) (first last : M) (old new : Client) (before after : LineState) (had have : List ℕ) (result : Result Verdict AskFault) : Type 0 where
+-- the PolicyId was found, and a question asked in a session that is begun by it; where none was found that is told, and nothing was written
+pub record AsksByPolicy {M O : Type 0} (gives : M → ℤ → M → Type 0) (contents : O → Option (List ℕ)) (port : ℕ) (policy : TokenPolicy) (style : LineStyle) (question : Question) (first last : M) (old new : Client) (before after : LineState) (had have : O) (result : Result Verdict AskFault) : Type 0 where
   pub found : Result (Option (List ℕ)) AskFault
   pub behind : M
   pub client : Client
   pub once_found : LineState
   pub finds : FindsPolicy gives port policy first behind old client before once_found found
   pub further : MatchResult found
-      (λ policy_id. AsksInSession gives style question policy_id (first_call policy) behind last client new once_found after had have result)
+      (λ policy_id. AsksInSession gives contents style question policy_id (first_call policy) behind last client new once_found after had have result)
       (λ fault. (result ≡ Err fault) × (last ≡ behind) × (new ≡ client) × (after ≡ once_found) × (have ≡ had))
 
 -- a client was opened, asked a question in a session that is begun by a token policy, and closed
-abbrev pub RunsQuestion : {M : Type 0} → (M → ℤ → M → Type 0) → Limits → ℕ → TokenPolicy → LineStyle → Question → M → M → LineState → LineState → List ℕ → List ℕ → Result Verdict AskFault → Type 0
-RunsQuestion gives limits port policy style question first last before after had have result =
-    Runs gives limits port first last before after had have (λ x y m n s t printed. AsksByPolicy gives port policy style question m n x y s t had have printed) result
+abbrev pub RunsQuestion : {M O : Type 0} → (M → ℤ → M → Type 0) → (O → Option (List ℕ)) → Limits → ℕ → TokenPolicy → LineStyle → Question → M → M → LineState → LineState → O → O → Result Verdict AskFault → Type 0
+RunsQuestion gives contents limits port policy style question first last before after had have result =
+    Runs gives limits port first last before after had have (λ x y m n s t printed. AsksByPolicy gives contents port policy style question m n x y s t had have printed) result

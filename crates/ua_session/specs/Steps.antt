@@ -17,7 +17,7 @@ use Rattle.ua_session.specs.Line.{FailsBy, LineState}
 use Rattle.ua_session.specs.Told.{of_client}
 use Rattle.ua_session.specs.declared.fault.AskFault.{AskFault}
 use Rattle.ua_session.specs.declared.fault.NotBegun.{NotBegun}
-use Rattle.ua_session.specs.declared.fault.AskFault.TheVariants.{NoMemory}
+use Rattle.ua_session.specs.declared.fault.AskFault.TheVariants.{NoMemory, Output}
 
 -- ---- what is told
 
@@ -26,11 +26,12 @@ abbrev pub told : {A : Type 0} → Result A ClientFault → Result A AskFault
 told (Ok found) = Ok found
 told (Err fault) = Err (of_client fault)
 
--- the first fault of two results, or what the first one is where there is none; that memory ran out is told before any other fault, so that
--- what was not done for want of it behind a fault is seen
+-- the first fault of two results, or what the first one is where there is none; that the writer failed is told before all others, and that
+-- memory ran out before any other, so that what was not done for want of it behind a fault is seen
 abbrev pub first_of : {A : Type 0} → Result A AskFault → Result (Unit {0}) AskFault → Result A AskFault
 first_of (Ok found) (Ok done) = Ok found
 first_of (Ok found) (Err fault) = Err fault
+first_of (Err (Output error)) other = Err (Output error)
 first_of (Err fault) (Err NoMemory) = Err NoMemory
 first_of (Err fault) other = Err fault
 
@@ -109,8 +110,8 @@ pub record Uses {A M : Type 0} (gives : M → ℤ → M → Type 0) (last : M) (
   pub result_is : result ≡ first_of printed closed
 
 -- a client was opened to the server on a port of this machine, asked something, of which this holds, and closed, each step at the next
--- moment; where none was opened that is told, and no line was added
-pub record Runs {A M : Type 0} (gives : M → ℤ → M → Type 0) (limits : Limits) (port : ℕ) (first last : M) (before after : LineState) (had have : List ℕ)
+-- moment; where none was opened that is told, and nothing was written
+pub record Runs {A M O : Type 0} (gives : M → ℤ → M → Type 0) (limits : Limits) (port : ℕ) (first last : M) (before after : LineState) (had have : O)
     (Asked : Client → Client → M → M → LineState → LineState → Result A AskFault → Type 0) (result : Result A AskFault) : Type 0 where
   pub opened_at : DateTime
   pub behind : M

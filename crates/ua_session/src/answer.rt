@@ -1,10 +1,14 @@
 //! What is made of replies.
 
-ghost use Rattle.std.specs.Prelude.{◌≡◌, string_bytes};
+ghost use Rattle.std.specs.Prelude.{◌≡◌, [], IfErr, OnOk};
+ghost use Rattle.std.specs.Io.KnownBytes.{Appends};
+ghost use Rattle.ua_session.specs.Printed.{IsOutput};
 ghost use Rattle.ua_session.specs.Replies.{Expects, GivesResponse, PrintsEndpoints, has_failed, is_bad_response};
 
 use crate::fault::AskFault;
 use std::alloc::Global;
+use std::io;
+use std::io::Write;
 use ua_client::Reply;
 use ua_services::Response;
 use ua_texts::{EndpointStyle, has_bad_code, push_endpoints};
@@ -20,21 +24,45 @@ pub fn response_of(called: Result<Reply, AskFault>) -> Result<Response, AskFault
     }
 }
 
-/// Adds the lines of the endpoints in a reply, all or none, in this style.
-pub fn print_endpoints(
+/// Writes lines and flushes them, and leaves the writer alone where there are none.
+pub fn write_lines<O: Write>(out: &mut O, lines: &str) -> io::Result<()>
+    ensures written { OnOk result (Appends (O.contents out.old) (O.contents out.new) lines.now) }
+    ensures none { lines.now ≡ [] → out.new ≡ out.old }
+{
+    if lines.is_empty() {
+        return Ok(());
+    }
+    out.write_all(lines.as_bytes())?;
+    out.flush()
+}
+
+/// The same, where it is told that the writer failed.
+pub fn print_lines<O: Write>(out: &mut O, lines: &str) -> Result<(), AskFault>
+    ensures written { OnOk result (Appends (O.contents out.old) (O.contents out.new) lines.now) }
+    ensures failed { IfErr result IsOutput }
+{
+    match write_lines(out, lines) {
+        Ok(()) => Ok(()),
+        Err(error) => Err(AskFault::Output(error)),
+    }
+}
+
+/// Writes the lines of the endpoints in a reply, in this style, and flushes them: all or none, unless
+/// the writer fails.
+pub fn print_endpoints<O: Write>(
     alloc: Global,
-    out: &mut String,
+    out: &mut O,
     called: Result<Reply, AskFault>,
     style: EndpointStyle,
 ) -> Result<(), AskFault>
-    ensures { PrintsEndpoints style (string_bytes out.old) (string_bytes out.new) called result }
+    ensures { PrintsEndpoints O.contents style out.old out.new called result }
 {
     let response = response_of(called)?;
     let mut lines = String::new(alloc);
     let pushed = push_endpoints(alloc, &mut lines, &response, style);
     drop(response);
     pushed?;
-    Ok(out.push_str(&lines)?)
+    print_lines(out, &lines)
 }
 
 /// Whether the response to a Read or a Write has a bad code: its own ServiceResult, or that of a result.

@@ -1,14 +1,15 @@
 //! `ua endpoints`: the endpoints of a server.
 
-ghost use Rattle.std.specs.Prelude.{string_bytes, OnOk};
+ghost use Rattle.std.specs.Prelude.{IfErr, OnOk};
 ghost use Rattle.ua_session.specs.Endpoints.{AsksEndpoints, CallsEndpoints, RunsEndpoints};
 ghost use Rattle.ua_session.specs.Line.{LineFailed};
-ghost use Rattle.ua_session.specs.Printed.{AddsEndpoints, AddsOrNone, AreEndpointLines};
+ghost use Rattle.ua_session.specs.Printed.{AreEndpointLines, HasAdded, LeavesLines};
 
 use crate::answer::print_endpoints;
 use crate::fault::AskFault;
 use crate::step::{call, close, first_of, next_moment, open};
 use std::alloc::Global;
+use std::io::Write;
 use ua_builtin::DateTime;
 use ua_channel::{Line, Moments};
 use ua_client::{Client, Reply};
@@ -36,39 +37,40 @@ pub fn call_endpoints<L: Line>(
     call(line, client, request, moment)
 }
 
-/// Asks for the endpoints, and adds their lines.
-fn ask_endpoints<L: Line, M: Moments>(
+/// Asks for the endpoints, and writes their lines.
+fn ask_endpoints<L: Line, M: Moments, O: Write>(
     alloc: Global,
     line: &mut L,
     client: &mut Client,
     port: u16,
     style: EndpointStyle,
     moments: &mut M,
-    out: &mut String,
+    out: &mut O,
 ) -> Result<(), AskFault>
-    ensures { AsksEndpoints M.gives port style moments.old moments.new client.old client.new (record { traffic = L.traffic line.old; failures = L.failures line.old }) (record { traffic = L.traffic line.new; failures = L.failures line.new }) (string_bytes out.old) (string_bytes out.new) result }
+    ensures { AsksEndpoints M.gives O.contents port style moments.old moments.new client.old client.new (record { traffic = L.traffic line.old; failures = L.failures line.old }) (record { traffic = L.traffic line.new; failures = L.failures line.new }) out.old out.new result }
 {
     let moment = next_moment(moments);
     let called = call_endpoints(alloc, line, client, port, moment);
     print_endpoints(alloc, out, called, style)
 }
 
-/// Asks the server at the other end of a line for its endpoints, and adds their lines in this style: as the server on
-/// a port of this machine, whose connection stands at its beginning. A client is opened, calls
-/// GetEndpoints without a session and is closed, also behind a fault after which it may go on; the
-/// first fault is told, or that memory ran out. Each of these steps has the next moment.
-pub fn endpoints_over<L: Line, M: Moments>(
+/// Asks the server at the other end of a line for its endpoints, and writes their lines in this style: as the
+/// server on a port of this machine, whose connection stands at its beginning. A client is opened, calls
+/// GetEndpoints without a session and is closed, also behind a fault after which it may go on. The lines are
+/// written and flushed as soon as the response is read, before the client is closed. The first fault is
+/// told, or that the writer failed, or that memory ran out. Each of these steps has the next moment.
+pub fn endpoints_over<L: Line, M: Moments, O: Write>(
     alloc: Global,
     line: &mut L,
     limits: Limits,
     port: u16,
     style: EndpointStyle,
     moments: &mut M,
-    out: &mut String,
+    out: &mut O,
 ) -> Result<(), AskFault>
-    ensures runs { RunsEndpoints M.gives limits port style moments.old moments.new (record { traffic = L.traffic line.old; failures = L.failures line.old }) (record { traffic = L.traffic line.new; failures = L.failures line.new }) (string_bytes out.old) (string_bytes out.new) result }
-    ensures adds { AddsOrNone (AreEndpointLines style) (string_bytes out.old) (string_bytes out.new) }
-    ensures answered { OnOk result (AddsEndpoints style (string_bytes out.old) (string_bytes out.new)) }
+    ensures runs { RunsEndpoints M.gives O.contents limits port style moments.old moments.new (record { traffic = L.traffic line.old; failures = L.failures line.old }) (record { traffic = L.traffic line.new; failures = L.failures line.new }) out.old out.new result }
+    ensures answered { OnOk result (HasAdded (AreEndpointLines style) (O.contents out.old) (O.contents out.new)) }
+    ensures left { IfErr result (λ fault. LeavesLines O.contents (AreEndpointLines style) fault out.old out.new) }
     ensures failed { LineFailed (L.failures line.old) result (L.failures line.new) }
 {
     let opened_at = next_moment(moments);

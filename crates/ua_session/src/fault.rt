@@ -2,14 +2,15 @@
 
 use crate::fault_name::FaultName;
 use std::alloc::AllocError;
+use std::io;
 use thiserror::Error;
 use ua_builtin::{NodeId, StatusCode, TextFault};
 use ua_client::ClientFault;
 use ua_nodes::ValueFault;
 use ua_texts::AnswerFault;
 
-/// Why a server gave no answers, or why the client was not closed behind them.
-#[derive(Clone, Copy, PartialEq, Eq, Debug, Error)]
+/// Why a server gave no answers, why they were not written, or why the client was not closed behind them.
+#[derive(Clone, Copy, Debug, Error)]
 pub enum AskFault {
     /// A service failed, and why: the code of a ServiceFault, or of an answer that the server gave up.
     #[error("service {code:08X}", code = .0.code)]
@@ -20,6 +21,9 @@ pub enum AskFault {
     /// No endpoint without security has a token policy for users without a name.
     #[error("no anonymous policy")]
     NoPolicy,
+    /// Answers could not be written, and why.
+    #[error("cannot write")]
+    Output(io::Error),
     /// Memory was refused.
     #[error("no memory")]
     NoMemory,

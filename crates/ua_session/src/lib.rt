@@ -1,14 +1,14 @@
 //! What the commands that ask do. `ua endpoints`, `ua read` and `ua write` ask a server over a line, and
-//! add the lines of the answers; `ua loop` runs a script over nodes, with both ends in this process.
+//! write the lines of the answers; `ua loop` runs a script over nodes, with both ends in this process.
 //!
 //! Its contracts are those of [`endpoints_over`] and [`ask_over`]: what a client does at each step, how
-//! often its line fails, which lines are added of the replies, and which fault is told.
+//! often its line fails, which lines are written of the replies, and which fault is told.
 //!
 //! ```
 //! let question = Question::parse_read(alloc, &["ns=1;s=Pump"], 13, None)?;
 //! let style = LineStyle::plain(false);
-//! ask_over(alloc, &mut line, limits, 4840, &TokenPolicy::Auto, &question, style, &mut moments, &mut out)?;
-//! // `ns=1;s=Pump 00000000 Int32 6` is added to `out`
+//! ask_over(alloc, &mut line, limits, 4840, &question, &TokenPolicy::Auto, style, &mut moments, &mut out)?;
+//! // `ns=1;s=Pump 00000000 Int32 6` is written to `out`
 //! ```
 //!
 //! And that of [`run_lines`]: the octets each way and the text are functions of the nodes and of the

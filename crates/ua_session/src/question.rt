@@ -6,10 +6,11 @@ ghost use Rattle.ua_session.specs.Replies.{IsRefusedBy};
 ghost use Rattle.ua_session.specs.Told.{of_answer};
 ghost use Rattle.ua_client.specs.declared.reply.Reply.TheVariants.{Response as Responds};
 
-use crate::answer::{is_bad_response, response_of};
+use crate::answer::{is_bad_response, print_lines, response_of};
 use crate::fault::AskFault;
 use crate::verdict::Verdict;
 use std::alloc::{AllocError, Global};
+use std::io::Write;
 use std::slice;
 use ua_builtin::{DateTime, NodeId, UaString};
 use ua_client::Reply;
@@ -114,16 +115,16 @@ impl Question {
         }
     }
 
-    /// Adds the lines of its answers in a reply, all or none, in this style, and says whether any has a
-    /// bad code.
-    pub(crate) fn print(
+    /// Writes the lines of its answers in a reply, in this style, and flushes them: all or none, unless
+    /// the writer fails. Says whether the reply has a bad code.
+    pub(crate) fn print<O: Write>(
         &self,
         alloc: Global,
-        out: &mut String,
+        out: &mut O,
         called: Result<Reply, AskFault>,
         style: LineStyle,
     ) -> Result<Verdict, AskFault>
-        ensures { PrintsAnswers style self.now (string_bytes out.old) (string_bytes out.new) called result }
+        ensures { PrintsAnswers O.contents style self.now out.old out.new called result }
     {
         let response = response_of(called)?;
         let mut lines = String::new(alloc);
@@ -131,7 +132,7 @@ impl Question {
         let verdict = verdict_of(&response);
         drop(response);
         pushed?;
-        out.push_str(&lines)?;
+        print_lines(out, &lines)?;
         Ok(verdict)
     }
 }

@@ -1,8 +1,8 @@
 //! `ua read` and `ua write`: what is asked in a session of its own.
 
-ghost use Rattle.std.specs.Prelude.{◌≡◌, ◌<◌, ◌^◌, string_bytes, OnOk};
+ghost use Rattle.std.specs.Prelude.{◌≡◌, ◌<◌, ◌^◌, IfErr, OnOk};
 ghost use Rattle.ua_session.specs.Line.{LineFailed};
-ghost use Rattle.ua_session.specs.Printed.{AddsAnswers, AddsOrNone, AreAnswerLines};
+ghost use Rattle.ua_session.specs.Printed.{AreAnswerLines, HasAdded, LeavesLines};
 ghost use Rattle.ua_session.specs.Question.{request_of};
 ghost use Rattle.ua_session.specs.Session.{AsksByPolicy, AsksInSession, AsksUnder, EndsSession, EndsUnbegun, FindsPolicy, RunsQuestion, first_call, handle_behind, handle_unbegun};
 ghost use Rattle.ua_session.specs.Steps.{Asks};
@@ -15,6 +15,7 @@ use crate::question::Question;
 use crate::step::{begin, call, close, first_of, next_moment, open};
 use crate::verdict::Verdict;
 use std::alloc::Global;
+use std::io::Write;
 use ua_builtin::{DateTime, NodeId, UaString};
 use ua_channel::{Line, Moments};
 use ua_client::{Client, Reply};
@@ -106,8 +107,8 @@ fn end_session<L: Line>(
     expect_done(called)
 }
 
-/// Asks a question under the token of a session, adds the lines of the answers, and ends the session.
-fn ask_under<L: Line, M: Moments>(
+/// Asks a question under the token of a session, writes the lines of the answers, and ends the session.
+fn ask_under<L: Line, M: Moments, O: Write>(
     alloc: Global,
     line: &mut L,
     client: &mut Client,
@@ -116,10 +117,10 @@ fn ask_under<L: Line, M: Moments>(
     token: NodeId,
     handle: u32,
     moments: &mut M,
-    out: &mut String,
+    out: &mut O,
 ) -> Result<Verdict, AskFault>
     requires { handle < 2 ^ 31 }
-    ensures { AsksUnder M.gives style question.now token handle moments.old moments.new client.old client.new (record { traffic = L.traffic line.old; failures = L.failures line.old }) (record { traffic = L.traffic line.new; failures = L.failures line.new }) (string_bytes out.old) (string_bytes out.new) result }
+    ensures { AsksUnder M.gives O.contents style question.now token handle moments.old moments.new client.old client.new (record { traffic = L.traffic line.old; failures = L.failures line.old }) (record { traffic = L.traffic line.new; failures = L.failures line.new }) out.old out.new result }
 {
     let asked_at = next_moment(moments);
     let called = call_question(alloc, line, client, question, &token, handle, asked_at);
@@ -163,9 +164,9 @@ fn end_unbegun<L: Line, M: Moments>(
     fault
 }
 
-/// Begins a session by the token policy with an id, asks a question in it, adds the lines of the
+/// Begins a session by the token policy with an id, asks a question in it, writes the lines of the
 /// answers, and ends the session.
-fn ask_in_session<L: Line, M: Moments>(
+fn ask_in_session<L: Line, M: Moments, O: Write>(
     alloc: Global,
     line: &mut L,
     client: &mut Client,
@@ -174,11 +175,11 @@ fn ask_in_session<L: Line, M: Moments>(
     policy_id: UaString,
     handle: u32,
     moments: &mut M,
-    out: &mut String,
+    out: &mut O,
 ) -> Result<Verdict, AskFault>
     requires few { handle < 2 ^ 31 }
     requires some { 0 < handle }
-    ensures { AsksInSession M.gives style question.now policy_id handle moments.old moments.new client.old client.new (record { traffic = L.traffic line.old; failures = L.failures line.old }) (record { traffic = L.traffic line.new; failures = L.failures line.new }) (string_bytes out.old) (string_bytes out.new) result }
+    ensures { AsksInSession M.gives O.contents style question.now policy_id handle moments.old moments.new client.old client.new (record { traffic = L.traffic line.old; failures = L.failures line.old }) (record { traffic = L.traffic line.new; failures = L.failures line.new }) out.old out.new result }
 {
     let begun_at = next_moment(moments);
     match begin(line, client, policy_id, begun_at) {
@@ -190,7 +191,7 @@ fn ask_in_session<L: Line, M: Moments>(
 }
 
 /// Finds the token policy, and asks a question in a session that is begun by it.
-fn ask_by_policy<L: Line, M: Moments>(
+fn ask_by_policy<L: Line, M: Moments, O: Write>(
     alloc: Global,
     line: &mut L,
     client: &mut Client,
@@ -199,9 +200,9 @@ fn ask_by_policy<L: Line, M: Moments>(
     policy: &TokenPolicy,
     style: LineStyle,
     moments: &mut M,
-    out: &mut String,
+    out: &mut O,
 ) -> Result<Verdict, AskFault>
-    ensures { AsksByPolicy M.gives port policy.now style question.now moments.old moments.new client.old client.new (record { traffic = L.traffic line.old; failures = L.failures line.old }) (record { traffic = L.traffic line.new; failures = L.failures line.new }) (string_bytes out.old) (string_bytes out.new) result }
+    ensures { AsksByPolicy M.gives O.contents port policy.now style question.now moments.old moments.new client.old client.new (record { traffic = L.traffic line.old; failures = L.failures line.old }) (record { traffic = L.traffic line.new; failures = L.failures line.new }) out.old out.new result }
 {
     let found = find_policy(alloc, line, client, port, policy, moments);
     let handle = first_call(policy);
@@ -213,15 +214,17 @@ fn ask_by_policy<L: Line, M: Moments>(
     }
 }
 
-/// Asks the server at the other end of a line a question in a session of its own, and adds the lines of
-/// the answers in this style: as the server on a port of this machine, whose connection stands at its
-/// beginning. A client is opened, begins a session by this token policy, asks, ends the session and is
-/// closed, these two also behind a fault after which it may go on; the first fault is told, or that
-/// memory ran out. A session that CreateSession made, and ActivateSession did not begin, is ended, too,
-/// and the fault told is that of ActivateSession. For [`TokenPolicy::Auto`] the client calls
-/// GetEndpoints before it begins the session; where the endpoints give no policy that is told as
-/// `NoPolicy`, and no session is begun. Each of these steps has the next moment.
-pub fn ask_over<L: Line, M: Moments>(
+/// Asks the server at the other end of a line a question in a session of its own, and writes the lines
+/// of the answers in this style: as the server on a port of this machine, whose connection stands at
+/// its beginning. A client is opened, begins a session by this token policy, asks, ends the session and
+/// is closed, these two also behind a fault after which it may go on. A session that CreateSession
+/// made, and ActivateSession did not begin, is ended, too, and the fault told is that of
+/// ActivateSession. The lines are written and flushed as soon as the response is read, before the
+/// session is ended. The first fault is told, or that the writer failed, or that memory ran out. For
+/// [`TokenPolicy::Auto`] the client calls GetEndpoints before it begins the session; where the
+/// endpoints give no policy that is told as `NoPolicy`, and no session is begun. Each of these steps
+/// has the next moment.
+pub fn ask_over<L: Line, M: Moments, O: Write>(
     alloc: Global,
     line: &mut L,
     limits: Limits,
@@ -230,11 +233,11 @@ pub fn ask_over<L: Line, M: Moments>(
     policy: &TokenPolicy,
     style: LineStyle,
     moments: &mut M,
-    out: &mut String,
+    out: &mut O,
 ) -> Result<Verdict, AskFault>
-    ensures runs { RunsQuestion M.gives limits port policy.now style question.now moments.old moments.new (record { traffic = L.traffic line.old; failures = L.failures line.old }) (record { traffic = L.traffic line.new; failures = L.failures line.new }) (string_bytes out.old) (string_bytes out.new) result }
-    ensures adds { AddsOrNone (AreAnswerLines style) (string_bytes out.old) (string_bytes out.new) }
-    ensures answered { OnOk result (AddsAnswers style (string_bytes out.old) (string_bytes out.new)) }
+    ensures runs { RunsQuestion M.gives O.contents limits port policy.now style question.now moments.old moments.new (record { traffic = L.traffic line.old; failures = L.failures line.old }) (record { traffic = L.traffic line.new; failures = L.failures line.new }) out.old out.new result }
+    ensures answered { OnOk result (HasAdded (AreAnswerLines style) (O.contents out.old) (O.contents out.new)) }
+    ensures left { IfErr result (λ fault. LeavesLines O.contents (AreAnswerLines style) fault out.old out.new) }
     ensures failed { LineFailed (L.failures line.old) result (L.failures line.new) }
 {
     let opened_at = next_moment(moments);

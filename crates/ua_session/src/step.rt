@@ -32,8 +32,8 @@ fn told<A: Drop>(answer: Result<A, ClientFault>) -> Result<A, AskFault>
     }
 }
 
-/// The first of two faults, or what the first one found where there is none; that memory ran out is told
-/// before any other fault.
+/// The first of two faults, or what the first one found where there is none; that the writer failed is
+/// told before all others, and that memory ran out before any other.
 pub fn first_of<A: Drop>(
     first: Result<A, AskFault>,
     second: Result<(), AskFault>,
@@ -42,6 +42,7 @@ pub fn first_of<A: Drop>(
 {
     match (first, second) {
         (Ok(found), Ok(())) => Ok(found),
+        (Err(AskFault::Output(error)), _) => Err(AskFault::Output(error)),
         (Err(_), Err(AskFault::NoMemory)) => Err(AskFault::NoMemory),
         (Ok(_), Err(fault)) | (Err(fault), _) => Err(fault),
     }

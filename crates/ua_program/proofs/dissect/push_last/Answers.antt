@@ -15,3 +15,13 @@ returns-clause-lines c = λ content told s.
     ends_file asked.hex asked.options content s.octets told (string_bytes c.args.text.now) (string_bytes c.finish.new.out)
     (whole_octets asked.hex half content s.octets whole s.holds)
     (c.in_ok-finish.ensures.last asked.options s.octets told s.stands)
+
+pub returns-clause-whole : goal.returns-clause-whole
+returns-clause-whole c = λ content told s.
+    let asked = c.args.asked.now in
+    let half = c.args.digits.now.half in
+    let whole : (asked.hex ≡ false) ⊎ (half ≡ None) = elim c.else-asked.branch [
+      | else-asked-via-then-asked+else-not-is_whole w ↦ inr (none_left half cc)
+      | else-asked-via-else-asked w ↦ inl cc
+    ] in
+    whole_octets asked.hex half content s.octets whole s.holds

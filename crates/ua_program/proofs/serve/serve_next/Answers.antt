@@ -1,16 +1,35 @@
-use Rattle.std.proofs.Common.{rules, inr, refl}
-use Rattle.std.proofs.lemmas.Result.{IfOk-weaker}
-use Rattle.ua_program.proofs.Serves.{none_told, one_said, stops_at}
+use Rattle.std.proofs.Common.{rules, inl, inr, refl}
+use Rattle.std.proofs.lemmas.Result.{IfErr-weaker, IfOk-weaker}
+use Rattle.ua_program.proofs.Serves.{memory_said, none_told, one_said, outlived_left, starved_left, stops_at}
 use Rattle.ua_program.proofs.serve.serve_next.Goals as goal
 
+pub returns-in_err-stream-clause-stopped : goal.returns-in_err-stream-clause-stopped
+returns-in_err-stream-clause-stopped g c =
+    stops_at _ _ c.in_err-stream.field-0.0 c.from_residual.ensures.1 (inr (none_told _ _ _ _ refl))
+
+pub returns-in_err-stream-clause-lasts : goal.returns-in_err-stream-clause-lasts
+returns-in_err-stream-clause-lasts g c = λ on.
+    stops_at _ _ c.in_err-stream.field-0.0 c.from_residual.ensures.1 (inr (c.in_err-stream.ensures.lasts on))
+
+pub returns-in-Ok-clause-served : goal.returns-in-Ok-clause-served
+returns-in-Ok-clause-served g c =
+    let before = c.in-Ok.ensures.served in
+    IfOk-weaker c.say.result _ _ (λ x added. one_said _ _ _ _ _ _ _ _ before.0 before.1 (search rules) added) c.say.ensures.said
+
+pub returns-in-Ok-clause-lasts : goal.returns-in-Ok-clause-lasts
+returns-in-Ok-clause-lasts g c = λ on. IfErr-weaker c.say.result _ _ (λ why writes. inl writes) c.say.ensures.failed
+
+pub returns-in-Err-clause-served : goal.returns-in-Err-clause-served
+returns-in-Err-clause-served g c =
+    IfOk-weaker c.outlive.result _ _
+    (λ x said. memory_said _ _ _ _ _ _ (starved_left _ said.1 c.in-Err.ensures.stopped) said.0 said.2)
+    c.outlive.ensures.said
+
+pub returns-in-Err-clause-lasts : goal.returns-in-Err-clause-lasts
+returns-in-Err-clause-lasts g c = λ on. IfErr-weaker c.outlive.result _ _ (λ why writes. inl writes) (c.outlive.ensures.lasts on c.in-Err.ensures.only)
+
 pub returns-in-Err-clause-stopped : goal.returns-in-Err-clause-stopped
-returns-in-Err-clause-stopped g c = inr (none_told _ _ _ _ refl)
-
-pub returns-in_err-text-clause-stopped : goal.returns-in_err-text-clause-stopped
-returns-in_err-text-clause-stopped g c =
-    stops_at _ _ c.in_err-text.field-0.0 c.from_residual.ensures.1 c.in_err-text.ensures.stopped
-
-pub returns-clause-served : goal.returns-clause-served
-returns-clause-served g c =
-    let before = c.in_ok-text.ensures.served in
-    IfOk-weaker c.say.result _ _ (λ x added. one_said _ _ _ _ _ _ _ before.0 before.1 (search rules) added) c.say.ensures.said
+returns-in-Err-clause-stopped g c =
+    IfErr-weaker c.outlive.result _ _
+    (λ why left. outlived_left g.O.Write.contents _ _ _ _ _ _ why c.in-Err.ensures.stopped left)
+    c.outlive.ensures.stopped

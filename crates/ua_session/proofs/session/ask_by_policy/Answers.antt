@@ -9,5 +9,5 @@ returns-in-Ok g c = record {
   client = c.find_policy-found.new.client;
   once_found = record { traffic = g.L.Line.traffic c.find_policy-found.new.line; failures = g.L.Line.failures c.find_policy-found.new.line };
   finds = c.in-Ok.ensures;
-  further = asks_by _ _ _ _ _ _ _ _ _ _ _ _ _ _ _ c.first_call-handle.ensures.handle c.ask_in_session.ensures;
+  further = asks_by _ _ _ _ _ _ _ _ _ _ _ _ _ _ _ _ c.first_call-handle.ensures.handle c.ask_in_session.ensures;
 }
