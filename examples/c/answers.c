@@ -3,7 +3,7 @@
  *     answers CLIENT SERVER
  *
  * The files hold the octets that both sides of one conversation say: a session that writes 6 to a node and reads it.
- * What is printed is compared by tools/try_c with lines that are written out there. */
+ * What is printed is compared by tools/try_c.py with lines that are written out there. */
 #include <stdio.h>
 #include <stdlib.h>
 #include <string.h>

@@ -6,12 +6,15 @@
  * as one end sent them; a piece is random, or a part of a stream with octets that are changed, left out
  * or said twice. A further server and a client talk to each other: the client asks, renews and closes,
  * and what passes between them is changed now and then. A machine that ended is made anew. Each server is now one of a
- * connection at a time, now a connection over nodes that both share and that are set and got between the pieces. Besides what
+ * connection at a time, now a connection over nodes that both share and that are set and got between the pieces. Each server
+ * has a twin, and the nodes have one: the same happens to it, but its pieces are cut elsewhere, and it has to answer the same
+ * octets and to end in the same way, and its nodes have to hold the same. Besides what
  * a sanitizer or valgrind sees, it checks what ua.h says: what is taken lies within the piece, nothing
  * is taken or waits at other statuses, no more is held than the bound, a buffer is written just where it
  * is said to be, and UA_NO_MEMORY is answered only where memory was refused. That is never, unless it is
- * built with -DREFUSE=N and linked with -Wl,--wrap=malloc,--wrap=realloc: then at one call in N.
- * docs/C.md says how it is built, and what was seen. */
+ * built with -DREFUSE=N and linked with -Wl,--wrap=malloc,--wrap=realloc: then at one call in N, and there are no twins,
+ * since memory is refused to one and not to the other. docs/C.md says how it is built, and what was seen. */
+#include <stddef.h>
 #include <stdio.h>
 #include <stdlib.h>
 #include <string.h>
@@ -31,8 +34,9 @@ static const char nodes[] = "ns=1;s=Pump\trw\tPump\tInt32\t5\nns=1;s=Row\trw\tRo
 static const char url[] = "opc.tcp://localhost:4840";
 static const char *const asked_nodes[] = {"ns=1;s=Pump", "ns=1;s=Row", "ns=1;s=Pump\nns=1;s=Row"};
 static struct ua_connection machines[HANDLES]; /* each is a handle; a connection where `shares` says so */
+static struct ua_connection twins[HANDLES];    /* those of the servers */
 static int shares[HANDLES];
-static struct ua_nodes shared;
+static struct ua_nodes shared, shared_by_twins;
 static uint8_t streams[MOST_STREAMS][MOST_OCTETS], piece[MOST_OCTETS], text[2048];
 static size_t sizes[MOST_STREAMS], stream_count, places[2], stream_of[2], room, needed;
 static uint8_t line[HANDLES][2 * MOST_OCTETS]; /* what a talking machine was sent, and did not take yet */
@@ -40,10 +44,22 @@ static size_t line_size[HANDLES];
 static char token[64] = "i=0";
 static unsigned long long state, seen[HANDLES][32], events[8], put[32], asked[32], set[32], taken_in_all, fetched_in_all;
 static unsigned long long refused, refused_in_all;
+/* A sum of the octets that each server answered, and one of those of its twin; how many pieces both were given. */
+static unsigned long long answers[HANDLES], answers_of_twin[HANDLES], compared;
+static unsigned long long cuts; /* the state of the twins' random numbers: those of a seed are the same without twins */
+
+static uint32_t next_of(unsigned long long *from, uint32_t below) {
+    *from = *from * 6364136223846793005ull + 1442695040888963407ull;
+    return (uint32_t)((*from >> 33) % below);
+}
 
 static uint32_t next(uint32_t below) {
-    state = state * 6364136223846793005ull + 1442695040888963407ull;
-    return (uint32_t)((state >> 33) % below);
+    return next_of(&state, below);
+}
+
+static void add_answer(unsigned long long *sum, const uint8_t *octets, size_t size) {
+    for (size_t at = 0; at < size; at++)
+        *sum = (*sum ^ octets[at]) * 1099511628211ull;
 }
 
 static void fail(const char *what) {
@@ -52,6 +68,8 @@ static void fail(const char *what) {
 }
 
 #ifdef REFUSE
+enum { HAS_TWINS = 0 };
+
 void *__real_malloc(size_t size);
 void *__real_realloc(void *block, size_t size);
 
@@ -66,6 +84,8 @@ void *__wrap_malloc(size_t size) {
 void *__wrap_realloc(void *block, size_t size) {
     return refuses() ? NULL : __real_realloc(block, size);
 }
+#else
+enum { HAS_TWINS = 1 };
 #endif
 
 /* The status of a call, which says UA_NO_MEMORY only where memory was refused. */
@@ -131,6 +151,7 @@ static size_t fetch_all(int kind, uint8_t *out, size_t most) {
             fail("fetch");
         waiting -= fetched;
         fetched_in_all += fetched;
+        add_answer(&answers[kind], buffer, fetched);
         if (ua_waiting(&machines[kind].handle) != waiting)
             fail("waiting");
         for (size_t at = 0; at < fetched && count < most; at++)
@@ -219,11 +240,27 @@ static void read_octets(const uint8_t *octets, size_t size) {
     checked(ua_encode_value(TEXT("String"), octets, size, text, make_room(), &needed));
 }
 
-static uint32_t make_server(int kind) {
+static uint32_t new_server(int kind, uint32_t channel, struct ua_connection *out) {
     size_t bad;
-    if ((shares[kind] = next(4) > 0))
-        return ua_connection_new(&limits, 1 + next(1024), &machines[kind]);
-    return ua_server_new(TEXT(nodes), &limits, TEXT(url), 1, &machines[kind].handle, &bad);
+    if (shares[kind])
+        return ua_connection_new(&limits, channel, out);
+    return ua_server_new(TEXT(nodes), &limits, TEXT(url), channel, &out->handle, &bad);
+}
+
+static uint32_t make_server(int kind) {
+    uint32_t channel = (shares[kind] = next(4) > 0) ? 1 + next(1024) : 1;
+    if (HAS_TWINS && new_server(kind, channel, &twins[kind]) != UA_OK)
+        fail("a new twin");
+    return new_server(kind, channel, &machines[kind]);
+}
+
+/* The next connection of a server of one at a time. */
+static void next_connection(int kind) {
+    uint32_t channel = next(1024);
+    if (ua_server_next_connection(&machines[kind].handle, channel) != UA_OK)
+        fail("next connection");
+    if (HAS_TWINS && ua_server_next_connection(&twins[kind].handle, channel) != UA_OK)
+        fail("next connection of a twin");
 }
 
 static void make(int kind) {
@@ -238,11 +275,48 @@ static void make(int kind) {
     pass_on(kind);
 }
 
-/* A server takes octets. */
-static uint32_t step(int kind, const uint8_t *octets, size_t size, size_t *taken, size_t *waiting, uint32_t *code) {
+/* A server, or its twin, takes octets. */
+static uint32_t step(int kind, int is_twin, const uint8_t *octets, size_t size, size_t *taken, size_t *waiting, uint32_t *code) {
+    struct ua_connection *server = is_twin ? &twins[kind] : &machines[kind];
     if (shares[kind])
-        return ua_connection_step(&machines[kind], &shared, octets, size, 7, taken, waiting, code);
-    return ua_server_step(&machines[kind].handle, octets, size, 7, taken, waiting, code);
+        return ua_connection_step(server, is_twin ? &shared_by_twins : &shared, octets, size, 7, taken, waiting, code);
+    return ua_server_step(&server->handle, octets, size, 7, taken, waiting, code);
+}
+
+/* The twin of a server takes what the server was given, cut elsewhere, and answers and ends as the server did. */
+static void step_twin(int kind, size_t size, uint32_t ended, uint32_t ended_for) {
+    static uint8_t buffer[4096];
+    uint32_t status = UA_OK, code = 0;
+    for (size_t at = 0, end = 0, taken, waiting, fetched; at < size && status == UA_OK; at += taken) {
+        if (at >= end)
+            end = at + 1 + next_of(&cuts, next_of(&cuts, 4) ? 64 : 4096);
+        waiting = taken = 0;
+        status = step(kind, 1, piece + at, (end < size ? end : size) - at, &taken, &waiting, &code);
+        if (status == UA_OK && taken == 0)
+            fail("taken by a twin");
+        for (; waiting > 0; waiting -= fetched) {
+            if (ua_fetch(&twins[kind].handle, buffer, sizeof buffer, &fetched) != UA_OK || fetched == 0)
+                fail("fetch of a twin");
+            add_answer(&answers_of_twin[kind], buffer, fetched);
+        }
+    }
+    if (status != ended || (status == UA_REFUSED && code != ended_for))
+        fail("another end in other cuts");
+    if (answers[kind] != answers_of_twin[kind])
+        fail("another answer in other cuts");
+    compared++;
+}
+
+/* The nodes of the twins hold at this index what was got of the others: the status, and the reading in `text`. */
+static void get_twin(size_t index, uint32_t got, const struct ua_reading *is) {
+    static uint8_t buffer[sizeof text];
+    struct ua_reading of_twin;
+    size_t size;
+    if (ua_node_get(&shared_by_twins, index, buffer, room, &size, &of_twin) != got || size != needed)
+        fail("needed in other cuts");
+    /* nothing stands between the fields, but behind the last of them */
+    if (got == UA_OK && (memcmp(is, &of_twin, offsetof(struct ua_reading, has_server_picoseconds) + 1) || memcmp(text, buffer, needed)))
+        fail("got in other cuts");
 }
 
 /* A node is set, to what may be no reading, and got. */
@@ -260,23 +334,29 @@ static void set_and_get(void) {
         reading.value_at = next(2) ? next(300) : (size_t)0 - next(300);
     reading.has_source_picoseconds = (uint8_t)next(2);
     uint32_t status = said(ua_node_set(&shared, index, value, sizeof value, &reading));
+    if (HAS_TWINS && ua_node_set(&shared_by_twins, index, value, sizeof value, &reading) != status)
+        fail("set in other cuts");
     set[status]++;
     if (status == UA_OK && index > 1)
         fail("set");
     uint32_t got = checked(ua_node_get(&shared, index, text, make_room(), &needed, &is));
     if (status == UA_OK && got == UA_OK && (is.status != reading.status || (canonical && reading.value_at == 0 && (needed != size || memcmp(text, value, size)))))
         fail("got");
+    if (HAS_TWINS)
+        get_twin(index, got, &is);
 }
 
-/* Gives one piece to a machine, and says whether it ended. */
-static int give(int kind, size_t size) {
+/* A machine takes one piece. Whether it ended, and the status and the code of its last step. */
+static int take(int kind, size_t size, uint32_t *status_of_last, uint32_t *code_of_last) {
     struct ua_handle *handle = &machines[kind].handle;
     for (size_t at = 0, taken; at < size; at += taken) {
         size_t waiting = 0, none;
-        uint32_t code, event = UA_EVENT_NEED_MORE, id, other;
+        uint32_t code = 0, event = UA_EVENT_NEED_MORE, id, other;
         uint32_t status = kind & 1 ? ua_client_take(handle, piece + at, size - at, 7, &taken, &event, &id, &code)
-                                   : step(kind, piece + at, size - at, &taken, &waiting, &code);
+                                   : step(kind, 0, piece + at, size - at, &taken, &waiting, &code);
         seen[kind][said(status)]++;
+        *status_of_last = status;
+        *code_of_last = code;
         if (kind & 1)
             events[event]++;
         if (taken > size - at || (status == UA_OK && taken == 0))
@@ -290,7 +370,7 @@ static int give(int kind, size_t size) {
         taken_in_all += taken;
         if (status == UA_OK && ua_waiting(handle) > 0 && next(4) == 0) {
             uint32_t second = kind & 1 ? ua_client_take(handle, piece, 1, 7, &none, &other, &id, &code)
-                                       : step(kind, piece, 1, &none, &waiting, &code);
+                                       : step(kind, 0, piece, 1, &none, &waiting, &code);
             if (second != UA_FETCH_FIRST || none != 0)
                 fail("fetch first");
         }
@@ -303,6 +383,15 @@ static int give(int kind, size_t size) {
             return 1;
     }
     return 0;
+}
+
+/* Gives one piece to a machine, and to the twin of a server, and says whether it ended. */
+static int give(int kind, size_t size) {
+    uint32_t status = UA_OK, code = 0;
+    int is_over = take(kind, size, &status, &code);
+    if (HAS_TWINS && !(kind & 1))
+        step_twin(kind, size, status, code);
+    return is_over;
 }
 
 /* One turn of the two that talk: an end takes a piece, or the client asks. Both begin anew where one ended
@@ -321,8 +410,8 @@ static void talk(void) {
         line_size[TALKING_SERVER] = line_size[TALKING_CLIENT] = 0;
         if (shares[TALKING_SERVER] || next(2))
             make(TALKING_SERVER);
-        else if (ua_server_next_connection(&machines[TALKING_SERVER].handle, next(1024)) != UA_OK)
-            fail("next connection");
+        else
+            next_connection(TALKING_SERVER);
         make(TALKING_CLIENT);
     }
 }
@@ -335,8 +424,8 @@ static void throw_piece(int kind) {
     stream_of[kind] = next((uint32_t)stream_count);
     if (kind == CLIENT || shares[kind] || next(2))
         make(kind);
-    else if (ua_server_next_connection(&machines[kind].handle, next(1024)) != UA_OK)
-        fail("next connection");
+    else
+        next_connection(kind);
 }
 
 static void print_counts(const char *what, const unsigned long long *counts, int most) {
@@ -352,7 +441,7 @@ int main(int count, char **words) {
         return 2;
     unsigned long long pieces = strtoull(words[1], NULL, 10), done = 0;
     time_t end = time(NULL) + atol(words[2]);
-    state = strtoull(words[3], NULL, 10);
+    state = cuts = strtoull(words[3], NULL, 10);
     for (; stream_count < MOST_STREAMS && 4 + stream_count < (size_t)count; stream_count++) {
         FILE *file = fopen(words[4 + stream_count], "rb");
         if (!file || !(sizes[stream_count] = fread(streams[stream_count], 1, MOST_OCTETS, file)))
@@ -364,6 +453,8 @@ int main(int count, char **words) {
     uint32_t reason;
     while (said(ua_nodes_new(TEXT(nodes), TEXT(url), TEXT("urn:a"), TEXT("a"), 0, &shared, &bad, &reason)) == UA_NO_MEMORY)
         continue;
+    if (HAS_TWINS && ua_nodes_new(TEXT(nodes), TEXT(url), TEXT("urn:a"), TEXT("a"), 0, &shared_by_twins, &bad, &reason) != UA_OK)
+        fail("nodes of twins");
     for (int kind = 0; kind < HANDLES; kind++)
         make(kind);
     for (; done < pieces && ((done & 1023) || time(NULL) < end); done++) {
@@ -377,11 +468,14 @@ int main(int count, char **words) {
     }
     printf("pieces %llu octets taken %llu octets fetched %llu times that memory was refused %llu\n", done,
            taken_in_all, fetched_in_all, refused_in_all);
+    printf("pieces of servers that were given in other cuts too %llu\n", compared);
     for (int kind = 0; kind < HANDLES; kind++) {
         print_counts(names[kind], seen[kind], 32);
         ua_connection_free(&machines[kind]);
+        ua_connection_free(&twins[kind]);
     }
     ua_nodes_free(&shared);
+    ua_nodes_free(&shared_by_twins);
     print_counts("client event", events, 8);
     print_counts("asked status", asked, 32);
     print_counts("put status", put, 32);

@@ -4,14 +4,14 @@
  * them (`struct ua_connection`), a step each time octets came. A client: a `struct ua_handle`.
  *
  * Each call is proved for every input under the rules below; docs/C.md says what is proved, and
- * crates/ua_c/specs/ has it as definitions. This file is written by hand; tools/check_c_header
+ * crates/ua_c/specs/ has it as definitions. This file is written by hand; tools/check_c_header.py
  * compares its declarations with the exports.
  *
  * What C has to keep
  *
  * - A handle begins as `struct ua_handle h = {0};`, and nodes and a connection as `{{0}}`: they are handles of
- *   types of their own, so that a compiler refuses a step on a client. C never reads or writes what is in it, copies it,
- *   or moves it to another address while a call runs. The calls below alone change it. `ua_free` ends
+ *   types of their own, so that a compiler tells of a step on a client. C never reads or writes what is in it, copies
+ *   it, or moves it to another address while a call runs. The calls below alone change it. `ua_free` ends
  *   it; it may then be used again, as one that begins.
  * - A pointer is never null, but where the length behind it is 0, and at `ua_free`. (What calls the
  *   library without this header, as ctypes does, hands over no null pointer there either.)
@@ -19,7 +19,9 @@
  *   nothing writes meanwhile; a length is at most half the address space. `uint8_t *buffer,
  *   size_t buffer_len` are so many octets that may be read and written. Pointers of one call lead to memory
  *   that does not overlap, but where each is `const`.
- * - A handle is in one call at a time, and stays on the thread that made it.
+ * - A handle is in one call at a time, on whichever thread: where two threads share one, a lock or a join stands
+ *   between their calls. A step is a call on its connection and on its nodes. Calls on different handles may run
+ *   at once.
  * - `malloc`, `realloc` and `free` are those of one allocator, which aligns a block to each power of
  *   two up to 16 that divides its size. No call is made from a signal handler, or from the child of a
  *   `fork` in a process with threads.

@@ -1,5 +1,5 @@
 /* In C and C++ a null pointer whose length is 0 is an empty text, or a buffer without room, and ua_free(NULL) does
- * nothing: ua.h includes this, which tools/check_c_header --write writes from its declarations. */
+ * nothing: ua.h includes this, which tools/check_c_header.py --write writes from its declarations. */
 static inline const uint8_t *ua_some(const uint8_t *octets) {
     static const uint8_t none[1] = {0};
     return octets ? octets : none;
