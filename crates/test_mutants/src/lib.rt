@@ -12,9 +12,10 @@ pub use chunks::{
     take_frame, take_octets,
 };
 pub use ends::{
-    answer_both, append_answers, begin_by, call_behind, call_each, close_channel, converse_over,
-    could_take, could_take_now, exchange_over, open_over, read_one_item, renew_in_talk,
-    renew_token, reply_to, serve_begun, try_begin_by, write_up,
+    answer_behind_set, answer_both, append_answers, ask_server, begin_by, call_behind, call_each,
+    close_channel, converse_over, could_take, could_take_now, exchange_over, open_over,
+    read_one_item, renew_in_talk, renew_token, reply_to, serve_begun, serve_beside, serve_more,
+    try_begin_by, write_up,
 };
 pub use values::{
     name_status, read_front, read_kept_request, read_node_id, read_one_request, read_variant,

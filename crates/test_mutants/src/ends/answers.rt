@@ -1,13 +1,16 @@
 //! Requests that are answered.
 
 ghost use Rattle.std.specs.Prelude.{◌≡◌, IfOk};
+ghost use Rattle.ua_nodes.specs.Set.{after_set};
 ghost use Rattle.ua_services.specs.Response.{response};
 ghost use Rattle.ua_server.specs.Answer.{answer};
 ghost use Rattle.ua_server.specs.Attributes.{takes_now};
 ghost use Rattle.ua_server.specs.Reply.{answered};
+ghost use Rattle.ua_server.specs.State.{with_nodes};
 
 use std::alloc::{AllocError, Global};
 use ua_builtin::{DateTime, NodeId, Source, StatusCode};
+use ua_nodes::Reading;
 use ua_server::Services;
 use ua_services::{Request, Response, TakesTypes, ValueType, response_body};
 
@@ -39,6 +42,21 @@ pub fn answer_both(
     let one = services.answer(alloc, first, moment);
     let two = services.answer(alloc, second, moment);
     (one, two)
+}
+
+/// The response to a request behind a reading that the application sets.
+pub fn answer_behind_set(
+    services: &mut Services,
+    alloc: Global,
+    sensor: &NodeId,
+    reading: Reading,
+    request: Request,
+    moment: DateTime,
+) -> Result<Response, AllocError>
+    ensures response { IfOk result (λ r. r ≡ (answer (with_nodes services.old (after_set sensor.now reading services.old.nodes)) moment request).1) }
+{
+    let _set = services.set(sensor, reading);
+    services.answer(alloc, request, moment)
 }
 
 /// Whether a node could take a value of a type now: none could before a session is activated.

@@ -1,12 +1,22 @@
-//! A line that is served.
+//! A line that is served, and octets that are.
 
+ghost use Rattle.std.specs.Prelude.{◌≡◌, ◌++◌, ℕ, List, IfOk, OnOk};
+ghost use Rattle.example_callers.specs.Serve.{Answers, stage_of};
+ghost use Rattle.ua_loopback.specs.Beginning.{Beginning};
+ghost use Rattle.ua_loopback.specs.Kept.{EndsAt, Serves as Takes};
+ghost use Rattle.ua_loopback.specs.Says.{services_after};
 ghost use Rattle.ua_server.specs.Serving.{Serves, LineFailed};
+ghost use Rattle.ua_server.specs.ServingOver.{ServesApplication};
 ghost use Rattle.ua_server.specs.State.{begun};
 
+use example_callers::serve_octets;
 use std::alloc::Global;
+use ua_builtin::DateTime;
 use ua_channel::{Line, Moments};
 use ua_frame::Limits;
-use ua_server::{End, ServeFault, Services, serve};
+use ua_server::{
+    Application, End, ServeFault, Server, Services, StepFault, Watch, serve, serve_application,
+};
 
 /// Serves the client at the other end of a line.
 pub fn serve_begun<L: Line, M: Moments>(
@@ -21,4 +31,44 @@ pub fn serve_begun<L: Line, M: Moments>(
     ensures failed { LineFailed (L.failures line.old) result (L.failures line.new) }
 {
     serve(alloc, line, services, limits, channel_id, moments)
+}
+
+/// Serves it beside an application.
+pub fn serve_beside<L: Line, M: Moments, W: Watch, A: Application>(
+    alloc: Global,
+    line: &mut L,
+    services: &mut Services,
+    limits: Limits,
+    channel_id: u32,
+    moments: &mut M,
+    watch: &mut W,
+    application: &mut A,
+) -> Result<End, ServeFault>
+    ensures serves { ServesApplication limits channel_id M.gives W.notes A.changes (begun services.old, application.old) (moments.old, watch.old) result (services.new, application.new) (moments.new, watch.new) (L.traffic line.old) (L.traffic line.new) }
+{
+    serve_application(
+        alloc,
+        line,
+        services,
+        limits,
+        channel_id,
+        moments,
+        watch,
+        application,
+    )
+}
+
+/// Serves octets that came behind others.
+pub fn serve_more(
+    server: &mut Server,
+    services: &mut Services,
+    octets: &[u8],
+    moment: DateTime,
+    out: &mut Vec<u8>,
+) -> Result<Option<End>, StepFault>
+    ensures leaves { (b : Beginning) (before : List ℕ) → Takes b server.old services.old before → moment ≡ b.moment → OnOk result (services.new ≡ services_after b (before ++ octets.now)) }
+    ensures answers { (b : Beginning) (before : List ℕ) → Takes b server.old services.old before → moment ≡ b.moment → OnOk result (Answers b before (before ++ octets.now) out.old.items out.new.items) }
+    ensures ends { (b : Beginning) (before : List ℕ) → Takes b server.old services.old before → moment ≡ b.moment → IfOk result (λ end. EndsAt (stage_of end) b (before ++ octets.now)) }
+{
+    serve_octets(server, services, octets, moment, out)
 }
