@@ -598,6 +598,16 @@ behind_refused b limits url moment turns place old new replies none w =
       state = ap (services_after b) up_is ∙ talk_left talk s.stays.site w.connection (Some (traffic_of b new)) s.talks;
     }
 
+-- the server refused nothing of it, and waits for more
+pub waits_refused : (b : Beginning) (limits : Limits) (url : Option (List ℕ)) (moment : DateTime) (turns : List (Option (List Request))) (place : ℕ) (old new : Served) (replies : List Reply) → old.up ≡ []
+    → WentBefore b limits url moment turns place (Some (traffic_of b old)) (Some (traffic_of b new)) replies → end_by b new.up ≡ Going
+waits_refused b limits url moment turns place old new replies none w =
+    let s = w.stays.stays in
+    let octets : List ℕ = opening_octets limits url moment ++ s.stays.sent in
+    let up_is : new.up ≡ octets = s.stays.carried.written ∙ ap (λ (o : List ℕ). o ++ octets) none in
+    let r = s.talks.talking.served.serving.together.server_reads in
+    ap (end_by b) up_is ∙ end_is b octets r.frames [] Going r.run
+
 pub before_on : (r : Result (Unit {0}) ClientFault) (b : Beginning) (limits : Limits) (channel : ℕ) (services : State) (url : Option (List ℕ)) (moment : DateTime) (turns : List (Option (List Request))) (old new : Served) (place : ℕ) (replies : List Reply) (up : List ℕ)
     → b ≡ record { limits = limits; channel = channel; first = services; moment = moment } → CanOpen (record { limits = limits; channel = channel; first = services; moment = moment }) limits url moment → old.up ≡ [] → old.read ≡ 0
     → IfErr r (λ f. IsTurnFault f → (b' : Beginning) → CanOpen b' limits url moment → IsLineTo b' [] [] (Some (traffic_of b old)) → WentBefore b' limits url moment turns place (Some (traffic_of b old)) (Some (traffic_of b new)) replies)

@@ -15,7 +15,7 @@ use Rattle.ua_loopback.specs.Replies.{turns_replies, turns_state}
 use Rattle.ua_loopback.specs.Says.{end_by, services_after, server_output}
 use Rattle.ua_loopback.specs.Sends.{turns_octets}
 use Rattle.ua_loopback.specs.declared.stage.Stage.{Stage}
-use Rattle.ua_loopback.specs.declared.stage.Stage.TheVariants.{Broken}
+use Rattle.ua_loopback.specs.declared.stage.Stage.TheVariants as far
 
 -- ---- faults
 
@@ -45,15 +45,15 @@ pub record StopsAfter (f : ClientFault) (b : Beginning) (up : List ℕ) : Type 0
   pub long : f ≡ fault.TooLong → most_reads ≤ length (server_output b up)
 
 -- why a client fails at a server in its own process, whose connection is so far: memory was refused, to the client, or to the server, so that
--- their line is broken; or there is a reason against a turn
+-- their line is broken; or there is a reason against a turn, and the connection goes on
 abbrev pub FailsAt : Stage → ClientFault → Type 0
-FailsAt stage fault.Read = stage ≡ Broken
-FailsAt stage fault.Write = stage ≡ Broken
+FailsAt stage fault.Read = stage ≡ far.Broken
+FailsAt stage fault.Write = stage ≡ far.Broken
 FailsAt stage fault.OutOfMemory = Unit {0}
-FailsAt stage fault.NotWritable = Unit {0}
-FailsAt stage fault.Exhausted = Unit {0}
-FailsAt stage fault.TooLarge = Unit {0}
-FailsAt stage fault.TooManyTokens = Unit {0}
+FailsAt stage fault.NotWritable = stage ≡ far.Going
+FailsAt stage fault.Exhausted = stage ≡ far.Going
+FailsAt stage fault.TooLarge = stage ≡ far.Going
+FailsAt stage fault.TooManyTokens = stage ≡ far.Going
 FailsAt stage other = ⊥
 
 -- ---- a turn that is refused

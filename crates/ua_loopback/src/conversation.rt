@@ -22,7 +22,7 @@ ghost use Rattle.ua_loopback.specs.Turns.{conversation_told};
 ghost use Rattle.ua_loopback.specs.declared.stage.Stage.TheVariants.{Ended};
 ghost use Rattle.ua_services.specs.declared.request.Request.{Request};
 ghost use Rattle.ua_loopback.specs.Talking.{IsLineTo, StopsOver};
-ghost use Rattle.ua_loopback.specs.inside.Talking.{CanOpen, HasMisanswer, HaveMisanswers, StaysBefore, StaysBehind, StaysTalking, Talked, Went, WentBefore};
+ghost use Rattle.ua_loopback.specs.inside.Talking.{CanOpen, HasMisanswer, HaveMisanswers, StaysBefore, StaysBehind, StaysTalking, Talked, Went, WentBefore, fault_at, outcome_at};
 
 use crate::served_line::{Began, ServedLine};
 use crate::stage::Stage;
@@ -192,6 +192,33 @@ fn fewer_than_reads(octets: &[u8])
     let _len = octets.len();
 }
 
+/// What is told of a fault over a line whose connection is so far: of a reason against a turn over a broken
+/// line, that memory was refused.
+fn fault_at(stage: Stage, fault: ClientFault) -> ClientFault
+    ensures { result ≡ fault_at stage fault }
+{
+    match stage {
+        Stage::Going | Stage::Ended(_) => fault,
+        Stage::Broken => match fault {
+            ClientFault::NotWritable
+            | ClientFault::Exhausted
+            | ClientFault::TooLarge
+            | ClientFault::TooManyTokens => ClientFault::OutOfMemory,
+            other => other,
+        },
+    }
+}
+
+/// The same of what a client came to.
+fn outcome_at(stage: Stage, outcome: Result<(), ClientFault>) -> Result<(), ClientFault>
+    ensures { result ≡ outcome_at stage outcome }
+{
+    match outcome {
+        Ok(()) => Ok(()),
+        Err(fault) => Err(fault_at(stage, fault)),
+    }
+}
+
 /// Lets a client talk to a server over these services, of the beginning that the parameter names.
 fn converse_with<T: AsTurn, W: Began>(
     alloc: Global,
@@ -241,12 +268,13 @@ fn converse_with<T: AsTurn, W: Began>(
     fewer_than_reads(line.down());
     let stage = line.stage();
     let (up, down, services) = line.into_parts();
+    let told = outcome_at(stage, outcome);
     Transcript {
         up,
         down,
         taken,
         replies,
-        outcome,
+        outcome: told,
         stage,
         services,
     }
@@ -298,8 +326,8 @@ pub fn converse<T: AsTurn>(
     // Then what was sent, the replies and the state that was left are those of what stands before it, and of no more.
     ensures before { IfErr result.outcome (λ fault. IsTurnFault fault → BehindRefused (record { limits = limits; channel = channel_id; first = services; moment = moment }) limits url moment (map T.turn turns.now) result.taken result.up.items result.replies.items) }
 
-    // The client fails for a reason against a turn, or for want of memory: its own, or the server's, whose line is then broken. The
-    // server takes a URL of at most 4095 octets (OPC 10000-6, 7.1.2.3).
+    // The client fails for a reason against a turn, behind which the connection goes on, or for want of memory: its own, or the
+    // server's, whose line is then broken. The server takes a URL of at most 4095 octets (OPC 10000-6, 7.1.2.3).
     ensures fails { IfErr result.outcome (λ fault. url_length url ≤ 4095 → FailsAt result.stage fault) }
 {
     converse_with::<T, Brand>(

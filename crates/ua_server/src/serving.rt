@@ -76,9 +76,9 @@ pub fn serve_watched<L: Line, M: Moments, W: Watch>(
     )
 }
 
-/// Does what [`serve_watched`] does, beside an application: before each step of the server, and so before
-/// each answer, it may change the nodes and see what clients wrote. What is written is what is sent over
-/// the events of the connection, changes and steps in order.
+/// Does what [`serve_watched`] does, beside an application: before each answer of the server it may change
+/// the nodes and see what clients wrote. What is written is what is sent over the events of the connection,
+/// changes and steps in order.
 pub fn serve_application<L: Line, M: Moments, W: Watch, A: Application>(
     alloc: Global,
     line: &mut L,

@@ -1,5 +1,5 @@
 -- The turns of a client over a line to a server, one behind the other, each done where those before it left it.
-use Rattle.std.specs.Prelude.{◌≡◌, ◌⊎◌, ℕ, ◌<◌, ◌^◌, ◌++◌, IsTrue, List, [], ◌∷◌, map, Option, Some, None}
+use Rattle.std.specs.Prelude.{◌≡◌, ◌⊎◌, ℕ, ◌<◌, ◌^◌, ◌++◌, IsTrue, List, [], ◌∷◌, map, Option, Some, None, Result, Ok, Err}
 use Rattle.ua_wire.specs.Counted.{text}
 use Rattle.ua_builtin.specs.DateTime.{date_time}
 use Rattle.ua_builtin.specs.declared.date_time.DateTime.{DateTime}
@@ -17,6 +17,8 @@ use Rattle.ua_client.specs.Client.{closing_at}
 use Rattle.ua_client.specs.Opening.{IsOpened}
 use Rattle.ua_client.specs.ClientPlace.{ClientPlace, StandsAt}
 use Rattle.ua_client.specs.declared.connection.Connection.{Connection}
+use Rattle.ua_client.specs.declared.fault.ClientFault.{ClientFault}
+use Rattle.ua_client.specs.declared.fault.ClientFault.TheVariants as fault
 use Rattle.ua_client.specs.declared.reply.Reply.{Reply}
 use Rattle.ua_loopback.specs.Accepted.{AreAccepted, acknowledged}
 use Rattle.ua_loopback.specs.Beginning.{Beginning}
@@ -27,6 +29,8 @@ use Rattle.ua_loopback.specs.Says.{server_output, state_told}
 use Rattle.ua_loopback.specs.Sends.{conversation_octets, turns_octets}
 use Rattle.ua_loopback.specs.Talking.{TalksAt}
 use Rattle.ua_loopback.specs.Turns.{conversation_told, opening_told, turns_told}
+use Rattle.ua_loopback.specs.declared.stage.Stage.{Stage}
+use Rattle.ua_loopback.specs.declared.stage.Stage.TheVariants as far
 
 -- the answer to a request of a turn is no response that answers it
 abbrev pub HasMisanswer : State → DateTime → Option (List Request) → Type 0
@@ -37,6 +41,25 @@ HasMisanswer s moment None = ⊥
 abbrev pub HaveMisanswers : State → DateTime → List (Option (List Request)) → Type 0
 HaveMisanswers s moment [] = ⊥
 HaveMisanswers s moment (t ∷ turns) = HasMisanswer s moment t ⊎ HaveMisanswers (turn_state s moment t) moment turns
+
+-- what is told of a reason against a turn over a broken line: memory was refused
+abbrev pub broken_fault : ClientFault → ClientFault
+broken_fault fault.NotWritable = fault.OutOfMemory
+broken_fault fault.Exhausted = fault.OutOfMemory
+broken_fault fault.TooLarge = fault.OutOfMemory
+broken_fault fault.TooManyTokens = fault.OutOfMemory
+broken_fault other = other
+
+-- what is told of a fault over a line to a server in the same process, whose connection is so far
+abbrev pub fault_at : Stage → ClientFault → ClientFault
+fault_at far.Going f = f
+fault_at (far.Ended end) f = f
+fault_at far.Broken f = broken_fault f
+
+-- and of what a client came to
+abbrev pub outcome_at : Stage → Result (Unit {0}) ClientFault → Result (Unit {0}) ClientFault
+outcome_at stage (Ok done) = Ok done
+outcome_at stage (Err f) = Err (fault_at stage f)
 
 -- what a client with these limits and such a server send to open a channel can be written
 pub record CanOpen (b : Beginning) (limits : Limits) (url : Option (List ℕ)) (moment : DateTime) : Type 0 where
