@@ -33,8 +33,12 @@ pub struct Client {
 }
 
 impl Client {
-    ghost use Rattle.std.specs.Prelude.{◌≡◌, ◌⊎◌, ◌+◌, ◌<◌, ◌∷◌, [], length, None, IsTrue, IfOk, IfErr, OnOk, Err};
+    ghost use Rattle.std.specs.Prelude.{◌≡◌, ◌⊎◌, ◌+◌, ◌<◌, ◌≤◌, ◌∷◌, [], ℕ, List, length, None, IsTrue, IfOk, IfErr, OnOk, Err};
     ghost use Rattle.ua_wire.specs.Counted.{text};
+    ghost use Rattle.ua_channel.specs.Asks.{Placed};
+    ghost use Rattle.ua_channel.specs.Client.{ClientStands, IsClientDone, client_bound, client_bound_behind, client_limits, held_octets};
+    ghost use Rattle.ua_frame.specs.declared.frame.Frame.{Frame};
+    ghost use Rattle.ua_channel.specs.Received.{received};
     ghost use Rattle.ua_client.specs.Calls.{CallsAll};
     ghost use Rattle.ua_client.specs.Client.{OpensNothing, OpensClient, IsDone, IsReady, IsLeft, Closes, client_channel, connection_of};
     ghost use Rattle.ua_client.specs.Hearing.{failures_behind, fault_alone};
@@ -241,6 +245,28 @@ impl Client {
                 Err(calls)
             }
         }
+    }
+
+    /// How many octets are held of what is not whole yet: of a frame, and of unfinished messages. What was
+    /// read and is not taken is beside that, at most 4096 octets.
+    pub fn held(&self) -> usize
+        ensures held { (asks : List Placed) (octets : List ℕ) (frames : List Frame) (rest : List ℕ) → ClientStands (client_channel self.now) asks octets frames rest
+            → result ≡ held_octets frames rest }
+        ensures bound { (asks : List Placed) (octets : List ℕ) (frames : List Frame) (rest : List ℕ) → ClientStands (client_channel self.now) asks octets frames rest
+            → result ≤ client_bound (client_channel self.now) }
+        ensures done { IsClientDone (client_channel self.now) → result ≡ 0 }
+    {
+        self.connection.channel.held()
+    }
+
+    /// The most octets that may be held: the largest frame that the server sends, and 4 times the largest
+    /// message that the client takes.
+    pub fn bound(&self) -> usize
+        ensures stands { (asks : List Placed) (octets : List ℕ) (frames : List Frame) (rest : List ℕ) → ClientStands (client_channel self.now) asks octets frames rest
+            → result ≡ client_bound_behind (client_limits (client_channel self.now)) (received frames).ack }
+        ensures is { result ≡ client_bound (client_channel self.now) }
+    {
+        self.connection.channel.bound()
     }
 
     /// The request id of the next call; none where all were used, or the client is done.
