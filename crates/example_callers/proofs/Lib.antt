@@ -2,3 +2,4 @@ mod Passed
 mod Pieces
 mod Talks
 mod Serving
+mod Sensing

@@ -1,17 +1,20 @@
 //! An application beside connections: it sets values, hands on what clients write, and serves two of them
 //! over one table.
 
-ghost use Rattle.std.specs.Prelude.{◌≡◌, ◌++◌, ℕ, List, Ok, IfOk};
+ghost use Rattle.std.specs.Prelude.{◌≡◌, ◌++◌, ◌∷◌, [], ℕ, List, None, Some, Ok, Err, IfErr, IfOk, OnErr, OnOk};
 ghost use Rattle.ua_channel.specs.ServerStands.{limits_of, channel_of, next_of, Goes};
 ghost use Rattle.ua_channel.specs.ServerTold.{Told};
-ghost use Rattle.ua_nodes.specs.Set.{after_set};
+ghost use Rattle.ua_nodes.specs.Set.{after_set, set_refusal};
+ghost use Rattle.ua_nodes.specs.Table.{node_at};
+ghost use Rattle.ua_server.specs.History.{Became, ConnectionEvent, StandsOver, StepOver};
 ghost use Rattle.ua_server.specs.Now.{StepNow};
 ghost use Rattle.ua_server.specs.Served.{channel_at, session_at, with_own_session};
 ghost use Rattle.ua_server.specs.Sharing.{SharedEvent, StandsAmong};
 ghost use Rattle.ua_server.specs.State.{State, begun, with_nodes};
+ghost use Rattle.ua_server.specs.Stepping.{StepTakes};
 ghost use Rattle.ua_server.specs.Storing.{StepStores};
 ghost use Rattle.ua_server.specs.ServingOver.{ServesApplication};
-ghost use Rattle.example_callers.specs.Application.{BothStep, pulses};
+ghost use Rattle.example_callers.specs.Application.{BothStep, IfSetFault, IfStepFault, ServesSensor, pulses, step_in};
 
 use std::alloc::{AllocError, Global};
 use thiserror::Error;
@@ -19,6 +22,7 @@ use ua_builtin::{DateTime, NodeId};
 use ua_channel::{Line, Moments};
 use ua_frame::Limits;
 use ua_nodes::{Reading, SetFault};
+use ua_server::laws::a_history_goes_on_by_changes_and_steps;
 use ua_server::{
     Application, Connection, End, ServeFault, Services, Step, StepFault, Watch, serve_application,
 };
@@ -35,7 +39,7 @@ pub enum SensorFault {
 }
 
 /// Sets what a sensor measured, and then takes octets of a client: they are answered from the nodes with
-/// this reading. A loop of it is a server whose values move by themselves.
+/// this reading. A reading that is refused changes nothing, and no octets are taken.
 pub fn set_and_step(
     connection: &mut Connection,
     services: &mut Services,
@@ -44,10 +48,23 @@ pub fn set_and_step(
     piece: &[u8],
     moment: DateTime,
 ) -> Result<Step, SensorFault>
-    ensures { (octets : List ℕ) (told : List Told) → Goes (channel_at connection.old) octets told
+    ensures steps { (octets : List ℕ) (told : List Told) → Goes (channel_at connection.old) octets told
         → IfOk result (λ step. StepNow (limits_of (channel_at connection.old)) (channel_of (channel_at connection.old)) (next_of (channel_at connection.old)) moment piece.now (Ok step) (channel_at connection.new) octets told
         (with_own_session connection.old (with_nodes services.old (after_set sensor.now reading services.old.nodes))) (with_own_session connection.new services.new)) }
+    // The same over the events of the connection, of which the reading is one.
+    ensures history { (octets : List ℕ) (hs : List ConnectionEvent) (first : State) → StandsOver (channel_at connection.old) octets hs first (with_own_session connection.old services.old)
+        → IfOk result (λ step. StepOver (limits_of (channel_at connection.old)) (channel_of (channel_at connection.old)) moment piece.now (Ok step) (channel_at connection.new) octets (hs ++ Became (after_set sensor.now reading services.old.nodes) services.old.made ∷ []) first
+        (with_own_session connection.old (with_nodes services.old (after_set sensor.now reading services.old.nodes))) (with_own_session connection.new services.new)) }
+    ensures taken { IfOk result (λ step. StepTakes piece.now step) }
+    ensures channel { channel_of (channel_at connection.new) ≡ channel_of (channel_at connection.old) }
+    ensures accepted { IfOk result (λ step. set_refusal (node_at services.old.nodes sensor.now) reading ≡ None) }
+    ensures refused { IfErr result (IfSetFault (λ fault. (set_refusal (node_at services.old.nodes sensor.now) reading ≡ Some fault) × (connection.new ≡ connection.old) × (services.new ≡ services.old))) }
+    // Where the step fails the reading was set.
+    ensures failed { (octets : List ℕ) (told : List Told) → Goes (channel_at connection.old) octets told
+        → IfErr result (IfStepFault (λ fault. StepNow (limits_of (channel_at connection.old)) (channel_of (channel_at connection.old)) (next_of (channel_at connection.old)) moment piece.now (Err fault) (channel_at connection.new) octets told
+        (with_own_session connection.old (with_nodes services.old (after_set sensor.now reading services.old.nodes))) (with_own_session connection.new services.new))) }
 {
+    a_history_goes_on_by_changes_and_steps();
     match services.set(sensor, reading) {
         Ok(()) => {}
         Err(fault) => return Err(SensorFault::Set(fault)),
@@ -58,6 +75,66 @@ pub fn set_and_step(
     }
 }
 
+/// What became of octets of a client that came beside a sensor.
+#[derive(Clone, Copy, PartialEq, Eq, Debug)]
+pub struct Sensed {
+    /// How many of them were taken.
+    pub taken: usize,
+    /// How the connection ended, if it did.
+    pub end: Option<End>,
+}
+
+/// A server whose values move by themselves: sets a reading, takes octets of a client, sets the next reading
+/// and so on, until there is no reading more or the connection ended. What is to be sent is added to `out`.
+pub fn serve_sensor(
+    connection: &mut Connection,
+    services: &mut Services,
+    sensor: &NodeId,
+    readings: Vec<Reading>,
+    octets: &[u8],
+    moment: DateTime,
+    out: &mut Vec<u8>,
+) -> Result<Sensed, SensorFault>
+    ensures { (before : List ℕ) (hs : List ConnectionEvent) (first : State) → StandsOver (channel_at connection.old) before hs first (with_own_session connection.old services.old)
+        → IfOk result (λ sensed. ServesSensor sensor.now moment readings.items (channel_at connection.old) before hs first octets.now out.old.items sensed (channel_at connection.new) out.new.items (with_own_session connection.new services.new)) }
+{
+    let mut taken = 0;
+    for reading in readings {
+        let step = match set_and_step(
+            connection,
+            services,
+            sensor,
+            reading,
+            &octets[taken..],
+            moment,
+        ) {
+            Ok(step) => step,
+            Err(fault) => return Err(fault),
+        };
+        if out.extend_from_slice(&step.out).is_err() {
+            return Err(SensorFault::Step(StepFault::OutOfMemory));
+        }
+        taken += step.taken;
+        if step.end.is_some() {
+            return Ok(Sensed {
+                taken,
+                end: step.end,
+            });
+        }
+    }
+    Ok(Sensed { taken, end: None })
+}
+
+/// Why octets of a client were not taken, or not all that they stored was handed on.
+#[derive(Drop)]
+pub enum SetpointFault {
+    /// The step failed.
+    Step(StepFault),
+    /// The step is done, and its answer is to be sent, but memory was refused for what it stored: none of
+    /// that was handed on.
+    NotHandedOn(Step),
+}
+
 /// Takes octets of a client, and adds what they wrote to the setpoints that a gateway hands on.
 pub fn take_setpoints(
     alloc: Global,
@@ -66,21 +143,28 @@ pub fn take_setpoints(
     piece: &[u8],
     moment: DateTime,
     setpoints: &mut Vec<WriteValue>,
-) -> Result<Step, StepFault>
+) -> Result<Step, SetpointFault>
+    ensures steps { (octets : List ℕ) (told : List Told) → Goes (channel_at connection.old) octets told
+        → StepNow (limits_of (channel_at connection.old)) (channel_of (channel_at connection.old)) (next_of (channel_at connection.old)) moment piece.now (step_in result) (channel_at connection.new) octets told (with_own_session connection.old services.old) (with_own_session connection.new services.new) }
     ensures stores { (octets : List ℕ) (told : List Told) → Goes (channel_at connection.old) octets told
-        → IfOk result (λ step. StepStores piece.now (Ok step) (channel_at connection.new) octets told (with_own_session connection.old services.old)) }
+        → StepStores piece.now (step_in result) (channel_at connection.new) octets told (with_own_session connection.old services.old) }
     ensures handed_on { IfOk result (λ step. setpoints.new.items ≡ setpoints.old.items ++ step.written) }
+    ensures kept { OnErr result (setpoints.new.items ≡ setpoints.old.items) }
 {
-    let step = connection.step(services, piece, moment)?;
+    let step = match connection.step(services, piece, moment) {
+        Ok(step) => step,
+        Err(fault) => return Err(SetpointFault::Step(fault)),
+    };
     match hand_on(alloc, &step, setpoints) {
         Ok(()) => Ok(step),
-        Err(_) => Err(StepFault::OutOfMemory),
+        Err(_) => Err(SetpointFault::NotHandedOn(step)),
     }
 }
 
-/// Adds what a step stored.
+/// Adds what a step stored, or nothing.
 fn hand_on(alloc: Global, step: &Step, setpoints: &mut Vec<WriteValue>) -> Result<(), AllocError>
-    ensures { IfOk result (λ _. setpoints.new.items ≡ setpoints.old.items ++ step.now.written) }
+    ensures added { OnOk result (setpoints.new.items ≡ setpoints.old.items ++ step.now.written) }
+    ensures kept { OnErr result (setpoints.new.items ≡ setpoints.old.items) }
 {
     let mut values = step.written.values(alloc)?;
     setpoints.append(&mut values)?;
@@ -106,7 +190,7 @@ pub fn step_both(
     (one, two)
 }
 
-/// A switch that a node tells of: it is on and off in turn, each time that it is asked.
+/// A switch that a node tells of: each time that it acts it sets what it is, and is the other way then.
 #[derive(Drop)]
 pub struct Pulse {
     pub id: NodeId,

@@ -11,7 +11,10 @@ mod tables;
 mod talk;
 mod values;
 
-pub use application::{Pulse, SensorFault, serve_pulse, set_and_step, step_both, take_setpoints};
+pub use application::{
+    Pulse, Sensed, SensorFault, SetpointFault, serve_pulse, serve_sensor, set_and_step, step_both,
+    take_setpoints,
+};
 pub use requests::take_request;
 pub use serve::{serve_connection, serve_octets};
 pub use stream::take_frames;

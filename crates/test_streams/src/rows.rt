@@ -71,6 +71,7 @@ impl Rows {
             "line" => self.course = Course::of(&self.given, words, told),
             "gets" | "puts" | "written" => self.course.step(&self.given, kind, words, told),
             "serve" => self.serving.serve(&mut self.course, words, told),
+            "serve-switch" => self.serving.serve_switch(&mut self.course, words, told),
             "turns" => self.begin_turns(words, told),
             "exchange" => {
                 let (nodes, turns) = (self.serving.nodes.as_str(), self.turns.as_slice());

@@ -7,17 +7,18 @@ use crate::calling::tell_code;
 use crate::given::Given;
 use crate::lines::Course;
 use crate::requests::{request_in, tell_response};
+use crate::sharing::node_named;
 use crate::sweeps::{changed, fronts};
 use crate::taking::{Goes, Takes, take_pieces};
 use crate::told::Told;
-use crate::words::{first_number, limits_of, moments_of, number_of, text_of};
-use example_callers::serve_connection;
+use crate::words::{first_number, front, limits_of, moment_of, moments_of, number_of, text_of};
+use example_callers::{Pulse, serve_connection, serve_pulse};
 use std::alloc::Global;
-use ua_builtin::{Octets, Wire};
+use ua_builtin::{DateTime, Octets, Wire};
 use ua_channel::{ListMoments, Moments};
 use ua_frame::Limits;
 use ua_nodes::{LoadFault, NodeTable};
-use ua_server::{End, Endpoint, ServeFault, Server, Services, Step, StepFault, serve};
+use ua_server::{End, Endpoint, ServeFault, Server, Services, Step, StepFault, Unwatched, serve};
 
 /// What rows have said of a server, and what was begun with it.
 #[derive(Drop)]
@@ -192,6 +193,37 @@ impl Serving {
                 tell_served(end, course.has_failing_write, told);
                 told.word("next");
                 told.shown(&moments.next());
+            }
+            _ => told.fail("no row"),
+        }
+    }
+
+    /// How the service of a line ends beside a switch, which sets its node at this moment before each
+    /// answer, with the moments of the answers.
+    pub fn serve_switch(&mut self, course: &mut Course, words: &str, told: &mut Told) {
+        let (name, words) = front(words);
+        let (ticks, word) = front(words);
+        let ticks = moment_of(ticks, told);
+        let mut moments = ListMoments::new(moments_of(word, told));
+        match (node_named(name, told), &mut self.services, self.limits) {
+            (Some(id), Some(services), Some(limits)) => {
+                let mut pulse = Pulse {
+                    id,
+                    is_on: true,
+                    moment: DateTime { ticks },
+                };
+                let (alloc, channel) = (told.alloc(), self.channel);
+                let end = serve_pulse(
+                    alloc,
+                    &mut course.line,
+                    services,
+                    limits,
+                    channel,
+                    &mut moments,
+                    &mut Unwatched,
+                    &mut pulse,
+                );
+                tell_served(end, course.has_failing_write, told);
             }
             _ => told.fail("no row"),
         }

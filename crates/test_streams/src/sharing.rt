@@ -162,7 +162,7 @@ fn tell_item(item: &WriteValue, told: &mut Told) {
 }
 
 /// The NodeId of a text.
-fn node_named(name: &str, told: &mut Told) -> Option<NodeId> {
+pub fn node_named(name: &str, told: &mut Told) -> Option<NodeId> {
     let text = text_of(name, told)?;
     Some(NodeId::new(NAMESPACE, Identifier::Text(text)))
 }
