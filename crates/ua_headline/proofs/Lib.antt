@@ -1,0 +1,15 @@
+mod Lists
+mod Served
+mod Answered
+mod Turning
+mod Further
+mod Fronts
+mod Tells
+mod Lasts
+mod Talking
+mod Heards
+mod HeardIds
+mod Steps
+mod Settling
+mod Doing
+mod Examples

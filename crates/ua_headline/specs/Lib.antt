@@ -1,0 +1,4 @@
+-- What both ends do in a conversation, and what each has of it at any point.
+pub mod Talk
+pub mod Clients
+pub mod Example

@@ -1,0 +1,102 @@
+//! The headline. Its function only looks; its contract is the law, and who calls it may rely on it.
+
+ghost use Rattle.std.specs.Prelude.{◌≡◌, ◌↔◌, ◌≤◌, ℕ, List, map, Option};
+ghost use Rattle.ua_frame.specs.declared.frame.Frame.{Frame};
+ghost use Rattle.ua_channel.specs.Asks.{Placed};
+ghost use Rattle.ua_channel.specs.Client.{ClientEnded, ClientGoes, ClientStands, client_bound_behind, client_limits, held_octets};
+ghost use Rattle.ua_channel.specs.ClientTold.{ClientTold, Why};
+ghost use Rattle.ua_channel.specs.Received.{received};
+ghost use Rattle.ua_channel.specs.ServerStands.{ChannelStands, ClosedAt, Goes, RefusedAt, bound_after, held_after, limits_of};
+ghost use Rattle.ua_channel.specs.ServerTold.{Told};
+ghost use Rattle.ua_channel_laws.specs.Outgoing.{Outgoing};
+ghost use Rattle.ua_server.specs.Served.{channel_in};
+ghost use Rattle.ua_server.specs.State.{State};
+ghost use Rattle.ua_server.specs.Stepping.{ServerStands};
+ghost use Rattle.ua_headline.specs.Clients.{Deed, IsLinked, turn_of, turns_of};
+ghost use Rattle.ua_headline.specs.Example.{example_ends, example_told, example_turns};
+ghost use Rattle.ua_headline.specs.Talk.{AreAccepted, AreFirstOf, CanOpen, Ends, GotOf, IsPrefix, TookOf, both_opened, heard_in, rounds_in, sent_in, state_in, told_in};
+
+use ua_channel::ClientChannel;
+use ua_channel_laws::asking_laws::client_asks_earlier;
+use ua_channel_laws::group_laws::{ends_connect, rounds_reach_both_ends};
+use ua_server::Server;
+
+/// A client sent turns so far, calls and renewals, and a server took a prefix of that, in whatever
+/// fragments; what the client got is a prefix of what the server wrote. Then the server was told just the
+/// calls and renewals that were sent whole, each once, in order, under its own RequestId; it refused
+/// nothing, and its services are as these leave them. What the client was told of its calls are the
+/// server's answers to them, each under the RequestId of its own call; the client refused nothing. Neither
+/// end holds more than its bound, whatever came.
+pub fn the_headline(server: &Server, client: &ClientChannel)
+    // What the server was told is a prefix of the turns: each call whole, once, in order, under its own RequestId.
+    ensures told { (e : Ends) (turns : List (List Outgoing)) (took : List ℕ) (told : List Told) →
+        TookOf e turns (channel_in server.now) took →
+        Goes (channel_in server.now) took told → IsPrefix told (told_in e turns) }
+    // It was told of the first of them exactly where all octets of these came.
+    ensures whole { (e : Ends) (turns first : List (List Outgoing)) (took : List ℕ) (told : List Told) →
+        TookOf e turns (channel_in server.now) took →
+        Goes (channel_in server.now) took told → AreFirstOf first turns →
+        IsPrefix (sent_in e first) took ↔ IsPrefix (told_in e first) told }
+    // Its services are as those leave them of which it was told.
+    ensures state { (e : Ends) (turns first : List (List Outgoing)) (took : List ℕ) (told : List Told) (now : State) →
+        TookOf e turns (channel_in server.now) took →
+        ServerStands (channel_in server.now) took told e.first e.times now → AreFirstOf first turns →
+        told ≡ told_in e first → now ≡ state_in e first }
+    // It refused nothing, and nothing closed its channel.
+    ensures not_refused { (e : Ends) (turns : List (List Outgoing)) (took : List ℕ) (told : List Told) (code : ℕ) →
+        TookOf e turns (channel_in server.now) took →
+        RefusedAt (channel_in server.now) took told code → ⊥ }
+    ensures not_closed { (e : Ends) (turns : List (List Outgoing)) (took : List ℕ) (told : List Told) →
+        TookOf e turns (channel_in server.now) took →
+        ClosedAt (channel_in server.now) took told → ⊥ }
+    // What the client was told is a prefix of the server's answers, each under the RequestId of its own call.
+    ensures answered { (e : Ends) (turns : List (List Outgoing)) (asks : List Placed) (got : List ℕ)
+        (heard : List ClientTold) → GotOf e turns (channel_in server.now) client.now asks got →
+        ClientGoes client.now asks got heard → IsPrefix heard (heard_in e turns) }
+    // And of no call of which the server was not told.
+    ensures no_other { (e : Ends) (turns first : List (List Outgoing)) (asks : List Placed) (got : List ℕ)
+        (heard : List ClientTold) (k : GotOf e turns (channel_in server.now) client.now asks got) →
+        ClientGoes client.now asks got heard → AreFirstOf first turns → k.told ≡ told_in e first →
+        IsPrefix heard (heard_in e first) }
+    // The client refused nothing of them, and the server told it no error.
+    ensures not_failed { (e : Ends) (turns : List (List Outgoing)) (asks : List Placed) (got : List ℕ)
+        (heard : List ClientTold) (why : Why) → GotOf e turns (channel_in server.now) client.now asks got →
+        ClientEnded client.now asks got heard why → ⊥ }
+    // Neither holds more than was agreed, whatever came.
+    ensures server_holds { (octets : List ℕ) (frames : List Frame) (rest : List ℕ) →
+        ChannelStands (channel_in server.now) octets frames rest →
+        held_after (received frames) rest ≤ bound_after (limits_of (channel_in server.now)) (received frames) }
+    ensures client_holds { (asks : List Placed) (octets : List ℕ) (frames : List Frame) (rest : List ℕ) →
+        ClientStands client.now asks octets frames rest →
+        held_octets frames rest ≤ client_bound_behind (client_limits client.now) (received frames).ack }
+{
+    ends_connect();
+    rounds_reach_both_ends();
+    client_asks_earlier();
+    let _held = server.held();
+    let _holds = client.held();
+}
+
+/// A client of `ua_client` is such a client: what it did so far, over an honest transport, are turns, the
+/// last of which it may be in the middle of. It opened its channel, called requests or renewed its token,
+/// each time where the calls before it were answered, and it may have sent a part of a further call, and
+/// have a part of the answers.
+pub fn clients_do_turns(server: &Server, client: &ClientChannel)
+    ensures turns { (e : Ends) (deeds : List Deed) (now : Option Deed) (asks : List Placed) (got : List ℕ) →
+        IsLinked e deeds now (channel_in server.now) asks got → client_limits client.now ≡ e.client →
+        GotOf e (turns_of deeds now) (channel_in server.now) client.now asks got }
+    // Behind those of them that are answered it was told just the server's answers.
+    ensures told { (e : Ends) (deeds : List Deed) (now : Option Deed) (asks : List Placed) (got : List ℕ)
+        (k : IsLinked e deeds now (channel_in server.now) asks got) →
+        k.did.last.told ≡ heard_in e (map turn_of deeds) }
+{
+    ends_connect();
+}
+
+/// There are such conversations: with the least limits, two calls with a renewal between them, sent at
+/// once, and a call behind the answers to these, which goes under the new token.
+pub fn there_are_conversations()
+    ensures opens { CanOpen example_ends }
+    ensures accepted { AreAccepted example_ends (both_opened example_ends) (rounds_in example_ends example_turns) }
+    ensures told { told_in example_ends example_turns ≡ example_told }
+{}
