@@ -1,0 +1,4 @@
+mod Behind
+mod Moving
+mod Stepping
+mod Together

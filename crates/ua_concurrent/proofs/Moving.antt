@@ -1,0 +1,297 @@
+-- What reads and writes leave.
+use Rattle.std.proofs.Common.{◌≡◌, ◌<◌, ◌≤◌, ◌⊎◌, inl, inr, ℕ, Bool, true, false, List, [], ◌∷◌, ◌++◌, length, length-drop, take, drop, Option, None, Some, Result, Ok, Err, refl, sym, ap, subst, ◌∙◌, append_assoc, append-nil, arith, ◌==◌}
+use Rattle.std.proofs.lemmas.List.{take-append-drop}
+use Rattle.std.specs.Option.{option_map}
+use Rattle.std.specs.Prelude.{cond, is_some}
+use Rattle.ua_server.specs.Sharing.{SharedEvent}
+use Rattle.ua_server.specs.State.{State}
+use Rattle.ua_server.specs.declared.step.End.{End}
+use Rattle.ua_server.specs.declared.step.End.TheVariants as ending
+use Rattle.ua_concurrent.specs.Carried.{Carried, with_read, with_written}
+use Rattle.ua_concurrent.specs.Standing.{HasCome, Stands}
+use Rattle.ua_concurrent.specs.Talk.{Talk, are_there, is_going, is_ready, ready_of}
+use Rattle.ua_concurrent.specs.Turning.{Answered, CameTo, Failed, Finished, Finishes, HadTurn, IsIdle, IsOver, Moves, Read, Reads, ReadsNothing, ReadsSome, Stepped, Stopped, Turned, Writes, Wrote}
+use Rattle.ua_concurrent.specs.declared.outcome.Failure.{Failure}
+use Rattle.ua_concurrent.specs.declared.outcome.Failure.TheVariants as failure
+use Rattle.ua_concurrent.specs.declared.outcome.Phase.{Phase}
+use Rattle.ua_concurrent.specs.declared.outcome.Phase.TheVariants as phase
+
+-- what was heard is what was heard before, with more
+heard_before : (f : Carried → Carried) (x y : Option Carried) (c : Carried) → y ≡ option_map f x → y ≡ Some c → (d : Carried) × (x ≡ Some d) × (c ≡ f d)
+heard_before f (Some d) y c e s = (d, refl, cc)
+heard_before f None y c e s = cc
+
+pub not_empty : (xs ys : List ℕ) → false ≡ (length xs == 0) → xs ≡ ys → 0 < length ys
+not_empty [] ys e same = let no : false ≡ true = e in cc
+not_empty (x ∷ xs) ys e same = subst (λ (l : List ℕ). 0 < length l) same (omega arith)
+
+drop_fewer : (xs : List ℕ) (n : ℕ) → 0 < n → n ≤ length xs → length (drop n xs) < length xs
+drop_fewer xs n p q = simp length-drop (omega arith)
+
+some_there : (xs : List ℕ) → 0 < length xs → are_there xs ≡ true
+some_there [] h = let no : 0 < 0 = h in absurd (omega (arith, no))
+some_there (x ∷ xs) h = refl
+
+module _ {S : Type 0} (heard : S → Option Carried) where
+  -- ---- it stands where it stood
+
+  pub stands_wrote : (es : List SharedEvent) (first now : State) (a b : Talk S) → Wrote heard a b → Stands heard es first now a → Stands heard es first now b
+  stands_wrote es first now a b w s =
+      let n = w.count in
+      let sent : (s.written ++ take n a.waiting) ++ drop n a.waiting ≡ s.written ++ a.waiting =
+      append_assoc s.written (take n a.waiting) (drop n a.waiting) ∙ ap (λ (x : List ℕ). s.written ++ x) (take-append-drop n a.waiting) in
+      subst (λ (t : Talk S). Stands heard es first now t) (sym w.is) (record {
+        octets = s.octets;
+        written = s.written ++ take n a.waiting;
+        come = subst (λ (x : List ℕ). HasCome a.phase a.number a.connection s.octets es first now x) (sym sent) s.come;
+        carried = λ c e. let before = heard_before (with_written (take n a.waiting)) (heard a.socket) (heard b.socket) c w.heard_is e in
+            let was = s.carried before.0 before.1 in
+            (ap (λ (x : Carried). x.read) before.2 ∙ was.0, ap (λ (x : Carried). x.written) before.2 ∙ ap (λ (x : List ℕ). x ++ take n a.waiting) was.1);
+      })
+
+  pub stands_read : (es : List SharedEvent) (first now : State) (a b : Talk S) → a.unread ≡ [] → Read heard a b → Stands heard es first now a → Stands heard es first now b
+  stands_read es first now a b none w s =
+      subst (λ (t : Talk S). Stands heard es first now t) (sym w.is) (record {
+        octets = s.octets;
+        written = s.written;
+        come = s.come;
+        carried = λ c e. let before = heard_before (with_read w.piece) (heard a.socket) (heard b.socket) c w.heard_is e in
+            let was = s.carried before.0 before.1 in
+            (ap (λ (x : Carried). x.read) before.2 ∙ ap (λ (x : List ℕ). x ++ w.piece) (was.0 ∙ ap (λ (x : List ℕ). s.octets ++ x) none ∙ append-nil s.octets), ap (λ (x : Carried). x.written) before.2 ∙ was.1);
+      })
+
+  pub stands_finished : (es : List SharedEvent) (first now : State) (a b : Talk S) → a.unread ≡ [] → Finished heard a b → Stands heard es first now a → Stands heard es first now b
+  stands_finished es first now a b none w s =
+      subst (λ (t : Talk S). Stands heard es first now t) (sym w.is) (record {
+        octets = s.octets;
+        written = s.written;
+        come = s.come;
+        carried = λ c e. let before = heard_before (with_read []) (heard a.socket) (heard b.socket) c w.heard_is e in
+            let was = s.carried before.0 before.1 in
+            (ap (λ (x : Carried). x.read) before.2 ∙ append-nil before.0.read ∙ was.0 ∙ ap (λ (x : List ℕ). s.octets ++ x) none, ap (λ (x : Carried). x.written) before.2 ∙ was.1);
+      })
+
+  pub stands_stopped : (able : S → Bool) (es : List SharedEvent) (first now : State) (a b : Talk S) → Stopped heard able a b → Stands heard es first now a → Stands heard es first now b
+  stands_stopped able es first now a b w s =
+      subst (λ (t : Talk S). Stands heard es first now t) (sym w.is) (record {
+        octets = s.octets;
+        written = s.written;
+        come = s.come;
+        carried = λ c e. s.carried c (sym w.heard_is ∙ e);
+      })
+
+  pub stands_failed : (failure : Failure) (es : List SharedEvent) (first now : State) (a b : Talk S) → Failed heard failure a b → Stands heard es first now a → Stands heard es first now b
+  stands_failed failure es first now a b w s =
+      subst (λ (t : Talk S). Stands heard es first now t) (sym w.is) (record {
+        octets = s.octets;
+        written = s.written;
+        come = s.come;
+        carried = λ c e. s.carried c (sym w.heard_is ∙ e);
+      })
+
+  pub stands_writes : (writable : S → Bool) (es : List SharedEvent) (first now : State) (a b : Talk S) → Writes heard writable a b → Stands heard es first now a → Stands heard es first now b
+  stands_writes writable es first now a b (inl w) s = stands_wrote es first now a b w s
+  stands_writes writable es first now a b (inr (inl w)) s = stands_stopped writable es first now a b w s
+  stands_writes writable es first now a b (inr (inr w)) s = stands_failed failure.Write es first now a b w s
+
+  pub stands_reads : (readable : S → Bool) (es : List SharedEvent) (first now : State) (a b : Talk S) → a.unread ≡ [] → Reads heard readable a b → Stands heard es first now a → Stands heard es first now b
+  stands_reads readable es first now a b none (inl w) s = stands_read es first now a b none w s
+  stands_reads readable es first now a b none (inr (inl w)) s = stands_finished es first now a b none w s
+  stands_reads readable es first now a b none (inr (inr (inl w))) s = stands_stopped readable es first now a b w s
+  stands_reads readable es first now a b none (inr (inr (inr w))) s = stands_failed failure.Read es first now a b w s
+
+  -- ---- the number stays
+
+  pub number_writes : (writable : S → Bool) (a b : Talk S) → Writes heard writable a b → b.number ≡ a.number
+  number_writes writable a b (inl w) = ap (λ (t : Talk S). t.number) w.is
+  number_writes writable a b (inr (inl w)) = ap (λ (t : Talk S). t.number) w.is
+  number_writes writable a b (inr (inr w)) = ap (λ (t : Talk S). t.number) w.is
+
+  pub number_reads : (readable : S → Bool) (a b : Talk S) → Reads heard readable a b → b.number ≡ a.number
+  number_reads readable a b (inl w) = ap (λ (t : Talk S). t.number) w.is
+  number_reads readable a b (inr (inl w)) = ap (λ (t : Talk S). t.number) w.is
+  number_reads readable a b (inr (inr (inl w))) = ap (λ (t : Talk S). t.number) w.is
+  number_reads readable a b (inr (inr (inr w))) = ap (λ (t : Talk S). t.number) w.is
+
+  -- ---- a write reads nothing, and leaves it over only where it failed
+
+  told_on : (f : Carried → Carried) (x y : Option Carried) (c : Carried) → y ≡ option_map f x → x ≡ Some c → y ≡ Some (f c)
+  told_on f x y c e s = e ∙ ap (option_map f) s
+
+  pub nothing_writes : (writable : S → Bool) (a b : Talk S) → Writes heard writable a b → ReadsNothing heard a b
+  nothing_writes writable a b (inl w) = λ c e. (with_written (take w.count a.waiting) c, told_on (with_written (take w.count a.waiting)) (heard a.socket) (heard b.socket) c w.heard_is e, refl)
+  nothing_writes writable a b (inr (inl w)) = λ c e. (c, w.heard_is ∙ e, refl)
+  nothing_writes writable a b (inr (inr w)) = λ c e. (c, w.heard_is ∙ e, refl)
+
+  over_none : (x : Option (Result End Failure)) (t : Talk S) → x ≡ None → IsOver x t
+  over_none x t e = subst (λ (o : Option (Result End Failure)). IsOver o t) (sym e) tt
+
+  over_as : (x y : Option (Result End Failure)) (t : Talk S) → x ≡ y → IsOver y t → IsOver x t
+  over_as x y t e o = subst (λ (o : Option (Result End Failure)). IsOver o t) (sym e) o
+
+  pub over_writes : (writable : S → Bool) (a b : Talk S) → a.outcome ≡ None → 0 < length a.waiting → Writes heard writable a b → IsOver b.outcome b
+  over_writes writable a b still some (inl w) = over_none b.outcome b (ap (λ (t : Talk S). t.outcome) w.is ∙ still)
+  over_writes writable a b still some (inr (inl w)) = over_none b.outcome b (ap (λ (t : Talk S). t.outcome) w.is ∙ still)
+  over_writes writable a b still some (inr (inr w)) = over_as b.outcome (Some (Err failure.Write)) b (ap (λ (t : Talk S). t.outcome) w.is) (subst (λ (x : List ℕ). 0 < length x) (sym (ap (λ (t : Talk S). t.waiting) w.is)) some)
+
+  -- ---- steps, and writes behind them
+
+  pub stepped_trans : (a b c : Talk S) → b.phase ≡ phase.Going → Stepped a b → Stepped b c → Stepped a c
+  stepped_trans a b c going s t = record {
+    number_is = t.number_is ∙ s.number_is;
+    socket_is = t.socket_is ∙ s.socket_is;
+    outcome_is = t.outcome_is ∙ s.outcome_is;
+    fewer = by s.fewer t.fewer;
+  }
+    where
+      by : (is_going b.phase ≡ false) ⊎ (length b.unread < length a.unread) → (is_going c.phase ≡ false) ⊎ (length c.unread < length b.unread)
+          → (is_going c.phase ≡ false) ⊎ (length c.unread < length a.unread)
+      by x (inl e) = inl e
+      by (inr x) (inr y) = inr (omega arith)
+      by (inl e) (inr y) = let no : true ≡ false = sym (ap is_going going) ∙ e in cc
+
+  stepped_nothing : (a b : Talk S) → Stepped a b → ReadsNothing heard a b
+  stepped_nothing a b s = λ c e. (c, ap heard s.socket_is ∙ e, refl)
+
+  nothing_trans : (a b c : Talk S) → ReadsNothing heard a b → ReadsNothing heard b c → ReadsNothing heard a c
+  nothing_trans a b c f g = λ x e. let d = f x e in let z = g d.0 d.1 in (z.0, z.1, z.2 ∙ d.2)
+
+  pub answered_stepped : (a b : Talk S) → a.outcome ≡ None → Stepped a b → Answered heard a b
+  answered_stepped a b still s = record {
+    number_is = s.number_is;
+    fewer = s.fewer;
+    reads = stepped_nothing a b s;
+    over = over_none b.outcome b (s.outcome_is ∙ still);
+  }
+
+  pub answered_writes : (writable : S → Bool) (a b d : Talk S) → a.outcome ≡ None → Stepped a b → 0 < length b.waiting → Writes heard writable b d → Answered heard a d
+  answered_writes writable a b d still s some w = record {
+    number_is = number_writes writable b d w ∙ s.number_is;
+    fewer = subst (λ (p : Phase). (is_going p ≡ false) ⊎ (length d.unread < length a.unread)) (sym (phase_writes w))
+        (subst (λ (x : List ℕ). (is_going b.phase ≡ false) ⊎ (length x < length a.unread)) (sym (unread_writes w)) s.fewer);
+    reads = nothing_trans a b d (stepped_nothing a b s) (nothing_writes writable b d w);
+    over = over_writes writable b d (s.outcome_is ∙ still) some w;
+  }
+    where
+      phase_writes : Writes heard writable b d → d.phase ≡ b.phase
+      phase_writes (inl w) = ap (λ (t : Talk S). t.phase) w.is
+      phase_writes (inr (inl w)) = ap (λ (t : Talk S). t.phase) w.is
+      phase_writes (inr (inr w)) = ap (λ (t : Talk S). t.phase) w.is
+
+      unread_writes : Writes heard writable b d → d.unread ≡ b.unread
+      unread_writes (inl w) = ap (λ (t : Talk S). t.unread) w.is
+      unread_writes (inr (inl w)) = ap (λ (t : Talk S). t.unread) w.is
+      unread_writes (inr (inr w)) = ap (λ (t : Talk S). t.unread) w.is
+
+  -- ---- turns
+
+  module _ (readable writable : S → Bool) where
+    pub turned_answered : (a b : Talk S) → Answered heard a b → Turned heard readable writable a b
+    turned_answered a b s = record { number_is = s.number_is; moves = by s.fewer; over = s.over }
+      where
+        by : (is_going b.phase ≡ false) ⊎ (length b.unread < length a.unread) → Moves heard readable writable a b
+        by (inl e) = inr (inr (inr (inl e)))
+        by (inr e) = inr (inr (inl e))
+
+    came_finished : (end : End) (t : Talk S) → IsIdle t → Finishes end t → IsOver (Some (Ok end)) t
+    came_finished ending.NoClose t i f = (i, f)
+    came_finished ending.Cut t i f = (i, f)
+    came_finished ending.Closed t i f = absurd f
+    came_finished (ending.Refused code) t i f = absurd f
+
+    ready_idle : (t : Talk S) → t.outcome ≡ None → IsIdle t → is_ready readable writable t ≡ readable t.socket
+    ready_idle t still i =
+        let r = readable t.socket in
+        let w = writable t.socket in
+        ap (λ (o : Option (Result End Failure)). ready_of o t.waiting t.phase t.unread r w) still
+        ∙ ap (λ (x : List ℕ). ready_of None x t.phase t.unread r w) i.2
+        ∙ ap (λ (p : Phase). ready_of None [] p t.unread r w) i.0
+        ∙ ap (λ (x : List ℕ). ready_of None [] phase.Going x r w) i.1
+
+    pub turned_reads : (a b : Talk S) → IsIdle a → a.outcome ≡ None → length b.unread ≡ 0 → Reads heard readable a b → Turned heard readable writable a b
+    turned_reads a b i still none r = record { number_is = number_reads readable a b r; moves = moves r; over = over r }
+      where
+        idle_b : (t : Talk S) → b ≡ t → IsIdle t → IsIdle b
+        idle_b t e j = subst (λ (x : Talk S). IsIdle x) (sym e) j
+
+        moves : Reads heard readable a b → Moves heard readable writable a b
+        moves (inl w) = let more : 0 < length b.unread = subst (λ (x : List ℕ). 0 < length x) (sym (ap (λ (t : Talk S). t.unread) w.is)) w.some in absurd (omega (arith, none, more))
+        moves (inr (inl w)) = inl (ap (λ (t : Talk S). is_some t.outcome) w.is)
+        moves (inr (inr (inl w))) = inr (inr (inr (inr (inr (ready_idle b (ap (λ (t : Talk S). t.outcome) w.is ∙ still) (idle_b _ w.is i) ∙ w.unable)))))
+        moves (inr (inr (inr w))) = inl (ap (λ (t : Talk S). is_some t.outcome) w.is)
+
+        over : Reads heard readable a b → IsOver b.outcome b
+        over (inl w) = over_none b.outcome b (ap (λ (t : Talk S). t.outcome) w.is ∙ still)
+        over (inr (inl w)) = over_as b.outcome (Some (Ok w.end)) b (ap (λ (t : Talk S). t.outcome) w.is) (came_finished w.end b (idle_b _ w.is (i.0, refl, i.2)) w.fits)
+        over (inr (inr (inl w))) = over_none b.outcome b (ap (λ (t : Talk S). t.outcome) w.is ∙ still)
+        over (inr (inr (inr w))) = over_as b.outcome (Some (Err failure.Read)) b (ap (λ (t : Talk S). t.outcome) w.is) (idle_b _ w.is i)
+
+    pub turned_read_answered : (a b d : Talk S) → a.unread ≡ [] → Reads heard readable a b → 0 < length b.unread → Answered heard b d → Turned heard readable writable a d
+    turned_read_answered a b d none r some s = record { number_is = s.number_is ∙ number_reads readable a b r; moves = inr (inr (inr (inr (inl (grew r))))); over = s.over }
+      where
+        no : (xs : List ℕ) → b.unread ≡ xs → xs ≡ [] → ReadsSome heard a d
+        no xs e f = let z : 0 < length {A = ℕ} [] = subst (λ (x : List ℕ). 0 < length x) (e ∙ f) some in absurd (omega (arith, z))
+
+        grew : Reads heard readable a b → ReadsSome heard a d
+        grew (inl w) = λ c e. let z = s.reads (with_read w.piece c) (told_on (with_read w.piece) (heard a.socket) (heard b.socket) c w.heard_is e) in (z.0, w.piece, z.1, z.2, w.some, w.within)
+        grew (inr (inl w)) = no [] (ap (λ (t : Talk S). t.unread) w.is) refl
+        grew (inr (inr (inl w))) = no a.unread (ap (λ (t : Talk S). t.unread) w.is) none
+        grew (inr (inr (inr w))) = no a.unread (ap (λ (t : Talk S). t.unread) w.is) none
+
+    ready_open : (t : Talk S) → is_ready readable writable t ≡ true → t.outcome ≡ None
+    ready_open t e = by t.outcome refl
+      where
+        by : (x : Option (Result End Failure)) → t.outcome ≡ x → t.outcome ≡ None
+        by None f = f
+        by (Some o) f = let no : true ≡ false = sym e ∙ ap (λ (y : Option (Result End Failure)). ready_of y t.waiting t.phase t.unread (readable t.socket) (writable t.socket)) f in cc
+
+    pub had_none : (a : Talk S) → is_ready readable writable a ≡ false → HadTurn heard readable writable a a
+    had_none a e = record {
+      number_is = refl;
+      idle = λ f. refl;
+      moves = λ f. let no : true ≡ false = sym f ∙ e in cc;
+      waits = λ f c g. (c, g, refl);
+      over = λ f. over_none a.outcome a f;
+    }
+
+    ready_waiting : (t : Talk S) → t.outcome ≡ None → 0 < length t.waiting → is_ready readable writable t ≡ writable t.socket
+    ready_waiting t still some =
+        let r = readable t.socket in
+        let w = writable t.socket in
+        ap (λ (o : Option (Result End Failure)). ready_of o t.waiting t.phase t.unread r w) still
+        ∙ ap (λ (b : Bool). cond b w (cond (is_going t.phase) (cond (are_there t.unread) true r) true)) (some_there t.waiting some)
+
+    pub had_writes : (a b : Talk S) → is_ready readable writable a ≡ true → 0 < length a.waiting → Writes heard writable a b → HadTurn heard readable writable a b
+    had_writes a b ready some w = record {
+      number_is = number_writes writable a b w;
+      idle = λ f. let no : true ≡ false = sym ready ∙ f in cc;
+      moves = λ f. moves w;
+      waits = λ f. nothing_writes writable a b w;
+      over = λ f. over_writes writable a b f some w;
+    }
+      where
+        moves : Writes heard writable a b → Moves heard readable writable a b
+        moves (inl w) =
+            let is : b.waiting ≡ drop w.count a.waiting = ap (λ (t : Talk S). t.waiting) w.is in
+            inr (inl (subst (λ (x : List ℕ). length x < length a.waiting) (sym is) (drop_fewer a.waiting w.count w.some w.within)))
+        moves (inr (inl w)) = inr (inr (inr (inr (inr (ready_waiting b (ap (λ (t : Talk S). t.outcome) w.is ∙ ready_open a ready)
+            (subst (λ (x : List ℕ). 0 < length x) (sym (ap (λ (t : Talk S). t.waiting) w.is)) some) ∙ w.unable)))))
+        moves (inr (inr w)) = inl (ap (λ (t : Talk S). is_some t.outcome) w.is)
+
+    pub had_over : (a b : Talk S) (o : Result End Failure) → is_ready readable writable a ≡ true → a.waiting ≡ [] → b ≡ record a { outcome = Some o } → CameTo o b → HadTurn heard readable writable a b
+    had_over a b o ready none is came = record {
+      number_is = ap (λ (t : Talk S). t.number) is;
+      idle = λ f. let no : true ≡ false = sym ready ∙ f in cc;
+      moves = λ f. inl (ap (λ (t : Talk S). is_some t.outcome) is);
+      waits = λ f. let z : 0 < length {A = ℕ} [] = subst (λ (x : List ℕ). 0 < length x) none f in absurd (omega (arith, z));
+      over = λ f. over_as b.outcome (Some o) b (ap (λ (t : Talk S). t.outcome) is) came;
+    }
+
+    pub had_turned : (a b : Talk S) → is_ready readable writable a ≡ true → a.waiting ≡ [] → Turned heard readable writable a b → HadTurn heard readable writable a b
+    had_turned a b ready none t = record {
+      number_is = t.number_is;
+      idle = λ f. let no : true ≡ false = sym ready ∙ f in cc;
+      moves = λ f. t.moves;
+      waits = λ f. let z : 0 < length {A = ℕ} [] = subst (λ (x : List ℕ). 0 < length x) none f in absurd (omega (arith, z));
+      over = λ f. t.over;
+    }

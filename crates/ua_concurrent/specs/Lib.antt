@@ -1,0 +1,5 @@
+pub mod Carried
+pub mod Talk
+pub mod Standing
+pub mod Turning
+pub mod All

@@ -1,0 +1,69 @@
+-- Where connections over one table stand: what was read of each, what was sent to it, and the state that all of them leave.
+use Rattle.std.specs.Prelude.{◌≡◌, ℕ, ◌≤◌, ◌<◌, List, [], ◌++◌, Option, Some, slice_get}
+use Rattle.ua_frame.specs.Run.{Stopped, Over}
+use Rattle.ua_server.specs.History.{EndedAt}
+use Rattle.ua_server.specs.Said.{last_words}
+use Rattle.ua_server.specs.Served.{channel_at, session_at}
+use Rattle.ua_server.specs.Sharing.{SharedEvent, OthersStand, StandsAmong, opened, sent_to, shared_over, told_by}
+use Rattle.ua_server.specs.State.{State}
+use Rattle.ua_server.specs.declared.connection.Connection.{Connection}
+use Rattle.ua_concurrent.specs.Carried.{Carried}
+use Rattle.ua_concurrent.specs.Talk.{Talk}
+use Rattle.ua_concurrent.specs.declared.outcome.Phase.{Phase}
+use Rattle.ua_concurrent.specs.declared.outcome.Phase.TheVariants as phase
+
+-- the SecureChannelId of each connection is its number
+abbrev pub own_id : ℕ → ℕ
+own_id k = k
+
+-- Where a connection has come that stepped these octets and was sent these, where these events are those of all connections and of the
+-- application, in the order in which they were handled. One server that handles every message in this order (`sent_to` of ua_server) sends it
+-- just these octets; where the connection was refused the ERR frame stands behind them. Where an allocation failed in a step, the reply to the
+-- last message that was handled may be lost; all before it is sent.
+abbrev pub HasCome : Phase → ℕ → Connection → List ℕ → List SharedEvent → State → State → List ℕ → Type 0
+HasCome phase.Going k c octets es first now sent = StandsAmong own_id k (channel_at c) (session_at c) octets es first now × (sent_to own_id k (opened first) es ≡ sent)
+HasCome phase.Closed k c octets es first now sent = EndedAt Over (channel_at c) octets (told_by k es) × (sent_to own_id k (opened first) es ++ last_words Over ≡ sent)
+HasCome (phase.Refused code) k c octets es first now sent =
+    EndedAt (Stopped code.code) (channel_at c) octets (told_by k es) × (sent_to own_id k (opened first) es ++ last_words (Stopped code.code) ≡ sent)
+HasCome phase.Starved k c octets es first now sent = (lost : List ℕ) × (sent_to own_id k (opened first) es ≡ sent ++ lost)
+
+-- One conversation: what was read of its socket is what its connection stepped, each octet once and in order, and then the unread; what its
+-- connection was sent is what was written, and then what waits.
+pub record Stands {S : Type 0} (heard : S → Option Carried) (es : List SharedEvent) (first now : State) (t : Talk S) : Type 0 where
+  pub octets : List ℕ
+  pub written : List ℕ
+  pub come : HasCome t.phase t.number t.connection octets es first now (written ++ t.waiting)
+  pub carried : (c : Carried) → heard t.socket ≡ Some c → (c.read ≡ octets ++ t.unread) × (c.written ≡ written)
+
+-- What one conversation did: more was handled, it stands behind that, and so does each other one.
+pub record Went {S : Type 0} (heard : S → Option Carried) (es : List SharedEvent) (first before now : State) (t : Talk S) : Type 0 where
+  pub more : List SharedEvent
+  pub state_is : (shared_over own_id (opened first) (es ++ more)).state ≡ now
+  pub stands : Stands heard (es ++ more) first now t
+  pub others : OthersStand own_id t.number es more first before now
+
+-- the conversation at a place
+abbrev pub IsAt : {S : Type 0} → List (Option (Talk S)) → ℕ → Talk S → Type 0
+IsAt places p t = slice_get places p ≡ Some (Some t)
+
+-- no number is above the last one that was given, and no two conversations have the same one
+pub record AreNumbered {S : Type 0} (last : ℕ) (places : List (Option (Talk S))) : Type 0 where
+  pub within : (p : ℕ) (t : Talk S) → IsAt places p t → t.number ≤ last
+  pub apart : (p q : ℕ) (t u : Talk S) → IsAt places p t → IsAt places q u → t.number ≡ u.number → p ≡ q
+
+-- All conversations over the services, which were in the first state before any of them began and are in this one now: these events left it,
+-- each conversation stands behind them, and those that are still to come have said nothing.
+pub record StandTogether {S : Type 0} (heard : S → Option Carried) (es : List SharedEvent) (first now : State) (last : ℕ) (places : List (Option (Talk S))) : Type 0 where
+  pub state_is : (shared_over own_id (opened first) es).state ≡ now
+  pub numbered : AreNumbered last places
+  pub each : (p : ℕ) (t : Talk S) → IsAt places p t → Stands heard es first now t
+  pub unheard : (k : ℕ) → last < k → told_by k es ≡ []
+
+-- They go on: more was handled, and all stand behind it.
+pub record GoOn {S : Type 0} (heard : S → Option Carried) (es : List SharedEvent) (first now : State) (last : ℕ) (places : List (Option (Talk S))) : Type 0 where
+  pub more : List SharedEvent
+  pub stand : StandTogether heard (es ++ more) first now last places
+
+-- of a socket that tells its octets nothing was read or written yet
+abbrev pub IsFresh : Option Carried → Type 0
+IsFresh heard = (c : Carried) → heard ≡ Some c → (c.read ≡ []) × (c.written ≡ [])

@@ -1,0 +1,16 @@
+-- What a round tells, and what it leaves of the connections.
+use Rattle.std.specs.Prelude.{◌≡◌, ◌+◌, ℕ, List, Option, None}
+use Rattle.ua_concurrent.specs.Carried.{Carried}
+use Rattle.ua_poll.specs.News.{News, count_over}
+use Rattle.ua_poll.specs.declared.polled_socket.PolledSocket.{PolledSocket}
+use Rattle.ua_server.specs.Happening.{Leads}
+
+-- sockets of a system do not tell their octets
+abbrev pub silent : PolledSocket → Option Carried
+silent socket = None
+
+-- it was told, one after the other, of as many connections that are over as their count grew, and of peers that are not served
+pub record Tells {E : Type 0} (notes : E → News → E → Type 0) (before_count after_count : ℕ) (before after : E) : Type 0 where
+  pub news : List News
+  pub leads : Leads notes before news after
+  pub count_is : count_over news + before_count ≡ after_count

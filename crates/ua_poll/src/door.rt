@@ -1,0 +1,57 @@
+//! When peers are taken in.
+
+use std::time::{Clock, Duration, Instant};
+
+/// How many seconds no peer is taken where the system gave none.
+const PAUSE: u64 = 1;
+
+/// Whether a peer may wait to be taken.
+#[derive(Clone, Copy)]
+pub enum Door {
+    /// One may wait.
+    Open,
+    /// None waits: the system tells of the next one.
+    Shut,
+    /// None is taken for a second, from this moment on.
+    Barred(Instant),
+}
+
+impl Door {
+    /// Whether a peer may be taken.
+    pub fn is_open(self) -> bool {
+        matches!(self, Door::Open)
+    }
+
+    /// The system tells of a peer.
+    pub fn knock(&mut self) {
+        if let Door::Shut = self {
+            *self = Door::Open;
+        }
+    }
+
+    /// No peer is taken for a second. Where there is no time, none is until the system tells of one.
+    pub fn bar<C: Clock>(&mut self, clock: &C) {
+        *self = match Instant::now(clock) {
+            Ok(now) => Door::Barred(now),
+            Err(_) => Door::Shut,
+        };
+    }
+
+    /// A peer may be taken again, once the second is over.
+    pub fn lift<C: Clock>(&mut self, clock: &C) {
+        if self.rest(clock) == Some(Duration::ZERO) {
+            *self = Door::Open;
+        }
+    }
+
+    /// How long it is until peers are taken again, where that is known.
+    pub fn rest<C: Clock>(self, clock: &C) -> Option<Duration> {
+        match self {
+            Door::Open | Door::Shut => None,
+            Door::Barred(since) => match since.elapsed(clock) {
+                Ok(passed) => Some(Duration::from_secs(PAUSE).saturating_sub(passed)),
+                Err(_) => Some(Duration::ZERO),
+            },
+        }
+    }
+}

@@ -1,0 +1,19 @@
+//! Many connections at a time over sockets: one loop in one thread, by the readiness that the system
+//! tells. What is read, stepped, kept and written of each connection is decided in `ua_concurrent`.
+//!
+//! ```
+//! let listener = TcpListener::bind(&rt, SocketAddr::from((Ipv4Addr::LOCALHOST, 4840)))?;
+//! let asked = AtOnce { limits, places: 16, total: 100 };
+//! serve_at_once(&rt, alloc, listener, asked, &mut services, &mut application, &mut endings)?;
+//! ```
+#![tactic(auto)]
+
+mod door;
+mod endings;
+mod leaving;
+mod polled_socket;
+mod serving;
+
+pub use endings::{Endings, NotTaken, Retry};
+pub use polled_socket::PolledSocket;
+pub use serving::{AtOnce, PollFault, serve_at_once};

@@ -1,0 +1,89 @@
+//! Sockets that never wait.
+
+use mio::net::TcpStream;
+use std::io::{ErrorKind, Read, Write};
+use ua_concurrent::{Readiness, Socket, Stop};
+
+/// A socket with what the system said of it. The system says once that octets came, or that there is
+/// room, so that is kept until a call finds no more. It does not tell its octets.
+#[derive(Drop)]
+pub struct PolledSocket {
+    stream: TcpStream,
+    readable: bool,
+    writable: bool,
+    /// The peer sends no more, or the socket failed: a read is worth while until it says so itself.
+    ended: bool,
+}
+
+impl PolledSocket {
+    /// A socket that was just accepted: it may be read and written.
+    pub fn new(stream: TcpStream) -> PolledSocket {
+        PolledSocket {
+            stream,
+            readable: true,
+            writable: true,
+            ended: false,
+        }
+    }
+
+    /// The stream.
+    pub fn into_stream(self) -> TcpStream {
+        let PolledSocket { stream, .. } = self;
+        stream
+    }
+}
+
+impl Socket for PolledSocket {
+    ghost use Rattle.std.specs.Prelude.{None};
+
+    ghost heard = { λ s. None };
+
+    ghost readable = { λ s. s.readable };
+
+    ghost writable = { λ s. s.writable };
+
+    fn is_readable(&self) -> bool {
+        self.readable
+    }
+
+    fn is_writable(&self) -> bool {
+        self.writable
+    }
+
+    fn wake(&mut self, readiness: Readiness) {
+        self.readable |= readiness.readable || readiness.ended;
+        self.writable |= readiness.writable || readiness.ended;
+        self.ended |= readiness.ended;
+    }
+
+    fn read(&mut self, buffer: &mut [u8]) -> Result<usize, Stop> {
+        let room = buffer.len();
+        match self.stream.read(buffer) {
+            Ok(count) => {
+                // Fewer than there is room for are all that came, but for the end behind them.
+                if count < room && !self.ended {
+                    self.readable = false;
+                }
+                Ok(count)
+            }
+            Err(error) if error.kind() == ErrorKind::WouldBlock => {
+                self.readable = false;
+                Err(Stop::Blocked)
+            }
+            Err(_) => Err(Stop::Failed),
+        }
+    }
+
+    fn write(&mut self, octets: &[u8]) -> Result<usize, Stop> {
+        match self.stream.write(octets) {
+            // No octet was taken, and a further call need not take one.
+            Ok(0) if !octets.is_empty() => Err(Stop::Failed),
+            Ok(count) => Ok(count),
+            Err(error) if error.kind() == ErrorKind::WouldBlock => {
+                self.writable = false;
+                Err(Stop::Blocked)
+            }
+            Err(_) => Err(Stop::Failed),
+        }
+    }
+}
