@@ -7,7 +7,7 @@ use crate::message_fields::{body_fields, fields};
 use crate::node_table::{State, insert, load, moment, node, nodes};
 use crate::scripts::script;
 use crate::session_requests::{ask, url};
-use crate::texts::{print, type_named, value};
+use crate::texts::{plain, plain_value, print, type_named, value};
 use crate::uses::{bad, frames, in_file, request, through};
 use crate::value_answers::value_or_message;
 use std::alloc::{AllocError, Global};
@@ -57,6 +57,9 @@ fn text_answer(alloc: Global, kind: &str, words: &str) -> Result<String, Fault> 
         "type" => type_named(alloc, words),
         "value" => value(alloc, words),
         "print" => print(alloc, words),
+        "plain" => plain(alloc, words, false),
+        "plain-names" => plain(alloc, words, true),
+        "plain-value" => plain_value(alloc, words),
         "read-line" => read_line(alloc, words),
         "write-line" => write_line(alloc, words),
         "named" => named_code(alloc, words),

@@ -6,7 +6,7 @@ use crate::shown::{encoded, page, quoted};
 use crate::words::{cut, text_of, type_of};
 use std::alloc::Global;
 use ua_nodes::{parse_type, parse_value};
-use ua_texts::push_variant;
+use ua_texts::{parse_plain_value, push_plain_variant, push_variant};
 use ua_variant::{Elements, Variant};
 
 /// The type that a text names: its id, with `[]` behind it where it is that of arrays.
@@ -67,6 +67,49 @@ fn printed(alloc: Global, out: &str) -> Result<String, Fault> {
         Err(Fault::Memory) => Err(Fault::Memory),
         Err(_) => Ok(text),
     }
+}
+
+/// The octets of the value of a type that a text denotes where people write decimals and times, and how
+/// the elements of an array are held.
+pub fn plain_value(alloc: Global, words: &str) -> Result<String, Fault> {
+    let (kind, words) = cut(words)?;
+    let (kind, is_array) = type_of(kind)?;
+    let text = text_of(alloc, words)?;
+    plain_octets(alloc, kind, is_array, text.as_str())
+}
+
+fn plain_octets(alloc: Global, kind: u8, is_array: bool, text: &str) -> Result<String, Fault> {
+    let value = parse_plain_value(alloc, kind, is_array, text)?;
+    let mut out = encoded(alloc, &value)?;
+    out.push_str(held(&value))?;
+    Ok(out)
+}
+
+/// What a Variant prints as where people read it, with the names of status codes or without, and the octets
+/// of the value that its type and its text denote there.
+pub fn plain(alloc: Global, words: &str, names: bool) -> Result<String, Fault> {
+    let value = value_in::<Variant>(alloc, words)?;
+    let text = plain_text(alloc, &value, names);
+    drop(value);
+    let text = text?;
+    let quoted = quoted(alloc, text.as_str())?;
+    match plain_back(alloc, text.as_str()) {
+        Ok(octets) => Ok(format!(in alloc; "{quoted} back {octets}")?),
+        Err(Fault::Memory) => Err(Fault::Memory),
+        Err(_) => Ok(quoted),
+    }
+}
+
+fn plain_text(alloc: Global, value: &Variant, names: bool) -> Result<String, Fault> {
+    let mut out = page(alloc);
+    push_plain_variant(alloc, &mut out, value, names)?;
+    Ok(out)
+}
+
+fn plain_back(alloc: Global, text: &str) -> Result<String, Fault> {
+    let (kind, text) = cut(text)?;
+    let (kind, is_array) = parse_type(kind).ok_or(Fault::NoValue)?;
+    plain_octets(alloc, kind, is_array, text)
 }
 
 /// The octets of the value that the name of a type and a text denote.

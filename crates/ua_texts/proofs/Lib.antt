@@ -7,3 +7,11 @@ mod Rows
 mod Steps
 mod Scripts
 mod Tokens
+mod PlainAdds
+mod PlainDiagnostics
+mod PlainRows
+mod PlainValues
+mod ExactRows
+mod ExactLines
+mod PlainPairs
+mod PlainTokens

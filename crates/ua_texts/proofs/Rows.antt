@@ -14,7 +14,7 @@ use Rattle.ua_texts.specs.Values.{array_text, parted, item_text, items_text, sca
 -- ---- elements
 
 -- one text more
-parted_more : (texts : List (List ℕ)) (text : List ℕ) → parted (texts ++ text ∷ []) ≡ parted texts ++ item_text (length texts) text
+pub parted_more : (texts : List (List ℕ)) (text : List ℕ) → parted (texts ++ text ∷ []) ≡ parted texts ++ item_text (length texts) text
 parted_more [] text = append-nil text
 parted_more (first ∷ texts) text =
     ap (λ (t : List ℕ). first ++ t) (flat_map-append (λ (t : List ℕ). 44 ∷ t) texts (text ∷ []) ∙ ap (λ (t : List ℕ). flat_map (λ (u : List ℕ). 44 ∷ u) texts ++ t) (append-nil (44 ∷ text)))
@@ -26,16 +26,16 @@ take_next [] n x e = absurd cc
 take_next (y ∷ ys) zero x e = let same : y ≡ x = cc in ap (λ t. t ∷ []) same
 take_next (y ∷ ys) (suc n) x e = ap (λ t. y ∷ t) (take_next ys n x e)
 
-length_next : {A : Type 0} (xs : List A) (n : ℕ) (x : A) → slice_get xs n ≡ Some x → length (take n xs) ≡ n
+pub length_next : {A : Type 0} (xs : List A) (n : ℕ) (x : A) → slice_get xs n ≡ Some x → length (take n xs) ≡ n
 length_next [] n x e = absurd cc
 length_next (y ∷ ys) zero x e = refl
 length_next (y ∷ ys) (suc n) x e = ap suc (length_next ys n x e)
 
-map_append : {A B : Type 0} (f : A → B) (xs ys : List A) → map f (xs ++ ys) ≡ map f xs ++ map f ys
+pub map_append : {A B : Type 0} (f : A → B) (xs ys : List A) → map f (xs ++ ys) ≡ map f xs ++ map f ys
 map_append f [] ys = refl
 map_append f (x ∷ xs) ys = ap (λ t. f x ∷ t) (map_append f xs ys)
 
-map_length : {A B : Type 0} (f : A → B) (xs : List A) → length (map f xs) ≡ length xs
+pub map_length : {A B : Type 0} (f : A → B) (xs : List A) → length (map f xs) ≡ length xs
 map_length f [] = refl
 map_length f (x ∷ xs) = ap suc (map_length f xs)
 
@@ -91,7 +91,7 @@ at_index f (y ∷ ys) (suc n) x less e = at_index f ys n x (omega arith) e
 
 -- ---- pairs
 
-get_at : {A : Type 0} (xs : List A) (n : ℕ) (x : A) → n < length xs → x ≡ get_or xs n x → slice_get xs n ≡ Some x
+pub get_at : {A : Type 0} (xs : List A) (n : ℕ) (x : A) → n < length xs → x ≡ get_or xs n x → slice_get xs n ≡ Some x
 get_at [] n x less e = absurd (omega arith)
 get_at (y ∷ ys) zero x less e = ap Some (sym e)
 get_at (y ∷ ys) (suc n) x less e = get_at ys n x (omega arith) e

@@ -1,5 +1,6 @@
 -- How lines are written.
 use Rattle.std.specs.Prelude.{Bool, false}
+use Rattle.ua_texts.specs.declared.style.AnswerStyle.{AnswerStyle}
 use Rattle.ua_texts.specs.declared.style.EndpointStyle.{EndpointStyle}
 use Rattle.ua_texts.specs.declared.style.LineStyle.{LineStyle}
 
@@ -7,6 +8,10 @@ use Rattle.ua_texts.specs.declared.style.LineStyle.{LineStyle}
 abbrev pub plain : Bool → LineStyle
 plain names = record { names = names; times = false; json = false }
 
--- the same of endpoints, without token policies
+-- lines of a style, with values by their patterns and timestamps by their ticks
+abbrev pub exact : LineStyle → AnswerStyle
+exact lines = record { lines = lines; plain = false }
+
+-- the same as `plain` of endpoints, without token policies
 abbrev pub plain_endpoints : EndpointStyle
 plain_endpoints = record { policies = false; json = false }

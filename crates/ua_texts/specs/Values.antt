@@ -100,6 +100,11 @@ abbrev pub item_text : ℕ → List ℕ → List ℕ
 item_text zero text = text
 item_text (suc n) text = 44 ∷ text
 
+-- what stands in front of the element at a place: a comma, unless it is the first
+abbrev pub comma_at : ℕ → List ℕ
+comma_at zero = []
+comma_at (suc n) = 44 ∷ []
+
 -- the elements of an array, with a comma between; none for an empty array
 abbrev pub items_text : List ScalarData → List ℕ
 items_text items = parted (map scalar_text items)

@@ -92,7 +92,7 @@ fn push_plain_write(
 }
 
 /// Adds a NodeId and a status code, with its name where names are wanted.
-fn push_status(
+pub(crate) fn push_status(
     alloc: Global,
     out: &mut String,
     node: &NodeId,

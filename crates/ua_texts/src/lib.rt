@@ -14,8 +14,18 @@
 mod answer;
 mod fault;
 pub mod laws;
+mod marks;
 mod names;
 mod object;
+mod plain;
+mod plain_answer;
+mod plain_diagnostic;
+mod plain_leaf;
+mod plain_lines;
+mod plain_object;
+mod plain_parts;
+mod plain_read;
+mod plain_reply;
 mod reply;
 mod script;
 mod status_codes;
@@ -26,9 +36,14 @@ mod value;
 pub use answer::{push_endpoint_line, push_read_line, push_write_line};
 pub use fault::{AnswerFault, ScriptFault};
 pub use names::{code_name, push_code_as};
+pub use plain::push_plain_variant;
+pub use plain_answer::push_plain_read_line;
+pub use plain_lines::{exact_lines, exact_typed};
+pub use plain_read::parse_plain_value;
+pub use plain_reply::{push_plain_read_answers, push_read_answers_as};
 pub use reply::{has_bad_code, push_endpoints, push_read_answers, push_write_answers};
 pub use script::{ScriptLine, Step, parse_script};
-pub use style::{EndpointStyle, LineStyle};
+pub use style::{AnswerStyle, EndpointStyle, LineStyle};
 pub use text::{
     push_base64, push_code, push_encoded, push_escaped, push_escaped_string, push_string,
     push_wide_pattern,

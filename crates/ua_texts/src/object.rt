@@ -81,7 +81,7 @@ pub fn push_endpoint_json(
 }
 
 /// A line whose object is begun.
-fn begin_line(alloc: Global) -> Result<Writer, AllocError>
+pub(crate) fn begin_line(alloc: Global) -> Result<Writer, AllocError>
     ensures { IfOk result (λ line. (line.before ≡ []) × (line.tokens ≡ begin_object ∷ [])) }
 {
     let mut line = Writer::new(Vec::new(alloc));
@@ -90,7 +90,7 @@ fn begin_line(alloc: Global) -> Result<Writer, AllocError>
 }
 
 /// Ends the object, and adds what was put as a line.
-fn end_line(out: &mut String, mut line: Writer) -> Result<(), AllocError>
+pub(crate) fn end_line(out: &mut String, mut line: Writer) -> Result<(), AllocError>
     requires { line.before ≡ [] }
     ensures { OnOk result (string_bytes out.new ≡ string_bytes out.old ++ (print (line.tokens ++ end_object ∷ []) ++ codes "\n")) }
 {
@@ -140,7 +140,7 @@ fn put_base64(alloc: Global, line: &mut Writer, octets: &UaBytes) -> Result<(), 
 }
 
 /// Puts a NodeId and a status code, with its name where names are wanted.
-fn put_status(
+pub(crate) fn put_status(
     alloc: Global,
     line: &mut Writer,
     node: &NodeId,
@@ -191,7 +191,7 @@ fn put_written(alloc: Global, line: &mut Writer, value: &Variant) -> Result<(), 
     }
 }
 
-fn put_unwritable(line: &mut Writer) -> Result<(), AllocError>
+pub(crate) fn put_unwritable(line: &mut Writer) -> Result<(), AllocError>
     ensures { Puts result line.old line.new (fields_tokens ((codes "unwritable", boolean true) ∷ [])) }
 {
     line.key("unwritable")?;
@@ -211,7 +211,7 @@ fn put_variant(alloc: Global, line: &mut Writer, value: &Variant) -> Result<(), 
 }
 
 /// Puts that there is no value.
-fn put_null(line: &mut Writer) -> Result<(), AllocError>
+pub(crate) fn put_null(line: &mut Writer) -> Result<(), AllocError>
     ensures { Puts result line.old line.new (fields_tokens (variant_fields null)) }
 {
     put_text(line, "type", "Null")?;
@@ -229,14 +229,14 @@ fn put_one(alloc: Global, line: &mut Writer, scalar: &Scalar) -> Result<(), Allo
 }
 
 /// Puts the type of an id.
-fn put_type(line: &mut Writer, kind: u8) -> Result<(), AllocError>
+pub(crate) fn put_type(line: &mut Writer, kind: u8) -> Result<(), AllocError>
     ensures { Puts result line.old line.new (key (codes "type") ∷ string (name_of_type kind) ∷ []) }
 {
     put_text(line, "type", type_name(kind))
 }
 
 /// Puts the type, the elements and the dimensions of an array.
-fn put_array(
+pub(crate) fn put_array(
     alloc: Global,
     line: &mut Writer,
     kind: u8,
@@ -252,7 +252,7 @@ fn put_array(
 }
 
 /// Puts the type of an array of the type of an id.
-fn put_array_type(alloc: Global, line: &mut Writer, kind: u8) -> Result<(), AllocError>
+pub(crate) fn put_array_type(alloc: Global, line: &mut Writer, kind: u8) -> Result<(), AllocError>
     ensures { Puts result line.old line.new (key (codes "type") ∷ string (name_of_type kind ++ codes "[]") ∷ []) }
 {
     let mut name = String::from_str(alloc, type_name(kind))?;
@@ -311,7 +311,7 @@ fn put_scalars(alloc: Global, line: &mut Writer, scalars: &[Scalar]) -> Result<(
 }
 
 /// Puts the dimensions of an array, where it has any.
-fn put_dimensions(line: &mut Writer, dims: &Dimensions) -> Result<(), AllocError>
+pub(crate) fn put_dimensions(line: &mut Writer, dims: &Dimensions) -> Result<(), AllocError>
     ensures { Puts result line.old line.new (fields_tokens (dimension_fields dims.now)) }
 {
     let dims = dims.as_slice();
@@ -347,7 +347,11 @@ fn put_sizes(line: &mut Writer, dims: &[i32]) -> Result<(), AllocError>
 }
 
 /// Puts a value of a built-in type.
-fn put_scalar(alloc: Global, line: &mut Writer, scalar: &Scalar) -> Result<(), AllocError>
+pub(crate) fn put_scalar(
+    alloc: Global,
+    line: &mut Writer,
+    scalar: &Scalar,
+) -> Result<(), AllocError>
     ensures { Puts result line.old line.new (json_tokens (scalar_json (scalar_of scalar.now))) }
 {
     match scalar {

@@ -1,7 +1,7 @@
 //! How lines are written.
 
 ghost use Rattle.std.specs.Prelude.{◌≡◌};
-ghost use Rattle.ua_texts.specs.Styles.{plain, plain_endpoints};
+ghost use Rattle.ua_texts.specs.Styles.{exact, plain, plain_endpoints};
 
 /// How the lines of answers are written.
 #[derive(Clone, Copy, PartialEq, Eq, Debug)]
@@ -23,6 +23,27 @@ impl LineStyle {
             names,
             times: false,
             json: false,
+        }
+    }
+}
+
+/// How answers to a Read are written.
+#[derive(Clone, Copy, PartialEq, Eq, Debug)]
+pub struct AnswerStyle {
+    /// How their lines are written.
+    pub lines: LineStyle,
+    /// Whether values and timestamps are as people write them.
+    pub plain: bool,
+}
+
+impl AnswerStyle {
+    /// Lines of this style, with values by their patterns and timestamps by their ticks.
+    pub fn exact(lines: LineStyle) -> AnswerStyle
+        ensures { result ≡ exact lines }
+    {
+        AnswerStyle {
+            lines,
+            plain: false,
         }
     }
 }

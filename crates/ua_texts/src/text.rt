@@ -31,7 +31,7 @@ fn push_text(out: &mut String, text: &str) -> Result<(), AllocError>
     Ok(())
 }
 
-fn push_char(out: &mut String, c: char) -> Result<(), AllocError>
+pub(crate) fn push_char(out: &mut String, c: char) -> Result<(), AllocError>
     ensures { OnOk result (string_bytes out.new ≡ string_bytes out.old ++ shown (encode_utf8 c)) }
 {
     if c == '\\' {
@@ -75,7 +75,7 @@ fn push_escaped_octets(out: &mut String, octets: &[u8]) -> Result<(), AllocError
     Ok(())
 }
 
-fn push_escaped_octet(out: &mut String, octet: u8) -> Result<(), AllocError>
+pub(crate) fn push_escaped_octet(out: &mut String, octet: u8) -> Result<(), AllocError>
     ensures { OnOk result (string_bytes out.new ≡ string_bytes out.old ++ escaped_octet octet) }
 {
     write!(out, "\\x{octet:02x}")

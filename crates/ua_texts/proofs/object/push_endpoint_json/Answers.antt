@@ -1,4 +1,4 @@
-use Rattle.std.proofs.Common.{◌≡◌, ◌∙◌, List, ℕ, ◌∷◌, ◌++◌, ap, refl, sym, string_bytes}
+use Rattle.std.proofs.Common.{◌∙◌, List, ◌∷◌, ◌++◌, ap, sym, string_bytes}
 use Rattle.json.specs.Token.{Token, begin_object}
 use Rattle.ua_texts.specs.Json.{address_fields, endpoint_json, policy_fields}
 use Rattle.ua_texts.specs.Tokens.{fields_tokens}

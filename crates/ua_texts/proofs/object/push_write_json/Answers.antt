@@ -1,5 +1,5 @@
-use Rattle.std.proofs.Common.{◌≡◌, ◌∙◌, List, ℕ, ◌∷◌, ◌++◌, ap, refl, sym, string_bytes}
-use Rattle.json.specs.Token.{Token, begin_object}
+use Rattle.std.proofs.Common.{◌∙◌, List, ◌++◌, ap, string_bytes}
+use Rattle.json.specs.Token.{Token}
 use Rattle.ua_texts.specs.Json.{status_fields, write_json}
 use Rattle.ua_texts.specs.Tokens.{fields_tokens}
 use Rattle.ua_texts.proofs.Tokens.{line_is}

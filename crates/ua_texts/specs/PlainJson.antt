@@ -1,0 +1,122 @@
+-- Answers to a Read as JSON (RFC 8259), as people write values and times: each line is one object.
+use Rattle.std.specs.Prelude.{◌≡◌, ℕ, Bool, true, false, List, [], ◌∷◌, ◌++◌, Option, Some, None, Result, OnOk, codes, from_bits}
+use Rattle.std.specs.Float.{Float, Format, binary32, binary64, float_is_finite}
+use Rattle.std.specs.List.{flat_map}
+use Rattle.fast_float.specs.Parse.{parse_float}
+use Rattle.json.specs.Json as json
+use Rattle.json.specs.Json.{Json}
+use Rattle.json.specs.Tree.{json_tokens}
+use Rattle.json.specs.Written.{Written}
+use Rattle.ryu.specs.Plain.{IsPlainNumber}
+use Rattle.ua_builtin.specs.declared.date_time.DateTime.{DateTime}
+use Rattle.ua_builtin.specs.declared.node_id.NodeId.{NodeId}
+use Rattle.ua_variant.specs.Data.{boolean, sbyte, byte, int16, uint16, int32, uint32, int64, uint64, float, double, string, byte_string, VariantData, null, one, absent, many, ScalarData, leaf, ScalarsData, no_scalars, scalar}
+use Rattle.ua_variant.specs.Encodable.{kind_of, variant_encodable}
+use Rattle.ua_variant.specs.declared.values.DataValue.{DataValue}
+use Rattle.ua_texts.specs.Json.{Field, array, dimension_fields, json_line, object, scalar_json, status_fields, unwritable_fields, variant_fields}
+use Rattle.ua_texts.specs.Names.{number_of}
+use Rattle.ua_texts.specs.Plain.{IsPlainScalar}
+use Rattle.ua_texts.specs.PlainLeaf.{Either, IsPlainDouble, IsPlainFloat, IsPlainMoment}
+use Rattle.ua_texts.specs.Tokens.{fields_tokens}
+use Rattle.ua_texts.specs.Values.{type_name}
+use Rattle.ua_texts.specs.declared.style.LineStyle.{LineStyle}
+
+-- ---- scalars
+
+-- a string of a text of which this holds
+abbrev pub IsTextJson : (List ℕ → Type 0) → Json → Type 0
+IsTextJson Holds j = (text : List ℕ) × (j ≡ json.string text) × Holds text
+
+-- a floating-point number: a number that reads back as it; an infinity, and what is no number, a string of its text
+abbrev pub IsFloatJson : Format → Float → (List ℕ → Type 0) → Json → Type 0
+IsFloatJson f x Holds j = Either (float_is_finite x) ((text : List ℕ) × (j ≡ json.number text) × IsPlainNumber text × (parse_float f text ≡ Some x)) (IsTextJson Holds j)
+
+-- a scalar: Boolean, whole numbers, String and ByteString as without; a Float and a Double so; all others strings of the texts that they have in
+-- lines that are not JSON
+abbrev pub IsScalarJson : Bool → ScalarData → Json → Type 0
+IsScalarJson names (leaf (boolean b)) j = j ≡ scalar_json (leaf (boolean b))
+IsScalarJson names (leaf (sbyte n)) j = j ≡ scalar_json (leaf (sbyte n))
+IsScalarJson names (leaf (byte n)) j = j ≡ scalar_json (leaf (byte n))
+IsScalarJson names (leaf (int16 n)) j = j ≡ scalar_json (leaf (int16 n))
+IsScalarJson names (leaf (uint16 n)) j = j ≡ scalar_json (leaf (uint16 n))
+IsScalarJson names (leaf (int32 n)) j = j ≡ scalar_json (leaf (int32 n))
+IsScalarJson names (leaf (uint32 n)) j = j ≡ scalar_json (leaf (uint32 n))
+IsScalarJson names (leaf (int64 n)) j = j ≡ scalar_json (leaf (int64 n))
+IsScalarJson names (leaf (uint64 n)) j = j ≡ scalar_json (leaf (uint64 n))
+IsScalarJson names (leaf (string s)) j = j ≡ scalar_json (leaf (string s))
+IsScalarJson names (leaf (byte_string b)) j = j ≡ scalar_json (leaf (byte_string b))
+IsScalarJson names (leaf (float p)) j = IsFloatJson binary32 (from_bits binary32 p.bits) (IsPlainFloat p.bits) j
+IsScalarJson names (leaf (double p)) j = IsFloatJson binary64 (from_bits binary64 p.bits) (IsPlainDouble p.bits) j
+IsScalarJson names s j = IsTextJson (IsPlainScalar names false s) j
+
+-- ---- values
+
+-- the elements of an array, each so
+abbrev pub AreJson : Bool → ScalarsData → List Json → Type 0
+AreJson names no_scalars [] = Unit {0}
+AreJson names no_scalars (j ∷ js) = ⊥
+AreJson names (scalar s ss) [] = ⊥
+AreJson names (scalar s ss) (j ∷ js) = IsScalarJson names s j × AreJson names ss js
+
+-- a list of such elements
+abbrev pub IsArrayJson : Bool → ScalarsData → Json → Type 0
+IsArrayJson names ss j = (items : List Json) × (j ≡ array items) × AreJson names ss items
+
+-- the type and the value of a Variant, its elements so; no value and a null array are as without
+abbrev pub AreVariantFields : Bool → VariantData → List Field → Type 0
+AreVariantFields names null fields = fields ≡ variant_fields null
+AreVariantFields names (one s) fields = (value : Json) × (fields ≡ (codes "type", json.string (type_name (kind_of s))) ∷ (codes "value", value) ∷ []) × IsScalarJson names s value
+AreVariantFields names (absent k ds) fields = fields ≡ variant_fields (absent k ds)
+AreVariantFields names (many k ss ds) fields =
+    (value : Json) × (fields ≡ (codes "type", json.string (type_name k ++ codes "[]")) ∷ (codes "value", value) ∷ dimension_fields ds) × IsArrayJson names ss value
+
+-- a value: one that cannot be written is `unwritable`, without its type
+abbrev pub AreWrittenFields : Bool → VariantData → List Field → Type 0
+AreWrittenFields names v fields = Either (variant_encodable v) (AreVariantFields names v fields) (fields ≡ unwritable_fields)
+
+-- the value of an answer, where there is one
+abbrev pub AreValueFields : Bool → Option VariantData → List Field → Type 0
+AreValueFields names None fields = fields ≡ []
+AreValueFields names (Some v) fields = AreWrittenFields names v fields
+
+-- ---- lines
+
+-- a timestamp: a string of its text, or null
+abbrev pub IsTimeJson : Option DateTime → Json → Type 0
+IsTimeJson None j = j ≡ json.null
+IsTimeJson (Some moment) j = IsTextJson (IsPlainMoment moment) j
+
+-- the timestamps of an answer, the source's and the server's
+pub record AreBothFields (answer : DataValue) (fields : List Field) : Type 0 where
+  pub source : Json
+  pub server : Json
+  pub are : fields ≡ (codes "source", source) ∷ (codes "server", server) ∷ []
+  pub of_source : IsTimeJson answer.source_timestamp source
+  pub of_server : IsTimeJson answer.server_timestamp server
+
+-- the timestamps, where they are wanted
+abbrev pub AreTimeFields : Bool → DataValue → List Field → Type 0
+AreTimeFields true answer fields = AreBothFields answer fields
+AreTimeFields false answer fields = fields ≡ []
+
+-- the answer to an item of a Read
+pub record IsPlainJson (style : LineStyle) (node : NodeId) (answer : DataValue) (text : List ℕ) : Type 0 where
+  pub value : List Field
+  pub times : List Field
+  pub is : text ≡ json_line (object (status_fields style.names node (number_of answer.status) ++ (value ++ times)))
+  pub of_value : AreValueFields style.names answer.value value
+  pub of_times : AreTimeFields style.times answer times
+
+-- ---- what is put into a writer
+
+-- a value of which this holds was put
+abbrev pub PutsJson : {E : Type 0} → Result (Unit {0}) E → Written → Written → (Json → Type 0) → Type 0
+PutsJson r old new Is = OnOk r ((j : Json) × (new.before ≡ old.before) × (new.tokens ≡ old.tokens ++ json_tokens j) × Is j)
+
+-- values of which this holds were put
+abbrev pub PutsEach : {E : Type 0} → Result (Unit {0}) E → Written → Written → (List Json → Type 0) → Type 0
+PutsEach r old new Are = OnOk r ((js : List Json) × (new.before ≡ old.before) × (new.tokens ≡ old.tokens ++ flat_map json_tokens js) × Are js)
+
+-- members of which this holds were put
+abbrev pub PutsFields : {E : Type 0} → Result (Unit {0}) E → Written → Written → (List Field → Type 0) → Type 0
+PutsFields r old new Are = OnOk r ((fields : List Field) × (new.before ≡ old.before) × (new.tokens ≡ old.tokens ++ fields_tokens fields) × Are fields)

@@ -1,0 +1,11 @@
+-- What responses are printed as, where the answers alone do not fix it.
+use Rattle.std.specs.Prelude.{◌≡◌, ℕ, List, ◌++◌, length, Option, Some}
+
+-- there are as many answers as were asked for, and their lines were added
+pub record HaveLines {A : Type 0} (answers : Option (List A)) (asked : ℕ) (AreLines : List A → List ℕ → Type 0) (old new : List ℕ) : Type 0 where
+  pub each : List A
+  pub lines : List ℕ
+  pub given : answers ≡ Some each
+  pub many : length each ≡ asked
+  pub added : new ≡ old ++ lines
+  pub are : AreLines each lines

@@ -1,0 +1,100 @@
+//! Texts that stand among marks.
+
+ghost use Rattle.std.specs.Prelude.{◌≡◌, ◌++◌, string_bytes, OnOk, Some, None, if◌then◌else◌};
+ghost use Rattle.ua_texts.specs.Marks.{before_bar, before_semicolon, is_mark, marked, marked_char, marked_string, of as marks_of};
+
+use crate::text::{push_char, push_escaped_octet};
+use std::alloc::AllocError;
+use ua_builtin::UaString;
+
+/// Which characters part a text from what stands beside it, so that they are escaped in it.
+#[derive(Clone, Copy, PartialEq, Eq, Debug)]
+pub(crate) struct Marks {
+    /// A bar stands behind the text.
+    pub bar: bool,
+    /// A semicolon stands behind the text.
+    pub semicolon: bool,
+    /// The text stands within an array or within brackets.
+    pub within: bool,
+}
+
+impl Marks {
+    /// Those of a text that stands alone, or within an array or brackets.
+    pub(crate) fn of(within: bool) -> Marks
+        ensures { result ≡ marks_of within }
+    {
+        Marks {
+            bar: false,
+            semicolon: false,
+            within,
+        }
+    }
+
+    /// Those of a text in front of a bar.
+    pub(crate) fn before_bar(within: bool) -> Marks
+        ensures { result ≡ before_bar within }
+    {
+        Marks {
+            bar: true,
+            semicolon: false,
+            within,
+        }
+    }
+
+    /// Those of a text in front of a semicolon.
+    pub(crate) fn before_semicolon(within: bool) -> Marks
+        ensures { result ≡ before_semicolon within }
+    {
+        Marks {
+            bar: false,
+            semicolon: true,
+            within,
+        }
+    }
+}
+
+/// Adds a text with each mark by its digits, and each other character as it is shown.
+pub(crate) fn push_marked(out: &mut String, text: &str, marks: Marks) -> Result<(), AllocError>
+    ensures { OnOk result (string_bytes out.new ≡ string_bytes out.old ++ marked marks text.now) }
+{
+    for c in text.chars() {
+        push_marked_char(out, c, marks)?;
+    }
+    Ok(())
+}
+
+fn push_marked_char(out: &mut String, c: char, marks: Marks) -> Result<(), AllocError>
+    ensures { OnOk result (string_bytes out.new ≡ string_bytes out.old ++ marked_char marks c) }
+{
+    match mark_octet(c, marks) {
+        Some(octet) => push_escaped_octet(out, octet),
+        None => push_char(out, c),
+    }
+}
+
+/// The octet of a mark.
+fn mark_octet(c: char, marks: Marks) -> Option<u8>
+    ensures { result ≡ (if is_mark marks c then Some c else None) }
+{
+    let is_mark = match c {
+        '|' => marks.bar,
+        ';' => marks.semicolon,
+        ',' | '(' | ')' | '{' | '}' => marks.within,
+        _ => false,
+    };
+    if is_mark { Some(c as u8) } else { None }
+}
+
+/// Adds a String so, null as `null`.
+pub(crate) fn push_marked_string(
+    out: &mut String,
+    text: &UaString,
+    marks: Marks,
+) -> Result<(), AllocError>
+    ensures { OnOk result (string_bytes out.new ≡ string_bytes out.old ++ marked_string marks text.now) }
+{
+    match text.as_str() {
+        Some(text) => push_marked(out, text, marks),
+        None => out.push_str("null"),
+    }
+}

@@ -1,0 +1,70 @@
+//! Texts of values behind their types, and the lines that hold them, as people write them.
+
+ghost use Rattle.std.specs.Prelude.{◌≡◌, ◌++◌, ◌∷◌, [], IfOk, OnOk, string_bytes};
+ghost use Rattle.ua_texts.specs.PlainLines.{exact_fields, exact_line, exact_lines as exact_lines_of, exact_typed as exact_typed_of};
+
+use crate::plain_read::push_exact_text;
+use std::alloc::{AllocError, Global};
+use ua_nodes::{parse_type, without_return};
+
+/// The text of a value behind the name of its type, with each decimal's pattern, and each time's ticks, in
+/// its place; as it stands where the name is none.
+pub fn exact_typed(alloc: Global, kind: &str, text: &str) -> Result<String, AllocError>
+    ensures { IfOk result (λ exact. string_bytes exact ≡ exact_typed_of kind.now text.now) }
+{
+    let mut exact = String::new(alloc);
+    push_exact_typed(&mut exact, kind, text)?;
+    Ok(exact)
+}
+
+/// Adds the text of a value behind the name of its type so.
+fn push_exact_typed(out: &mut String, kind: &str, text: &str) -> Result<(), AllocError>
+    ensures { OnOk result (string_bytes out.new ≡ string_bytes out.old ++ exact_typed_of kind.now text.now) }
+{
+    match parse_type(kind) {
+        Some((kind, array)) => push_exact_text(out, kind, array, text),
+        None => out.push_str(text),
+    }
+}
+
+/// The lines of a node file or of a script, with the value that stands at the end of a line behind its type
+/// in its exact form. Each line has its number, and ends in LF.
+pub fn exact_lines(alloc: Global, text: &str) -> Result<String, AllocError>
+    ensures { IfOk result (λ exact. string_bytes exact ≡ exact_lines_of text.now) }
+{
+    let mut exact = String::new(alloc);
+    for line in text.split('\n') {
+        push_exact_line(&mut exact, without_return(line))?;
+    }
+    Ok(exact)
+}
+
+/// Adds a line so.
+fn push_exact_line(out: &mut String, line: &str) -> Result<(), AllocError>
+    ensures { OnOk result (string_bytes out.new ≡ string_bytes out.old ++ exact_line line.now) }
+{
+    push_exact_fields(out, line)?;
+    out.push_str("\n")
+}
+
+/// Adds the fields of a line, with a tab between, and the last one in its exact form.
+fn push_exact_fields(out: &mut String, line: &str) -> Result<(), AllocError>
+    ensures { OnOk result (string_bytes out.new ≡ string_bytes out.old ++ exact_fields line.now) }
+{
+    let mut kind = "";
+    let mut rest = line;
+    'fields: while let Some((field, more)) = rest.split_once('\t') {
+        push_field(out, field)?;
+        kind = field;
+        rest = more;
+    }
+    push_exact_typed(out, kind, rest)
+}
+
+/// Adds a field, and a tab behind it.
+fn push_field(out: &mut String, field: &str) -> Result<(), AllocError>
+    ensures { OnOk result (string_bytes out.new ≡ string_bytes out.old ++ (field.now ++ 9 ∷ [])) }
+{
+    out.push_str(field)?;
+    out.push_str("\t")
+}

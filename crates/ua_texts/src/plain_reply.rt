@@ -1,0 +1,81 @@
+//! What the responses to a Read are printed as, with values and times as people write them.
+
+ghost use Rattle.std.specs.Prelude.{◌≡◌, length, string_bytes, IfErr, OnOk};
+ghost use Rattle.ua_texts.specs.PlainAnswers.{ArePlainReads, AreReads};
+ghost use Rattle.ua_texts.specs.PlainLeaf.{Adds};
+ghost use Rattle.ua_texts.specs.PlainReplies.{HaveLines};
+ghost use Rattle.ua_texts.specs.Replies.{Leaves, NoAnswers, values_in};
+
+use crate::fault::AnswerFault;
+use crate::plain_answer::push_plain_read_line;
+use crate::reply::push_read_answers;
+use crate::style::{AnswerStyle, LineStyle};
+use std::alloc::{AllocError, Global};
+use ua_builtin::NodeId;
+use ua_services::Response;
+use ua_variant::DataValue;
+
+/// Adds the lines of the answers to a Read of these nodes, in their order, in this style: each as
+/// [`push_plain_read_line`] adds it.
+pub fn push_plain_read_answers(
+    alloc: Global,
+    out: &mut String,
+    nodes: &[NodeId],
+    response: &Response,
+    style: LineStyle,
+) -> Result<(), AnswerFault>
+    ensures lines { OnOk result (HaveLines (values_in response.now) (length nodes.now) (ArePlainReads style nodes.now) (string_bytes out.old) (string_bytes out.new)) }
+    ensures faults { IfErr result (NoAnswers (values_in response.now) (length nodes.now) response.now) }
+    ensures kept { IfErr result (Leaves (string_bytes out.old) (string_bytes out.new)) }
+{
+    let answers = match response {
+        Response::Read(message) => message.results.as_items(),
+        Response::ServiceFault(fault) => {
+            return Err(AnswerFault::Service(fault.response_header.service_result));
+        }
+        _ => None,
+    };
+    match answers {
+        Some(answers) if answers.len() == nodes.len() => {
+            Ok(push_plain_read_lines(alloc, out, nodes, answers, style)?)
+        }
+        _ => Err(AnswerFault::Unknown),
+    }
+}
+
+fn push_plain_read_lines(
+    alloc: Global,
+    out: &mut String,
+    nodes: &[NodeId],
+    answers: &[DataValue],
+    style: LineStyle,
+) -> Result<(), AllocError>
+    requires { length answers.now ≡ length nodes.now }
+    ensures { Adds result (string_bytes out.old) (string_bytes out.new) (ArePlainReads style nodes.now answers.now) }
+{
+    for (index, answer) in answers.iter().enumerate() {
+        push_plain_read_line(alloc, out, &nodes[index], answer, style)?;
+    }
+    Ok(())
+}
+
+/// Adds the lines of the answers to a Read of these nodes, in their order, in this style: those of
+/// [`push_plain_read_answers`] where values and times are to be as people write them, else those of
+/// [`push_read_answers`].
+pub fn push_read_answers_as(
+    alloc: Global,
+    out: &mut String,
+    nodes: &[NodeId],
+    response: &Response,
+    style: AnswerStyle,
+) -> Result<(), AnswerFault>
+    ensures lines { OnOk result (HaveLines (values_in response.now) (length nodes.now) (AreReads style nodes.now) (string_bytes out.old) (string_bytes out.new)) }
+    ensures faults { IfErr result (NoAnswers (values_in response.now) (length nodes.now) response.now) }
+    ensures kept { IfErr result (Leaves (string_bytes out.old) (string_bytes out.new)) }
+{
+    if style.plain {
+        push_plain_read_answers(alloc, out, nodes, response, style.lines)
+    } else {
+        push_read_answers(alloc, out, nodes, response, style.lines)
+    }
+}
