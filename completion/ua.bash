@@ -5,11 +5,11 @@ _ua() {
     case $before in
         --policy) words='anonymous auto' ;;
         --connections) words='all' ;;
-        --attribute | --cut | --range) return ;;
+        --attribute | --cut | --path | --range | --url) return ;;
     esac
     for ((at = 2; at < COMP_CWORD; at++)); do
         case ${COMP_WORDS[at]} in
-        --attribute | --connections | --cut | --policy | --range) at=$((at + 1)) ;;
+        --attribute | --connections | --cut | --path | --policy | --range | --url) at=$((at + 1)) ;;
         -*) ;;
         *) place=$((place + 1)) ;;
         esac
@@ -19,11 +19,11 @@ _ua() {
     elif [ -z "$words" ]; then
         case ${COMP_WORDS[1]} in
         dissect) words='--help --hex --server --fields --names --strict --why'; files='0' ;;
-        serve) words='--help --connections --requests --why'; files='0' ;;
-        endpoints) words='--help --policies --json --why' ;;
-        read) words='--help --attribute --range --names --times --json --policy --strict --why' ;;
-        write) words='--help --names --json --policy --strict --why' ;;
-        loop) words='--help --cut --tcp --names --strict --why'; files='0 1' ;;
+        serve) words='--help --connections --requests --plain --standard --why'; files='0' ;;
+        endpoints) words='--help --policies --json --path --url --why' ;;
+        read) words='--help --attribute --range --names --times --json --plain --policy --path --url --strict --why' ;;
+        write) words='--help --names --json --plain --policy --path --url --strict --why' ;;
+        loop) words='--help --cut --tcp --names --plain --strict --why'; files='0 1' ;;
         version) words='--help' ;;
         help) words='dissect serve endpoints read write loop version help' ;;
         esac

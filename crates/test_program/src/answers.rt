@@ -13,6 +13,7 @@ use crate::offline::offline_row;
 use crate::run::{broken_row, pipe_row, run_row, words_row};
 use crate::script::script;
 use crate::serve::{connections, memory_refused, request_lines, serve, serve_none, serve_tcp};
+use crate::standard::standard;
 use crate::writers::{err_row, no_words_row, out_row, out_told_row};
 use std::alloc::AllocError;
 use std::net::Net;
@@ -61,6 +62,7 @@ fn answer<R: Files + Net + Clock + AllocGlobal>(
         "connections" => connections(rt, words),
         "request-lines" => request_lines(rt, words),
         "serve-none" => serve_none(rt),
+        "standard" => standard(rt, words),
         "accepts" => accepts(rt, words),
         "client" => client(rt, words),
         "asked" => asked(rt, taken, words),

@@ -13,13 +13,13 @@ use std::io;
 use std::io::{Read, Write};
 use std::net::Net;
 use std::rt::Files;
+use ua_builtin::{UaString, Wire};
 use ua_channel::{Line, LineFault, MemoryLine};
-use ua_program::{ListEndpoints, Task, limits, parse, policy_of, read_question, write_question};
+use ua_program::{
+    ListEndpoints, Task, limits, parse, policy_of, read_question, url_of, write_question,
+};
 use ua_session::{AskFault, Question, TokenPolicy, Verdict, WordFault, ask_over, endpoints_over};
-use ua_texts::LineStyle;
-
-/// The port in the server's address.
-const PORT: u16 = 4840;
+use ua_texts::AnswerStyle;
 
 /// `ask FILE QUESTION`: asks over a line from which the octets of a file come.
 pub fn ask<R: Files + AllocGlobal>(rt: &R, words: &str) -> Result<String, Fault> {
@@ -165,13 +165,15 @@ fn asked<L: Line, O: Write>(
         Task::Endpoints(asked) => endpoints(alloc, line, &asked, out),
         Task::Read(asked) => {
             let question = read_question(alloc, &asked);
+            let url = or_no_row(url_of(alloc, &asked.server))?;
             let asking = asking_of(alloc, question, asked.policy, asked.style, asked.strict)?;
-            answers(alloc, line, &asking, out)
+            answers(alloc, line, &url, &asking, out)
         }
         Task::Write(asked) => {
             let question = write_question(alloc, &asked);
+            let url = or_no_row(url_of(alloc, &asked.server))?;
             let asking = asking_of(alloc, question, asked.policy, asked.style, asked.strict)?;
-            answers(alloc, line, &asking, out)
+            answers(alloc, line, &url, &asking, out)
         }
         _ => Err(Fault::NoRow),
     }
@@ -188,19 +190,15 @@ fn task_of<'a>(alloc: Global, words: &'a [&'a str]) -> Result<Task<'a>, Fault> {
 fn endpoints<L: Line, O: Write>(
     alloc: Global,
     line: &mut L,
-    asked: &ListEndpoints,
+    asked: &ListEndpoints<'_>,
     out: &mut O,
 ) -> Result<Result<&'static str, AskFault>, Fault> {
     let mut moments = moments(alloc)?;
-    let ended = endpoints_over(
-        alloc,
-        line,
-        limits(),
-        asked.port,
-        asked.style,
-        &mut moments,
-        out,
-    );
+    let url = or_no_row(url_of(alloc, &asked.server))?;
+    if !url.is_encodable() {
+        return Err(Fault::NoRow);
+    }
+    let ended = endpoints_over(alloc, line, limits(), &url, asked.style, &mut moments, out);
     Ok(ended.map(|()| "done"))
 }
 
@@ -209,7 +207,7 @@ fn endpoints<L: Line, O: Write>(
 struct Asking {
     question: Question,
     policy: TokenPolicy,
-    style: LineStyle,
+    style: AnswerStyle,
     strict: bool,
 }
 
@@ -217,7 +215,7 @@ fn asking_of(
     alloc: Global,
     question: Result<Question, WordFault>,
     policy: &str,
-    style: LineStyle,
+    style: AnswerStyle,
     strict: bool,
 ) -> Result<Asking, Fault> {
     Ok(Asking {
@@ -231,15 +229,19 @@ fn asking_of(
 fn answers<L: Line, O: Write>(
     alloc: Global,
     line: &mut L,
+    url: &UaString,
     asking: &Asking,
     out: &mut O,
 ) -> Result<Result<&'static str, AskFault>, Fault> {
+    if !url.is_encodable() {
+        return Err(Fault::NoRow);
+    }
     let mut moments = moments(alloc)?;
     let ended = ask_over(
         alloc,
         line,
         limits(),
-        PORT,
+        url,
         &asking.question,
         &asking.policy,
         asking.style,

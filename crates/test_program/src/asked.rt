@@ -24,11 +24,15 @@ fn told<R: AllocGlobal>(rt: &R, task: &Task<'_>) -> Result<String, Fault> {
                 port,
                 connections,
                 requests,
+                standard,
                 ..
             } = *asked;
             let mut told = format!(in rt.alloc(); "port {port} connections {connections}")?;
             if requests {
                 told.push_str(" requests")?;
+            }
+            if standard {
+                told.push_str(" standard")?;
             }
             Ok(told)
         }
@@ -41,8 +45,8 @@ fn told<R: AllocGlobal>(rt: &R, task: &Task<'_>) -> Result<String, Fault> {
             } = *asked;
             Ok(format!(in rt.alloc(); "cut {cut} tcp {tcp} names {names}")?)
         }
-        Task::Read(asked) => named(rt, asked.port, asked.style.names),
-        Task::Write(asked) => named(rt, asked.port, asked.style.names),
+        Task::Read(asked) => named(rt, asked.server.port, asked.style.lines.names),
+        Task::Write(asked) => named(rt, asked.server.port, asked.style.lines.names),
         _ => Err(Fault::NoRow),
     }
 }

@@ -117,6 +117,8 @@ pub fn accepts<R: Files + Net + Clock + AllocGlobal>(rt: &R, words: &str) -> Res
         connections: u32::try_from(clients.len()).unwrap_or(0),
         goes_on: how == "all",
         requests: false,
+        plain: false,
+        standard: false,
     };
     let told = told(&listening, &listener, &asked);
     drop(clients);

@@ -20,6 +20,7 @@ mod offline;
 mod run;
 mod script;
 mod serve;
+mod standard;
 mod tcp;
 mod texts;
 mod writers;

@@ -36,5 +36,5 @@ pub fn looped(alloc: Global, nodes: &str, script: &str, cut: u16) -> Result<Loop
     let Ok(nodes) = NodeTable::load(alloc, nodes) else {
         return Err(Fault::NoRow);
     };
-    or_no_row(run_script(alloc, nodes, script, cut, false))
+    or_no_row(run_script(alloc, nodes, script, cut, false, false))
 }

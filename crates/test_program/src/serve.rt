@@ -168,6 +168,8 @@ fn asked(connections: u32, requests: bool) -> Serve<'static> {
         connections,
         goes_on: connections == ALL_CONNECTIONS,
         requests,
+        plain: false,
+        standard: false,
     }
 }
 

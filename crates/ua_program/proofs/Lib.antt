@@ -2,4 +2,5 @@ mod HexParts
 mod Loops
 mod Readings
 mod Serves
+mod Standards
 mod Stops

@@ -1,5 +1,5 @@
 -- How far the lines of a file have come.
-use Rattle.std.proofs.Common.{◌≡◌, ◌⊎◌, inl, inr, ℕ, zero, suc, ◌<◌, take, ◌+◌, ◌%◌, ◌∷◌, length, length-append, arith, Bool, true, false, List, [], ◌++◌, Option, Some, None, is_none, unwrap_or, Result, Ok, Err, OnOk, refl, sym, ap, subst, ◌∙◌, append_assoc, append-nil}
+use Rattle.std.proofs.Common.{◌≡◌, ◌⊎◌, inl, inr, ℕ, zero, suc, ◌<◌, take, ◌+◌, ◌∷◌, length, length-append, arith, Bool, true, false, List, [], ◌++◌, Option, Some, None, is_none, unwrap_or, Ok, refl, sym, ap, subst, ◌∙◌, append_assoc, append-nil}
 use Rattle.std.proofs.lemmas.List.{append_cancel_left}
 use Rattle.std.specs.Io.KnownBytes.{Appends, Consumes, IsAtEnd}
 use Rattle.std.specs.Borrow.{Bor}
@@ -14,7 +14,7 @@ use Rattle.ua_program.specs.Printed.{HasBegun, HasDissected, HasListed, HasToldS
 use Rattle.ua_texts.specs.declared.style.EndpointStyle.{EndpointStyle}
 use Rattle.ua_program.specs.Digits.{digits_in, HexSoFar, HoldsSoFar, HoldsOctets, HoldsNever, HoldsNone}
 use Rattle.ua_program.specs.declared.fault.Fault.{Fault}
-use Rattle.ua_program.specs.declared.fault.Fault.TheVariants.{CannotRead, NoMemory, NotHexadecimal}
+use Rattle.ua_program.specs.declared.fault.Fault.TheVariants.{NoMemory, NotHexadecimal}
 use Rattle.ua_session.specs.declared.verdict.Verdict.{Verdict}
 use Rattle.ua_program.specs.declared.output.Stop.{Stop}
 use Rattle.ua_program.specs.declared.output.Stop.TheVariants as stop
@@ -285,10 +285,10 @@ pub told_some : (hex : Bool) (options : DissectOptions) (source old new : Option
 told_some hex options source old new h = record { hex = hex; options = options; source = source; lines = h }
 
 -- a script that stopped has begun
-pub loop_stops : {A B : Type 0} (names : Bool) (why : Stop) (old new : Option (List ℕ)) → A ⊎ (B ⊎ HasLoopedUntil names why old new) → A ⊎ (B ⊎ HasBegun old new)
-loop_stops names why old new (inl a) = inl a
-loop_stops names why old new (inr (inl b)) = inr (inl b)
-loop_stops names why old new (inr (inr h)) = inr (inr (inr (inr (inr (inr (record { names = names; fault = Some h.fault; looped = h.looped }))))))
+pub loop_stops : {A B : Type 0} (people names : Bool) (why : Stop) (old new : Option (List ℕ)) → A ⊎ (B ⊎ HasLoopedUntil people names why old new) → A ⊎ (B ⊎ HasBegun old new)
+loop_stops people names why old new (inl a) = inl a
+loop_stops people names why old new (inr (inl b)) = inr (inl b)
+loop_stops people names why old new (inr (inr h)) = inr (inr (inr (inr (inr (inr (record { people = people; names = names; fault = Some h.fault; looped = h.looped }))))))
 
 -- serving that stopped has begun
 pub serve_stops : {A B : Type 0} (requests goes_on : Bool) (port connections : ℕ) (old new : Option (List ℕ)) → A ⊎ (B ⊎ HasServedSome requests goes_on port connections old new) → A ⊎ (B ⊎ HasBegun old new)

@@ -7,3 +7,4 @@ pub mod Words
 pub mod Looped
 pub mod Printed
 pub mod Reasons
+pub mod Standard

@@ -1,11 +1,11 @@
 -- What comes of the two texts of `ua loop`: nodes, and a script.
-use Rattle.std.specs.Prelude.{◌≡◌, ◌⊎◌, ℕ, Bool, List, Option, Some, None, string_bytes}
+use Rattle.std.specs.Prelude.{◌≡◌, ◌⊎◌, ℕ, Bool, List, Option, Some, string_bytes}
 use Rattle.std.specs.Io.KnownBytes.{Appends}
 use Rattle.ua_exchange.specs.Accepted.{AreAccepted}
 use Rattle.ua_exchange.specs.Exchanged.{down_octets}
 use Rattle.ua_exchange.specs.Turns.{up_octets}
 use Rattle.ua_session.specs.ScriptFaults.{Stops, Unread}
-use Rattle.ua_session.specs.ScriptPrinted.{told_fault, script_told, text_of}
+use Rattle.ua_session.specs.ScriptPrinted.{IsTextOf, told_fault, script_told}
 use Rattle.ua_session.specs.Script.{script_moment, script_turns}
 use Rattle.ua_session.specs.declared.looping.fault.LoopFault.{LoopFault}
 use Rattle.ua_session.specs.declared.looping.looped.Looped.{Looped}
@@ -18,14 +18,14 @@ use Rattle.ua_program.specs.declared.output.Stop.{Stop}
 use Rattle.ua_program.specs.declared.output.Stop.TheVariants.{Fault as Stopped}
 
 -- what went each way over these nodes, what is printed and which fault is met are those of the steps that this text asks for, all of which a client asks; what is
--- printed has the names of status codes where they are wanted
-pub record RunsScript (names : Bool) (nodes : Nodes) (text : List ℕ) (l : Looped) : Type 0 where
+-- printed has the names of status codes where they are wanted, and values as people write them where this is
+pub record RunsScript (people names : Bool) (nodes : Nodes) (text : List ℕ) (l : Looped) : Type 0 where
   pub lines : List ScriptLine
   pub asked : AsksFor text lines
   pub accepted : AreAccepted (script_turns lines)
   pub up_is : l.up.items ≡ up_octets script_moment (script_turns lines)
   pub down_is : l.down.items ≡ down_octets nodes script_moment (script_turns lines)
-  pub text_is : string_bytes l.text ≡ text_of (script_told names nodes lines)
+  pub text_is : IsTextOf people names (script_told names nodes lines) (string_bytes l.text)
   pub fault_is : l.fault ≡ told_fault (script_told names nodes lines)
 
 -- the text asks for steps, and why a client does not ask them all
@@ -39,24 +39,25 @@ abbrev pub RefusesScript : List ℕ → LoopFault → Type 0
 RefusesScript text fault = Unread text fault ⊎ StopsScript text fault
 
 -- a writer that held the old octets then holds behind them what is printed of the script of some text over the nodes of another, whose replies are told up to this fault, or to the end
-pub record HasLooped (names : Bool) (fault : Option LoopFault) (old new : Option (List ℕ)) : Type 0 where
+pub record HasLooped (people names : Bool) (fault : Option LoopFault) (old new : Option (List ℕ)) : Type 0 where
   pub nodes_text : List ℕ
   pub nodes : Nodes
   pub written : WriteNodes (node_lines nodes_text) nodes
   pub script : List ℕ
   pub looped : Looped
-  pub runs : RunsScript names nodes script looped
+  pub runs : RunsScript people names nodes script looped
   pub fault_is : looped.fault ≡ fault
   pub added : Appends old new (string_bytes looped.text)
 
 -- the command stopped at a fault among the replies, and what is printed in front of it was added
-pub record HasLoopedUntil (names : Bool) (stop : Stop) (old new : Option (List ℕ)) : Type 0 where
+pub record HasLoopedUntil (people names : Bool) (stop : Stop) (old new : Option (List ℕ)) : Type 0 where
   pub fault : LoopFault
   pub stop_is : stop ≡ Stopped (Looping fault)
-  pub looped : HasLooped names (Some fault) old new
+  pub looped : HasLooped people names (Some fault) old new
 
--- what a run adds of a script, with or without names, with or without a fault
+-- what a run adds of a script, with or without names, with values as people write them or not, with or without a fault
 pub record HasLoopedSome (old new : Option (List ℕ)) : Type 0 where
+  pub people : Bool
   pub names : Bool
   pub fault : Option LoopFault
-  pub looped : HasLooped names fault old new
+  pub looped : HasLooped people names fault old new

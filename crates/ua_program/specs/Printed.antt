@@ -4,8 +4,8 @@ use Rattle.std.specs.Io.KnownBytes.{Appends}
 use Rattle.ua_pair.specs.declared.options.DissectOptions.{DissectOptions}
 use Rattle.ua_pair.specs.Dissected.{AreLines}
 use Rattle.ua_session.specs.Printed.{AreAnswerLines, AreEndpointLines, HasAdded}
+use Rattle.ua_texts.specs.declared.style.AnswerStyle.{AnswerStyle}
 use Rattle.ua_texts.specs.declared.style.EndpointStyle.{EndpointStyle}
-use Rattle.ua_texts.specs.declared.style.LineStyle.{LineStyle}
 use Rattle.ua_program.specs.Dissects.{HasBegunDissecting}
 use Rattle.ua_program.specs.Looped.{HasLoopedSome}
 use Rattle.ua_program.specs.Served.{HasServed, HasServedSome}
@@ -23,7 +23,7 @@ pub record HasDissected (old new : Option (List ℕ)) : Type 0 where
   pub added : Appends old new text
 
 -- a writer that held the old octets then holds behind them the lines of the answers of a server, in this style
-abbrev pub HasAnswered : LineStyle → Option (List ℕ) → Option (List ℕ) → Type 0
+abbrev pub HasAnswered : AnswerStyle → Option (List ℕ) → Option (List ℕ) → Type 0
 HasAnswered style old new = HasAdded (AreAnswerLines style) old new
 
 -- the same with the lines of the endpoints of a server, in this style
@@ -32,7 +32,7 @@ HasListed style old new = HasAdded (AreEndpointLines style) old new
 
 -- the lines of the answers of a server, in some style
 pub record HasAnsweredSome (old new : Option (List ℕ)) : Type 0 where
-  pub style : LineStyle
+  pub style : AnswerStyle
   pub answered : HasAnswered style old new
 
 -- the lines of the endpoints of a server, in some style

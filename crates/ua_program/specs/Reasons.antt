@@ -30,11 +30,11 @@ is_starved other = false
 abbrev pub StopsConnection : Stop → Type 0
 StopsConnection why = StopsWriting why ⊎ (is_starved why ≡ true)
 
--- a listener gave no connection in 18446744073709551615 calls; any other fault of it has its reason with it
+-- a listener gave no connection, and no reason stands with that: an error of it has its reason. How often it was asked no clause says
 abbrev pub NeverAccepts : Stop → Type 0
 NeverAccepts why = why ≡ stop.Fault CannotListen
 
--- what ends a server that goes on, once it listens: what it prints cannot be written, or its listener gives no connection
+-- what ends a server that goes on, once it listens: what it prints cannot be written, or its listener gives no connection and no reason
 abbrev pub EndsServing : Stop → Type 0
 EndsServing why = StopsWriting why ⊎ NeverAccepts why
 

@@ -1,7 +1,10 @@
 -- Why texts are refused.
-use Rattle.std.specs.Prelude.{◌≡◌, ◌⊎◌, ℕ, List}
+use Rattle.std.specs.Prelude.{◌≡◌, ◌⊎◌, ℕ, Bool, List}
+use Rattle.ua_node_files.specs.Namespaces.{IsFirstUnnamed, namespace_lines}
 use Rattle.ua_nodes.specs.NodeFile.{IsFirstBad, node_lines}
 use Rattle.ua_nodes.specs.declared.fault.LineReason.{LineReason}
+use Rattle.ua_nodes.specs.declared.fault.LineReason.TheVariants.{Fields}
+use Rattle.ua_program.specs.Standard.{IsWhole}
 use Rattle.ua_program.specs.declared.fault.Fault.{Fault}
 use Rattle.ua_program.specs.declared.fault.Fault.TheVariants.{Line, NoMemory}
 
@@ -15,3 +18,22 @@ pub record RefusesLine (text : List ℕ) (fault : Fault) : Type 0 where
 -- the fault is that of the first bad line of a node file, unless memory ran out
 abbrev pub RefusesNodes : List ℕ → Fault → Type 0
 RefusesNodes text fault = (fault ≡ NoMemory) ⊎ RefusesLine text fault
+
+-- ---- with the standard's nodes
+
+-- the first line that was meant to name a namespace and does not name the next one: it is told as a line that has not its fields
+pub record RefusesNamespace (text : List ℕ) (fault : Fault) : Type 0 where
+  pub number : ℕ
+  pub fault_is : fault ≡ Line number Fields
+  pub bad : IsFirstUnnamed (namespace_lines text) number
+
+-- a bad line of the text with the standard's nodes behind it
+pub record RefusesWhole (text : List ℕ) (fault : Fault) : Type 0 where
+  pub keeps_time : Bool
+  pub whole : List ℕ
+  pub is : IsWhole text keeps_time whole
+  pub refused : RefusesLine whole fault
+
+-- a bad line of a node file that names namespaces, or of the nodes behind it, unless memory ran out
+abbrev pub RefusesStandard : List ℕ → Fault → Type 0
+RefusesStandard text fault = (fault ≡ NoMemory) ⊎ RefusesNamespace text fault ⊎ RefusesLine text fault ⊎ RefusesWhole text fault

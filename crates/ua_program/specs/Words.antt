@@ -1,8 +1,10 @@
 -- What the words of the command line ask for.
-use Rattle.std.specs.Prelude.{◌≡◌, ◌⊎◌, ◌≤◌, Any, ℕ, ⊤, true, cond, List, Some, codes}
+use Rattle.std.specs.Prelude.{◌≡◌, ◌⊎◌, ◌≤◌, ◌++◌, Any, ℕ, ⊤, Bool, true, cond, List, Option, None, Some, codes}
 use Rattle.std.specs.Str.{bytes_eq}
+use Rattle.ua_services.specs.SessionRequests.{local_url}
 use Rattle.ua_session.specs.declared.policy.TokenPolicy.{TokenPolicy}
 use Rattle.ua_session.specs.declared.policy.TokenPolicy.TheVariants.{Named, Auto}
+use Rattle.ua_texts.specs.PlainLines.{exact_lines, exact_typed}
 use Rattle.ua_program.specs.declared.arguments.Task.{Task}
 use Rattle.ua_program.specs.declared.arguments.Task.TheVariants.{Dissect, Serve, Endpoints, Read, Write, Loop, Version}
 
@@ -14,11 +16,21 @@ IsAttributeNumber number = (1 ≤ number) × (number ≤ 27)
 abbrev pub CountsFromOne : Task → Type 0
 CountsFromOne (Dissect asked) = ⊤
 CountsFromOne (Serve asked) = (1 ≤ asked.port) × (1 ≤ asked.connections)
-CountsFromOne (Endpoints asked) = 1 ≤ asked.port
-CountsFromOne (Read asked) = (1 ≤ asked.port) × IsAttributeNumber asked.attribute
-CountsFromOne (Write asked) = 1 ≤ asked.port
+CountsFromOne (Endpoints asked) = 1 ≤ asked.server.port
+CountsFromOne (Read asked) = (1 ≤ asked.server.port) × IsAttributeNumber asked.attribute
+CountsFromOne (Write asked) = 1 ≤ asked.server.port
 CountsFromOne (Loop asked) = 1 ≤ asked.cut
 CountsFromOne Version = ⊤
+
+-- the URL by which a server on a port of this machine is asked, without its path: the one that is given, else that of the port
+abbrev pub base_url : ℕ → Option (List ℕ) → Option (List ℕ)
+base_url port None = Some (local_url port)
+base_url port (Some url) = Some url
+
+-- a URL with a path behind it
+abbrev pub with_path : Option (List ℕ) → List ℕ → Option (List ℕ)
+with_path None path = None
+with_path (Some url) path = Some (url ++ path)
 
 -- a word asks for all connections, in one of the two ways in which `--connections all` is written
 abbrev pub SaysAll : {S : Type 0} → (S → List ℕ) → List S → Type 0
@@ -35,6 +47,14 @@ IsStrict (Read asked) = asked.strict ≡ true
 IsStrict (Write asked) = asked.strict ≡ true
 IsStrict (Loop asked) = asked.strict ≡ true
 IsStrict other = ⊥
+
+-- the text of a value behind its type: as it stands, or where people write decimals and times with their patterns and ticks
+abbrev pub value_given : Bool → List ℕ → List ℕ → List ℕ
+value_given plain kind text = cond plain (exact_typed kind text) text
+
+-- a text as it stands, or the same of its lines
+abbrev pub form_given : Bool → List ℕ → List ℕ
+form_given plain text = cond plain (exact_lines text) text
 
 -- the token policy that a word names: with `auto` the one that the server offers, else the one of this id
 abbrev pub policy_named : List ℕ → TokenPolicy

@@ -9,7 +9,7 @@ use clap::{ArgMatches, Error};
 use std::alloc::{AllocError, Global};
 use std::convert::AsStr;
 use ua_pair::{DissectOptions, Side};
-use ua_texts::{EndpointStyle, LineStyle};
+use ua_texts::{AnswerStyle, EndpointStyle, LineStyle};
 
 /// What the words ask for.
 #[derive(Drop)]
@@ -19,7 +19,7 @@ pub enum Task<'a> {
     /// Serve connections, one after the other.
     Serve(Serve<'a>),
     /// Print the endpoints of a server.
-    Endpoints(ListEndpoints),
+    Endpoints(ListEndpoints<'a>),
     /// Read an attribute of nodes.
     Read(ReadNodes<'a>),
     /// Write the value of a node.
@@ -30,23 +30,31 @@ pub enum Task<'a> {
     Version,
 }
 
-/// A word that is no number of those that its place takes; its text stands behind `ua: ` on standard
-/// error.
+/// A word that its place does not take; its text stands behind `ua: ` on standard error.
 #[derive(Clone, Copy, PartialEq, Eq, Debug, thiserror::Error)]
-pub enum BadNumber<'a> {
+pub enum BadWord<'a> {
     /// A port, a count or a cut.
     #[error("a number is not from 1 to 65535")]
     Number(&'a str),
     /// The number of an attribute.
     #[error("an attribute is not from 1 to 27")]
     Attribute(&'a str),
+    /// The path of a server.
+    #[error("a path does not begin with /")]
+    Path(&'a str),
+    /// The URL of a server, or the path that makes it too long (OPC 10000-6, 7.1.2.3).
+    #[error("a URL has more than 4095 bytes")]
+    Url(&'a str),
 }
 
-impl<'a> BadNumber<'a> {
+impl<'a> BadWord<'a> {
     /// The word.
     pub fn word(self) -> &'a str {
         match self {
-            BadNumber::Number(word) | BadNumber::Attribute(word) => word,
+            BadWord::Number(word)
+            | BadWord::Attribute(word)
+            | BadWord::Path(word)
+            | BadWord::Url(word) => word,
         }
     }
 }
@@ -54,8 +62,8 @@ impl<'a> BadNumber<'a> {
 /// What words ask for that parse.
 #[derive(Drop)]
 pub struct Parsed<'a> {
-    /// What is to be done, unless a word is no number.
-    pub task: Result<Task<'a>, BadNumber<'a>>,
+    /// What is to be done, unless a word is none that its place takes.
+    pub task: Result<Task<'a>, BadWord<'a>>,
     /// Whether the reasons of faults are told.
     pub why: bool,
 }
@@ -85,17 +93,33 @@ pub struct Serve<'a> {
     pub port: u16,
     /// How many connections are served; [`ALL_CONNECTIONS`] where no end is set.
     pub connections: u32,
-    /// Whether neither want of memory at a connection nor a failure of the listener ends the server.
+    /// Whether the server goes on where memory was refused at a connection, and where its listener has an
+    /// error.
     pub goes_on: bool,
     /// Whether each request has its line as it is answered.
     pub requests: bool,
+    /// Whether the node file has decimals and times as people write them.
+    pub plain: bool,
+    /// Whether the nodes of the standard that clients ask first are added, and CurrentTime is kept.
+    pub standard: bool,
+}
+
+/// A server that is asked, on this machine.
+#[derive(Clone, Copy)]
+pub struct Address<'a> {
+    /// Its port.
+    pub port: u16,
+    /// By which URL it is asked, where not by `opc.tcp://localhost:` and its port.
+    pub url: Option<&'a str>,
+    /// What stands behind that: nothing, or a path that begins with `/`.
+    pub path: &'a str,
 }
 
 /// The words of `ua endpoints`.
 #[derive(Clone, Copy)]
-pub struct ListEndpoints {
-    /// A port of this machine.
-    pub port: u16,
+pub struct ListEndpoints<'a> {
+    /// The server.
+    pub server: Address<'a>,
     /// How the endpoints are printed.
     pub style: EndpointStyle,
 }
@@ -103,8 +127,8 @@ pub struct ListEndpoints {
 /// The words of `ua read`.
 #[derive(Drop)]
 pub struct ReadNodes<'a> {
-    /// A port of this machine.
-    pub port: u16,
+    /// The server.
+    pub server: Address<'a>,
     /// The texts of NodeIds.
     pub nodes: Vec<&'a str>,
     /// The number of the attribute that is read.
@@ -114,7 +138,7 @@ pub struct ReadNodes<'a> {
     /// The id of a token policy, or `auto`.
     pub policy: &'a str,
     /// How the answers are printed.
-    pub style: LineStyle,
+    pub style: AnswerStyle,
     /// Whether a bad status code has a status of its own.
     pub strict: bool,
 }
@@ -122,8 +146,8 @@ pub struct ReadNodes<'a> {
 /// The words of `ua write`.
 #[derive(Clone, Copy)]
 pub struct WriteNode<'a> {
-    /// A port of this machine.
-    pub port: u16,
+    /// The server.
+    pub server: Address<'a>,
     /// The text of a NodeId.
     pub node: &'a str,
     /// The name of a type.
@@ -133,7 +157,7 @@ pub struct WriteNode<'a> {
     /// The id of a token policy, or `auto`.
     pub policy: &'a str,
     /// How the answer is printed.
-    pub style: LineStyle,
+    pub style: AnswerStyle,
     /// Whether a bad status code has a status of its own.
     pub strict: bool,
 }
@@ -151,6 +175,8 @@ pub struct Loop<'a> {
     pub tcp: bool,
     /// Whether status codes are named.
     pub names: bool,
+    /// Whether values are as people write them.
+    pub plain: bool,
     /// Whether a bad status code has a status of its own.
     pub strict: bool,
 }
@@ -170,27 +196,31 @@ fn text_of<'a>(matches: &ArgMatches<'a>, name: &str) -> &'a str {
 }
 
 /// The number from 1 to 65535 that a word is.
-fn number_of<'a>(matches: &ArgMatches<'a>, name: &str) -> Result<u16, BadNumber<'a>>
+fn number_of<'a>(matches: &ArgMatches<'a>, name: &str) -> Result<u16, BadWord<'a>>
     ensures { IfOk result (λ number. 1 ≤ number) }
 {
     let word = text_of(matches, name);
-    parse_number(word).ok_or(BadNumber::Number(word))
+    parse_number(word).ok_or(BadWord::Number(word))
 }
 
 /// The number of an attribute that a word is.
-fn attribute_of<'a>(matches: &ArgMatches<'a>) -> Result<u32, BadNumber<'a>>
+fn attribute_of<'a>(matches: &ArgMatches<'a>) -> Result<u32, BadWord<'a>>
     ensures { IfOk result IsAttributeNumber }
 {
     let word = text_of(matches, "attribute");
-    parse_attribute(word).ok_or(BadNumber::Attribute(word))
+    parse_attribute(word).ok_or(BadWord::Attribute(word))
 }
 
 /// How answers are printed. Only `ua read` has timestamps.
-fn style_of(matches: &ArgMatches<'_>) -> LineStyle {
-    LineStyle {
+fn style_of(matches: &ArgMatches<'_>) -> AnswerStyle {
+    let lines = LineStyle {
         names: matches.get_flag("names"),
         times: matches.get_flag("times"),
         json: matches.get_flag("json"),
+    };
+    AnswerStyle {
+        lines,
+        plain: matches.get_flag("plain"),
     }
 }
 
@@ -200,7 +230,7 @@ fn serves_all(matches: &ArgMatches<'_>) -> bool {
 }
 
 /// How many connections are to be served: a number from 1 to 65535, or `all`.
-fn connections_of<'a>(matches: &ArgMatches<'a>) -> Result<u32, BadNumber<'a>>
+fn connections_of<'a>(matches: &ArgMatches<'a>) -> Result<u32, BadWord<'a>>
     ensures { IfOk result (λ connections. 1 ≤ connections) }
 {
     if serves_all(matches) {
@@ -209,15 +239,38 @@ fn connections_of<'a>(matches: &ArgMatches<'a>) -> Result<u32, BadNumber<'a>>
     Ok(u32::from(number_of(matches, "connections")?))
 }
 
-fn endpoints_of<'a>(matches: &ArgMatches<'a>) -> Result<Task<'a>, BadNumber<'a>>
+/// The most bytes of a URL (OPC 10000-6, 7.1.2.3).
+const MOST_URL: usize = 4095;
+
+/// As many bytes as `opc.tcp://localhost:` and a port have at most.
+const LOCAL_URL: usize = 25;
+
+/// The server that is asked.
+fn server_of<'a>(matches: &ArgMatches<'a>) -> Result<Address<'a>, BadWord<'a>>
+    ensures { IfOk result (λ server. 1 ≤ server.port) }
+{
+    let port = number_of(matches, "PORT")?;
+    let (url, path) = (matches.get_str("url"), text_of(matches, "path"));
+    if !path.is_empty() && !path.starts_with('/') {
+        return Err(BadWord::Path(path));
+    }
+    let room = MOST_URL - path.len().min(MOST_URL);
+    match url {
+        Some(text) if text.len() > room => Err(BadWord::Url(text)),
+        None if LOCAL_URL > room => Err(BadWord::Url(path)),
+        _ => Ok(Address { port, url, path }),
+    }
+}
+
+fn endpoints_of<'a>(matches: &ArgMatches<'a>) -> Result<Task<'a>, BadWord<'a>>
     ensures { IfOk result CountsFromOne }
 {
     let style = EndpointStyle {
         policies: matches.get_flag("policies"),
         json: matches.get_flag("json"),
     };
-    let port = number_of(matches, "PORT")?;
-    Ok(Task::Endpoints(ListEndpoints { port, style }))
+    let server = server_of(matches)?;
+    Ok(Task::Endpoints(ListEndpoints { server, style }))
 }
 
 fn dissect_of<'a>(matches: &ArgMatches<'a>) -> Task<'a>
@@ -236,7 +289,7 @@ fn dissect_of<'a>(matches: &ArgMatches<'a>) -> Task<'a>
     })
 }
 
-fn serve_of<'a>(matches: &ArgMatches<'a>) -> Result<Task<'a>, BadNumber<'a>>
+fn serve_of<'a>(matches: &ArgMatches<'a>) -> Result<Task<'a>, BadWord<'a>>
     ensures { IfOk result CountsFromOne }
 {
     let port = number_of(matches, "PORT")?;
@@ -247,15 +300,17 @@ fn serve_of<'a>(matches: &ArgMatches<'a>) -> Result<Task<'a>, BadNumber<'a>>
         connections,
         goes_on: serves_all(matches),
         requests: matches.get_flag("requests"),
+        plain: matches.get_flag("plain"),
+        standard: matches.get_flag("standard"),
     }))
 }
 
-fn write_of<'a>(matches: &ArgMatches<'a>) -> Result<Task<'a>, BadNumber<'a>>
+fn write_of<'a>(matches: &ArgMatches<'a>) -> Result<Task<'a>, BadWord<'a>>
     ensures { IfOk result CountsFromOne }
 {
-    let port = number_of(matches, "PORT")?;
+    let server = server_of(matches)?;
     Ok(Task::Write(WriteNode {
-        port,
+        server,
         node: text_of(matches, "NODE"),
         kind: text_of(matches, "TYPE"),
         value: text_of(matches, "VALUE"),
@@ -265,7 +320,7 @@ fn write_of<'a>(matches: &ArgMatches<'a>) -> Result<Task<'a>, BadNumber<'a>>
     }))
 }
 
-fn loop_of<'a>(matches: &ArgMatches<'a>) -> Result<Task<'a>, BadNumber<'a>>
+fn loop_of<'a>(matches: &ArgMatches<'a>) -> Result<Task<'a>, BadWord<'a>>
     ensures { IfOk result CountsFromOne }
 {
     let cut = number_of(matches, "cut")?;
@@ -275,6 +330,7 @@ fn loop_of<'a>(matches: &ArgMatches<'a>) -> Result<Task<'a>, BadNumber<'a>>
         cut,
         tcp: matches.get_flag("tcp"),
         names: matches.get_flag("names"),
+        plain: matches.get_flag("plain"),
         strict: matches.get_flag("strict"),
     }))
 }
@@ -284,13 +340,13 @@ fn nodes_of<'a>(alloc: Global, matches: &ArgMatches<'a>) -> Result<Vec<&'a str>,
     matches.get_strs("NODE").unwrap_or(&[]).to_vec(alloc)
 }
 
-fn read_of<'a>(nodes: Vec<&'a str>, matches: &ArgMatches<'a>) -> Result<Task<'a>, BadNumber<'a>>
+fn read_of<'a>(nodes: Vec<&'a str>, matches: &ArgMatches<'a>) -> Result<Task<'a>, BadWord<'a>>
     ensures { IfOk result CountsFromOne }
 {
-    let port = number_of(matches, "PORT")?;
+    let server = server_of(matches)?;
     let attribute = attribute_of(matches)?;
     Ok(Task::Read(ReadNodes {
-        port,
+        server,
         nodes,
         attribute,
         range: matches.get_str("range"),
@@ -331,7 +387,7 @@ fn task_of<'a>(
     command: Name,
     nodes: Vec<&'a str>,
     matches: &ArgMatches<'a>,
-) -> Result<Task<'a>, BadNumber<'a>>
+) -> Result<Task<'a>, BadWord<'a>>
     ensures { IfOk result CountsFromOne }
 {
     match command {
@@ -368,10 +424,21 @@ fn matches_of<'a, S: AsStr>(alloc: Global, words: &'a [S]) -> Result<ArgMatches<
     commands::program(alloc)?.try_get_matches_from(words)
 }
 
+/// Whether `--version` is the one word behind the program's name.
+fn asks_version<S: AsStr>(words: &[S]) -> bool {
+    words.len() == 2 && words[1].as_str() == "--version"
+}
+
 /// What the words ask for, of which the first is the program's name.
 pub fn parse<'a, S: AsStr>(alloc: Global, words: &'a [S]) -> Result<Parsed<'a>, Error>
     ensures { IfOk result (λ parsed. IfOk parsed.task CountsFromOne) }
 {
+    if asks_version(words) {
+        return Ok(Parsed {
+            task: Ok(Task::Version),
+            why: false,
+        });
+    }
     let matches = matches_of(alloc, words)?;
     let parsed = parsed_of(alloc, &matches);
     drop(matches);

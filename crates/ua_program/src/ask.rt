@@ -1,24 +1,27 @@
 //! `ua endpoints`, `ua read` and `ua write`: what the server on a port of this machine is asked.
 
-ghost use Rattle.std.specs.Prelude.{◌≡◌, ◌⊎◌, true, false, option_map, OnOk, IfOk, IfErr};
+ghost use Rattle.std.specs.Prelude.{◌≡◌, ◌⊎◌, true, false, option_map, IsTrue, OnOk, IfOk, IfErr};
+ghost use Rattle.ua_wire.specs.Counted.{text};
 ghost use Rattle.ua_session.specs.Words.{GivesRead, GivesWrite};
 ghost use Rattle.ua_session.specs.declared.verdict.Verdict.TheVariants.{AllGood, SomeBad};
 ghost use Rattle.ua_program.specs.Printed.{HasAnswered, HasListed};
-ghost use Rattle.ua_program.specs.Words.{policy_named};
+ghost use Rattle.ua_program.specs.Words.{base_url, policy_named, value_given, with_path};
 ghost use Rattle.ua_program.specs.Reasons.{StopsWriting};
 
-use crate::arguments::{ListEndpoints, ReadNodes, WriteNode};
+use crate::arguments::{Address, ListEndpoints, ReadNodes, WriteNode};
+use crate::fault::Fault;
 use crate::output::Stop;
 use crate::reason::cannot_connect;
 use std::alloc::{AllocError, Global};
 use std::io::Write;
 use std::net::{Ipv4Addr, Net, TcpStream};
 use std::time::Clock;
-use ua_builtin::UaString;
+use ua_builtin::{UaString, Wire};
 use ua_exchange::limits;
+use ua_services::session_requests::local_url;
 use ua_session::{Question, TokenPolicy, Verdict, WordFault, ask_over, endpoints_over};
 use ua_tcp::{ClockMoments, TcpLine, without_delay};
-use ua_texts::LineStyle;
+use ua_texts::AnswerStyle;
 
 /// A line to the server on a port of this machine.
 fn connect<'a, R: Net>(rt: &R, port: u16) -> Result<TcpLine<R::Stream>, Stop<'a>> {
@@ -28,27 +31,70 @@ fn connect<'a, R: Net>(rt: &R, port: u16) -> Result<TcpLine<R::Stream>, Stop<'a>
     }
 }
 
+/// The URL by which a server is asked, without its path.
+fn base_url(alloc: Global, server: &Address<'_>) -> Result<UaString, AllocError>
+    ensures { IfOk result (λ url. url ≡ base_url server.now.port (option_map (λ text. text.now) server.now.url)) }
+{
+    match server.url {
+        Some(url) => UaString::from_str(alloc, url),
+        None => local_url(alloc, server.port),
+    }
+}
+
+/// A URL with a path behind it.
+fn with_path(alloc: Global, url: &UaString, path: &str) -> Result<UaString, AllocError>
+    ensures { IfOk result (λ long. long ≡ with_path url.now path.now) }
+{
+    match url.as_str() {
+        Some(url) => {
+            let mut text = String::new(alloc);
+            text.push_str(url)?;
+            text.push_str(path)?;
+            Ok(UaString::new(Some(text)))
+        }
+        None => Ok(UaString::null()),
+    }
+}
+
+/// The URL by which a server is asked.
+pub fn url_of<'a>(alloc: Global, server: &Address<'_>) -> Result<UaString, Stop<'a>>
+    ensures is { IfOk result (λ url. url ≡ with_path (base_url server.now.port (option_map (λ text. text.now) server.now.url)) server.now.path.now) }
+    ensures encodable { IfOk result (λ url. IsTrue (text.encodable url)) }
+{
+    let base = base_url(alloc, server)?;
+    let url = with_path(alloc, &base, server.path)?;
+    drop(base);
+    if url.is_encodable() {
+        return Ok(url);
+    }
+    // Never: its words have at most 4095 bytes.
+    drop(url);
+    Err(Stop::Fault(Fault::NoMemory))
+}
+
 /// Prints the endpoints of the server on a port of this machine.
 pub fn endpoints<'a, R: Net + Clock + AllocGlobal, O: Write>(
     rt: &R,
-    asked: &ListEndpoints,
+    asked: &ListEndpoints<'a>,
     out: &mut O,
 ) -> Result<(), Stop<'a>>
     ensures answered { OnOk result (HasListed asked.now.style (O.contents out.old) (O.contents out.new)) }
     ensures stopped { IfErr result (λ stop. StopsWriting stop ⊎ (out.new ≡ out.old) ⊎ HasListed asked.now.style (O.contents out.old) (O.contents out.new)) }
 {
-    let mut line = connect(rt, asked.port)?;
+    let url = url_of(rt.alloc(), &asked.server)?;
+    let mut line = connect(rt, asked.server.port)?;
     let mut moments = ClockMoments::new(rt);
     let ended = endpoints_over(
         rt.alloc(),
         &mut line,
         limits(),
-        asked.port,
+        &url,
         asked.style,
         &mut moments,
         out,
     );
     drop(line);
+    drop(url);
     Ok(ended?)
 }
 
@@ -66,12 +112,12 @@ pub fn policy_of(alloc: Global, word: &str) -> Result<TokenPolicy, AllocError>
 /// How a question is asked of a server, and how its answers are printed and counted.
 #[derive(Clone, Copy)]
 struct Asking<'a> {
-    /// A port of this machine.
-    port: u16,
+    /// The server.
+    server: Address<'a>,
     /// The id of a token policy, or `auto`.
     policy: &'a str,
     /// How the answers are printed.
-    style: LineStyle,
+    style: AnswerStyle,
     /// Whether a bad status code counts.
     strict: bool,
 }
@@ -87,13 +133,14 @@ fn ask<'a, R: Net + Clock + AllocGlobal, O: Write>(
     ensures stopped { IfErr result (λ stop. StopsWriting stop ⊎ (out.new ≡ out.old) ⊎ HasAnswered how.now.style (O.contents out.old) (O.contents out.new)) }
 {
     let policy = policy_of(rt.alloc(), how.policy)?;
-    let mut line = connect(rt, how.port)?;
+    let url = url_of(rt.alloc(), &how.server)?;
+    let mut line = connect(rt, how.server.port)?;
     let mut moments = ClockMoments::new(rt);
     let ended = ask_over(
         rt.alloc(),
         &mut line,
         limits(),
-        how.port,
+        &url,
         question,
         &policy,
         how.style,
@@ -101,6 +148,7 @@ fn ask<'a, R: Net + Clock + AllocGlobal, O: Write>(
         out,
     );
     drop(line);
+    drop(url);
     drop(policy);
     Ok(ended?)
 }
@@ -121,11 +169,15 @@ pub fn read_question(alloc: Global, asked: &ReadNodes<'_>) -> Result<Question, W
     Question::parse_read(alloc, &asked.nodes, asked.attribute, asked.range)
 }
 
-/// What the words of `ua write` ask.
+/// What the words of `ua write` ask. With `--plain` the value may be a decimal or a time.
 pub fn write_question(alloc: Global, asked: &WriteNode<'_>) -> Result<Question, WordFault>
-    ensures { GivesWrite asked.now.node.now asked.now.kind.now asked.now.value.now result }
+    ensures { GivesWrite asked.now.node.now asked.now.kind.now (value_given asked.now.style.plain asked.now.kind.now asked.now.value.now) result }
 {
-    Question::parse_write(alloc, asked.node, asked.kind, asked.value)
+    if asked.style.plain {
+        Question::parse_plain_write(alloc, asked.node, asked.kind, asked.value)
+    } else {
+        Question::parse_write(alloc, asked.node, asked.kind, asked.value)
+    }
 }
 
 /// Asks what words ask for, if they do, and says what counts of the answers.
@@ -157,7 +209,7 @@ pub fn read<'a, R: Net + Clock + AllocGlobal, O: Write>(
     ensures stopped { IfErr result (λ stop. StopsWriting stop ⊎ (out.new ≡ out.old) ⊎ HasAnswered asked.now.style (O.contents out.old) (O.contents out.new)) }
 {
     let how = Asking {
-        port: asked.port,
+        server: asked.server,
         policy: asked.policy,
         style: asked.style,
         strict: asked.strict,
@@ -176,7 +228,7 @@ pub fn write<'a, R: Net + Clock + AllocGlobal, O: Write>(
     ensures stopped { IfErr result (λ stop. StopsWriting stop ⊎ (out.new ≡ out.old) ⊎ HasAnswered asked.now.style (O.contents out.old) (O.contents out.new)) }
 {
     let how = Asking {
-        port: asked.port,
+        server: asked.server,
         policy: asked.policy,
         style: asked.style,
         strict: asked.strict,

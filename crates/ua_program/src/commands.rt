@@ -62,10 +62,28 @@ const JSON: Word = Word {
     help: "each line is an object of JSON",
 };
 
+const PLAIN: Word = Word {
+    name: "plain",
+    kind: Kind::Flag,
+    help: "numbers and times are as people write them",
+};
+
 const POLICY: Word = Word {
     name: "policy",
     kind: Kind::TextOr("anonymous"),
     help: "the id of the server's anonymous token policy, or auto to ask the server for it",
+};
+
+const PATH: Word = Word {
+    name: "path",
+    kind: Kind::TextOr(""),
+    help: "the path of the server's URL, as /UA/Server",
+};
+
+const URL: Word = Word {
+    name: "url",
+    kind: Kind::Text,
+    help: "the server's URL up to the path, in place of opc.tcp://localhost:PORT",
 };
 
 const STRICT: Word = Word {
@@ -127,6 +145,12 @@ const SERVE: &[Word] = &[
         kind: Kind::Flag,
         help: "each request has a line as it is answered",
     },
+    PLAIN,
+    Word {
+        name: "standard",
+        kind: Kind::Flag,
+        help: "the nodes of the standard that clients ask first are added",
+    },
     WHY,
 ];
 
@@ -138,6 +162,8 @@ const ENDPOINTS: &[Word] = &[
         help: "the token policies of each endpoint stand behind it",
     },
     JSON,
+    PATH,
+    URL,
     WHY,
 ];
 
@@ -165,7 +191,10 @@ const READ: &[Word] = &[
         help: "the source's and the server's timestamps stand behind each value",
     },
     JSON,
+    PLAIN,
     POLICY,
+    PATH,
+    URL,
     STRICT,
     WHY,
 ];
@@ -189,7 +218,10 @@ const WRITE: &[Word] = &[
     },
     NAMES,
     JSON,
+    PLAIN,
     POLICY,
+    PATH,
+    URL,
     STRICT,
     WHY,
 ];
@@ -212,6 +244,7 @@ const LOOP: &[Word] = &[
         help: "the same octets go over a connection within this process, too",
     },
     NAMES,
+    PLAIN,
     STRICT,
     WHY,
 ];

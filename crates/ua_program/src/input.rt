@@ -1,18 +1,20 @@
 //! Files.
 
-ghost use Rattle.std.specs.Prelude.{IfOk, IfErr};
+ghost use Rattle.std.specs.Prelude.{◌≡◌, IfOk, IfErr, string_bytes};
 ghost use Rattle.ua_nodes.specs.NodeFile.{WriteNodes, node_lines};
 ghost use Rattle.ua_nodes.specs.Sound.{IsSound};
 ghost use Rattle.ua_program.specs.Reasons.{StopsAtFile, StopsAtNodes};
 ghost use Rattle.ua_program.specs.Refused.{RefusesNodes};
+ghost use Rattle.ua_program.specs.Words.{form_given};
 
 use crate::fault::Fault;
 use crate::output::Stop;
 use crate::reason::{Reason, blame_line, cannot_read};
-use std::alloc::Global;
+use std::alloc::{AllocError, Global};
 use std::fs;
 use std::rt::Files;
 use ua_nodes::{LoadFault, NodeTable};
+use ua_texts::exact_lines;
 
 /// The octets of a file.
 pub fn read_file<'a, R: Files + AllocGlobal>(rt: &R, file: &'a str) -> Result<Vec<u8>, Stop<'a>>
@@ -45,6 +47,29 @@ pub fn read_text<'a, R: Files + AllocGlobal>(rt: &R, file: &'a str) -> Result<St
             Err(Stop::Because(Fault::CannotRead(file), Reason::Text(text)))
         }
     }
+}
+
+/// The text itself; or its lines in their exact form, where people write decimals and times in it.
+fn exact_form(alloc: Global, text: String, plain: bool) -> Result<String, AllocError>
+    ensures { IfOk result (λ lines. string_bytes lines ≡ form_given plain (string_bytes text)) }
+{
+    if plain {
+        exact_lines(alloc, &text)
+    } else {
+        Ok(text)
+    }
+}
+
+/// The text of a node file or of a script, in its exact form where people write decimals and times in it.
+pub fn read_lines<'a, R: Files + AllocGlobal>(
+    rt: &R,
+    file: &'a str,
+    plain: bool,
+) -> Result<String, Stop<'a>>
+    ensures { IfErr result (λ stop. StopsAtFile file.entry stop) }
+{
+    let text = read_text(rt, file)?;
+    Ok(exact_form(rt.alloc(), text, plain)?)
 }
 
 /// The nodes that the lines of a text write.

@@ -24,15 +24,17 @@ mod output;
 mod program;
 mod reason;
 mod serve;
+mod standard;
 mod tell;
+mod time_keeper;
 mod version;
 mod watched;
 
 pub use arguments::{
-    ALL_CONNECTIONS, BadNumber, Dissect, ListEndpoints, Loop, Parsed, ReadNodes, Serve, Task,
-    WriteNode, parse,
+    ALL_CONNECTIONS, Address, BadWord, Dissect, ListEndpoints, Loop, Parsed, ReadNodes, Serve,
+    Task, WriteNode, parse,
 };
-pub use ask::{policy_of, read_question, write_question};
+pub use ask::{policy_of, read_question, url_of, write_question};
 pub use fault::Fault;
 pub use loop_line::{LoopLine, MOST_OCTETS};
 pub use looping::{carry_over, run_script};
@@ -40,5 +42,7 @@ pub use output::Stop;
 pub use program::{refuse_words, run};
 pub use reason::Reason;
 pub use serve::{push_outcome, say_no_memory, serve_all, serve_line, services};
+pub use standard::{StandardServices, standard_services};
 pub use tell::Telling;
+pub use time_keeper::TimeKeeper;
 pub use ua_exchange::limits;

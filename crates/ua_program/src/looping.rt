@@ -9,7 +9,7 @@ ghost use Rattle.ua_server.specs.declared.step.End.TheVariants.{Closed};
 
 use crate::arguments::Loop;
 use crate::fault::Fault;
-use crate::input::{load_nodes, read_text};
+use crate::input::{load_nodes, read_lines};
 use crate::loop_line::LoopLine;
 use crate::output::{Stop, say_lines};
 use crate::reason::{blame_step, cannot_connect, cannot_listen};
@@ -107,20 +107,22 @@ fn carry_over_tcp<'a, R: Net + AllocGlobal>(
 }
 
 /// Runs the script of a text over nodes, each end taking what the other wrote in pieces of at most so
-/// many octets. Where `names` says so, the names of status codes stand behind them.
+/// many octets. Where `names` says so, the names of status codes stand behind them; where `plain` does,
+/// values are as people write them.
 pub fn run_script(
     alloc: Global,
     nodes: NodeTable,
     script: &str,
     cut: u16,
     names: bool,
+    plain: bool,
 ) -> Result<Looped, LoopFault>
     requires sound { IsSound nodes }
-    ensures ran { IfOk result (λ looped. RunsScript names nodes script.now looped) }
+    ensures ran { IfOk result (λ looped. RunsScript plain names nodes script.now looped) }
     ensures refused { IfErr result (λ fault. RefusesScript script.now fault) }
 {
     let lines = parse_lines(alloc, script)?;
-    run_lines(alloc, nodes, &lines, cut, names)
+    run_lines(alloc, nodes, &lines, cut, names, plain)
 }
 
 /// The same, with the field that is to blame for a bad line.
@@ -130,11 +132,12 @@ fn run_text<'a>(
     script: &str,
     cut: u16,
     names: bool,
+    plain: bool,
 ) -> Result<Looped, Stop<'a>>
     requires sound { IsSound nodes }
-    ensures ran { IfOk result (λ looped. RunsScript names nodes script.now looped) }
+    ensures ran { IfOk result (λ looped. RunsScript plain names nodes script.now looped) }
 {
-    match run_script(alloc, nodes, script, cut, names) {
+    match run_script(alloc, nodes, script, cut, names, plain) {
         Ok(looped) => Ok(looped),
         Err(fault) => Err(blame_step(alloc, script, fault)),
     }
@@ -161,13 +164,20 @@ pub fn run_files<'a, R: Files + Net + AllocGlobal, O: Write>(
     out: &mut O,
 ) -> Result<Verdict, Stop<'a>>
     ensures strict { IfOk result (λ verdict. verdict ≡ SomeBad → asked.now.strict ≡ true) }
-    ensures looped { OnOk result (HasLooped asked.now.names None (O.contents out.old) (O.contents out.new)) }
-    ensures stopped { IfErr result (λ stop. StopsWriting stop ⊎ (out.new ≡ out.old) ⊎ HasLoopedUntil asked.now.names stop (O.contents out.old) (O.contents out.new)) }
+    ensures looped { OnOk result (HasLooped asked.now.plain asked.now.names None (O.contents out.old) (O.contents out.new)) }
+    ensures stopped { IfErr result (λ stop. StopsWriting stop ⊎ (out.new ≡ out.old) ⊎ HasLoopedUntil asked.now.plain asked.now.names stop (O.contents out.old) (O.contents out.new)) }
 {
-    let text = read_text(rt, asked.nodes)?;
+    let text = read_lines(rt, asked.nodes, asked.plain)?;
     let nodes = load_nodes(rt.alloc(), &text)?;
-    let script = read_text(rt, asked.script)?;
-    let looped = run_text(rt.alloc(), nodes, &script, asked.cut, asked.names)?;
+    let script = read_lines(rt, asked.script, asked.plain)?;
+    let looped = run_text(
+        rt.alloc(),
+        nodes,
+        &script,
+        asked.cut,
+        asked.names,
+        asked.plain,
+    )?;
     if asked.tcp {
         carry_over_tcp(rt, &text, &looped)?;
     }

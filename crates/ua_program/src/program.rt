@@ -8,7 +8,7 @@ ghost use Rattle.ua_program.specs.Words.{IsStrict, SaysAll, SaysWhy};
 ghost use Rattle.ua_program.specs.Printed.{HasBegun, HasDissected, HasPrinted, HasToldSome};
 ghost use Rattle.ua_program.specs.Reasons.{StopsWriting};
 
-use crate::arguments::{self, BadNumber, Dissect, Parsed, Task};
+use crate::arguments::{self, BadWord, Dissect, Parsed, Task};
 use crate::ask::{counted, endpoints, read, write};
 use crate::dissect::dissect_source;
 use crate::fault::Fault;
@@ -33,7 +33,7 @@ use ua_session::Verdict;
 /// Runs the program on its words, of which the first is its name. The input is read only where the
 /// words ask for it. The status is 0 where the command is done, 1 where it met a fault or a writer
 /// failed, 2 where the words don't parse, and 3 where it is done and a status code is bad that it
-/// printed, if `--strict` is among the words.
+/// printed, or a frame that it dissected is refused, if `--strict` is among the words.
 pub fn run<S: AsStr, R: Files + Net + Clock + AllocGlobal, I: Read, O: Write, E: Write>(
     rt: &R,
     words: &[S],
@@ -54,7 +54,7 @@ pub fn run<S: AsStr, R: Files + Net + Clock + AllocGlobal, I: Read, O: Write, E:
     };
     let task = match task {
         Ok(task) => task,
-        Err(bad) => return tell_number(rt.alloc(), bad, why, err),
+        Err(bad) => return tell_word(rt.alloc(), bad, why, err),
     };
     let telling = Telling {
         alloc: rt.alloc(),
@@ -158,19 +158,19 @@ fn refuse<E: Write>(alloc: Global, error: &clap::Error, err: &mut E) -> u8
     }
 }
 
-/// Tells which word is no number, and with `why` the word. The status is 2, or 1 where memory was
+/// Tells which word its place does not take, and with `why` the word. The status is 2, or 1 where memory was
 /// refused or `err` fails.
-fn tell_number<E: Write>(alloc: Global, bad: BadNumber<'_>, why: bool, err: &mut E) -> u8
+fn tell_word<E: Write>(alloc: Global, bad: BadWord<'_>, why: bool, err: &mut E) -> u8
     ensures { (result ≡ 1) ⊎ (result ≡ 2) }
 {
-    match number_text(alloc, bad, why) {
+    match word_text(alloc, bad, why) {
         Ok(text) => print(err, text.as_str(), 2),
         Err(AllocError) => print(err, "ua: no memory\n", 1),
     }
 }
 
-/// What is told of a word that is no number.
-fn number_text(alloc: Global, bad: BadNumber<'_>, why: bool) -> Result<String, AllocError> {
+/// What is told of a word that its place does not take.
+fn word_text(alloc: Global, bad: BadWord<'_>, why: bool) -> Result<String, AllocError> {
     let mut text = format!(in alloc; "ua: {bad}\n")?;
     if why {
         push_word(&mut text, bad.word())?;

@@ -12,10 +12,12 @@ ghost use Rattle.ua_program.specs.declared.fault.Fault.TheVariants.{CannotListen
 
 use crate::arguments::Serve;
 use crate::fault::Fault;
-use crate::input::{parse_nodes, read_text};
+use crate::input::{parse_nodes, read_lines};
 use crate::output::{Stop, say, write_text};
 use crate::reason::{blame_line, cannot_listen};
+use crate::standard::{StandardServices, standard_services};
 use crate::tell::Telling;
+use crate::time_keeper::TimeKeeper;
 use std::alloc::{AllocError, Global};
 use std::io::{Read, Write};
 use std::net::{Ipv4Addr, Net, OpenListener, TcpListener};
@@ -26,7 +28,8 @@ use ua_builtin::UaString;
 use ua_channel::{Line, Moments};
 use ua_exchange::{MESSAGE_SIZE, limits};
 use ua_server::{
-    AnsweredRequest, End, Endpoint, ServeFault, Services, Watch, serve, serve_watched,
+    AnsweredRequest, Application, End, Endpoint, ServeFault, Services, Unwatched, Watch, serve,
+    serve_application, serve_watched,
 };
 use ua_services::RequestKind;
 use ua_services::session_requests::local_url;
@@ -256,6 +259,146 @@ fn serve_stream<'a, S: Read + Write + Drop, M: Moments, O: Write>(
     served
 }
 
+/// Does what [`serve_telling`] does, beside an application.
+fn tell_beside<'a, L: Line, M: Moments, A: Application, O: Write>(
+    alloc: Global,
+    line: &mut L,
+    services: &mut Services,
+    number: u32,
+    moments: &mut M,
+    application: &mut A,
+    out: &mut O,
+) -> Result<String, Stop<'a>>
+    ensures served { IfOk result (λ text. HasTold true number (O.contents out.old) (O.contents out.new) × IsConnectionLine number (string_bytes text)) }
+    ensures stopped { IfErr result (λ stop. StopsWriting stop ⊎ HasTold true number (O.contents out.old) (O.contents out.new)) }
+    ensures only { IfErr result StopsConnection }
+{
+    let mut lines = RequestLines {
+        alloc,
+        number,
+        out,
+        halt: None,
+    };
+    let outcome = serve_application(
+        alloc,
+        line,
+        services,
+        limits(),
+        number,
+        moments,
+        &mut lines,
+        application,
+    );
+    let RequestLines {
+        alloc: _,
+        number: _,
+        out,
+        halt,
+    } = lines;
+    // No effect at run time. The proof reads what the writer holds from this use of it.
+    let _ = &*out;
+    match halt {
+        None => Ok(outcome_line(alloc, number, outcome)?),
+        Some(Halt::Memory) => Err(Stop::Fault(Fault::NoMemory)),
+        Some(Halt::Output(error)) => Err(Stop::Output(error)),
+    }
+}
+
+/// Does what [`serve_client`] does, beside an application.
+fn serve_beside<'a, L: Line, M: Moments, A: Application, O: Write>(
+    alloc: Global,
+    line: &mut L,
+    services: &mut Services,
+    number: u32,
+    requests: bool,
+    moments: &mut M,
+    application: &mut A,
+    out: &mut O,
+) -> Result<String, Stop<'a>>
+    ensures served { IfOk result (λ text. HasTold requests number (O.contents out.old) (O.contents out.new) × IsConnectionLine number (string_bytes text)) }
+    ensures stopped { IfErr result (λ stop. StopsWriting stop ⊎ HasTold requests number (O.contents out.old) (O.contents out.new)) }
+    ensures only { IfErr result StopsConnection }
+{
+    if requests {
+        return tell_beside(alloc, line, services, number, moments, application, out);
+    }
+    let outcome = serve_application(
+        alloc,
+        line,
+        services,
+        limits(),
+        number,
+        moments,
+        &mut Unwatched,
+        application,
+    );
+    Ok(outcome_line(alloc, number, outcome)?)
+}
+
+/// Does what [`serve_stream`] does, and keeps CurrentTime by these moments.
+fn serve_timed<'a, S: Read + Write + Drop, M: Moments, T: Moments + Drop, O: Write>(
+    alloc: Global,
+    stream: S,
+    services: &mut Services,
+    number: u32,
+    requests: bool,
+    moments: &mut M,
+    times: T,
+    out: &mut O,
+) -> Result<String, Stop<'a>>
+    ensures served { IfOk result (λ text. HasTold requests number (O.contents out.old) (O.contents out.new) × IsConnectionLine number (string_bytes text)) }
+    ensures stopped { IfErr result (λ stop. StopsWriting stop ⊎ HasTold requests number (O.contents out.old) (O.contents out.new)) }
+    ensures only { IfErr result StopsConnection }
+{
+    let mut line = GatheringLine::new(alloc, TcpLine::new(stream));
+    let mut keeper = TimeKeeper { moments: times };
+    let served = serve_beside(
+        alloc,
+        &mut line,
+        services,
+        number,
+        requests,
+        moments,
+        &mut keeper,
+        out,
+    );
+    // the last answers, or the ERR frame: whether the client gets them no connection tells
+    let _ = line.flush();
+    served
+}
+
+/// Serves the client of a connection as it is asked: with the time in CurrentTime, or without.
+fn serve_asked<'a, R: Clock + AllocGlobal, S: Read + Write + Drop, O: Write>(
+    rt: &R,
+    stream: S,
+    services: &mut Services,
+    number: u32,
+    asked: &Serve<'a>,
+    out: &mut O,
+) -> Result<String, Stop<'a>>
+    ensures served { IfOk result (λ text. HasTold asked.now.requests number (O.contents out.old) (O.contents out.new) × IsConnectionLine number (string_bytes text)) }
+    ensures stopped { IfErr result (λ stop. StopsWriting stop ⊎ HasTold asked.now.requests number (O.contents out.old) (O.contents out.new)) }
+    ensures only { IfErr result StopsConnection }
+{
+    let (alloc, requests) = (rt.alloc(), asked.requests);
+    let mut moments = ClockMoments::new(rt);
+    if asked.standard {
+        let times = ClockMoments::new(rt);
+        serve_timed(
+            alloc,
+            stream,
+            services,
+            number,
+            requests,
+            &mut moments,
+            times,
+            out,
+        )
+    } else {
+        serve_stream(alloc, stream, services, number, requests, &mut moments, out)
+    }
+}
+
 /// How many seconds a server that goes on waits where the system gives no connection.
 const PAUSE: u64 = 1;
 
@@ -344,16 +487,7 @@ fn serve_next<'a, R: Net + Clock + AllocGlobal, O: Write, E: Write>(
     ensures quiet { telling.aloud ≡ false → err.new ≡ err.old }
 {
     let stream = next_stream(rt, listener, asked.goes_on, telling, err)?;
-    let mut moments = ClockMoments::new(rt);
-    let served = serve_stream(
-        rt.alloc(),
-        without_delay(stream),
-        services,
-        number,
-        asked.requests,
-        &mut moments,
-        out,
-    );
+    let served = serve_asked(rt, without_delay(stream), services, number, asked, out);
     match served {
         Ok(text) => say(out, &text),
         Err(stop) => outlive(stop, asked.goes_on, number, out),
@@ -380,9 +514,28 @@ fn outlive<'a, O: Write>(
 
 /// The services over the nodes of a file.
 fn load<'a, R: Files + AllocGlobal>(rt: &R, asked: &Serve<'a>) -> Result<Services, Stop<'a>> {
-    let text = read_text(rt, asked.nodes)?;
+    let text = read_lines(rt, asked.nodes, asked.plain)?;
     match services(rt.alloc(), &text, asked.port) {
         Ok(services) => Ok(services),
+        Err(fault) => Err(blame_line(rt.alloc(), &text, fault)),
+    }
+}
+
+/// The services over the nodes of a file, with the standard's where they are asked for, and whether
+/// CurrentTime is the server's own.
+fn load_asked<'a, R: Files + AllocGlobal>(
+    rt: &R,
+    asked: &Serve<'a>,
+) -> Result<StandardServices, Stop<'a>> {
+    if !asked.standard {
+        return Ok(StandardServices {
+            services: load(rt, asked)?,
+            keeps_time: false,
+        });
+    }
+    let text = read_lines(rt, asked.nodes, asked.plain)?;
+    match standard_services(rt.alloc(), &text, asked.port) {
+        Ok(made) => Ok(made),
         Err(fault) => Err(blame_line(rt.alloc(), &text, fault)),
     }
 }
@@ -405,7 +558,7 @@ fn say_listening<'a, O: Write>(alloc: Global, port: u16, out: &mut O) -> Result<
 }
 
 /// Serves so many connections, numbered from 1. Where the server goes on, as with `--connections all`,
-/// neither want of memory nor a failure of the listener ends it, which is told.
+/// neither want of memory ends it, which is told, nor an error of the listener that has its reason.
 pub fn serve_all<'a, R: Net + Clock + AllocGlobal, O: Write, E: Write>(
     rt: &R,
     listener: &R::Listener,
@@ -417,7 +570,7 @@ pub fn serve_all<'a, R: Net + Clock + AllocGlobal, O: Write, E: Write>(
 ) -> Result<(), Stop<'a>>
     ensures served { OnOk result (HasServed asked.now.requests asked.now.goes_on asked.now.port asked.now.connections (O.contents out.old) (O.contents out.new)) }
     ensures stopped { IfErr result (λ stop. StopsWriting stop ⊎ (out.new ≡ out.old) ⊎ HasServedSome asked.now.requests asked.now.goes_on asked.now.port asked.now.connections (O.contents out.old) (O.contents out.new)) }
-    // Once it listens, neither want of memory nor a fault of the listener ends a server that goes on.
+    // Once it listens, neither want of memory nor an error of the listener, with its reason, ends a server that goes on.
     ensures lasts { asked.now.goes_on ≡ true → IfErr result (λ why. EndsServing why ⊎ (out.new ≡ out.old)) }
     ensures quiet { telling.aloud ≡ false → err.new ≡ err.old }
 {
@@ -441,7 +594,15 @@ pub fn serve_connections<'a, R: Files + Net + Clock + AllocGlobal, O: Write, E: 
     ensures lasts { asked.now.goes_on ≡ true → IfErr result (λ why. EndsServing why ⊎ (out.new ≡ out.old)) }
     ensures quiet { telling.aloud ≡ false → err.new ≡ err.old }
 {
-    let mut services = load(rt, asked)?;
+    let StandardServices {
+        mut services,
+        keeps_time,
+    } = load_asked(rt, asked)?;
     let listener = listen(rt, asked.port)?;
-    serve_all(rt, &listener, &mut services, asked, out, telling, err)
+    // CurrentTime is kept where it is not the file's own
+    let asked = Serve {
+        standard: keeps_time,
+        ..*asked
+    };
+    serve_all(rt, &listener, &mut services, &asked, out, telling, err)
 }

@@ -13,7 +13,7 @@ use Rattle.ua_client.specs.declared.reply.Reply.{Reply}
 use Rattle.ua_frame.specs.declared.limits.Limits.{Limits}
 use Rattle.ua_services.specs.declared.request.Request.{Request}
 use Rattle.ua_texts.specs.declared.style.EndpointStyle.{EndpointStyle}
-use Rattle.ua_texts.specs.declared.style.LineStyle.{LineStyle}
+use Rattle.ua_texts.specs.declared.style.AnswerStyle.{AnswerStyle}
 use Rattle.ua_session.specs.Endpoints.{AsksEndpoints}
 use Rattle.ua_session.specs.Line.{LineFailed, LineState}
 use Rattle.ua_session.specs.Policy.{ChoosesBy}
@@ -21,7 +21,7 @@ use Rattle.ua_session.specs.Printed.{IsOutput}
 use Rattle.ua_session.specs.Question.{PrintsAnswers}
 use Rattle.ua_session.specs.Replies.{Expects, IsRefusedBy, IsUnprinted, PrintsEndpoints}
 use Rattle.ua_session.specs.Session.{AsksByPolicy, AsksInSession, AsksUnder, EndsUnbegun, FindsPolicy, handle_unbegun}
-use Rattle.ua_session.specs.Steps.{Asks, Begins, CallsClient, ClosesClient, OpensPort, first_of, told, told_session}
+use Rattle.ua_session.specs.Steps.{Asks, Begins, CallsClient, ClosesClient, OpensServer, first_of, told, told_session}
 use Rattle.ua_session.specs.Told.{of_client}
 use Rattle.ua_client.specs.Session.{session_alone}
 use Rattle.ua_client.specs.declared.fault.SessionFault.{SessionFault}
@@ -218,7 +218,7 @@ endpoints_hands contents style had have (Ok reply) (Ok done) h = (λ u. refl, λ
 endpoints_hands contents style had have (Ok reply) (Err f) h = (λ u. unprinted_untold _ _ reply had have f h, λ f. tt)
 endpoints_hands contents style had have (Err f) result h = same_hands Reply f result h.1
 
-answers_hands : {O : Type 0} (contents : O → Option (List ℕ)) (style : LineStyle) (question : Question) (had have : O) (called : Result Reply AskFault) (result : Result Verdict AskFault) → PrintsAnswers contents style question had have called result → Hands called result
+answers_hands : {O : Type 0} (contents : O → Option (List ℕ)) (style : AnswerStyle) (question : Question) (had have : O) (called : Result Reply AskFault) (result : Result Verdict AskFault) → PrintsAnswers contents style question had have called result → Hands called result
 answers_hands contents style question had have (Ok reply) (Ok verdict) h = (λ u. refl, λ f. f)
 answers_hands contents style question had have (Ok reply) (Err f) h = (λ u. unprinted_untold _ _ reply had have f h, λ f. tt)
 answers_hands contents style question had have (Err f) result h = same_hands Reply f result h.1
@@ -234,7 +234,7 @@ chooses_hands (Err f) result h = same_hands Reply f result h
 
 -- ---- a session
 
-under_stage : {M O : Type 0} {gives : M → ℤ → M → Type 0} {contents : O → Option (List ℕ)} {style : LineStyle} {question : Question} {token : NodeId} {handle : ℕ} {first last : M} {old new : Client} {before after : LineState} {had have : O} (result : Result Verdict AskFault)
+under_stage : {M O : Type 0} {gives : M → ℤ → M → Type 0} {contents : O → Option (List ℕ)} {style : AnswerStyle} {question : Question} {token : NodeId} {handle : ℕ} {first last : M} {old new : Client} {before after : LineState} {had have : O} (result : Result Verdict AskFault)
     → AsksUnder gives contents style question token handle first last old new before after had have result → Stage old.is_done new.is_done before.failures after.failures result
 under_stage {contents = contents} {style = style} {question = question} {old = old} {new = new} {before = before} {after = after} {had = had} {have = have} result under =
     subst (λ (r : Result Verdict AskFault). Stage old.is_done new.is_done before.failures after.failures r) (sym under.result_is)
@@ -282,7 +282,7 @@ unbegun_stage gives (Some token) handle first last old new before after d n faul
     joined {A = NodeId} d old.is_done new.is_done (Err fault) h.ended (Err fault) (λ g k. g, λ x. tt, λ x. tt) stage
     (handed h.ends.called h.ended (expects_hands h.ends.called h.ended h.ends.expects) (call_stage h.ends.called h.ends.calls))
 
-session_stage : {M O : Type 0} {gives : M → ℤ → M → Type 0} {contents : O → Option (List ℕ)} {style : LineStyle} {question : Question} {policy_id : Option (List ℕ)} {handle : ℕ} {first last : M} {old new : Client} {before after : LineState} {had have : O} (result : Result Verdict AskFault)
+session_stage : {M O : Type 0} {gives : M → ℤ → M → Type 0} {contents : O → Option (List ℕ)} {style : AnswerStyle} {question : Question} {policy_id : Option (List ℕ)} {handle : ℕ} {first last : M} {old new : Client} {before after : LineState} {had have : O} (result : Result Verdict AskFault)
     → AsksInSession gives contents style question policy_id handle first last old new before after had have result → Stage old.is_done new.is_done before.failures after.failures result
 session_stage {gives = gives} {contents = contents} {style = style} {question = question} {handle = handle} {last = last} {old = old} {new = new} {before = before} {after = after} {had = had} {have = have} result asks =
     begun_stage asks.begun asks.further (begins_stage asks.begun asks.begins)
@@ -299,25 +299,25 @@ session_stage {gives = gives} {contents = contents} {style = style} {question = 
 
 -- ---- a conversation
 
-finds_stage : {M : Type 0} (gives : M → ℤ → M → Type 0) (port : ℕ) (policy : TokenPolicy) (first last : M) (old new : Client) (before after : LineState) (found : Result (Option (List ℕ)) AskFault)
-    → FindsPolicy gives port policy first last old new before after found → Stage old.is_done new.is_done before.failures after.failures found
-finds_stage gives port (Named id) first last old new before after found h = idle found (ap (λ (x : Client). x.is_done) h.2) (ap (λ (s : LineState). s.failures) h.3) (named_untold found h.0)
+finds_stage : {M : Type 0} (gives : M → ℤ → M → Type 0) (url : Option (List ℕ)) (policy : TokenPolicy) (first last : M) (old new : Client) (before after : LineState) (found : Result (Option (List ℕ)) AskFault)
+    → FindsPolicy gives url policy first last old new before after found → Stage old.is_done new.is_done before.failures after.failures found
+finds_stage gives url (Named id) first last old new before after found h = idle found (ap (λ (x : Client). x.is_done) h.2) (ap (λ (s : LineState). s.failures) h.3) (named_untold found h.0)
   where
     named_untold : (r : Result (Option (List ℕ)) AskFault) → (r ≡ Ok id) ⊎ (r ≡ Err NoMemory) → tells_line r ≡ false
     named_untold r (inl is) = ap tells_line is
     named_untold r (inr is) = ap tells_line is
-finds_stage gives port Auto first last old new before after found asks = handed asks.called found (chooses_hands asks.called found asks.chooses) (asks_stage asks.called asks.asks)
+finds_stage gives url Auto first last old new before after found asks = handed asks.called found (chooses_hands asks.called found asks.chooses) (asks_stage asks.called asks.asks)
 
-policy_stage : {M O : Type 0} {gives : M → ℤ → M → Type 0} {contents : O → Option (List ℕ)} {port : ℕ} {policy : TokenPolicy} {style : LineStyle} {question : Question} {first last : M} {old new : Client} {before after : LineState} {had have : O} (result : Result Verdict AskFault)
-    → AsksByPolicy gives contents port policy style question first last old new before after had have result → Stage old.is_done new.is_done before.failures after.failures result
-policy_stage {gives = gives} {port = port} {policy = policy} {first = first} {old = old} {new = new} {before = before} result asks =
+policy_stage : {M O : Type 0} {gives : M → ℤ → M → Type 0} {contents : O → Option (List ℕ)} {url : Option (List ℕ)} {policy : TokenPolicy} {style : AnswerStyle} {question : Question} {first last : M} {old new : Client} {before after : LineState} {had have : O} (result : Result Verdict AskFault)
+    → AsksByPolicy gives contents url policy style question first last old new before after had have result → Stage old.is_done new.is_done before.failures after.failures result
+policy_stage {gives = gives} {url = url} {policy = policy} {first = first} {old = old} {new = new} {before = before} result asks =
     stage_behind old.is_done asks.client.is_done new.is_done asks.found result _ _ asks.further
     (λ policy_id within. session_stage result within)
     (λ f h. (h.0, ap (λ (x : Client). x.is_done) h.2, ap (λ (s : LineState). s.failures) h.3))
-    (finds_stage gives port policy first asks.behind old asks.client before asks.once_found asks.found asks.finds)
+    (finds_stage gives url policy first asks.behind old asks.client before asks.once_found asks.found asks.finds)
 
-endpoints_stage : {M O : Type 0} {gives : M → ℤ → M → Type 0} {contents : O → Option (List ℕ)} {port : ℕ} {style : EndpointStyle} {first last : M} {old new : Client} {before after : LineState} {had have : O} (result : Result (Unit {0}) AskFault)
-    → AsksEndpoints gives contents port style first last old new before after had have result → Stage old.is_done new.is_done before.failures after.failures result
+endpoints_stage : {M O : Type 0} {gives : M → ℤ → M → Type 0} {contents : O → Option (List ℕ)} {url : Option (List ℕ)} {style : EndpointStyle} {first last : M} {old new : Client} {before after : LineState} {had have : O} (result : Result (Unit {0}) AskFault)
+    → AsksEndpoints gives contents url style first last old new before after had have result → Stage old.is_done new.is_done before.failures after.failures result
 endpoints_stage {contents = contents} {style = style} {had = had} {have = have} result asks =
     handed asks.called result (endpoints_hands contents style had have asks.called result asks.prints) (asks_stage asks.called asks.asks)
 
@@ -360,24 +360,24 @@ run_failed {A} opened e {n} {m} {k} printed closed result ready is first second 
 
 -- ---- the opening
 
-opens_fails : {limits : Limits} {port : ℕ} {moment : DateTime} {before after : LineState} (result : Result Client AskFault) → OpensPort limits port moment before after result → Fails true before.failures after.failures result
+opens_fails : {limits : Limits} {url : Option (List ℕ)} {moment : DateTime} {before after : LineState} (result : Result Client AskFault) → OpensServer limits url moment before after result → Fails true before.failures after.failures result
 opens_fails result (inl nothing) = inl (record { same = ap (λ (s : LineState). s.failures) nothing.1; untold = ap tells_line nothing.0 })
 opens_fails {before = before} {after = after} result (inr opens) =
     subst (λ (r : Result Client AskFault). Fails true before.failures after.failures r) (sym opens.told_is) (answer_fails opens.answer true (λ f is line. refl) opens.fails)
 
 -- ---- all of it
 
-pub endpoints_failed : {M O : Type 0} (gives : M → ℤ → M → Type 0) (contents : O → Option (List ℕ)) (limits : Limits) (port : ℕ) (opened_at closed_at : DateTime) (style : EndpointStyle) (first last : M) (opened asked : Client) (before once answered after : LineState) (had have : O) (printed closed result : Result (Unit {0}) AskFault)
-    → OpensPort limits port opened_at before once (Ok opened) → IsReady opened → AsksEndpoints gives contents port style first last opened asked once answered had have printed → ClosesClient closed_at asked answered after closed → result ≡ first_of printed closed
+pub endpoints_failed : {M O : Type 0} (gives : M → ℤ → M → Type 0) (contents : O → Option (List ℕ)) (limits : Limits) (url : Option (List ℕ)) (opened_at closed_at : DateTime) (style : EndpointStyle) (first last : M) (opened asked : Client) (before once answered after : LineState) (had have : O) (printed closed result : Result (Unit {0}) AskFault)
+    → OpensServer limits url opened_at before once (Ok opened) → IsReady opened → AsksEndpoints gives contents url style first last opened asked once answered had have printed → ClosesClient closed_at asked answered after closed → result ≡ first_of printed closed
     → LineFailed before.failures result after.failures
-endpoints_failed gives contents limits port opened_at closed_at style first last opened asked before once answered after had have printed closed result opens ready asks closes is =
+endpoints_failed gives contents limits url opened_at closed_at style first last opened asked before once answered after had have printed closed result opens ready asks closes is =
     subst (λ (n : ℕ). LineFailed n result after.failures) (found_fails opened (opens_fails (Ok opened) opens))
     (run_failed opened asked.is_done printed closed result ready is (endpoints_stage printed asks) (closes_stage closed closes))
 
-pub question_failed : {M O : Type 0} (gives : M → ℤ → M → Type 0) (contents : O → Option (List ℕ)) (limits : Limits) (port : ℕ) (opened_at closed_at : DateTime) (policy : TokenPolicy) (style : LineStyle) (question : Question) (first last : M) (opened asked : Client) (before once answered after : LineState) (had have : O)
+pub question_failed : {M O : Type 0} (gives : M → ℤ → M → Type 0) (contents : O → Option (List ℕ)) (limits : Limits) (url : Option (List ℕ)) (opened_at closed_at : DateTime) (policy : TokenPolicy) (style : AnswerStyle) (question : Question) (first last : M) (opened asked : Client) (before once answered after : LineState) (had have : O)
     (printed : Result Verdict AskFault) (closed : Result (Unit {0}) AskFault) (result : Result Verdict AskFault)
-    → OpensPort limits port opened_at before once (Ok opened) → IsReady opened → AsksByPolicy gives contents port policy style question first last opened asked once answered had have printed → ClosesClient closed_at asked answered after closed → result ≡ first_of printed closed
+    → OpensServer limits url opened_at before once (Ok opened) → IsReady opened → AsksByPolicy gives contents url policy style question first last opened asked once answered had have printed → ClosesClient closed_at asked answered after closed → result ≡ first_of printed closed
     → LineFailed before.failures result after.failures
-question_failed gives contents limits port opened_at closed_at policy style question first last opened asked before once answered after had have printed closed result opens ready asks closes is =
+question_failed gives contents limits url opened_at closed_at policy style question first last opened asked before once answered after had have printed closed result opens ready asks closes is =
     subst (λ (n : ℕ). LineFailed n result after.failures) (found_fails opened (opens_fails (Ok opened) opens))
     (run_failed opened asked.is_done printed closed result ready is (policy_stage printed asks) (closes_stage closed closes))

@@ -7,7 +7,7 @@ use Rattle.ua_client.specs.declared.reply.Reply.TheVariants.{Response as Respond
 use Rattle.ua_services.specs.declared.response.Response.{Response}
 use Rattle.ua_texts.specs.Replies.{AreEndpoints, endpoints_in}
 use Rattle.ua_texts.specs.declared.style.EndpointStyle.{EndpointStyle}
-use Rattle.ua_texts.specs.declared.style.LineStyle.{LineStyle}
+use Rattle.ua_texts.specs.declared.style.AnswerStyle.{AnswerStyle}
 use Rattle.ua_session.specs.Printed.{IsOutput}
 use Rattle.ua_session.specs.Question.{AnswersQuestion, PrintsAnswers, verdict_of}
 use Rattle.ua_session.specs.Replies.{GivesResponse, PrintsEndpoints}
@@ -37,7 +37,7 @@ endpoints_written contents style had have called response empty text shown resul
     by_result (Err fault) added failed = inr (failed, (shown, lines))
 
 -- the lines of answers were written
-pub answers_written : {O : Type 0} (contents : O → Option (List ℕ)) (style : LineStyle) (question : Question) (had have : O) (called : Result Reply AskFault) (response : Response) (empty text shown : List ℕ) (verdict : Verdict) → GivesResponse called (Ok response)
+pub answers_written : {O : Type 0} (contents : O → Option (List ℕ)) (style : AnswerStyle) (question : Question) (had have : O) (called : Result Reply AskFault) (response : Response) (empty text shown : List ℕ) (verdict : Verdict) → GivesResponse called (Ok response)
     → empty ≡ [] → shown ≡ text → AnswersQuestion style question (Responds response) empty text → Appends (contents had) (contents have) shown → verdict ≡ verdict_of (Responds response) → PrintsAnswers contents style question had have called (Ok verdict)
 answers_written contents style question had have called response empty text shown verdict gives none same are added is =
     subst (λ (c : Result Reply AskFault). PrintsAnswers contents style question had have c (Ok verdict)) (sym (as_response called response gives))

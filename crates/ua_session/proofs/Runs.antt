@@ -5,10 +5,10 @@ use Rattle.ua_builtin.specs.declared.date_time.DateTime.{DateTime}
 use Rattle.ua_builtin.specs.declared.node_id.NodeId.{NodeId}
 use Rattle.ua_client.specs.declared.client.Client.{Client}
 use Rattle.ua_client.specs.declared.reply.Reply.{Reply}
-use Rattle.ua_texts.specs.Answers.{read_lines, write_lines}
+use Rattle.ua_texts.specs.Answers.{write_lines}
 use Rattle.ua_texts.specs.Replies.{endpoint_lines}
 use Rattle.ua_texts.specs.declared.style.EndpointStyle.{EndpointStyle}
-use Rattle.ua_texts.specs.declared.style.LineStyle.{LineStyle}
+use Rattle.ua_texts.specs.declared.style.AnswerStyle.{AnswerStyle}
 use Rattle.ua_session.specs.Line.{LineState}
 use Rattle.ua_session.specs.Printed.{AreAnswerLines, AreEndpointLines, HasAdded, IsOutput, LeavesLines, OfEndpoints, OfRead, OfWrite}
 use Rattle.ua_session.specs.Question.{AnswersQuestion, PrintsAnswers}
@@ -31,7 +31,7 @@ pub ends_by : (token : NodeId) (handle same : ℕ) (moment : DateTime) (old new 
 ends_by token handle same moment old new before after result is ends = subst (λ (h : ℕ). EndsSession token h moment old new before after result) is ends
 
 -- a question is asked in a session whose first call has the same request id
-pub asks_by : {M O : Type 0} (gives : M → ℤ → M → Type 0) (contents : O → Option (List ℕ)) (style : LineStyle) (question : Question) (policy_id : Option (List ℕ)) (handle same : ℕ) (first last : M) (old new : Client) (before after : LineState) (had have : O) (result : Result Verdict AskFault) → handle ≡ same
+pub asks_by : {M O : Type 0} (gives : M → ℤ → M → Type 0) (contents : O → Option (List ℕ)) (style : AnswerStyle) (question : Question) (policy_id : Option (List ℕ)) (handle same : ℕ) (first last : M) (old new : Client) (before after : LineState) (had have : O) (result : Result Verdict AskFault) → handle ≡ same
     → AsksInSession gives contents style question policy_id handle first last old new before after had have result → AsksInSession gives contents style question policy_id same first last old new before after had have result
 asks_by gives contents style question policy_id handle same first last old new before after had have result is asks = subst (λ (h : ℕ). AsksInSession gives contents style question policy_id h first last old new before after had have result) is asks
 
@@ -96,11 +96,11 @@ endpoints_answer contents style called printed closed result had have prints is 
 
 -- ---- of a question
 
-answer_lines : (style : LineStyle) (question : Question) (reply : Reply) (text : List ℕ) → AnswersQuestion style question reply [] text → AreAnswerLines style text
-answer_lines style (Read nodes attribute part) reply text h = subst (λ t. AreAnswerLines style t) (sym h.added) (OfRead nodes.items h.each h.many)
+answer_lines : (style : AnswerStyle) (question : Question) (reply : Reply) (text : List ℕ) → AnswersQuestion style question reply [] text → AreAnswerLines style text
+answer_lines style (Read nodes attribute part) reply text h = subst (λ t. AreAnswerLines style t) (sym h.added) (OfRead nodes.items h.each h.lines h.many h.are)
 answer_lines style (Write node value) reply text h = subst (λ t. AreAnswerLines style t) (sym h.added) (OfWrite (node ∷ []) h.each h.many)
 
-answers_print : {O : Type 0} (contents : O → Option (List ℕ)) (style : LineStyle) (question : Question) (called : Result Reply AskFault) (result : Result Verdict AskFault) (had have : O) → PrintsAnswers contents style question had have called result
+answers_print : {O : Type 0} (contents : O → Option (List ℕ)) (style : AnswerStyle) (question : Question) (called : Result Reply AskFault) (result : Result Verdict AskFault) (had have : O) → PrintsAnswers contents style question had have called result
     → Prints contents (AreAnswerLines style) result had have
 answers_print contents style question (Ok reply) (Ok verdict) had have h = record { text = h.0.text; is = answer_lines style question reply h.0.text h.0.is; added = h.0.added }
 answers_print contents style question (Ok reply) (Err fault) had have h = unprinted_left contents (AreAnswerLines style) _ _ reply had have fault h
@@ -111,26 +111,26 @@ by_result : {A E : Type 0} (r : Result A E) (P : A → Type 0) (Q : E → Type 0
 by_result (Ok x) P Q R h p q = p x h
 by_result (Err fault) P Q R h p q = q fault h
 
-session_prints : {M O : Type 0} (gives : M → ℤ → M → Type 0) (contents : O → Option (List ℕ)) (style : LineStyle) (question : Question) (policy_id : Option (List ℕ)) (handle : ℕ) (first last : M) (old new : Client) (before after : LineState) (had have : O) (result : Result Verdict AskFault)
+session_prints : {M O : Type 0} (gives : M → ℤ → M → Type 0) (contents : O → Option (List ℕ)) (style : AnswerStyle) (question : Question) (policy_id : Option (List ℕ)) (handle : ℕ) (first last : M) (old new : Client) (before after : LineState) (had have : O) (result : Result Verdict AskFault)
     → AsksInSession gives contents style question policy_id handle first last old new before after had have result → Prints contents (AreAnswerLines style) result had have
 session_prints gives contents style question policy_id handle first last old new before after had have result asks =
     by_result asks.begun _ _ (Prints contents (AreAnswerLines style) result had have) asks.further
     (λ token under. first_prints contents (AreAnswerLines style) under.printed under.ended result had have (answers_print contents style question under.called under.printed had have under.prints) under.result_is)
     (λ refused h. none_prints contents (AreAnswerLines style) refused.fault result had have h.0 h.1)
 
-policy_prints : {M O : Type 0} (gives : M → ℤ → M → Type 0) (contents : O → Option (List ℕ)) (port : ℕ) (policy : TokenPolicy) (style : LineStyle) (question : Question) (first last : M) (old new : Client) (before after : LineState) (had have : O) (result : Result Verdict AskFault)
-    → AsksByPolicy gives contents port policy style question first last old new before after had have result → Prints contents (AreAnswerLines style) result had have
-policy_prints gives contents port policy style question first last old new before after had have result asks =
+policy_prints : {M O : Type 0} (gives : M → ℤ → M → Type 0) (contents : O → Option (List ℕ)) (url : Option (List ℕ)) (policy : TokenPolicy) (style : AnswerStyle) (question : Question) (first last : M) (old new : Client) (before after : LineState) (had have : O) (result : Result Verdict AskFault)
+    → AsksByPolicy gives contents url policy style question first last old new before after had have result → Prints contents (AreAnswerLines style) result had have
+policy_prints gives contents url policy style question first last old new before after had have result asks =
     by_result asks.found _ _ (Prints contents (AreAnswerLines style) result had have) asks.further
     (λ policy_id within. session_prints gives contents style question policy_id _ asks.behind last asks.client new asks.once_found after had have result within)
     (λ fault h. none_prints contents (AreAnswerLines style) fault result had have h.0 h.4)
 
-pub question_left : {M O : Type 0} (gives : M → ℤ → M → Type 0) (contents : O → Option (List ℕ)) (port : ℕ) (policy : TokenPolicy) (style : LineStyle) (question : Question) (first last : M) (old new : Client) (before after : LineState) (had have : O) (printed : Result Verdict AskFault) (closed : Done) (result : Result Verdict AskFault)
-    → AsksByPolicy gives contents port policy style question first last old new before after had have printed → result ≡ first_of printed closed → IfErr result (λ fault. LeavesLines contents (AreAnswerLines style) fault had have)
-question_left gives contents port policy style question first last old new before after had have printed closed result asks is =
-    prints_left contents (AreAnswerLines style) result had have (first_prints contents (AreAnswerLines style) printed closed result had have (policy_prints gives contents port policy style question first last old new before after had have printed asks) is)
+pub question_left : {M O : Type 0} (gives : M → ℤ → M → Type 0) (contents : O → Option (List ℕ)) (url : Option (List ℕ)) (policy : TokenPolicy) (style : AnswerStyle) (question : Question) (first last : M) (old new : Client) (before after : LineState) (had have : O) (printed : Result Verdict AskFault) (closed : Done) (result : Result Verdict AskFault)
+    → AsksByPolicy gives contents url policy style question first last old new before after had have printed → result ≡ first_of printed closed → IfErr result (λ fault. LeavesLines contents (AreAnswerLines style) fault had have)
+question_left gives contents url policy style question first last old new before after had have printed closed result asks is =
+    prints_left contents (AreAnswerLines style) result had have (first_prints contents (AreAnswerLines style) printed closed result had have (policy_prints gives contents url policy style question first last old new before after had have printed asks) is)
 
-pub question_answers : {M O : Type 0} (gives : M → ℤ → M → Type 0) (contents : O → Option (List ℕ)) (port : ℕ) (policy : TokenPolicy) (style : LineStyle) (question : Question) (first last : M) (old new : Client) (before after : LineState) (had have : O) (printed : Result Verdict AskFault) (closed : Done) (result : Result Verdict AskFault)
-    → AsksByPolicy gives contents port policy style question first last old new before after had have printed → result ≡ first_of printed closed → OnOk result (HasAdded (AreAnswerLines style) (contents had) (contents have))
-question_answers gives contents port policy style question first last old new before after had have printed closed result asks is =
-    prints_answered contents (AreAnswerLines style) result had have (first_prints contents (AreAnswerLines style) printed closed result had have (policy_prints gives contents port policy style question first last old new before after had have printed asks) is)
+pub question_answers : {M O : Type 0} (gives : M → ℤ → M → Type 0) (contents : O → Option (List ℕ)) (url : Option (List ℕ)) (policy : TokenPolicy) (style : AnswerStyle) (question : Question) (first last : M) (old new : Client) (before after : LineState) (had have : O) (printed : Result Verdict AskFault) (closed : Done) (result : Result Verdict AskFault)
+    → AsksByPolicy gives contents url policy style question first last old new before after had have printed → result ≡ first_of printed closed → OnOk result (HasAdded (AreAnswerLines style) (contents had) (contents have))
+question_answers gives contents url policy style question first last old new before after had have printed closed result asks is =
+    prints_answered contents (AreAnswerLines style) result had have (first_prints contents (AreAnswerLines style) printed closed result had have (policy_prints gives contents url policy style question first last old new before after had have printed asks) is)

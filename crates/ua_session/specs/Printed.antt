@@ -4,18 +4,19 @@ use Rattle.std.specs.Io.KnownBytes.{Appends}
 use Rattle.ua_builtin.specs.declared.node_id.NodeId.{NodeId}
 use Rattle.ua_builtin.specs.declared.status_code.StatusCode.{StatusCode}
 use Rattle.ua_structures.specs.declared.discovery.EndpointDescription.{EndpointDescription}
-use Rattle.ua_texts.specs.Answers.{read_lines, write_lines}
+use Rattle.ua_texts.specs.Answers.{write_lines}
+use Rattle.ua_texts.specs.PlainAnswers.{AreReads}
 use Rattle.ua_texts.specs.Replies.{endpoint_lines}
 use Rattle.ua_texts.specs.declared.style.EndpointStyle.{EndpointStyle}
-use Rattle.ua_texts.specs.declared.style.LineStyle.{LineStyle}
+use Rattle.ua_texts.specs.declared.style.AnswerStyle.{AnswerStyle}
 use Rattle.ua_session.specs.declared.fault.AskFault.{AskFault}
 use Rattle.ua_session.specs.declared.fault.AskFault.TheVariants.{Output}
 use Rattle.ua_variant.specs.declared.values.DataValue.{DataValue}
 
 -- the lines of answers in a style: of a Read of nodes, or of a Write to nodes
-pub data AreAnswerLines (style : LineStyle) : List ℕ → Type 0 where
-  OfRead : (nodes : List NodeId) (answers : List DataValue) → length answers ≡ length nodes → AreAnswerLines style (read_lines style nodes answers)
-  OfWrite : (nodes : List NodeId) (answers : List StatusCode) → length answers ≡ length nodes → AreAnswerLines style (write_lines style nodes answers)
+pub data AreAnswerLines (style : AnswerStyle) : List ℕ → Type 0 where
+  OfRead : (nodes : List NodeId) (answers : List DataValue) (text : List ℕ) → length answers ≡ length nodes → AreReads style nodes answers text → AreAnswerLines style text
+  OfWrite : (nodes : List NodeId) (answers : List StatusCode) → length answers ≡ length nodes → AreAnswerLines style (write_lines style.lines nodes answers)
 
 -- the lines of endpoints in a style
 pub data AreEndpointLines (style : EndpointStyle) : List ℕ → Type 0 where

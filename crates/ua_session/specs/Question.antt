@@ -10,9 +10,11 @@ use Rattle.ua_services.specs.declared.request.Request.{Request}
 use Rattle.ua_structures.specs.Plain.{value_for_node}
 use Rattle.ua_structures.specs.declared.attribute.ReadValueId.{ReadValueId}
 use Rattle.ua_structures.specs.declared.attribute.WriteValue.{WriteValue}
-use Rattle.ua_texts.specs.Answers.{read_lines, write_lines}
+use Rattle.ua_texts.specs.Answers.{write_lines}
+use Rattle.ua_texts.specs.PlainAnswers.{AreReads}
+use Rattle.ua_texts.specs.PlainReplies.{HaveLines}
 use Rattle.ua_texts.specs.Replies.{AreAnswers, statuses_in, values_in}
-use Rattle.ua_texts.specs.declared.style.LineStyle.{LineStyle}
+use Rattle.ua_texts.specs.declared.style.AnswerStyle.{AnswerStyle}
 use Rattle.ua_variant.specs.View.{variant_of}
 use Rattle.ua_variant.specs.declared.values.DataValue.{DataValue}
 use Rattle.ua_variant.specs.declared.values.Variant.{Variant}
@@ -52,9 +54,9 @@ statuses_of (Responds m) = statuses_in m
 statuses_of (Aborted code) = None
 
 -- a reply has as many results as a question has items, and their lines were added, in this style
-abbrev pub AnswersQuestion : LineStyle → Question → Reply → List ℕ → List ℕ → Type 0
-AnswersQuestion style (Read nodes attribute part) reply had have = AreAnswers (values_of reply) (length nodes.items) (read_lines style nodes.items) had have
-AnswersQuestion style (Write node value) reply had have = AreAnswers (statuses_of reply) 1 (write_lines style (node ∷ [])) had have
+abbrev pub AnswersQuestion : AnswerStyle → Question → Reply → List ℕ → List ℕ → Type 0
+AnswersQuestion style (Read nodes attribute part) reply had have = HaveLines (values_of reply) (length nodes.items) (AreReads style nodes.items) had have
+AnswersQuestion style (Write node value) reply had have = AreAnswers (statuses_of reply) 1 (write_lines style.lines (node ∷ [])) had have
 
 -- a reply has no such results, or another number of them
 abbrev pub AnswersNothing : Question → Reply → Type 0
@@ -67,7 +69,7 @@ verdict_of (Responds m) = cond (is_bad_response m) SomeBad AllGood
 verdict_of (Aborted code) = AllGood
 
 -- the lines of the answers in a reply are written, in this style, or why not is told
-abbrev pub PrintsAnswers : {O : Type 0} → (O → Option (List ℕ)) → LineStyle → Question → O → O → Result Reply AskFault → Result Verdict AskFault → Type 0
+abbrev pub PrintsAnswers : {O : Type 0} → (O → Option (List ℕ)) → AnswerStyle → Question → O → O → Result Reply AskFault → Result Verdict AskFault → Type 0
 PrintsAnswers contents style question had have (Ok reply) (Ok verdict) = HasAdded (AnswersQuestion style question reply []) (contents had) (contents have) × (verdict ≡ verdict_of reply)
 PrintsAnswers contents style question had have (Ok reply) (Err fault) = IsUnprinted (AnswersQuestion style question reply []) (AnswersNothing question reply) reply had have fault
 PrintsAnswers contents style question had have (Err fault) result = (have ≡ had) × (result ≡ Err fault)

@@ -1,5 +1,5 @@
 -- What is printed of the replies to a script.
-use Rattle.std.specs.Prelude.{◌≡◌, ◌⊎◌, ℕ, Bool, false, length, List, [], ◌∷◌, ◌++◌, map, Option, Some, None, Result, Ok, Err, codes}
+use Rattle.std.specs.Prelude.{◌≡◌, ◌⊎◌, ℕ, Bool, true, false, length, List, [], ◌∷◌, ◌++◌, map, Option, Some, None, Result, Ok, Err, codes}
 use Rattle.std.specs.Fmt.{decimal}
 use Rattle.std.specs.List.{filter_map, list_any}
 use Rattle.ua_builtin.specs.declared.node_id.NodeId.{NodeId}
@@ -19,6 +19,8 @@ use Rattle.ua_server.specs.declared.step.End.TheVariants.{Closed, NoClose, Cut, 
 use Rattle.ua_services.specs.declared.response.Response.{Response}
 use Rattle.ua_texts.specs.Answers.{read_line, write_line}
 use Rattle.ua_texts.specs.Names.{named_code}
+use Rattle.ua_texts.specs.PlainAnswers.{IsPlainRead}
+use Rattle.ua_texts.specs.PlainLeaf.{Either}
 use Rattle.ua_texts.specs.Replies.{fault_in, statuses_in, values_in}
 use Rattle.ua_session.specs.Replies.{is_bad_response}
 use Rattle.ua_texts.specs.Styles.{plain}
@@ -27,36 +29,54 @@ use Rattle.ua_texts.specs.declared.script.Step.{Step}
 use Rattle.ua_texts.specs.declared.script.Step.TheVariants.{Read, Write, Renew}
 use Rattle.ua_variant.specs.declared.values.DataValue.{DataValue}
 
--- ---- one reply: what is told of it is a text, with the names of status codes where they are wanted, or why there is none
+-- ---- what is told: a text, or the answer to a Read
+
+pub data Told : Type 0 where
+  -- this text
+  said : List ℕ → Told
+  -- the line of an answer to the Read of a node
+  answer : NodeId → DataValue → Told
+
+-- the text of what is told, with the names of status codes where they are wanted
+abbrev pub told_text : Bool → Told → List ℕ
+told_text names (said t) = t
+told_text names (answer node value) = read_line (plain names) node value
+
+-- the same, or with values as people write them where this is wanted
+abbrev pub IsTold : Bool → Bool → Told → List ℕ → Type 0
+IsTold people names (said t) shown = shown ≡ t
+IsTold people names (answer node value) shown = Either people (IsPlainRead (plain names) node value shown) (shown ≡ read_line (plain names) node value)
+
+-- ---- one reply: what is told of it, with the names of status codes where they are wanted, or why nothing is
 
 -- the line of the one result of a Read of a node
-abbrev pub read_told : Bool → NodeId → Option (List DataValue) → Result (List ℕ) LoopFault
+abbrev pub read_told : Bool → NodeId → Option (List DataValue) → Result Told LoopFault
 read_told names node None = Err UnknownResponse
 read_told names node (Some []) = Err UnknownResponse
-read_told names node (Some (value ∷ [])) = Ok (read_line (plain names) node value)
+read_told names node (Some (value ∷ [])) = Ok (answer node value)
 read_told names node (Some (value ∷ (other ∷ others))) = Err UnknownResponse
 
 -- the line of the one result of a Write to a node
-abbrev pub write_told : Bool → NodeId → Option (List StatusCode) → Result (List ℕ) LoopFault
+abbrev pub write_told : Bool → NodeId → Option (List StatusCode) → Result Told LoopFault
 write_told names node None = Err UnknownResponse
 write_told names node (Some []) = Err UnknownResponse
-write_told names node (Some (status ∷ [])) = Ok (write_line (plain names) node status)
+write_told names node (Some (status ∷ [])) = Ok (said (write_line (plain names) node status))
 write_told names node (Some (status ∷ (other ∷ others))) = Err UnknownResponse
 
 -- the code of a ServiceFault, where there is one
-abbrev pub unless_failed : Option StatusCode → Result (List ℕ) LoopFault → Result (List ℕ) LoopFault
+abbrev pub unless_failed : Option StatusCode → Result Told LoopFault → Result Told LoopFault
 unless_failed None told = told
 unless_failed (Some code) told = Err (Service code)
 
 -- of a response to a step, or to a request that begins or ends the session, of which nothing is printed; a renewal asks no request
-abbrev pub response_told : Bool → Option Step → Response → Result (List ℕ) LoopFault
-response_told names None response = unless_failed (fault_in response) (Ok [])
+abbrev pub response_told : Bool → Option Step → Response → Result Told LoopFault
+response_told names None response = unless_failed (fault_in response) (Ok (said []))
 response_told names (Some (Read node range)) response = unless_failed (fault_in response) (read_told names node (values_in response))
 response_told names (Some (Write node value)) response = unless_failed (fault_in response) (write_told names node (statuses_in response))
 response_told names (Some Renew) response = Err UnknownResponse
 
 -- of a reply, if there is one: the server may have given it up
-abbrev pub reply_told : Bool → Option Step → Option Reply → Result (List ℕ) LoopFault
+abbrev pub reply_told : Bool → Option Step → Option Reply → Result Told LoopFault
 reply_told names step None = Err UnknownResponse
 reply_told names step (Some (Responds response)) = response_told names step response
 reply_told names step (Some (Aborted code)) = Err (Service code)
@@ -82,7 +102,7 @@ abbrev pub asked_for : List ScriptLine → List (Option Step)
 asked_for lines = None ∷ (None ∷ asked_behind lines)
 
 -- what is told of replies, each by what its request is for
-abbrev pub replies_told : Bool → List (Option Step) → List (Option Reply) → List (Result (List ℕ) LoopFault)
+abbrev pub replies_told : Bool → List (Option Step) → List (Option Reply) → List (Result Told LoopFault)
 replies_told names [] replies = []
 replies_told names (step ∷ steps) [] = reply_told names step None ∷ replies_told names steps []
 replies_told names (step ∷ steps) (reply ∷ replies) = reply_told names step reply ∷ replies_told names steps replies
@@ -118,40 +138,54 @@ totals_line names up down end = (codes "up " ++ (decimal up ++ (codes " down " +
 -- ---- a whole script
 
 -- the texts in front of the first fault
-abbrev pub text_of : List (Result (List ℕ) LoopFault) → List ℕ
-text_of [] = []
-text_of (Ok text ∷ told) = text ++ text_of told
-text_of (Err fault ∷ told) = []
+abbrev pub text_of : Bool → List (Result Told LoopFault) → List ℕ
+text_of names [] = []
+text_of names (Ok told ∷ rest) = told_text names told ++ text_of names rest
+text_of names (Err fault ∷ rest) = []
+
+-- the same, with values as people write them
+abbrev pub IsPlainTextOf : Bool → List (Result Told LoopFault) → List ℕ → Type 0
+IsPlainTextOf names [] shown = shown ≡ []
+IsPlainTextOf names (Ok told ∷ rest) shown = (first : List ℕ) × (others : List ℕ) × (shown ≡ first ++ others) × IsTold true names told first × IsPlainTextOf names rest others
+IsPlainTextOf names (Err fault ∷ rest) shown = shown ≡ []
+
+-- the one or the other
+abbrev pub IsTextOf : Bool → Bool → List (Result Told LoopFault) → List ℕ → Type 0
+IsTextOf people names told shown = Either people (IsPlainTextOf names told shown) (shown ≡ text_of names told)
 
 -- the first fault, if there is one
-abbrev pub told_fault : List (Result (List ℕ) LoopFault) → Option LoopFault
+abbrev pub told_fault : List (Result Told LoopFault) → Option LoopFault
 told_fault [] = None
-told_fault (Ok text ∷ told) = told_fault told
-told_fault (Err fault ∷ told) = Some fault
+told_fault (Ok told ∷ rest) = told_fault rest
+told_fault (Err fault ∷ rest) = Some fault
 
 -- the octets each way, and how the connection ended
 abbrev pub script_totals : Bool → Nodes → List ScriptLine → List ℕ
 script_totals names nodes lines = totals_line names (length (up_octets script_moment (script_turns lines))) (length (down_octets nodes script_moment (script_turns lines))) Closed
 
 -- what is told of a script that is run over these nodes: of the reply to each request in order, and behind them the octets each way
-abbrev pub script_told : Bool → Nodes → List ScriptLine → List (Result (List ℕ) LoopFault)
+abbrev pub script_told : Bool → Nodes → List ScriptLine → List (Result Told LoopFault)
 script_told names nodes lines =
-    replies_told names (asked_for lines) (turns_replies (begun_over nodes) script_moment (script_turns lines)) ++ Ok (script_totals names nodes lines) ∷ []
+    replies_told names (asked_for lines) (turns_replies (begun_over nodes) script_moment (script_turns lines)) ++ Ok (said (script_totals names nodes lines)) ∷ []
 
--- the text is what is printed of a script, with names or without
-pub record AreLoopLines (names : Bool) (text : List ℕ) : Type 0 where
+-- the text is what is printed of a script, with names or without, with values and times as people write them or not
+pub record AreLoopLines (people names : Bool) (shown : List ℕ) : Type 0 where
   pub nodes : Nodes
   pub lines : List ScriptLine
-  pub is : text ≡ text_of (script_told names nodes lines)
+  pub is : IsTextOf people names (script_told names nodes lines) shown
 
 -- ---- what a call adds to a text
 
--- the text that is told was added; or nothing was, and the fault is the one that is told, or memory ran out
-abbrev pub AddsTold : Result (List ℕ) LoopFault → Result (Unit {0}) LoopFault → List ℕ → List ℕ → Type 0
-AddsTold told (Ok done) had have = (text : List ℕ) × (told ≡ Ok text) × (have ≡ had ++ text)
-AddsTold told (Err fault) had have = (fault ≡ NoMemory) ⊎ ((told ≡ Err fault) × (have ≡ had))
+-- the text of what is told was added; or nothing was, and the fault is the one that is told, or memory ran out
+abbrev pub AddsTold : Bool → Bool → Result Told LoopFault → Result (Unit {0}) LoopFault → List ℕ → List ℕ → Type 0
+AddsTold people names told (Ok done) had have = (line : Told) × (shown : List ℕ) × (told ≡ Ok line) × (have ≡ had ++ shown) × IsTold people names line shown
+AddsTold people names told (Err fault) had have = (fault ≡ NoMemory) ⊎ ((told ≡ Err fault) × (have ≡ had))
 
--- the texts in front of the first fault were added, and that fault was answered, or memory ran out
-abbrev pub AddsAll : List (Result (List ℕ) LoopFault) → Result (Unit {0}) LoopFault → List ℕ → List ℕ → Type 0
-AddsAll told (Ok done) had have = (told_fault told ≡ None) × (have ≡ had ++ text_of told)
-AddsAll told (Err fault) had have = (fault ≡ NoMemory) ⊎ ((told_fault told ≡ Some fault) × (have ≡ had ++ text_of told))
+-- the texts in front of the first fault were added
+abbrev pub AddsTexts : Bool → Bool → List (Result Told LoopFault) → List ℕ → List ℕ → Type 0
+AddsTexts people names told had have = (shown : List ℕ) × (have ≡ had ++ shown) × IsTextOf people names told shown
+
+-- the same, and that fault was answered, or memory ran out
+abbrev pub AddsAll : Bool → Bool → List (Result Told LoopFault) → Result (Unit {0}) LoopFault → List ℕ → List ℕ → Type 0
+AddsAll people names told (Ok done) had have = (told_fault told ≡ None) × AddsTexts people names told had have
+AddsAll people names told (Err fault) had have = (fault ≡ NoMemory) ⊎ ((told_fault told ≡ Some fault) × AddsTexts people names told had have)

@@ -6,7 +6,7 @@ use Rattle.ua_client.specs.declared.client.Client.{Client}
 use Rattle.ua_client.specs.declared.reply.Reply.{Reply}
 use Rattle.ua_frame.specs.declared.limits.Limits.{Limits}
 use Rattle.ua_services.specs.SessionRequests.{close_session}
-use Rattle.ua_texts.specs.declared.style.LineStyle.{LineStyle}
+use Rattle.ua_texts.specs.declared.style.AnswerStyle.{AnswerStyle}
 use Rattle.ua_session.specs.Endpoints.{CallsEndpoints}
 use Rattle.ua_session.specs.Line.{LineState}
 use Rattle.ua_session.specs.Policy.{ChoosesBy}
@@ -24,18 +24,18 @@ use Rattle.ua_session.specs.declared.verdict.Verdict.{Verdict}
 -- ---- the token policy
 
 -- GetEndpoints was asked at the next moment, and a PolicyId chosen by the reply
-pub record AsksPolicy {M : Type 0} (gives : M → ℤ → M → Type 0) (port : ℕ) (first last : M) (old new : Client) (before after : LineState) (result : Result (Option (List ℕ)) AskFault) : Type 0 where
+pub record AsksPolicy {M : Type 0} (gives : M → ℤ → M → Type 0) (url : Option (List ℕ)) (first last : M) (old new : Client) (before after : LineState) (result : Result (Option (List ℕ)) AskFault) : Type 0 where
   pub moment : DateTime
   pub given : gives first moment.ticks last
   pub called : Result Reply AskFault
-  pub asks : CallsEndpoints port moment old new before after called
+  pub asks : CallsEndpoints url moment old new before after called
   pub chooses : ChoosesBy called result
 
 -- the PolicyId by which a session is to be begun: the one that is named, unless memory ran out, and nothing was done; or the server was
 -- asked for it
-abbrev pub FindsPolicy : {M : Type 0} → (M → ℤ → M → Type 0) → ℕ → TokenPolicy → M → M → Client → Client → LineState → LineState → Result (Option (List ℕ)) AskFault → Type 0
-FindsPolicy gives port (Named id) first last old new before after result = ((result ≡ Ok id) ⊎ (result ≡ Err NoMemory)) × (last ≡ first) × (new ≡ old) × (after ≡ before)
-FindsPolicy gives port Auto first last old new before after result = AsksPolicy gives port first last old new before after result
+abbrev pub FindsPolicy : {M : Type 0} → (M → ℤ → M → Type 0) → Option (List ℕ) → TokenPolicy → M → M → Client → Client → LineState → LineState → Result (Option (List ℕ)) AskFault → Type 0
+FindsPolicy gives url (Named id) first last old new before after result = ((result ≡ Ok id) ⊎ (result ≡ Err NoMemory)) × (last ≡ first) × (new ≡ old) × (after ≡ before)
+FindsPolicy gives url Auto first last old new before after result = AsksPolicy gives url first last old new before after result
 
 -- ---- the session
 
@@ -76,7 +76,7 @@ EndsUnbegun gives (Some token) handle first last old new before after = ClosesUn
 
 -- a question was asked under the token of a session, with this RequestHandle, the reply printed, and the session ended behind
 -- that, also behind a fault; each RequestHandle is the request id of its call
-pub record AsksUnder {M O : Type 0} (gives : M → ℤ → M → Type 0) (contents : O → Option (List ℕ)) (style : LineStyle) (question : Question) (token : NodeId) (handle : ℕ) (first last : M) (old new : Client) (before after : LineState) (had have : O) (result : Result Verdict AskFault) : Type 0 where
+pub record AsksUnder {M O : Type 0} (gives : M → ℤ → M → Type 0) (contents : O → Option (List ℕ)) (style : AnswerStyle) (question : Question) (token : NodeId) (handle : ℕ) (first last : M) (old new : Client) (before after : LineState) (had have : O) (result : Result Verdict AskFault) : Type 0 where
   pub asked_at : DateTime
   pub behind : M
   pub asking_given : gives first asked_at.ticks behind
@@ -94,7 +94,7 @@ pub record AsksUnder {M O : Type 0} (gives : M → ℤ → M → Type 0) (conten
 
 -- a session was begun by the token policy with this PolicyId, a question asked in it, and the session ended; where none was begun that is
 -- told, and nothing was written, but one that stands at the server nevertheless was ended
-pub record AsksInSession {M O : Type 0} (gives : M → ℤ → M → Type 0) (contents : O → Option (List ℕ)) (style : LineStyle) (question : Question) (policy_id : Option (List ℕ)) (handle : ℕ) (first last : M) (old new : Client) (before after : LineState) (had have : O) (result : Result Verdict AskFault) : Type 0 where
+pub record AsksInSession {M O : Type 0} (gives : M → ℤ → M → Type 0) (contents : O → Option (List ℕ)) (style : AnswerStyle) (question : Question) (policy_id : Option (List ℕ)) (handle : ℕ) (first last : M) (old new : Client) (before after : LineState) (had have : O) (result : Result Verdict AskFault) : Type 0 where
   pub begun_at : DateTime
   pub behind : M
   pub given : gives first begun_at.ticks behind
@@ -107,17 +107,17 @@ pub record AsksInSession {M O : Type 0} (gives : M → ℤ → M → Type 0) (co
       (λ refused. (result ≡ Err refused.fault) × (have ≡ had) × EndsUnbegun gives refused.token (handle_unbegun handle refused.fault) behind last client new once_begun after)
 
 -- the PolicyId was found, and a question asked in a session that is begun by it; where none was found that is told, and nothing was written
-pub record AsksByPolicy {M O : Type 0} (gives : M → ℤ → M → Type 0) (contents : O → Option (List ℕ)) (port : ℕ) (policy : TokenPolicy) (style : LineStyle) (question : Question) (first last : M) (old new : Client) (before after : LineState) (had have : O) (result : Result Verdict AskFault) : Type 0 where
+pub record AsksByPolicy {M O : Type 0} (gives : M → ℤ → M → Type 0) (contents : O → Option (List ℕ)) (url : Option (List ℕ)) (policy : TokenPolicy) (style : AnswerStyle) (question : Question) (first last : M) (old new : Client) (before after : LineState) (had have : O) (result : Result Verdict AskFault) : Type 0 where
   pub found : Result (Option (List ℕ)) AskFault
   pub behind : M
   pub client : Client
   pub once_found : LineState
-  pub finds : FindsPolicy gives port policy first behind old client before once_found found
+  pub finds : FindsPolicy gives url policy first behind old client before once_found found
   pub further : MatchResult found
       (λ policy_id. AsksInSession gives contents style question policy_id (first_call policy) behind last client new once_found after had have result)
       (λ fault. (result ≡ Err fault) × (last ≡ behind) × (new ≡ client) × (after ≡ once_found) × (have ≡ had))
 
 -- a client was opened, asked a question in a session that is begun by a token policy, and closed
-abbrev pub RunsQuestion : {M O : Type 0} → (M → ℤ → M → Type 0) → (O → Option (List ℕ)) → Limits → ℕ → TokenPolicy → LineStyle → Question → M → M → LineState → LineState → O → O → Result Verdict AskFault → Type 0
-RunsQuestion gives contents limits port policy style question first last before after had have result =
-    Runs gives limits port first last before after had have (λ x y m n s t printed. AsksByPolicy gives contents port policy style question m n x y s t had have printed) result
+abbrev pub RunsQuestion : {M O : Type 0} → (M → ℤ → M → Type 0) → (O → Option (List ℕ)) → Limits → Option (List ℕ) → TokenPolicy → AnswerStyle → Question → M → M → LineState → LineState → O → O → Result Verdict AskFault → Type 0
+RunsQuestion gives contents limits url policy style question first last before after had have result =
+    Runs gives limits url first last before after had have (λ x y m n s t printed. AsksByPolicy gives contents url policy style question m n x y s t had have printed) result

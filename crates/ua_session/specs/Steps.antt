@@ -1,5 +1,5 @@
 -- The steps of a conversation with a server, each a call of its client (`ua_client`), whose fault is told.
-use Rattle.std.specs.Prelude.{◌≡◌, ◌⊎◌, ℕ, ℤ, List, [], ◌∷◌, Some, Option, Result, Ok, Err, MatchResult}
+use Rattle.std.specs.Prelude.{◌≡◌, ◌⊎◌, ℕ, ℤ, List, [], ◌∷◌, Option, Result, Ok, Err, MatchResult}
 use Rattle.ua_builtin.specs.declared.date_time.DateTime.{DateTime}
 use Rattle.ua_builtin.specs.declared.node_id.NodeId.{NodeId}
 use Rattle.ua_client.specs.Calls.{CallsAll}
@@ -11,7 +11,6 @@ use Rattle.ua_client.specs.declared.fault.ClientFault.{ClientFault}
 use Rattle.ua_client.specs.declared.fault.ClientFault.TheVariants.{Closed}
 use Rattle.ua_client.specs.declared.reply.Reply.{Reply}
 use Rattle.ua_frame.specs.declared.limits.Limits.{Limits}
-use Rattle.ua_services.specs.SessionRequests.{local_url}
 use Rattle.ua_services.specs.declared.request.Request.{Request}
 use Rattle.ua_session.specs.Line.{FailsBy, LineState}
 use Rattle.ua_session.specs.Told.{of_client}
@@ -37,17 +36,17 @@ first_of (Err fault) other = Err fault
 
 -- ---- opening
 
--- an opening of a client to the server on a port of this machine, and what it answers
-pub record OpensAt (limits : Limits) (port : ℕ) (moment : DateTime) (before after : LineState) (result : Result Client AskFault) : Type 0 where
+-- an opening of a client to a server, by this URL, and what it answers
+pub record OpensAt (limits : Limits) (url : Option (List ℕ)) (moment : DateTime) (before after : LineState) (result : Result Client AskFault) : Type 0 where
   pub answer : Result Client ClientFault
-  pub opens : OpensNothing before.traffic after.traffic answer ⊎ OpensClient limits (Some (local_url port)) moment before.traffic after.traffic answer
+  pub opens : OpensNothing before.traffic after.traffic answer ⊎ OpensClient limits url moment before.traffic after.traffic answer
   pub fails : FailsBy answer before after
   pub told_is : result ≡ told answer
 
--- a client was opened to the server on a port of this machine, or it was not and this is told: memory ran out before anything was done, or
+-- a client was opened to a server, by this URL, or it was not and this is told: memory ran out before anything was done, or
 -- what the client answers
-abbrev pub OpensPort : Limits → ℕ → DateTime → LineState → LineState → Result Client AskFault → Type 0
-OpensPort limits port moment before after result = ((result ≡ Err NoMemory) × (after ≡ before)) ⊎ OpensAt limits port moment before after result
+abbrev pub OpensServer : Limits → Option (List ℕ) → DateTime → LineState → LineState → Result Client AskFault → Type 0
+OpensServer limits url moment before after result = ((result ≡ Err NoMemory) × (after ≡ before)) ⊎ OpensAt limits url moment before after result
 
 -- ---- calls
 
@@ -109,16 +108,16 @@ pub record Uses {A M : Type 0} (gives : M → ℤ → M → Type 0) (last : M) (
   pub closes : ClosesClient closed_at asked answered after closed
   pub result_is : result ≡ first_of printed closed
 
--- a client was opened to the server on a port of this machine, asked something, of which this holds, and closed, each step at the next
+-- a client was opened to a server, by this URL, asked something, of which this holds, and closed, each step at the next
 -- moment; where none was opened that is told, and nothing was written
-pub record Runs {A M O : Type 0} (gives : M → ℤ → M → Type 0) (limits : Limits) (port : ℕ) (first last : M) (before after : LineState) (had have : O)
+pub record Runs {A M O : Type 0} (gives : M → ℤ → M → Type 0) (limits : Limits) (url : Option (List ℕ)) (first last : M) (before after : LineState) (had have : O)
     (Asked : Client → Client → M → M → LineState → LineState → Result A AskFault → Type 0) (result : Result A AskFault) : Type 0 where
   pub opened_at : DateTime
   pub behind : M
   pub given : gives first opened_at.ticks behind
   pub opened : Result Client AskFault
   pub once_open : LineState
-  pub opens : OpensPort limits port opened_at before once_open opened
+  pub opens : OpensServer limits url opened_at before once_open opened
   pub further : MatchResult opened
       (λ client. IsReady client × Uses gives last after (λ asked later answered printed. Asked client asked behind later once_open answered printed) result)
       (λ fault. (result ≡ Err fault) × (last ≡ behind) × (after ≡ once_open) × (have ≡ had))

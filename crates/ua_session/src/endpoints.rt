@@ -1,6 +1,7 @@
 //! `ua endpoints`: the endpoints of a server.
 
-ghost use Rattle.std.specs.Prelude.{IfErr, OnOk};
+ghost use Rattle.std.specs.Prelude.{IfErr, IsTrue, OnOk};
+ghost use Rattle.ua_wire.specs.Counted.{text};
 ghost use Rattle.ua_session.specs.Endpoints.{AsksEndpoints, CallsEndpoints, RunsEndpoints};
 ghost use Rattle.ua_session.specs.Line.{LineFailed};
 ghost use Rattle.ua_session.specs.Printed.{AreEndpointLines, HasAdded, LeavesLines};
@@ -10,27 +11,26 @@ use crate::fault::AskFault;
 use crate::step::{call, close, first_of, next_moment, open};
 use std::alloc::Global;
 use std::io::Write;
-use ua_builtin::DateTime;
+use ua_builtin::{DateTime, UaString};
 use ua_channel::{Line, Moments};
 use ua_client::{Client, Reply};
 use ua_frame::Limits;
-use ua_services::session_requests::{get_endpoints_request, local_url};
+use ua_services::session_requests::get_endpoints_request;
 use ua_texts::EndpointStyle;
 
 /// The request id of the first call of a client: its OPN has 1.
 const FIRST_CALL: u32 = 2;
 
-/// Calls GetEndpoints.
+/// Calls GetEndpoints of a server by this URL.
 pub fn call_endpoints<L: Line>(
-    alloc: Global,
     line: &mut L,
     client: &mut Client,
-    port: u16,
+    url: &UaString,
     moment: DateTime,
 ) -> Result<Reply, AskFault>
-    ensures { CallsEndpoints port moment client.old client.new (record { traffic = L.traffic line.old; failures = L.failures line.old }) (record { traffic = L.traffic line.new; failures = L.failures line.new }) result }
+    ensures { CallsEndpoints url.now moment client.old client.new (record { traffic = L.traffic line.old; failures = L.failures line.old }) (record { traffic = L.traffic line.new; failures = L.failures line.new }) result }
 {
-    let Ok(url) = local_url(alloc, port) else {
+    let Ok(url) = url.try_clone() else {
         return Err(AskFault::NoMemory);
     };
     let request = get_endpoints_request(url, moment, FIRST_CALL);
@@ -42,20 +42,20 @@ fn ask_endpoints<L: Line, M: Moments, O: Write>(
     alloc: Global,
     line: &mut L,
     client: &mut Client,
-    port: u16,
+    url: &UaString,
     style: EndpointStyle,
     moments: &mut M,
     out: &mut O,
 ) -> Result<(), AskFault>
-    ensures { AsksEndpoints M.gives O.contents port style moments.old moments.new client.old client.new (record { traffic = L.traffic line.old; failures = L.failures line.old }) (record { traffic = L.traffic line.new; failures = L.failures line.new }) out.old out.new result }
+    ensures { AsksEndpoints M.gives O.contents url.now style moments.old moments.new client.old client.new (record { traffic = L.traffic line.old; failures = L.failures line.old }) (record { traffic = L.traffic line.new; failures = L.failures line.new }) out.old out.new result }
 {
     let moment = next_moment(moments);
-    let called = call_endpoints(alloc, line, client, port, moment);
+    let called = call_endpoints(line, client, url, moment);
     print_endpoints(alloc, out, called, style)
 }
 
-/// Asks the server at the other end of a line for its endpoints, and writes their lines in this style: as the
-/// server on a port of this machine, whose connection stands at its beginning. A client is opened, calls
+/// Asks the server at the other end of a line for its endpoints, by this URL, and writes their lines in this
+/// style. The connection stands at its beginning. A client is opened, calls
 /// GetEndpoints without a session and is closed, also behind a fault after which it may go on. The lines are
 /// written and flushed as soon as the response is read, before the client is closed. The first fault is
 /// told, or that the writer failed, or that memory ran out. Each of these steps has the next moment.
@@ -63,20 +63,21 @@ pub fn endpoints_over<L: Line, M: Moments, O: Write>(
     alloc: Global,
     line: &mut L,
     limits: Limits,
-    port: u16,
+    url: &UaString,
     style: EndpointStyle,
     moments: &mut M,
     out: &mut O,
 ) -> Result<(), AskFault>
-    ensures runs { RunsEndpoints M.gives O.contents limits port style moments.old moments.new (record { traffic = L.traffic line.old; failures = L.failures line.old }) (record { traffic = L.traffic line.new; failures = L.failures line.new }) out.old out.new result }
+    requires { IsTrue (text.encodable url.now) }
+    ensures runs { RunsEndpoints M.gives O.contents limits url.now style moments.old moments.new (record { traffic = L.traffic line.old; failures = L.failures line.old }) (record { traffic = L.traffic line.new; failures = L.failures line.new }) out.old out.new result }
     ensures answered { OnOk result (HasAdded (AreEndpointLines style) (O.contents out.old) (O.contents out.new)) }
     ensures left { IfErr result (λ fault. LeavesLines O.contents (AreEndpointLines style) fault out.old out.new) }
     ensures failed { LineFailed (L.failures line.old) result (L.failures line.new) }
 {
     let opened_at = next_moment(moments);
-    match open(alloc, line, limits, port, opened_at) {
+    match open(alloc, line, limits, url, opened_at) {
         Ok(mut client) => {
-            let asked = ask_endpoints(alloc, line, &mut client, port, style, moments, out);
+            let asked = ask_endpoints(alloc, line, &mut client, url, style, moments, out);
             let closed_at = next_moment(moments);
             let closed = close(line, client, closed_at);
             first_of(asked, closed)

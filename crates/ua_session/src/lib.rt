@@ -6,7 +6,7 @@
 //!
 //! ```
 //! let question = Question::parse_read(alloc, &["ns=1;s=Pump"], 13, None)?;
-//! let style = LineStyle::plain(false);
+//! let style = AnswerStyle::exact(LineStyle::plain(false));
 //! ask_over(alloc, &mut line, limits, 4840, &question, &TokenPolicy::Auto, style, &mut moments, &mut out)?;
 //! // `ns=1;s=Pump 00000000 Int32 6` is written to `out`
 //! ```
@@ -16,7 +16,7 @@
 //!
 //! ```
 //! let lines = parse_lines(alloc, "write\tns=1;s=Pump\tInt32\t6\nread\tns=1;s=Pump\n")?;
-//! let looped = run_lines(alloc, nodes, &lines, 65535, false)?;
+//! let looped = run_lines(alloc, nodes, &lines, 65535, false, false)?;
 //! // looped.up, looped.down: what each end wrote; looped.text: what is printed, up to looped.fault
 //! ```
 #![tactic(auto)]

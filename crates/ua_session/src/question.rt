@@ -16,7 +16,7 @@ use ua_builtin::{DateTime, NodeId, UaString};
 use ua_client::Reply;
 use ua_services::session_requests::{read_attribute_item, read_request, write_item, write_request};
 use ua_services::{ReadValueId, Request, Response, WriteValue};
-use ua_texts::{AnswerFault, LineStyle, push_read_answers, push_write_answers};
+use ua_texts::{AnswerFault, AnswerStyle, push_read_answers_as, push_write_answers};
 use ua_variant::Variant;
 
 /// What is asked in a session.
@@ -102,15 +102,17 @@ impl Question {
         alloc: Global,
         out: &mut String,
         response: &Response,
-        style: LineStyle,
+        style: AnswerStyle,
     ) -> Result<(), AnswerFault>
         ensures lines { OnOk result (AnswersQuestion style self.now (Responds response.now) (string_bytes out.old) (string_bytes out.new)) }
         ensures faults { IfErr result (λ fault. IsRefusedBy (AnswersNothing self.now (Responds response.now)) (Responds response.now) (of_answer fault)) }
     {
         match self {
-            Question::Read { nodes, .. } => push_read_answers(alloc, out, nodes, response, style),
+            Question::Read { nodes, .. } => {
+                push_read_answers_as(alloc, out, nodes, response, style)
+            }
             Question::Write(node, _) => {
-                push_write_answers(alloc, out, slice::from_ref(node), response, style)
+                push_write_answers(alloc, out, slice::from_ref(node), response, style.lines)
             }
         }
     }
@@ -122,7 +124,7 @@ impl Question {
         alloc: Global,
         out: &mut O,
         called: Result<Reply, AskFault>,
-        style: LineStyle,
+        style: AnswerStyle,
     ) -> Result<Verdict, AskFault>
         ensures { PrintsAnswers O.contents style self.now out.old out.new called result }
     {

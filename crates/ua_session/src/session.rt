@@ -1,6 +1,7 @@
 //! `ua read` and `ua write`: what is asked in a session of its own.
 
-ghost use Rattle.std.specs.Prelude.{◌≡◌, ◌<◌, ◌^◌, IfErr, OnOk};
+ghost use Rattle.std.specs.Prelude.{◌≡◌, ◌<◌, ◌^◌, IfErr, IsTrue, OnOk};
+ghost use Rattle.ua_wire.specs.Counted.{text};
 ghost use Rattle.ua_session.specs.Line.{LineFailed};
 ghost use Rattle.ua_session.specs.Printed.{AreAnswerLines, HasAdded, LeavesLines};
 ghost use Rattle.ua_session.specs.Question.{request_of};
@@ -21,18 +22,17 @@ use ua_channel::{Line, Moments};
 use ua_client::{Client, Reply};
 use ua_frame::Limits;
 use ua_services::session_requests::close_session_request;
-use ua_texts::LineStyle;
+use ua_texts::AnswerStyle;
 
 /// The PolicyId by which a session is to be begun; the server is asked for it where none is named.
 fn find_policy<L: Line, M: Moments>(
-    alloc: Global,
     line: &mut L,
     client: &mut Client,
-    port: u16,
+    url: &UaString,
     policy: &TokenPolicy,
     moments: &mut M,
 ) -> Result<UaString, AskFault>
-    ensures { FindsPolicy M.gives port policy.now moments.old moments.new client.old client.new (record { traffic = L.traffic line.old; failures = L.failures line.old }) (record { traffic = L.traffic line.new; failures = L.failures line.new }) result }
+    ensures { FindsPolicy M.gives url.now policy.now moments.old moments.new client.old client.new (record { traffic = L.traffic line.old; failures = L.failures line.old }) (record { traffic = L.traffic line.new; failures = L.failures line.new }) result }
 {
     match policy {
         TokenPolicy::Named(id) => match id.try_clone() {
@@ -41,7 +41,7 @@ fn find_policy<L: Line, M: Moments>(
         },
         TokenPolicy::Auto => {
             let moment = next_moment(moments);
-            let called = call_endpoints(alloc, line, client, port, moment);
+            let called = call_endpoints(line, client, url, moment);
             choose_by(called)
         }
     }
@@ -113,7 +113,7 @@ fn ask_under<L: Line, M: Moments, O: Write>(
     line: &mut L,
     client: &mut Client,
     question: &Question,
-    style: LineStyle,
+    style: AnswerStyle,
     token: NodeId,
     handle: u32,
     moments: &mut M,
@@ -171,7 +171,7 @@ fn ask_in_session<L: Line, M: Moments, O: Write>(
     line: &mut L,
     client: &mut Client,
     question: &Question,
-    style: LineStyle,
+    style: AnswerStyle,
     policy_id: UaString,
     handle: u32,
     moments: &mut M,
@@ -195,16 +195,16 @@ fn ask_by_policy<L: Line, M: Moments, O: Write>(
     alloc: Global,
     line: &mut L,
     client: &mut Client,
-    port: u16,
+    url: &UaString,
     question: &Question,
     policy: &TokenPolicy,
-    style: LineStyle,
+    style: AnswerStyle,
     moments: &mut M,
     out: &mut O,
 ) -> Result<Verdict, AskFault>
-    ensures { AsksByPolicy M.gives O.contents port policy.now style question.now moments.old moments.new client.old client.new (record { traffic = L.traffic line.old; failures = L.failures line.old }) (record { traffic = L.traffic line.new; failures = L.failures line.new }) out.old out.new result }
+    ensures { AsksByPolicy M.gives O.contents url.now policy.now style question.now moments.old moments.new client.old client.new (record { traffic = L.traffic line.old; failures = L.failures line.old }) (record { traffic = L.traffic line.new; failures = L.failures line.new }) out.old out.new result }
 {
-    let found = find_policy(alloc, line, client, port, policy, moments);
+    let found = find_policy(line, client, url, policy, moments);
     let handle = first_call(policy);
     match found {
         Ok(id) => ask_in_session(
@@ -214,9 +214,9 @@ fn ask_by_policy<L: Line, M: Moments, O: Write>(
     }
 }
 
-/// Asks the server at the other end of a line a question in a session of its own, and writes the lines
-/// of the answers in this style: as the server on a port of this machine, whose connection stands at
-/// its beginning. A client is opened, begins a session by this token policy, asks, ends the session and
+/// Asks the server at the other end of a line a question in a session of its own, by this URL, and writes
+/// the lines of the answers in this style. The connection stands at its beginning. A client is opened,
+/// begins a session by this token policy, asks, ends the session and
 /// is closed, these two also behind a fault after which it may go on. A session that CreateSession
 /// made, and ActivateSession did not begin, is ended, too, and the fault told is that of
 /// ActivateSession. The lines are written and flushed as soon as the response is read, before the
@@ -228,26 +228,27 @@ pub fn ask_over<L: Line, M: Moments, O: Write>(
     alloc: Global,
     line: &mut L,
     limits: Limits,
-    port: u16,
+    url: &UaString,
     question: &Question,
     policy: &TokenPolicy,
-    style: LineStyle,
+    style: AnswerStyle,
     moments: &mut M,
     out: &mut O,
 ) -> Result<Verdict, AskFault>
-    ensures runs { RunsQuestion M.gives O.contents limits port policy.now style question.now moments.old moments.new (record { traffic = L.traffic line.old; failures = L.failures line.old }) (record { traffic = L.traffic line.new; failures = L.failures line.new }) out.old out.new result }
+    requires { IsTrue (text.encodable url.now) }
+    ensures runs { RunsQuestion M.gives O.contents limits url.now policy.now style question.now moments.old moments.new (record { traffic = L.traffic line.old; failures = L.failures line.old }) (record { traffic = L.traffic line.new; failures = L.failures line.new }) out.old out.new result }
     ensures answered { OnOk result (HasAdded (AreAnswerLines style) (O.contents out.old) (O.contents out.new)) }
     ensures left { IfErr result (λ fault. LeavesLines O.contents (AreAnswerLines style) fault out.old out.new) }
     ensures failed { LineFailed (L.failures line.old) result (L.failures line.new) }
 {
     let opened_at = next_moment(moments);
-    match open(alloc, line, limits, port, opened_at) {
+    match open(alloc, line, limits, url, opened_at) {
         Ok(mut client) => {
             let asked = ask_by_policy(
                 alloc,
                 line,
                 &mut client,
-                port,
+                url,
                 question,
                 policy,
                 style,

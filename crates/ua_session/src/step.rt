@@ -1,8 +1,9 @@
 //! The steps of a conversation with a server.
 
-ghost use Rattle.std.specs.Prelude.{◌≡◌, IfOk};
+ghost use Rattle.std.specs.Prelude.{◌≡◌, IfOk, IsTrue};
+ghost use Rattle.ua_wire.specs.Counted.{text};
 ghost use Rattle.ua_client.specs.Client.{IsReady};
-ghost use Rattle.ua_session.specs.Steps.{Begins, Calls, ClosesClient, OpensPort, first_of, told};
+ghost use Rattle.ua_session.specs.Steps.{Begins, Calls, ClosesClient, OpensServer, first_of, told};
 
 use crate::fault::{AskFault, NotBegun};
 use std::alloc::Global;
@@ -11,7 +12,6 @@ use ua_channel::{Line, Moments};
 use ua_client::{Client, ClientFault, Reply, SessionFault};
 use ua_frame::Limits;
 use ua_services::Request;
-use ua_services::session_requests::local_url;
 
 /// The next moment.
 pub fn next_moment<M: Moments>(moments: &mut M) -> DateTime
@@ -48,18 +48,19 @@ pub fn first_of<A: Drop>(
     }
 }
 
-/// Opens a client to the server on a port of this machine.
+/// Opens a client to a server, by this URL.
 pub fn open<L: Line>(
     alloc: Global,
     line: &mut L,
     limits: Limits,
-    port: u16,
+    url: &UaString,
     moment: DateTime,
 ) -> Result<Client, AskFault>
-    ensures opens { OpensPort limits port moment (record { traffic = L.traffic line.old; failures = L.failures line.old }) (record { traffic = L.traffic line.new; failures = L.failures line.new }) result }
+    requires { IsTrue (text.encodable url.now) }
+    ensures opens { OpensServer limits url.now moment (record { traffic = L.traffic line.old; failures = L.failures line.old }) (record { traffic = L.traffic line.new; failures = L.failures line.new }) result }
     ensures ready { IfOk result (λ client. IsReady client) }
 {
-    let Ok(url) = local_url(alloc, port) else {
+    let Ok(url) = url.try_clone() else {
         return Err(AskFault::NoMemory);
     };
     told(Client::open(alloc, line, limits, url, moment))

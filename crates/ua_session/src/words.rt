@@ -1,6 +1,7 @@
 //! What is asked by words of a command line.
 
 ghost use Rattle.std.specs.Prelude.{IfOk, IfErr, option_map};
+ghost use Rattle.ua_texts.specs.PlainLines.{exact_typed as exact_typed_of};
 ghost use Rattle.ua_session.specs.Words.{AreNodes, GivesNode, GivesRange, GivesRead, GivesTyped, GivesWrite, NamesNoNodes};
 
 use crate::fault::WordFault;
@@ -8,6 +9,7 @@ use crate::question::Question;
 use std::alloc::Global;
 use ua_builtin::{NodeId, UaString};
 use ua_nodes::{is_range, parse_type, parse_value};
+use ua_texts::exact_typed;
 use ua_variant::Variant;
 
 /// The NodeId that a word names; `BadNode` where it names none.
@@ -100,6 +102,22 @@ impl Question {
         match parse_typed(alloc, kind, text) {
             Ok(value) => Ok(Question::Write(node, value)),
             Err(fault) => Err(fault),
+        }
+    }
+
+    /// The same, where the value may be written as people write it: a decimal or a time in the place of a
+    /// pattern or of ticks.
+    pub fn parse_plain_write(
+        alloc: Global,
+        node: &str,
+        kind: &str,
+        text: &str,
+    ) -> Result<Question, WordFault>
+        ensures { GivesWrite node.now kind.now (exact_typed_of kind.now text.now) result }
+    {
+        match exact_typed(alloc, kind, text) {
+            Ok(exact) => Question::parse_write(alloc, node, kind, &exact),
+            Err(_) => Err(WordFault::NoMemory),
         }
     }
 }

@@ -7,7 +7,7 @@ ghost use Rattle.ua_exchange.specs.Exchanged.{IsRefusedFor, down_octets};
 ghost use Rattle.ua_exchange.specs.Turns.{up_octets};
 ghost use Rattle.ua_session.specs.Conversed.{Converses};
 ghost use Rattle.ua_session.specs.ScriptFaults.{Stops, place_in};
-ghost use Rattle.ua_session.specs.ScriptPrinted.{AreLoopLines, told_fault, is_bad_reply, script_has_bad, script_told, text_of};
+ghost use Rattle.ua_session.specs.ScriptPrinted.{AreLoopLines, IsTextOf, told_fault, is_bad_reply, script_has_bad, script_told};
 ghost use Rattle.ua_session.specs.Script.{script_moment, script_turns as turns_of_script};
 ghost use Rattle.ua_nodes.specs.Sound.{IsSound};
 
@@ -114,27 +114,29 @@ fn are_bad(replies: &[Reply]) -> bool
 /// The session is begun by CreateSession and ActivateSession, and ended by CloseSession behind the
 /// lines. All is said at the moment 1970-01-01 00:00 UTC, on channel 1, and the server's address is
 /// `opc.tcp://localhost:4840`. Each end takes what the other wrote in pieces of at most so many octets
-/// as `cut` says; 0 counts as 1. Where `names` says so, the names of status codes stand behind them.
+/// as `cut` says; 0 counts as 1. Where `names` says so, the names of status codes stand behind them; where
+/// `plain` does, values are as people write them.
 pub fn run_lines(
     alloc: Global,
     nodes: NodeTable,
     lines: &[ScriptLine],
     cut: u16,
     names: bool,
+    plain: bool,
 ) -> Result<Looped, LoopFault>
     requires sound { IsSound nodes }
     ensures accepted { IfOk result (λ l. AreAccepted (turns_of_script lines.now)) }
     ensures refused { IfErr result (λ fault. Stops lines.now fault) }
     ensures up { IfOk result (λ l. l.up.items ≡ up_octets script_moment (turns_of_script lines.now)) }
     ensures down { IfOk result (λ l. l.down.items ≡ down_octets nodes script_moment (turns_of_script lines.now)) }
-    ensures text { IfOk result (λ l. string_bytes l.text ≡ text_of (script_told names nodes lines.now)) }
+    ensures text { IfOk result (λ l. IsTextOf plain names (script_told names nodes lines.now) (string_bytes l.text)) }
     ensures fault { IfOk result (λ l. l.fault ≡ told_fault (script_told names nodes lines.now)) }
-    ensures lines { IfOk result (λ l. AreLoopLines names (string_bytes l.text)) }
+    ensures lines { IfOk result (λ l. AreLoopLines plain names (string_bytes l.text)) }
     ensures bad { IfOk result (λ l. l.has_bad ≡ script_has_bad nodes lines.now) }
 {
     let transcript = converse(alloc, nodes, lines, cut)?;
     let mut text = String::new(alloc);
-    let fault = match push_transcript(alloc, &mut text, lines, &transcript, names) {
+    let fault = match push_transcript(alloc, &mut text, lines, &transcript, names, plain) {
         Ok(()) => None,
         Err(LoopFault::NoMemory) => return Err(LoopFault::NoMemory),
         Err(fault) => Some(fault),

@@ -4,7 +4,7 @@ ghost use Rattle.std.specs.Prelude.{◌≡◌, ◌++◌, ◌∷◌, [], ℕ, Boo
 ghost use Rattle.std.specs.List.{slice_get};
 ghost use Rattle.ua_client.specs.declared.reply.Reply.TheVariants as reply;
 ghost use Rattle.ua_session.specs.ScriptFaults.{of_line_answer};
-ghost use Rattle.ua_session.specs.ScriptPrinted.{AddsAll, AddsTold, asked_behind, asked_for, end_text, replies_told, reply_told, response_told, totals_line};
+ghost use Rattle.ua_session.specs.ScriptPrinted.{AddsAll, AddsTold, asked_behind, asked_for, end_text, replies_told, reply_told, response_told, said, totals_line};
 ghost use Rattle.ua_texts.specs.declared.script.Step.{Step};
 
 use crate::looping::fault::LoopFault;
@@ -15,7 +15,8 @@ use ua_exchange::{Reply, Transcript};
 use ua_server::End;
 use ua_services::Response;
 use ua_texts::{
-    AnswerFault, LineStyle, ScriptLine, Step, push_code_as, push_read_answers, push_write_answers,
+    AnswerFault, AnswerStyle, LineStyle, ScriptLine, Step, push_code_as, push_read_answers_as,
+    push_write_answers,
 };
 
 /// The place of the first reply to a line: the requests that begin the session have theirs in front
@@ -37,7 +38,7 @@ fn response_at(replies: &[Reply], place: usize) -> Result<&Response, LoopFault>
 
 /// That a service of the session is done, by the reply at a place.
 fn expect_done(replies: &[Reply], place: usize) -> Result<(), LoopFault>
-    ensures { (names : Bool) (text : List ℕ) → AddsTold (reply_told names None (slice_get replies.now place)) result text text }
+    ensures { (people names : Bool) (text : List ℕ) → AddsTold people names (reply_told names None (slice_get replies.now place)) result text text }
 {
     match response_at(replies, place)? {
         Response::ServiceFault(fault) => {
@@ -54,16 +55,18 @@ fn push_step(
     step: &Step,
     response: &Response,
     names: bool,
+    plain: bool,
 ) -> Result<(), LoopFault>
-    ensures { AddsTold (reply_told names (Some step.now) (Some (reply.Response response.now))) result (string_bytes out.old) (string_bytes out.new) }
+    ensures { AddsTold plain names (reply_told names (Some step.now) (Some (reply.Response response.now))) result (string_bytes out.old) (string_bytes out.new) }
 {
-    let style = LineStyle::plain(names);
+    let lines = LineStyle::plain(names);
+    let style = AnswerStyle { lines, plain };
     match step {
         Step::Read { node, .. } => {
-            Ok(push_read_answers(alloc, out, slice::from_ref(node), response, style)?)
+            Ok(push_read_answers_as(alloc, out, slice::from_ref(node), response, style)?)
         }
         Step::Write { node, .. } => {
-            Ok(push_write_answers(alloc, out, slice::from_ref(node), response, style)?)
+            Ok(push_write_answers(alloc, out, slice::from_ref(node), response, lines)?)
         }
         // Never: a renewal asks no request.
         Step::Renew => Err(LoopFault::UnknownResponse),
@@ -78,15 +81,17 @@ fn push_answers(
     lines: &[ScriptLine],
     replies: &[Reply],
     names: bool,
+    plain: bool,
 ) -> Result<(), LoopFault>
-    ensures { AddsAll (replies_told names (asked_behind lines.now) (drop 2 (map Some replies.now))) result (string_bytes out.old) (string_bytes out.new) }
+    ensures { AddsAll plain names (replies_told names (asked_behind lines.now) (drop 2 (map Some replies.now))) result (string_bytes out.old) (string_bytes out.new) }
 {
     let mut place = FIRST_REPLY;
     for line in lines {
         if let Step::Renew = line.step {
             continue;
         }
-        push_step(alloc, out, &line.step, response_at(replies, place)?, names)?;
+        let response = response_at(replies, place)?;
+        push_step(alloc, out, &line.step, response, names, plain)?;
         place += 1;
     }
     expect_done(replies, place)
@@ -120,18 +125,20 @@ fn push_totals(out: &mut String, transcript: &Transcript, names: bool) -> Result
 }
 
 /// Adds what is told of the replies to the lines of a script, up to the first fault, and behind them
-/// what went each way, with the names of status codes where they are wanted.
+/// what went each way, with the names of status codes where they are wanted, and with values as people
+/// write them where this is.
 pub fn push_transcript(
     alloc: Global,
     out: &mut String,
     lines: &[ScriptLine],
     transcript: &Transcript,
     names: bool,
+    plain: bool,
 ) -> Result<(), LoopFault>
-    ensures { AddsAll (replies_told names (asked_for lines.now) (map Some transcript.now.replies.items) ++ Ok (totals_line names (length transcript.now.up.items) (length transcript.now.down.items) transcript.now.end) ∷ []) result (string_bytes out.old) (string_bytes out.new) }
+    ensures { AddsAll plain names (replies_told names (asked_for lines.now) (map Some transcript.now.replies.items) ++ Ok (said (totals_line names (length transcript.now.up.items) (length transcript.now.down.items) transcript.now.end)) ∷ []) result (string_bytes out.old) (string_bytes out.new) }
 {
     expect_done(&transcript.replies, 0)?;
     expect_done(&transcript.replies, 1)?;
-    push_answers(alloc, out, lines, &transcript.replies, names)?;
+    push_answers(alloc, out, lines, &transcript.replies, names, plain)?;
     Ok(push_totals(out, transcript, names)?)
 }

@@ -1,0 +1,3 @@
+pub mod Namespaces
+pub mod Standard
+pub mod CurrentTime
