@@ -1,8 +1,9 @@
 """The OPC UA Binary stack for Python, over libua.so by ctypes: nodes, connections of a server, and a client.
 
-It has no input and output: octets that came go in, octets to be sent come out. docs/PYTHON.md has a server and a client
-with sockets. Each call is one of ua.h, which says what it keeps. The library is `libua.so`, or the file that UA_LIBRARY
-of the environment names. Times are in units of 100 nanoseconds since 1601-01-01 00:00 UTC.
+It has no input and output: octets that came go in, octets to be sent come out. docs/PYTHON.md has a server, and
+examples/python/read.py is a client over a socket. Each call is one of ua.h, which says what it keeps. The library is
+`libua.so`, or the file that UA_LIBRARY of the environment names. Times are in units of 100 nanoseconds since 1601-01-01
+00:00 UTC.
 
 >>> nodes = Nodes("ns=1;s=Pump\\trw\\tPump\\tInt32\\t5\\n", "opc.tcp://localhost:4840")
 >>> pump = nodes.find("ns=1;s=Pump")
@@ -14,7 +15,15 @@ Traceback (most recent call last):
 ua.Error: ua_node_find: the response is that of another request, or nothing has this number
 >>> with Connection(1) as connection, Client("opc.tcp://localhost:4840") as client:
 ...     talk(client, connection, nodes, 2)
+...     token = session_token(talk(client, connection, nodes, 2, client.request("create_session", client.url))[1])
+...     event, answer = talk(client, connection, nodes, 2, client.request("activate_session", token))
+...     event, answer = talk(client, connection, nodes, 3, client.request("write", token, "ns=1;s=Pump", "Int32", "6"))
+...     [(index == pump, reading.number, reading.source_time) for index, reading in connection.take_written()]
+...     event, answer = talk(client, connection, nodes, 4, client.request("read", token, "ns=1;s=Pump\\nns=1;s=None", ""))
+...     [(reading.number, reading.status, reading.source_time) for reading in readings(answer)]
 ('OPEN', b'')
+[(True, 6, None)]
+[(6, None, 3), (None, 2150891520, None)]
 """
 from __future__ import annotations
 
@@ -26,7 +35,7 @@ from ctypes import POINTER, byref, c_char_p, c_int64, c_size_t, c_uint8, c_uint1
 from dataclasses import dataclass
 from typing import Any, Callable
 
-OK, NO_MEMORY, REFUSED, ENDED, TOO_SMALL, SERVICE = 0, 1, 6, 7, 18, 21
+OK, NO_MEMORY, REFUSED, ENDED, TOO_SMALL, SERVICE, NO_MORE = 0, 1, 6, 7, 18, 21, 25
 EVENTS = ("NEED_MORE", "SEND", "OPEN", "ANSWERED", "ABORTED", "RENEWED", "FAILED", "FAILED_BY_PEER")
 # The type id of each number that a Variant may hold alone or in an array, and how `struct` reads it.
 NUMBERS = {1: "?", 2: "b", 3: "B", 4: "h", 5: "H", 6: "i", 7: "I", 8: "q", 9: "Q", 10: "f", 11: "d", 13: "q", 19: "I"}
@@ -263,6 +272,7 @@ class Connection(_Held):
     def __init__(self, channel: int, limits: Limits = LIMITS) -> None:
         super().__init__()
         self.ended: str | None = None
+        self._written: list[tuple[int, Reading]] = []
         _call("ua_connection_new", byref(limits), c_uint32(channel), byref(self._handle))
 
     def step(self, nodes: Nodes, piece: bytes, moment: int | None = None) -> bytes:
@@ -276,12 +286,35 @@ class Connection(_Held):
                 ok=(OK, ENDED, REFUSED), taken=taken, waiting=waiting, code=code,
             )
             said += self.fetch() if waiting.value else b""
+            self._gather(nodes)
             piece = piece[taken.value :]
             if status != OK:
                 self.ended = "Closed" if status == ENDED else f"Refused {code.value:08X}"
             if not piece:
                 break
         return said
+
+    def _gather(self, nodes: Nodes) -> None:
+        """Asks what the step stored, which the next one lets go of."""
+        room = ROOM
+        while True:
+            index, reading = c_size_t(), _Reading()
+            buffer, needed = ctypes.create_string_buffer(room), c_size_t()
+            status = _call(
+                "ua_next_written", byref(self._handle), byref(nodes._handle), byref(index), buffer, c_size_t(room), byref(needed),
+                byref(reading), ok=(OK, NO_MORE, TOO_SMALL),
+            )
+            if status == NO_MORE:
+                return
+            if status == OK:
+                self._written.append((index.value, Reading._of_c(buffer.raw, reading)))
+            room = max(room, needed.value)
+
+    def take_written(self) -> list[tuple[int, Reading]]:
+        """What clients wrote since this was last asked, item by item and in order: the index of the node, and its value
+        with the status and times that the client wrote beside it."""
+        written, self._written = self._written, []
+        return written
 
 
 class Client(_Held):
@@ -347,6 +380,16 @@ def response_kind(body: bytes) -> tuple[int, int]:
     response, result = c_uint32(), c_uint32()
     _call("ua_response_kind", *_octets(body), response=response, service_result=result)
     return response.value, result.value
+
+
+def readings(body: bytes) -> list[Reading]:
+    """The results of the Read whose reply this is, in order."""
+    count, code, places = c_size_t(), c_uint32(), (_Reading * (len(body) // 16))()
+    while True:
+        status = _call("ua_readings", *_octets(body), places, c_size_t(len(places)), ok=(OK, TOO_SMALL), count=count, code=code)
+        if status == OK:
+            return [Reading._of_c(body, places[at]) for at in range(count.value)]
+        places = (_Reading * count.value)()
 
 
 def talk(client: Client, connection: Connection, nodes: Nodes, moment: int, body: bytes | None = None) -> tuple[str, bytes]:

@@ -33,7 +33,7 @@ impl Default for Limits {
 }
 
 #[repr(C)]
-#[derive(Default)]
+#[derive(Default, Clone)]
 struct CReading {
     value_at: usize,
     value_len: usize,
@@ -63,6 +63,7 @@ unsafe extern "C" {
     fn ua_node_get(nodes: *mut Handle, index: usize, buffer: *mut u8, buffer_len: usize, needed: *mut usize, reading: *mut CReading) -> u32;
     fn ua_connection_new(limits: *const Limits, channel: u32, out: *mut Handle) -> u32;
     fn ua_connection_step(connection: *mut Handle, nodes: *mut Handle, piece: *const u8, piece_len: usize, moment: i64, taken: *mut usize, waiting: *mut usize, code: *mut u32) -> u32;
+    fn ua_next_written(connection: *mut Handle, nodes: *mut Handle, index: *mut usize, buffer: *mut u8, buffer_len: usize, needed: *mut usize, reading: *mut CReading) -> u32;
     fn ua_client_new(limits: *const Limits, url: *const u8, url_len: usize, out: *mut Handle) -> u32;
     fn ua_client_hello(handle: *mut Handle) -> u32;
     fn ua_client_take(handle: *mut Handle, piece: *const u8, piece_len: usize, moment: i64, taken: *mut usize, event: *mut u32, id: *mut u32, code: *mut u32) -> u32;
@@ -82,6 +83,7 @@ unsafe extern "C" {
     fn ua_response_kind(body: *const u8, body_len: usize, response: *mut u32, service_result: *mut u32) -> u32;
     fn ua_session_token(body: *const u8, body_len: usize, buffer: *mut u8, buffer_len: usize, needed: *mut usize, code: *mut u32) -> u32;
     fn ua_response_text(nodes: *const u8, nodes_len: usize, body: *const u8, body_len: usize, buffer: *mut u8, buffer_len: usize, needed: *mut usize, code: *mut u32) -> u32;
+    fn ua_readings(body: *const u8, body_len: usize, readings: *mut CReading, readings_len: usize, count: *mut usize, code: *mut u32) -> u32;
     fn ua_version() -> u32;
     fn ua_status_text(status: u32, buffer: *mut u8, buffer_len: usize, needed: *mut usize) -> u32;
     fn ua_code_name(code: u32, buffer: *mut u8, buffer_len: usize, needed: *mut usize) -> u32;
@@ -118,6 +120,7 @@ impl Status {
     pub const UNKNOWN: Status = Status(22);
     pub const MISMATCH: Status = Status(23);
     pub const BAD_READING: Status = Status(24);
+    pub const NO_MORE: Status = Status(25);
 }
 
 /// `call` of ua.h answered `status`. The numbers are those that the call tells, each 0 where there is none: the bad
@@ -378,6 +381,21 @@ impl Connection {
         }
     }
 
+    /// The next item of what the Write stored that the last step answered, each once and in order: the index of its
+    /// node, and its value with the status and times that the client wrote beside it. Ask behind each step.
+    #[rustfmt::skip]
+    pub fn next_written(&mut self, nodes: &mut Nodes) -> Result<Option<(Index, Reading)>> {
+        let (mut index, mut reading) = (0, CReading::default());
+        let octets = put("ua_next_written", |to, room, needed, _| unsafe {
+            ua_next_written(&mut self.0.0, &mut nodes.0.0, &mut index, to, room, needed, &mut reading)
+        });
+        match octets {
+            Ok(octets) => Ok(Some((Index(index), Reading::of_c(&octets, &reading)))),
+            Err(fault) if fault.status == Status::NO_MORE => Ok(None),
+            Err(fault) => Err(fault),
+        }
+    }
+
     pub fn waiting(&mut self) -> usize {
         self.0.waiting()
     }
@@ -555,6 +573,19 @@ pub fn response_text(nodes: &str, body: &[u8]) -> Result<String> {
     })
 }
 
+/// The results of the Read whose reply this is, in order.
+pub fn readings(body: &[u8]) -> Result<Vec<Reading>> {
+    let (mut places, mut count, mut code) = (vec![CReading::default(); body.len() / 16], 0, 0);
+    loop {
+        let status = unsafe { ua_readings(body.as_ptr(), body.len(), places.as_mut_ptr(), places.len(), &mut count, &mut code) };
+        match Status(status) {
+            Status::OK => return Ok(places[..count].iter().map(|place| Reading::of_c(body, place)).collect()),
+            Status::TOO_SMALL => places.resize(count, CReading::default()),
+            _ => return Err(Error { code, ..fault("ua_readings", status) }),
+        }
+    }
+}
+
 /// The version of the library: 65536 times the first number, 256 times the second, and the third.
 pub fn version() -> u32 {
     unsafe { ua_version() }
@@ -579,49 +610,67 @@ mod tests {
     const FILE: &str = "ns=1;s=Pump\trw\tPump\tInt32\t5\nns=1;s=Temp\tr\tTemp\tDouble\t0x0000000000000000\n";
     const ABOUT: About<'_> = About { url: URL, application_uri: "urn:ua:server", name: "ua", max_message_size: 0 };
 
-    /// What the client says goes to the connection and back, up to an event.
-    fn talk(client: &mut Client, connection: &mut Connection, nodes: &mut Nodes) -> Result<Event> {
-        let mut event = Event::Send;
-        while event == Event::Send {
-            let up = client.fetch()?;
-            let mut at = 0;
-            while at < up.len() {
-                at += connection.step(nodes, &up[at..], 2)?.taken;
-                let down = connection.fetch()?;
-                let mut to = 0;
-                while to < down.len() {
-                    let (taken, told) = client.take(&down[to..], 2)?;
-                    (to, event) = (to + taken, told);
+    /// A client and a connection over nodes.
+    struct Pair {
+        client: Client,
+        connection: Connection,
+        nodes: Nodes,
+    }
+
+    impl Pair {
+        /// What the client says goes to the connection and back, up to an event.
+        fn talk(&mut self) -> Result<Event> {
+            let mut event = Event::Send;
+            while event == Event::Send {
+                let up = self.client.fetch()?;
+                let mut at = 0;
+                while at < up.len() {
+                    at += self.connection.step(&mut self.nodes, &up[at..], 2)?.taken;
+                    let down = self.connection.fetch()?;
+                    let mut to = 0;
+                    while to < down.len() {
+                        let (taken, told) = self.client.take(&down[to..], 2)?;
+                        (to, event) = (to + taken, told);
+                    }
                 }
             }
+            Ok(event)
         }
-        Ok(event)
+
+        fn ask(&mut self, body: Result<Vec<u8>>) -> Result<Vec<u8>> {
+            let id = self.client.ask(&body?)?;
+            assert_eq!(self.talk()?, Event::Answered(id));
+            self.client.fetch()
+        }
     }
 
     #[test]
     fn a_client_writes_and_the_program_reads() -> Result<()> {
-        let mut nodes = Nodes::new(FILE, &ABOUT)?;
-        let (mut connection, mut client) = (Connection::new(1, &Limits::default())?, Client::new(URL, &Limits::default())?);
-        client.hello()?;
-        assert_eq!(talk(&mut client, &mut connection, &mut nodes)?, Event::Open);
-        let mut ask = |body: Result<Vec<u8>>| {
-            let id = client.ask(&body?)?;
-            assert_eq!(talk(&mut client, &mut connection, &mut nodes)?, Event::Answered(id));
-            client.fetch()
-        };
-        let created = ask(request::create_session(URL, 2, 1))?;
+        let (nodes, client) = (Nodes::new(FILE, &ABOUT)?, Client::new(URL, &Limits::default())?);
+        let mut pair = Pair { client, connection: Connection::new(1, &Limits::default())?, nodes };
+        pair.client.hello()?;
+        assert_eq!(pair.talk()?, Event::Open);
+        let created = pair.ask(request::create_session(URL, 2, 1))?;
         assert_eq!(response_kind(&created)?, (464, 0));
         let token = session_token(&created)?;
-        ask(request::activate_session(&token, 2, 2))?;
-        let written = ask(request::write(&token, "ns=1;s=Pump", "Int32", "6", 2, 3))?;
+        pair.ask(request::activate_session(&token, 2, 2))?;
+        assert_eq!(pair.connection.next_written(&mut pair.nodes)?, None);
+        let written = pair.ask(request::write(&token, "ns=1;s=Pump", "Int32", "6", 2, 3))?;
         assert_eq!(response_text("ns=1;s=Pump", &written)?, "ns=1;s=Pump 00000000\n");
+        let pump = pair.nodes.find("ns=1;s=Pump")?.unwrap();
+        let item = Reading { value: Some(value::int32(6)), ..Reading::default() };
+        assert_eq!(pair.connection.next_written(&mut pair.nodes)?, Some((pump, item)));
+        assert_eq!(pair.connection.next_written(&mut pair.nodes)?, None);
         let fault = session_token(&written).unwrap_err();
         assert_eq!((fault.call, fault.status), ("ua_session_token", Status::UNKNOWN));
-        ask(request::close_session(&token, 2, 4))?;
-        client.close(2)?;
-        assert_eq!(connection.step(&mut nodes, &client.fetch()?, 2)?.status, Status::ENDED);
-        let pump = nodes.find("ns=1;s=Pump")?.unwrap();
-        assert_eq!(value::to_int32(&nodes.get(pump)?.value.unwrap()), Some(6));
+        let read = readings(&pair.ask(request::read(&token, "ns=1;s=Pump\ni=9", "", 2, 4))?)?;
+        assert_eq!((read.len(), &read[0].value, read[0].source_time), (2, &Some(value::int32(6)), Some(2)));
+        assert_eq!((&read[1].value, read[1].status), (&None, Some(0x80340000)));
+        assert_eq!(readings(&written).unwrap_err().status, Status::UNKNOWN);
+        pair.ask(request::close_session(&token, 2, 5))?;
+        pair.client.close(2)?;
+        assert_eq!(pair.connection.step(&mut pair.nodes, &pair.client.fetch()?, 2)?.status, Status::ENDED);
+        assert_eq!(value::to_int32(&pair.nodes.get(pump)?.value.unwrap()), Some(6));
         Ok(())
     }
 

@@ -30,6 +30,7 @@ PARAMETERS: dict[str, list[str]] = {
     '&UaLimits': ['const struct ua_limits *'],
     '&UaReading': ['const struct ua_reading *'],
     '&mut UaReading': ['struct ua_reading *'],
+    '&mut [UaReading]': ['struct ua_reading *', 'size_t'],
     '&[u8]': ['const uint8_t *', 'size_t'],
     '&mut [u8]': ['uint8_t *', 'size_t'],
     '&mut usize': ['size_t *'],
@@ -124,6 +125,11 @@ static inline uint8_t *ua_room(uint8_t *buffer) {
     return buffer ? buffer : none;
 }
 
+static inline struct ua_reading *ua_places(struct ua_reading *readings) {
+    static struct ua_reading none[1];
+    return readings ? readings : none;
+}
+
 static inline void ua_free_some(struct ua_handle *handle) {
     if (handle)
         ua_free(handle);
@@ -135,12 +141,13 @@ static inline void ua_free_some(struct ua_handle *handle) {
 def null_header(found: Calls) -> str:
     """What include/ua_null.h has to be: each call with octets or a buffer, with another pointer in the place of a null one."""
     out = NULL
-    other = {'const uint8_t *': 'ua_some(%s)', 'uint8_t *': 'ua_room(%s)'}
+    other = {'const uint8_t *': 'ua_some(%s)', 'uint8_t *': 'ua_room(%s)', 'struct ua_reading *': 'ua_places(%s)'}
     for name, (result, parameters) in found.items():
-        if any(kind in other for kind, _ in parameters):
+        counted = {given.removesuffix('_len') for _, given in parameters if given.endswith('_len')}
+        if counted:
             head = 'static inline %s %s_some(' % (result, name)
             declared = [kind + ' ' * (kind[-1] != '*') + given for kind, given in parameters]
-            handed = [other.get(kind, '%s') % given for kind, given in parameters]
+            handed = [(other[kind] if given in counted else '%s') % given for kind, given in parameters]
             out += '\n' + wrapped(head, declared, ') {', '') + wrapped('return %s(' % name, handed, ');', '    ')
             out += '}\n#define %s %s_some\n' % (name, name)
     return out

@@ -9,6 +9,7 @@ what has changed since. With --unproved it is compiled without a proof, in minut
   lib/libua.a                                 the static library; the kit's archive for memory is a part of it
   lib/libua.so.0, lib/libua.so                the shared one, with that soname, and its name for linkers
   include/ua.h, ua_null.h, ua_values.h, ua.hpp, lib/pkgconfig/ua.pc for compilers; the tree may be moved
+  share/ua/python/ua.py, share/ua/rust/ua.rs  the modules for Python and Rust
   share/man/man1/, share/bash-completion/     the pages of man/ and completion/
   share/ua/RECORD                             what was built, how, of which source, by which kit, and each file's SHA256
 
@@ -140,6 +141,8 @@ class Tree:
         self.put_libraries(code)
         for header in ("ua.h", "ua_null.h", "ua_values.h", "ua.hpp"):
             self.put(f"include/{header}", os.path.join(TOP, "crates/ua_c/include", header))
+        for module in ("python/ua.py", "rust/ua.rs"):
+            self.put(f"share/ua/{module}", os.path.join(TOP, module))
         self.write("lib/pkgconfig/ua.pc", PC.format(version=self.version))
         self.put_pages()
         self.record(how)

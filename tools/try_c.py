@@ -32,6 +32,7 @@ NODES = 'ns=1;s=Pump\trw\tPump\tInt32\t5\nns=1;s=Row\trw\tRow\tInt32[]\t10,20,30
 LIVE = NODES + 'ns=1;s=Sensor\tr\tSensor\tDouble\t0x0000000000000000\nns=1;s=Setpoint\trw\tSetpoint\tDouble\t0x0000000000000000\n'
 ASKED = ['ns=1;s=Pump', 'ns=1;s=Row', 'i=9']
 LINES = 'ns=1;s=Pump 00000000 Int32 5\nns=1;s=Row 00000000 Int32[] 10,20,30\ni=9 80340000\n'
+HISTORY = 'ns=1;s=Pump - 00000000 5\nns=1;s=Row - 00000000 [10, 20, 30]\ni=9 - 80340000 -\n'
 ENDPOINT = 'opc.tcp://localhost:%s 1 http://opcfoundation.org/UA/SecurityPolicy#None\n'
 # What stands around the snippets of docs/C.md: what they are given, and what they use without showing it.
 AROUND = '''#include "ua.h"
@@ -41,6 +42,7 @@ extern struct ua_limits limits;
 extern int64_t moment;
 extern int connection;
 void send_all(int to, const uint8_t *octets, size_t size);
+void follow(size_t index, const uint8_t *octets, const struct ua_reading *item);
 void snippet(void);
 void snippet(void) {
 %s}
@@ -53,6 +55,7 @@ extern std::string_view file, url;
 extern ua::Octets piece;
 extern int line;
 void send_all(int to, ua::Octets octets);
+void follow(const ua::Connection::Written &item);
 void snippet() {
 %s}
 '''
@@ -210,7 +213,7 @@ class Examples:
     def build(self) -> Clients:
         """Builds each example whose compiler is at hand; those words ask a server at a port, by name."""
         clients: Clients = {}
-        for name in ('examples/python/read.py', 'python/ua.py'):
+        for name in ('examples/python/read.py', 'examples/python/historian.py', 'python/ua.py'):
             with open(os.path.join(TOP, name), encoding='utf-8') as file:
                 compile(file.read(), name, 'exec')
         if self.is_there('cc', 'gateway.c and read.py'):
@@ -226,6 +229,8 @@ class Examples:
             shared = self.build_shared()
             self.python(shared)
             clients['read.py'] = lambda port: ([sys.executable, os.path.join(EXAMPLES, 'python/read.py'), shared, port, *ASKED], LINES)
+            history = [sys.executable, os.path.join(EXAMPLES, 'python/historian.py'), shared]
+            clients['historian.py'] = lambda port: ([*history, port, '2', '0', *ASKED], HISTORY)
         if self.is_there('rustc', 'endpoints.rs'):
             asked = self.build_rust()
             clients['endpoints.rs'] = lambda port: ([asked, port], ENDPOINT % port)
@@ -285,12 +290,18 @@ class Examples:
         """What a gateway's sensor measures is read, and what a client writes to its setpoint is told."""
         if 'read.py' not in clients:
             return
-        serving = Serving(lambda port: [self.gateways[gateway], self.live, port, '3' if program else '2'], 3 if program else 2)
+        connections = 4 if program else 3
+        serving = Serving(lambda port: [self.gateways[gateway], self.live, port, str(connections)], connections)
         words = clients['read.py'](serving.port)[0][:4] + ['ns=1;s=Sensor']
         first = run(words)
         time.sleep(0.5)
         if run(words) == first or not first.startswith('ns=1;s=Sensor 00000000 Double 0x'):
             end('the sensor stands still at %r' % first)
+        history = [*clients['historian.py'](serving.port)[0][:4], '3', '0.3', 'ns=1;s=Sensor', 'ns=1;s=Setpoint']
+        lines = [line.split() for line in run(history).splitlines()]
+        times = [int(line[1]) for line in lines if line[0] == 'ns=1;s=Sensor']
+        if len(times) != 3 or times != sorted(set(times)) or len(lines) != 4 or lines[1] != ['ns=1;s=Setpoint', '-', '00000000', '0.0']:
+            end('historian.py printed %r' % lines)
         if program:
             run([program, 'write', serving.port, 'ns=1;s=Setpoint', 'Double', '0x4035400000000000'])
         told = serving.end()

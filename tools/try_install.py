@@ -2,8 +2,8 @@
 """Installs into a new folder, and tries what is there: try_install [the words of tools/install.py but PREFIX].
 
 The record's sums and what `ua version` says are compared, and the symbols of both libraries with the header's; a program in
-C is compiled by what pkg-config says, against the shared and the static library, and run; pages are read by `man`,
-and bash completes a word, each where it is at hand. One line is printed for each thing that was tried; the status is 1 at the
+C is compiled by what pkg-config says, against the shared and the static library, and run, and one in C++, Python and
+Rust by the header and modules that are there; pages are read by `man`, and bash completes a word, each where it is at hand. One line is printed for each thing that was tried; the status is 1 at the
 first that is not as wanted. With --at FOLDER nothing is installed, and what stands in that folder is tried.
 """
 from __future__ import annotations
@@ -57,6 +57,30 @@ int main()
     client.hello();
     auto hello = client.fetch(room);
     std::printf(" %.4s %zu\n", ua::text_of(hello).data(), hello.size());
+}
+"""
+
+
+PYTHON = r"""
+import ua
+
+client = ua.Client("opc.tcp://localhost:4840")
+hello = client.hello()
+print(ua.encode("Int32", "5").hex(), hello[:4].decode(), len(hello))
+"""
+RUST = r"""
+#[path = "SHARE/rust/ua.rs"]
+mod ua;
+
+fn main() -> ua::Result<()> {
+    for octet in ua::encode_value("Int32", "5")? {
+        print!("{octet:02x}");
+    }
+    let mut client = ua::Client::new("opc.tcp://localhost:4840", &ua::Limits::default())?;
+    client.hello()?;
+    let hello = client.fetch()?;
+    println!(" {} {}", String::from_utf8_lossy(&hello[..4]), hello.len());
+    Ok(())
 }
 """
 
@@ -137,6 +161,18 @@ def try_compiling(root: str, work: str) -> None:
     same("its version by pkg-config", run("pkg-config", "--modversion", "ua", **where), run(f"{root}/bin/ua", "version").split()[1] + "\n")
 
 
+def try_modules(root: str, work: str) -> None:
+    """A program over each module, with the libraries that are there."""
+    share = f"{root}/share/ua"
+    found = {"PYTHONPATH": f"{share}/python", "UA_LIBRARY": f"{root}/lib/libua.so", "PYTHONDONTWRITEBYTECODE": "1"}
+    same("a program in Python", run(sys.executable, "-c", PYTHON, **found), PRINTED)
+    if is_there("rustc", "a program in Rust"):
+        with open(f"{work}/try.rs", "w", encoding="utf-8") as file:
+            file.write(RUST.replace("SHARE", share))
+        run("rustc", "--edition", "2024", "-O", f"{work}/try.rs", "-C", f"link-arg={root}/lib/libua.a", "-o", f"{work}/rust")
+        same("a program in Rust", run(f"{work}/rust"), PRINTED)
+
+
 def try_pages(root: str) -> None:
     pages = sorted(os.listdir(f"{root}/share/man/man1")) if os.path.isdir(f"{root}/share/man/man1") else []
     if pages and is_there("man", "the pages"):
@@ -161,6 +197,7 @@ def main(words: list[str]) -> int:
             try_symbols(root, header)
         if is_there("cc", "a program in C") and is_there("pkg-config", "a program in C"):
             try_compiling(root, work)
+        try_modules(root, work)
         try_pages(root)
         say(f"all of it, built {how}")
     return 0

@@ -259,15 +259,38 @@ static void say_set(const char *what, size_t index, const uint8_t *octets, size_
     printf("node_set %s %u\n", what, (unsigned)ua_node_set(&shared, index, octets, count, reading));
 }
 
+static void say_reading(const struct ua_reading *is, const uint8_t *octets) {
+    printf("at %zu size %zu status %u %08X time %u %lld picoseconds %u %u server %u %u ", is->value_at, is->value_len,
+           is->has_status, (unsigned)is->status, is->has_source_time, (long long)is->source_time, is->has_source_picoseconds,
+           is->source_picoseconds, is->has_server_time, is->has_server_picoseconds);
+    say_digits("value", octets, octets ? is->value_len : 0);
+}
+
 static void say_get(size_t index, size_t room) {
     struct ua_reading is;
     uint8_t octets[64];
     size_t needed;
     uint32_t status = ua_node_get(&shared, index, octets, room, &needed, &is);
-    printf("node_get %zu %u needs %zu at %zu size %zu status %u %08X time %u %lld picoseconds %u %u server %u %u ", index,
-           (unsigned)status, needed, is.value_at, is.value_len, is.has_status, (unsigned)is.status, is.has_source_time,
-           (long long)is.source_time, is.has_source_picoseconds, is.source_picoseconds, is.has_server_time, is.has_server_picoseconds);
-    say_digits("value", octets, status == UA_OK ? needed : 0);
+    printf("node_get %zu %u needs %zu ", index, (unsigned)status, needed);
+    say_reading(&is, status == UA_OK ? octets : NULL);
+}
+
+static void say_written(struct ua_nodes *over, size_t room) {
+    struct ua_reading is;
+    uint8_t octets[64];
+    size_t index, needed;
+    uint32_t status = ua_next_written(&lines[0], over, &index, octets, room, &needed, &is);
+    printf("next_written %u index %zu needs %zu ", (unsigned)status, index, needed);
+    say_reading(&is, status == UA_OK ? octets : NULL);
+}
+
+static void say_readings(const uint8_t *body, size_t body_count, size_t room) {
+    struct ua_reading are[2];
+    size_t count;
+    uint32_t status = ua_readings(body, body_count, are, room, &count, &code);
+    printf("readings %u count %zu code %08X\n", (unsigned)status, count, (unsigned)code);
+    for (size_t at = 0; status == UA_OK && at < count; at++)
+        say_reading(&are[at], body + are[at].value_at);
 }
 
 /* What the program sets both clients read, and what one of them writes the program and the other one. */
@@ -305,8 +328,19 @@ static void share(void) {
     say_set("no time", 1, value, sizeof value, &is);
     for (int k = 0; k < 2; k++)
         read_over(k);
+    say_written(&shared, sizeof value);
     ask_over(0, ua_write_request(tokens[0], token_counts[0], moment, 4, TEXT("ns=1;s=Pump"), TEXT("Int32"), TEXT("7"), REQUEST), "write");
+    say_readings(reply, reply_count, 2);
     read_over(1);
+    say_readings(reply, reply_count, 1);
+    say_readings(reply, reply_count, 2);
+    say_readings(reply, reply_count - 1, 2);
+    say_readings((const uint8_t *)"\x01\0\x8D\x01" "\0\0\0\0\0\0\0\0" "\x05\0\0\0" "\0\0\x02\x80" "\0"
+                 "\xFF\xFF\xFF\xFF" "\0\0\0", 28, 2); /* a ServiceFault */
+    say_written(&shared, 4);
+    say_written((struct ua_nodes *)&lines[1], sizeof value);
+    say_written(&shared, sizeof value);
+    say_written(&shared, sizeof value);
     say_get(0, sizeof value);
     say_get(1, sizeof value);
     say_get(2, sizeof value);

@@ -10,7 +10,7 @@
  *
  * Where there is a node `ns=1;s=Sensor` of the type Double, it is set every 100 milliseconds, to the seconds since
  * the start. Where there is a node `ns=1;s=Setpoint` of that type, `setpoint VALUE` is printed for each value that
- * it has come to hold. docs/C.md says how it is built. */
+ * a client writes to it. docs/C.md says how it is built. */
 #include <arpa/inet.h>
 #include <errno.h>
 #include <fcntl.h>
@@ -44,7 +44,6 @@ struct connection {
 static const struct ua_limits limits = {65535, 65535, 1048576, 256};
 static struct ua_nodes nodes; /* one table for all connections, the sensor and the setpoint */
 static size_t sensor = NO_INDEX, setpoint = NO_INDEX;
-static int64_t setpoint_time;
 static struct connection connections[MOST];
 static struct pollfd polled[MOST + 1];
 
@@ -96,21 +95,17 @@ static void measure(int64_t start) {
         sensor = NO_INDEX;
 }
 
-/* Prints the value that clients wrote to the setpoint, where it is another one than before. */
-static void follow(void) {
-    static double last;
-    uint8_t octets[UA_NUMBER_ROOM];
+/* Prints what the client wrote to the setpoint, of the items of the Write that the last step answered. */
+static void follow(struct ua_connection *connection) {
+    static uint8_t octets[1048576]; /* no message is larger, and so no value */
     struct ua_reading reading;
-    size_t size;
+    size_t index, size;
     double value;
-    if (setpoint == NO_INDEX || ua_node_get(&nodes, setpoint, octets, sizeof octets, &size, &reading) != UA_OK)
-        return;
-    if (ua_get_double(octets, size, &value) && (value != last || reading.source_time != setpoint_time)) {
-        printf("setpoint %g\n", value);
-        fflush(stdout);
-        last = value;
-        setpoint_time = reading.source_time;
-    }
+    while (ua_next_written(connection, &nodes, &index, octets, sizeof octets, &size, &reading) == UA_OK)
+        if (index == setpoint && ua_get_double(octets, size, &value)) {
+            printf("setpoint %g\n", value);
+            fflush(stdout);
+        }
 }
 
 static int is_later(ssize_t count) {
@@ -150,6 +145,7 @@ static void take(struct connection *of) {
     default: of->end = "OutOfMemory"; break;
     }
     of->in_at += taken;
+    follow(&of->connection);
 }
 
 /* Goes on with a connection as far as its line allows without waiting, and says how it ended; NULL where it goes on. */
@@ -257,7 +253,6 @@ int main(int count, char **words) {
                 ended++;
             }
         }
-        follow();
     }
     ua_nodes_free(&nodes);
     return 0;

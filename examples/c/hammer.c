@@ -8,7 +8,7 @@
  * and what passes between them is changed now and then. A machine that ended is made anew. Each server is now one of a
  * connection at a time, now a connection over nodes that both share and that are set and got between the pieces. Each server
  * has a twin, and the nodes have one: the same happens to it, but its pieces are cut elsewhere, and it has to answer the same
- * octets and to end in the same way, and its nodes have to hold the same. Besides what
+ * octets, to tell the same of what clients wrote and to end in the same way, and its nodes have to hold the same. Besides what
  * a sanitizer or valgrind sees, it checks what ua.h says: what is taken lies within the piece, nothing
  * is taken or waits at other statuses, no more is held than the bound, a buffer is written just where it
  * is said to be, and UA_NO_MEMORY is answered only where memory was refused. That is never, unless it is
@@ -47,6 +47,8 @@ static unsigned long long refused, refused_in_all;
 /* A sum of the octets that each server answered, and one of those of its twin; how many pieces both were given. */
 static unsigned long long answers[HANDLES], answers_of_twin[HANDLES], compared;
 static unsigned long long cuts; /* the state of the twins' random numbers: those of a seed are the same without twins */
+static unsigned long long rooms; /* that of the random numbers of places for readings */
+static unsigned long long items, results; /* how many items of Writes were told, and how many results of Reads */
 
 static uint32_t next_of(unsigned long long *from, uint32_t below) {
     *from = *from * 6364136223846793005ull + 1442695040888963407ull;
@@ -169,9 +171,13 @@ static void pass_on(int kind) {
         line_size[other] += fetch_all(kind, line[other] + line_size[other], sizeof line[0] - line_size[other]);
 }
 
-static size_t make_room(void) {
+static size_t make_room_of(size_t size) {
     memset(text, 0xA5, sizeof text);
-    return room = next(8) ? sizeof text : next(64);
+    return room = size;
+}
+
+static size_t make_room(void) {
+    return make_room_of(next(8) ? sizeof text : next(64));
 }
 
 /* The status of a call that puts `needed` octets into the first `room` of `text`. */
@@ -223,12 +229,32 @@ static uint32_t ask(void) {
     return status;
 }
 
+/* The results of a Read lie within its reply, and each value can be read. */
+static void read_results(const uint8_t *octets, size_t size, uint32_t response) {
+    static struct ua_reading readings[MOST_OCTETS];
+    size_t most = next_of(&rooms, 8) ? MOST_OCTETS : next_of(&rooms, 4), count = 7;
+    uint32_t code = 7, status = said(ua_readings(octets, size, readings, most, &count, &code));
+    if (status == UA_OK ? count > most : status == UA_TOO_SMALL ? count <= most : count != 0)
+        fail("readings");
+    if (response && status != UA_NO_MEMORY && (status == UA_OK || status == UA_TOO_SMALL) != (response == UA_READ_RESPONSE))
+        fail("readings of another response");
+    for (size_t at = 0; status == UA_OK && at < count; at++) {
+        const struct ua_reading *is = &readings[at];
+        if (is->value_at > size || is->value_len > size - is->value_at || (is->has_value && is->value_len == 0))
+            fail("the place of a value");
+        if (is->has_value && checked(ua_decode_value(octets + is->value_at, is->value_len, text, make_room_of(sizeof text), &needed)) == UA_BAD_OCTETS)
+            fail("the octets of a value");
+        results++;
+    }
+}
+
 /* What the calls without a handle make of octets. */
 static void read_octets(const uint8_t *octets, size_t size) {
     const char *read = asked_nodes[next(3)];
     uint32_t code = 7, response = 7, service_result = 7;
     if (said(ua_response_kind(octets, size, &response, &service_result)) == UA_OK ? response == 0 : response || service_result)
         fail("a response");
+    read_results(octets, size, response);
     uint32_t status = checked(ua_session_token(octets, size, text, make_room(), &needed, &code));
     if (status == UA_OK && needed < sizeof token) {
         memcpy(token, text, needed);
@@ -283,6 +309,38 @@ static uint32_t step(int kind, int is_twin, const uint8_t *octets, size_t size, 
     return ua_server_step(&server->handle, octets, size, 7, taken, waiting, code);
 }
 
+/* A server, or its twin, tells what the Write that it just answered stored; the node of the last item holds its value. */
+static void hear_written(int kind, int is_twin) {
+    static uint8_t value[MOST_OCTETS], held[MOST_OCTETS];
+    struct ua_connection *server = is_twin ? &twins[kind] : &machines[kind];
+    struct ua_nodes *over = is_twin ? &shared_by_twins : &shared;
+    struct ua_reading is;
+    size_t index, size, last = 0, last_size = 0, of_node;
+    uint32_t status = UA_NO_MEMORY;
+    if (!shares[kind])
+        return;
+    while (status != UA_NO_MORE) {
+        size_t place = status == UA_TOO_SMALL ? sizeof value : 0;
+        status = said(ua_next_written(server, over, &index, value, place, &size, &is));
+        if (status == UA_NO_MEMORY || (status == UA_TOO_SMALL && place == 0 && size > 0))
+            continue;
+        if (status == UA_NO_MORE ? index || size : status != UA_OK || index > 1 || !is.has_value || is.value_at != 0 || is.value_len != size)
+            fail("written");
+        if (status == UA_OK) {
+            add_answer(is_twin ? &answers_of_twin[kind] : &answers[kind], value, size);
+            last = index;
+            last_size = size;
+            items += !is_twin;
+        }
+    }
+    if (last_size == 0)
+        return;
+    while (said(status = ua_node_get(over, last, held, sizeof held, &of_node, &is)) == UA_NO_MEMORY)
+        continue;
+    if (status != UA_OK || of_node != last_size || memcmp(held, value, last_size))
+        fail("written and held");
+}
+
 /* The twin of a server takes what the server was given, cut elsewhere, and answers and ends as the server did. */
 static void step_twin(int kind, size_t size, uint32_t ended, uint32_t ended_for) {
     static uint8_t buffer[4096];
@@ -294,6 +352,7 @@ static void step_twin(int kind, size_t size, uint32_t ended, uint32_t ended_for)
         status = step(kind, 1, piece + at, (end < size ? end : size) - at, &taken, &waiting, &code);
         if (status == UA_OK && taken == 0)
             fail("taken by a twin");
+        hear_written(kind, 1);
         for (; waiting > 0; waiting -= fetched) {
             if (ua_fetch(&twins[kind].handle, buffer, sizeof buffer, &fetched) != UA_OK || fetched == 0)
                 fail("fetch of a twin");
@@ -367,6 +426,8 @@ static int take(int kind, size_t size, uint32_t *status_of_last, uint32_t *code_
             fail("taken at a status");
         if (ua_held(handle) > ua_bound(handle))
             fail("bound");
+        if (!(kind & 1))
+            hear_written(kind, 0);
         taken_in_all += taken;
         if (status == UA_OK && ua_waiting(handle) > 0 && next(4) == 0) {
             uint32_t second = kind & 1 ? ua_client_take(handle, piece, 1, 7, &none, &other, &id, &code)
@@ -469,6 +530,7 @@ int main(int count, char **words) {
     printf("pieces %llu octets taken %llu octets fetched %llu times that memory was refused %llu\n", done,
            taken_in_all, fetched_in_all, refused_in_all);
     printf("pieces of servers that were given in other cuts too %llu\n", compared);
+    printf("items of Writes that were told %llu results of Reads %llu\n", items, results);
     for (int kind = 0; kind < HANDLES; kind++) {
         print_counts(names[kind], seen[kind], 32);
         ua_connection_free(&machines[kind]);

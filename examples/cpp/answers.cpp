@@ -127,7 +127,15 @@ void conversation() {
     say("activated", ua::response_kind(ask(ua::activate_session_request(token, 2, ++request, body))).succeeded() ? "yes" : "no");
     say("another policy", ua::response_kind(ask(ua::activate_session_request_as(token, "x", 2, ++request, body))).succeeded() ? "yes" : "no");
     say("written", ua::response_text("ns=1;s=Pump", ask(ua::write_request(token, "ns=1;s=Pump", "Int32", "6", 2, ++request, body)), text));
-    say("read", ua::response_text("ns=1;s=Pump", ask(ua::read_request(token, "ns=1;s=Pump", "", 2, ++request, body)), text));
+    auto item = connection.next_written(plant, body);
+    say("item", std::to_string(std::size_t(item->node)) + " " + std::to_string(*item->reading.number<ua::Int32>()));
+    say("no more", connection.next_written(plant, body) ? "one" : "none");
+    auto read = ask(ua::read_request(token, "ns=1;s=Pump", "", 2, ++request, body));
+    say("read", ua::response_text("ns=1;s=Pump", read, text));
+    std::vector<ua_reading> places;
+    auto results = ua::readings(read, places);
+    say("results", std::to_string(results.size()) + " " + std::to_string(*results[0].number<ua::Int32>()) + " " + std::to_string(*results[0].source_time));
+    say_error("no results", [&] { ua::readings({}, places); });
     client.renew(2);
     say("renewed", talk(client, connection, plant).event == ua::Event::renewed ? "yes" : "no");
     say_error("no body", [&] { client.ask({}); });

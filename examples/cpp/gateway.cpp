@@ -62,19 +62,11 @@ public:
             nodes.set<ua::Double>(*sensor, static_cast<double>(now - start_) / 1e7, now);
     }
 
-    /* Prints the value that clients wrote to the setpoint, where it is another one than before. */
-    void follow() {
-        std::uint8_t octets[UA_NUMBER_ROOM];
-        if (!setpoint_)
-            return;
-        auto reading = nodes.get(*setpoint_, octets);
-        auto value = reading.number<ua::Double>();
-        auto time = reading.source_time.value_or(0);
-        if (value && (*value != last_ || time != time_)) {
-            std::cout << "setpoint " << *value << std::endl;
-            last_ = *value;
-            time_ = time;
-        }
+    /* Prints what the client wrote to the setpoint, of the items of the Write that the last step answered. */
+    void follow(ua::Connection &connection) {
+        while (auto item = connection.next_written(nodes, room_))
+            if (auto value = item->reading.number<ua::Double>(); value && item->node == setpoint_)
+                std::cout << "setpoint " << *value << std::endl;
     }
 
     ua::Nodes nodes; /* one table for all connections */
@@ -83,8 +75,7 @@ public:
 private:
     std::optional<ua::Index> setpoint_;
     std::int64_t start_ = ua::now();
-    double last_ = 0;
-    std::int64_t time_ = 0;
+    std::vector<std::uint8_t> room_;
 };
 
 /* A connection: what came and was not taken yet, and what was fetched and not sent yet. */
@@ -98,7 +89,7 @@ public:
     bool is_idle(std::chrono::seconds idle) const { return Clock::now() - moved_ > idle; }
 
     /* Goes on as far as the line allows without waiting: how the connection ended, empty where it goes on. */
-    std::string serve(ua::Nodes &nodes) {
+    std::string serve(Plant &plant) {
         for (bool was_read = false;;) {
             while (!out_.empty() || connection_.waiting() > 0) {
                 out_ = out_.empty() ? connection_.fetch(out_room_) : out_;
@@ -111,7 +102,7 @@ public:
             if (!end_.empty())
                 return end_;
             if (!in_.empty()) {
-                take(nodes);
+                take(plant);
                 continue;
             }
             if (was_read) /* the other connections come first */
@@ -129,10 +120,11 @@ public:
 
 private:
     /* Takes octets that came, up to the first that are answered. */
-    void take(ua::Nodes &nodes) {
+    void take(Plant &plant) {
         try {
-            auto step = connection_.step(nodes, in_, ua::now());
+            auto step = connection_.step(plant.nodes, in_, ua::now());
             in_ = in_.from(step.taken);
+            plant.follow(connection_);
             if (step.status == ua::Status::ended)
                 end_ = "Closed";
             char text[24];
@@ -179,7 +171,7 @@ void run(Plant &plant, int port, unsigned connections, std::chrono::seconds idle
         plant.measure();
         auto at = polled.begin();
         for (auto of = served.begin(); of != served.end();) {
-            auto end = at++->revents ? of->serve(plant.nodes) : "";
+            auto end = at++->revents ? of->serve(plant) : "";
             if (end.empty() && of->is_idle(idle))
                 end = "Idle";
             if (!end.empty()) {
@@ -191,7 +183,6 @@ void run(Plant &plant, int port, unsigned connections, std::chrono::seconds idle
         if (at->revents)
             if (auto line = moved(accept(listener.fd(), nullptr, nullptr)))
                 served.emplace_back(static_cast<int>(*line), ++taken);
-        plant.follow();
     }
 }
 

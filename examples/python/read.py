@@ -17,6 +17,7 @@ import ua  # noqa: E402
 
 # A status code is bad from here on.
 BAD = 0x80000000
+NAME = os.path.basename(sys.argv[0])
 
 
 class Line:
@@ -35,14 +36,14 @@ class Line:
             if event == 'SEND':
                 self.socket.sendall(octets)
             elif event != 'NEED_MORE':
-                sys.exit('read.py: %s' % event)
+                sys.exit('%s: %s' % (NAME, event))
             self.came = self.came or self.socket.recv(65536)
             if not self.came:
-                sys.exit('read.py: the server ended')
+                sys.exit('%s: the server ended' % NAME)
             taken, event, _, code, octets = self.client.take(self.came)
             self.came = self.came[taken:]
             if code:
-                sys.exit('read.py: %s %08X' % (event, code))
+                sys.exit('%s: %s %08X' % (NAME, event, code))
         return octets
 
     def ask(self, name: str, *texts: str) -> bytes:
@@ -50,7 +51,7 @@ class Line:
         body = self.wait_for('ANSWERED', self.client.ask(self.client.request(name, *texts)))
         result = ua.response_kind(body)[1]
         if result >= BAD:
-            sys.exit('read.py: %s: %08X' % (name, result))
+            sys.exit('%s: %s: %08X' % (NAME, name, result))
         return body
 
     def close(self) -> None:
@@ -69,4 +70,5 @@ def main() -> None:
     line.close()
 
 
-main()
+if __name__ == '__main__':
+    main()

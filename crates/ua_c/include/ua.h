@@ -84,7 +84,8 @@ enum {
     UA_UNKNOWN = 22,         /* the response is that of another request, or has not as many answers;
                                 nothing has this number; there is no such node */
     UA_MISMATCH = 23,        /* the node takes no value of this type */
-    UA_BAD_READING = 24      /* the reading has no value within the octets, or no source time */
+    UA_BAD_READING = 24,     /* the reading has no value within the octets, or no source time */
+    UA_NO_MORE = 25          /* nothing more is there */
 };
 
 /* Why a line of a node file is none: the first of these that holds. */
@@ -263,6 +264,20 @@ uint32_t ua_connection_new(const struct ua_limits *limits, uint32_t channel,
 uint32_t ua_connection_step(struct ua_connection *connection, struct ua_nodes *nodes,
                             const uint8_t *piece, size_t piece_len, int64_t moment, size_t *taken,
                             size_t *waiting, uint32_t *code);
+
+/* The next item of what the Write stored that the last step of the connection answered: the index of its node,
+ * the encoding of its value at the front of the buffer, and the status and times that the client wrote beside it;
+ * what the node holds tells ua_node_get. Each item is told once, in the order of the Write, and none of its items
+ * that were refused. Ask behind each step until there is no more: the next step that takes octets lets go of
+ * what was not asked for. It keeps a Write's octets until then, beside those that ua_held says. Where the step
+ * answered UA_NO_MEMORY, what it stored is not told.
+ * UA_NO_MORE: there is no further item. The item and its numbers are told with UA_TOO_SMALL, too, and it stays
+ * the next one then, as at every other status. UA_UNKNOWN: these nodes have not its node: others than the
+ * connection is stepped with. UA_BAD_OCTETS: its value cannot be encoded.
+ * Also UA_NO_MEMORY, UA_NO_HANDLE, UA_OTHER_HANDLE. */
+uint32_t ua_next_written(struct ua_connection *connection, struct ua_nodes *nodes, size_t *index,
+                         uint8_t *buffer, size_t buffer_len, size_t *needed,
+                         struct ua_reading *reading);
 
 /* The calls of any handle, for these two. */
 static inline void ua_nodes_free(struct ua_nodes *nodes) {
@@ -449,6 +464,15 @@ uint32_t ua_session_token(const uint8_t *body, size_t body_len, uint8_t *buffer,
 uint32_t ua_response_text(const uint8_t *nodes, size_t nodes_len, const uint8_t *body,
                           size_t body_len, uint8_t *buffer, size_t buffer_len, size_t *needed,
                           uint32_t *code);
+
+/* The results of the Read whose reply this body is: `count` is how many they are, and each reading at the front of
+ * `readings` is one of them, in order, with its status and times; its value is encoded where the reading says,
+ * in the body. Nothing of the body is copied. UA_TOO_SMALL: there is no room for `count` readings, and none is
+ * written; so a call with no room asks how many there are. UA_SERVICE: it is a ServiceFault with `code`.
+ * UA_UNKNOWN: it is the response to another request. UA_BAD_OCTETS, UA_NO_MEMORY. Both numbers are 0 at every
+ * status that tells none. */
+uint32_t ua_readings(const uint8_t *body, size_t body_len, struct ua_reading *readings,
+                     size_t readings_len, size_t *count, uint32_t *code);
 
 /* ---- the library, and words for numbers: UA_TOO_SMALL, as above; UA_UNKNOWN: nothing has this number */
 

@@ -53,7 +53,8 @@ enum class Status : std::uint32_t {
     service = UA_SERVICE,
     unknown = UA_UNKNOWN,
     mismatch = UA_MISMATCH,
-    bad_reading = UA_BAD_READING
+    bad_reading = UA_BAD_READING,
+    no_more = UA_NO_MORE
 };
 
 /* Why a line of a node file is none: Error::reason() of Status::bad_nodes. */
@@ -565,6 +566,28 @@ public:
         step.status = Status(status);
         return step;
     }
+
+    /* An item that a client wrote: the value of the reading stands in the room. */
+    struct Written {
+        Index node;
+        Reading reading;
+    };
+
+    /* The next item of what the Write stored that the last step answered, each once and in order; nothing where there
+     * is no more. Ask behind each step: the next one lets go of them. */
+    std::optional<Written> next_written(Nodes &nodes, Room room) {
+        std::size_t index = 0;
+        ua_reading c = ua_reading();
+        bool none = false;
+        auto octets = detail::put("ua_next_written", room, [&](auto *to, auto size, auto *needed, auto *) {
+            auto status = ua_next_written(&held_, nodes.raw(), &index, to, size, needed, &c);
+            none = status == UA_NO_MORE;
+            return none ? std::uint32_t(UA_OK) : status;
+        });
+        if (none)
+            return std::nullopt;
+        return Written{Index(index), Reading::of_c(octets, c)};
+    }
 };
 
 /* A client of the server of a URL. What each call says is to be sent waits: fetch it. */
@@ -711,6 +734,35 @@ inline std::string_view response_text(std::string_view nodes, Octets body, Room 
     return text_of(detail::put("ua_response_text", room, [&](auto *to, auto size, auto *needed, auto *code) {
         return ua_response_text(detail::at(nodes), nodes.size(), body.data(), body.size(), to, size, needed, code);
     }));
+}
+
+/* The results of a Read, as views of the body of its reply. */
+class Readings {
+public:
+    Readings(Octets body, Span<const ua_reading> places) noexcept : body_(body), places_(places) {}
+
+    std::size_t size() const noexcept { return places_.size(); }
+    Reading operator[](std::size_t at) const { return Reading::of_c(body_, places_[at]); }
+
+private:
+    Octets body_;
+    Span<const ua_reading> places_;
+};
+
+/* The results of the Read whose reply a body is, in order. `places` is a vector of ua_reading, which is made larger
+ * where there are more. */
+template <class Row>
+Readings readings(Octets body, Row &places) {
+    std::size_t count = 0;
+    std::uint32_t code = 0;
+    auto made = [&] { return ua_readings(body.data(), body.size(), places.data(), places.size(), &count, &code); };
+    auto status = made();
+    if (status == UA_TOO_SMALL) {
+        places.resize(count);
+        status = made();
+    }
+    detail::check("ua_readings", status, {0, 0, code, 0});
+    return {body, {places.data(), count}};
 }
 
 /* ---- the library, and words for numbers */

@@ -10,6 +10,11 @@ static inline uint8_t *ua_room(uint8_t *buffer) {
     return buffer ? buffer : none;
 }
 
+static inline struct ua_reading *ua_places(struct ua_reading *readings) {
+    static struct ua_reading none[1];
+    return readings ? readings : none;
+}
+
 static inline void ua_free_some(struct ua_handle *handle) {
     if (handle)
         ua_free(handle);
@@ -56,6 +61,13 @@ static inline uint32_t ua_connection_step_some(struct ua_connection *connection,
         code);
 }
 #define ua_connection_step ua_connection_step_some
+
+static inline uint32_t ua_next_written_some(struct ua_connection *connection,
+    struct ua_nodes *nodes, size_t *index, uint8_t *buffer, size_t buffer_len, size_t *needed,
+    struct ua_reading *reading) {
+    return ua_next_written(connection, nodes, index, ua_room(buffer), buffer_len, needed, reading);
+}
+#define ua_next_written ua_next_written_some
 
 static inline uint32_t ua_server_new_some(const uint8_t *nodes, size_t nodes_len,
     const struct ua_limits *limits, const uint8_t *url, size_t url_len, uint32_t channel,
@@ -180,6 +192,12 @@ static inline uint32_t ua_response_text_some(const uint8_t *nodes, size_t nodes_
         buffer_len, needed, code);
 }
 #define ua_response_text ua_response_text_some
+
+static inline uint32_t ua_readings_some(const uint8_t *body, size_t body_len,
+    struct ua_reading *readings, size_t readings_len, size_t *count, uint32_t *code) {
+    return ua_readings(ua_some(body), body_len, ua_places(readings), readings_len, count, code);
+}
+#define ua_readings ua_readings_some
 
 static inline uint32_t ua_status_text_some(uint32_t status, uint8_t *buffer, size_t buffer_len,
     size_t *needed) {

@@ -1,57 +1,60 @@
 -- What nodes, and connections over them, do for C.
-use Rattle.std.proofs.Common.{◌≡◌, ◌<◌, ℕ, List, length, Option, Result, IsTrue, refl, sym, subst, ap, inl, arith}
+use Rattle.std.proofs.Common.{◌≡◌, ◌<◌, ℕ, List, [], length, Option, Result, IsTrue, refl, sym, subst, ap, inl, arith}
 use Rattle.ua_builtin.specs.declared.date_time.DateTime.{DateTime}
 use Rattle.ua_frame.specs.declared.limits.Limits.{Limits}
-use Rattle.ua_server.specs.declared.connection.Connection.{Connection}
 use Rattle.ua_server.specs.declared.step.Step.{Step}
 use Rattle.ua_server.specs.declared.step.StepFault.{StepFault}
 use Rattle.ua_wire.specs.Counted.{text}
-use Rattle.ua_c.specs.Connecting.{IsNewConnection, MakesConnection, SaysOnly, StepsConnection, StepsConnectionAs, StepsShared}
+use Rattle.ua_c.specs.Connecting.{IsNewConnection, MakesConnection, SaysOnly, StepsConnection, StepsConnectionAs, StepsShared, stored_after}
 use Rattle.ua_c.specs.Handled.{OfNodes, OfShared, WhereNone}
 use Rattle.ua_c.specs.Limits.{AreEnough, AreThese}
 use Rattle.ua_c.specs.Making.{Seats}
 use Rattle.ua_c.specs.Serving.{Shows, nothing}
 use Rattle.ua_c.specs.Shared.{IsAbout, IsShared, MakesNodes}
 use Rattle.ua_c.specs.Status.{fetch_first, other_handle}
+use Rattle.ua_c.specs.Telling.{untold_in}
 use Rattle.ua_c.specs.Texts.{IsString, IsStringOf}
 use Rattle.ua_c.specs.declared.holding.Holding.{Holding}
 use Rattle.ua_c.specs.declared.holding.Machine.{Machine}
 use Rattle.ua_c.specs.declared.holding.Machine.TheVariants as machine
 use Rattle.ua_c.specs.declared.limits.UaLimits.{UaLimits}
 use Rattle.ua_c.specs.declared.report.Report.{Report}
+use Rattle.ua_c.specs.declared.untold.ServedConnection.{ServedConnection}
 use Rattle.ua_c.specs.declared.shared.SharedNodes.{SharedNodes}
 
 -- a connection was made
-pub connection_made : (limits : UaLimits) (channel : ℕ) (old new : Option Holding) (status : ℕ) (these : Limits) (connection : Connection)
-    → AreEnough limits → AreThese limits these → IsNewConnection these channel connection → Seats (machine.Connection connection) old new status
+pub connection_made : (limits : UaLimits) (channel : ℕ) (old new : Option Holding) (status : ℕ) (these : Limits) (served : ServedConnection)
+    → AreEnough limits → AreThese limits these → IsNewConnection these channel served.connection → untold_in served.written ≡ [] → Seats (machine.Connection served) old new status
     → MakesConnection limits channel old new status
-connection_made limits channel old new status these connection enough are made seated = inl (record {
+connection_made limits channel old new status these served enough are made none seated = inl (record {
   these = these;
-  connection = connection;
+  served = served;
   enough = enough;
   are_these = are;
   made = made;
+  none = none;
   seated = seated;
 })
 
 -- what a step does with what two handles hold, where they hold a connection and nodes, and nothing waits
-pub steps_shared : (old new before after : Holding) (piece : List ℕ) (moment : DateTime) (report : Report) (was is : Connection) (shared left : SharedNodes) (answer : Result Step StepFault)
-    → old.machine ≡ machine.Connection was → before.machine ≡ machine.Nodes shared → (0 < length old.waiting → ⊥) → StepsConnectionAs was shared.services piece moment answer is left.services
+pub steps_shared : (old new before after : Holding) (piece : List ℕ) (moment : DateTime) (report : Report) (was is : ServedConnection) (shared left : SharedNodes) (answer : Result Step StepFault)
+    → old.machine ≡ machine.Connection was → before.machine ≡ machine.Nodes shared → (0 < length old.waiting → ⊥) → StepsConnectionAs was.connection shared.services piece moment answer is.connection left.services
     → left.ids ≡ shared.ids → new.machine ≡ machine.Connection is → after ≡ record { machine = machine.Nodes left; waiting = before.waiting } → Shows answer report old.waiting new.waiting
-    → StepsShared old new before after piece moment report
-steps_shared old new before after piece moment report was is shared left answer was_is shared_is none steps ids machine_is after_is shown =
+    → untold_in is.written ≡ stored_after answer (untold_in was.written) → StepsShared old new before after piece moment report
+steps_shared old new before after piece moment report was is shared left answer was_is shared_is none steps ids machine_is after_is shown stored =
     subst (λ m. OfShared m before.machine (SaysOnly report before after other_handle × (new ≡ old)) (λ c s. WhereNone old new (SaysOnly report before after) (StepsConnection c s new before after piece moment report))) (sym was_is)
     (subst (λ m. OfNodes m (SaysOnly report before after other_handle × (new ≡ old)) (λ s. WhereNone old new (SaysOnly report before after) (StepsConnection was s new before after piece moment report))) (sym shared_is) (
       (λ some. absurd (none some)),
       (λ e. record {
         answer = answer;
-        connection = is;
+        served = is;
         left = left;
         machine_is = machine_is;
         nodes_are = after_is;
         steps = steps;
         ids_are = ids;
         shown = subst (λ w. Shows answer report w new.waiting) e shown;
+        stored = stored;
       }),
     ))
 
@@ -82,7 +85,7 @@ nodes_made file url application_uri name most old new line reason status shared 
 })
 
 -- what it does where the second handle holds no nodes
-pub steps_other : (old new before after : Holding) (piece : List ℕ) (moment : DateTime) (report : Report) (was : Connection) → old.machine ≡ machine.Connection was → ((s : SharedNodes) → before.machine ≡ machine.Nodes s → ⊥)
+pub steps_other : (old new before after : Holding) (piece : List ℕ) (moment : DateTime) (report : Report) (was : ServedConnection) → old.machine ≡ machine.Connection was → ((s : SharedNodes) → before.machine ≡ machine.Nodes s → ⊥)
     → new ≡ old → after ≡ before → report ≡ nothing other_handle → StepsShared old new before after piece moment report
 steps_other old new before after piece moment report was was_is other same kept told =
     subst (λ m. OfShared m before.machine (SaysOnly report before after other_handle × (new ≡ old)) (λ c s. WhereNone old new (SaysOnly report before after) (StepsConnection c s new before after piece moment report))) (sym was_is)
@@ -96,7 +99,7 @@ steps_other old new before after piece moment report was was_is other same kept 
     by (machine.Connection connection) none = ((told, kept), same)
 
 -- what it does where octets wait
-pub steps_waiting : (old new before after : Holding) (piece : List ℕ) (moment : DateTime) (report : Report) (was : Connection) (shared : SharedNodes) → old.machine ≡ machine.Connection was → before.machine ≡ machine.Nodes shared
+pub steps_waiting : (old new before after : Holding) (piece : List ℕ) (moment : DateTime) (report : Report) (was : ServedConnection) (shared : SharedNodes) → old.machine ≡ machine.Connection was → before.machine ≡ machine.Nodes shared
     → 0 < length old.waiting → new ≡ old → after ≡ before → report ≡ nothing fetch_first → StepsShared old new before after piece moment report
 steps_waiting old new before after piece moment report was shared was_is shared_is some same kept told =
     subst (λ m. OfShared m before.machine (SaysOnly report before after other_handle × (new ≡ old)) (λ c s. WhereNone old new (SaysOnly report before after) (StepsConnection c s new before after piece moment report))) (sym was_is)
@@ -106,7 +109,7 @@ steps_waiting old new before after piece moment report was shared was_is shared_
     ))
 
 -- what it does with a handle that holds this connection
-pub steps_held : (old new before after : Holding) (piece : List ℕ) (moment : DateTime) (report : Report) (was : Connection) → old.machine ≡ machine.Connection was
+pub steps_held : (old new before after : Holding) (piece : List ℕ) (moment : DateTime) (report : Report) (was : ServedConnection) → old.machine ≡ machine.Connection was
     → StepsShared (record { machine = machine.Connection was; waiting = old.waiting }) new before after piece moment report → StepsShared old new before after piece moment report
 steps_held old new before after piece moment report was is steps = subst (λ m. StepsShared (record { machine = m; waiting = old.waiting }) new before after piece moment report) (sym is) steps
 

@@ -3,8 +3,11 @@ mod Connected
 mod Gotten
 pub mod Handles
 mod Indexed
+mod Items
 mod Made
 mod Named
 mod Parts
+mod Replied
+mod Seen
 mod Served
 pub mod Values

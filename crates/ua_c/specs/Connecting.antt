@@ -15,15 +15,18 @@ use Rattle.ua_server.specs.declared.connection.Connection.{Connection}
 use Rattle.ua_server.specs.declared.step.Step.{Step}
 use Rattle.ua_server.specs.declared.step.StepFault.{StepFault}
 use Rattle.ua_server.specs.declared.step.StepFault.TheVariants as step_fault
+use Rattle.ua_structures.specs.declared.attribute.WriteValue.{WriteValue}
 use Rattle.ua_c.specs.Handled.{OfShared, WhereNone}
 use Rattle.ua_c.specs.Limits.{AreEnough, AreThese}
 use Rattle.ua_c.specs.Making.{Seats}
 use Rattle.ua_c.specs.Serving.{Shows, nothing}
 use Rattle.ua_c.specs.Status.{bad_limits, other_handle}
+use Rattle.ua_c.specs.Telling.{untold_in}
 use Rattle.ua_c.specs.declared.holding.Holding.{Holding}
 use Rattle.ua_c.specs.declared.holding.Machine.TheVariants as machine
 use Rattle.ua_c.specs.declared.limits.UaLimits.{UaLimits}
 use Rattle.ua_c.specs.declared.report.Report.{Report}
+use Rattle.ua_c.specs.declared.untold.ServedConnection.{ServedConnection}
 use Rattle.ua_c.specs.declared.shared.SharedNodes.{SharedNodes}
 
 -- ---- a connection
@@ -62,11 +65,12 @@ pub record StepsConnectionAs (connection : Connection) (services : State) (piece
 -- a connection was made
 pub record IsMadeConnection (limits : UaLimits) (channel : ℕ) (old new : Option Holding) (status : ℕ) : Type 0 where
   pub these : Limits
-  pub connection : Connection
+  pub served : ServedConnection
   pub enough : AreEnough limits
   pub are_these : AreThese limits these
-  pub made : IsNewConnection these channel connection
-  pub seated : Seats (machine.Connection connection) old new status
+  pub made : IsNewConnection these channel served.connection
+  pub none : untold_in served.written ≡ []
+  pub seated : Seats (machine.Connection served) old new status
 
 -- a connection was made, or the handle is as it was
 abbrev pub MakesConnection : UaLimits → ℕ → Option Holding → Option Holding → ℕ → Type 0
@@ -76,16 +80,22 @@ MakesConnection limits channel old new status = IsMadeConnection limits channel 
 abbrev pub TellsOnly : ℕ → Report → ℕ → Type 0
 TellsOnly why report waiting = (report ≡ nothing why) × (waiting ≡ 0)
 
+-- what is then to be told of Writes: what the step stored, and no longer what one before it did
+abbrev pub stored_after : Result Step StepFault → List WriteValue → List WriteValue
+stored_after (Ok step) before = step.written
+stored_after (Err f) before = before
+
 -- one step of a connection over shared nodes: the answer is one of `Connection::step`, and C is told just that
-pub record StepsConnection (old : Connection) (shared : SharedNodes) (new before after : Holding) (piece : List ℕ) (moment : DateTime) (report : Report) : Type 0 where
+pub record StepsConnection (old : ServedConnection) (shared : SharedNodes) (new before after : Holding) (piece : List ℕ) (moment : DateTime) (report : Report) : Type 0 where
   pub answer : Result Step StepFault
-  pub connection : Connection
+  pub served : ServedConnection
   pub left : SharedNodes
-  pub machine_is : new.machine ≡ machine.Connection connection
+  pub machine_is : new.machine ≡ machine.Connection served
   pub nodes_are : after ≡ record { machine = machine.Nodes left; waiting = before.waiting }
-  pub steps : StepsConnectionAs old shared.services piece moment answer connection left.services
+  pub steps : StepsConnectionAs old.connection shared.services piece moment answer served.connection left.services
   pub ids_are : left.ids ≡ shared.ids
   pub shown : Shows answer report [] new.waiting
+  pub stored : untold_in served.written ≡ stored_after answer (untold_in old.written)
 
 -- a step says only a status, and the nodes are as they were
 abbrev pub SaysOnly : Report → Holding → Holding → ℕ → Type 0
@@ -95,4 +105,4 @@ SaysOnly report before after why = (report ≡ nothing why) × (after ≡ before
 abbrev pub StepsShared : Holding → Holding → Holding → Holding → List ℕ → DateTime → Report → Type 0
 StepsShared old new before after piece moment report =
     OfShared old.machine before.machine (SaysOnly report before after other_handle × (new ≡ old))
-    (λ connection shared. WhereNone old new (SaysOnly report before after) (StepsConnection connection shared new before after piece moment report))
+    (λ served shared. WhereNone old new (SaysOnly report before after) (StepsConnection served shared new before after piece moment report))

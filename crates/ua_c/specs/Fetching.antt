@@ -23,10 +23,10 @@ Holds (machine.Client client) count =
     × ((asks : List Placed) (octets : List ℕ) (frames : List Frame) (rest : List ℕ) → ClientStands client asks octets frames rest → count ≤ client_bound client)
     × (IsClientDone client → count ≡ 0)
 Holds (machine.Nodes shared) count = count ≡ 0
-Holds (machine.Connection connection) count =
-    ((octets : List ℕ) (frames : List Frame) (rest : List ℕ) → ChannelStands (channel_at connection) octets frames rest → count ≡ held_after (received frames) rest)
-    × ((octets : List ℕ) (frames : List Frame) (rest : List ℕ) → ChannelStands (channel_at connection) octets frames rest → count ≤ bound_after (limits_of (channel_at connection)) (received frames))
-    × (IsDone (channel_at connection) → count ≡ 0)
+Holds (machine.Connection served) count =
+    ((octets : List ℕ) (frames : List Frame) (rest : List ℕ) → ChannelStands (channel_at served.connection) octets frames rest → count ≡ held_after (received frames) rest)
+    × ((octets : List ℕ) (frames : List Frame) (rest : List ℕ) → ChannelStands (channel_at served.connection) octets frames rest → count ≤ bound_after (limits_of (channel_at served.connection)) (received frames))
+    × (IsDone (channel_at served.connection) → count ≡ 0)
 
 -- what `Server::bound`, `ClientChannel::bound` and `Connection::bound` say of this count
 abbrev pub Bounds : Machine → ℕ → Type 0
@@ -37,9 +37,9 @@ Bounds (machine.Client client) count =
     ((asks : List Placed) (octets : List ℕ) (frames : List Frame) (rest : List ℕ) → ClientStands client asks octets frames rest → count ≡ client_bound_behind (client_limits client) (received frames).ack)
     × (count ≡ client_bound client)
 Bounds (machine.Nodes shared) count = count ≡ 0
-Bounds (machine.Connection connection) count =
-    ((octets : List ℕ) (frames : List Frame) (rest : List ℕ) → ChannelStands (channel_at connection) octets frames rest → count ≡ bound_after (limits_of (channel_at connection)) (received frames))
-    × (count ≡ bound_of (channel_at connection))
+Bounds (machine.Connection served) count =
+    ((octets : List ℕ) (frames : List Frame) (rest : List ℕ) → ChannelStands (channel_at served.connection) octets frames rest → count ≡ bound_after (limits_of (channel_at served.connection)) (received frames))
+    × (count ≡ bound_of (channel_at served.connection))
 
 -- a count of what is held, which is 0 where nothing is
 abbrev pub Counts : (Holding → Type 0) → ℕ → Option Holding → Type 0

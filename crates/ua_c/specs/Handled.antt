@@ -1,11 +1,11 @@
 -- What calls do with a handle, whatever it holds.
 use Rattle.std.specs.Prelude.{◌≡◌, ◌<◌, ℕ, [], length, Option, Some, None}
 use Rattle.ua_channel.specs.declared.client.channel.ClientChannel.{ClientChannel}
-use Rattle.ua_server.specs.declared.connection.Connection.{Connection}
 use Rattle.ua_c.specs.Status.{fetch_first, no_handle, other_handle}
 use Rattle.ua_c.specs.declared.holding.Holding.{Holding}
 use Rattle.ua_c.specs.declared.holding.Machine.{Machine}
 use Rattle.ua_c.specs.declared.holding.Machine.TheVariants as machine
+use Rattle.ua_c.specs.declared.untold.ServedConnection.{ServedConnection}
 use Rattle.ua_c.specs.declared.shared.SharedNodes.{SharedNodes}
 use Rattle.ua_c.specs.declared.station.Station.{Station}
 
@@ -22,28 +22,28 @@ abbrev pub OfServer : Machine → Holding → Holding → (ℕ → Type 0) → (
 OfServer (machine.Server station) old new says P = P station
 OfServer (machine.Client client) old new says P = says other_handle × (new ≡ old)
 OfServer (machine.Nodes shared) old new says P = says other_handle × (new ≡ old)
-OfServer (machine.Connection connection) old new says P = says other_handle × (new ≡ old)
+OfServer (machine.Connection served) old new says P = says other_handle × (new ≡ old)
 
 -- nothing changes where a server is held, in the place of a client
 abbrev pub OfClient : Machine → Holding → Holding → (ℕ → Type 0) → (ClientChannel → Type 0) → Type 0
 OfClient (machine.Server station) old new says P = says other_handle × (new ≡ old)
 OfClient (machine.Client client) old new says P = P client
 OfClient (machine.Nodes shared) old new says P = says other_handle × (new ≡ old)
-OfClient (machine.Connection connection) old new says P = says other_handle × (new ≡ old)
+OfClient (machine.Connection served) old new says P = says other_handle × (new ≡ old)
 
 -- something is refused where a machine of another kind is held, in the place of nodes
 abbrev pub OfNodes : Machine → Type 0 → (SharedNodes → Type 0) → Type 0
 OfNodes (machine.Server station) refused P = refused
 OfNodes (machine.Client client) refused P = refused
 OfNodes (machine.Nodes shared) refused P = P shared
-OfNodes (machine.Connection connection) refused P = refused
+OfNodes (machine.Connection served) refused P = refused
 
 -- the same of a connection and nodes, which two handles hold
-abbrev pub OfShared : Machine → Machine → Type 0 → (Connection → SharedNodes → Type 0) → Type 0
+abbrev pub OfShared : Machine → Machine → Type 0 → (ServedConnection → SharedNodes → Type 0) → Type 0
 OfShared (machine.Server station) nodes refused P = refused
 OfShared (machine.Client client) nodes refused P = refused
 OfShared (machine.Nodes shared) nodes refused P = refused
-OfShared (machine.Connection connection) nodes refused P = OfNodes nodes refused (P connection)
+OfShared (machine.Connection served) nodes refused P = OfNodes nodes refused (P served)
 
 -- what a call does with two handles: where either holds nothing, both are left as they are
 abbrev pub OfHandles : Option Holding → Option Holding → Option Holding → Option Holding → (ℕ → Type 0) → (Holding → Holding → Holding → Holding → Type 0) → Type 0

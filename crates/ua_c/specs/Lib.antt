@@ -11,6 +11,8 @@ pub mod Responses
 pub mod Serving
 pub mod Shared
 pub mod Status
+pub mod Telling
 pub mod Texts
+pub mod Views
 pub mod Waiting
 pub mod Words

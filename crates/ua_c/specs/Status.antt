@@ -101,6 +101,10 @@ mismatch = 23
 abbrev pub bad_reading : ℕ
 bad_reading = 24
 
+-- nothing more is there
+abbrev pub no_more : ℕ
+no_more = 25
+
 -- ---- which of several texts is none
 
 -- the node file

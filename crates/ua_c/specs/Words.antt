@@ -35,7 +35,8 @@ text_of_status k =
     cond (nat_eq k 22) (Some (codes "the response is that of another request, or nothing has this number")) (
     cond (nat_eq k 23) (Some (codes "the node takes no value of this type")) (
     cond (nat_eq k 24) (Some (codes "the reading has no value within the octets, or no source time")) (
-    None)))))))))))))))))))))))))
+    cond (nat_eq k 25) (Some (codes "nothing more is there")) (
+    None))))))))))))))))))))))))))
 
 -- a text is put into a buffer, where there is one; else nothing was written
 abbrev pub PutsWord : Option (List ℕ) → List ℕ → List ℕ → ℕ → ℕ → Type 0

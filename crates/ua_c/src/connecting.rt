@@ -13,6 +13,7 @@ use crate::making::seat;
 use crate::report::Report;
 use crate::shared::SharedNodes;
 use crate::status::{BAD_LIMITS, FETCH_FIRST, NO_HANDLE, OTHER_HANDLE};
+use crate::untold::{ServedConnection, Untold};
 use crate::waiting::Waiting;
 use std::alloc::Global;
 use ua_builtin::DateTime;
@@ -20,30 +21,37 @@ use ua_server::Connection;
 
 impl Holding {
     /// A step of a connection over nodes.
-    fn step_over(&mut self, nodes: &mut Holding, piece: &[u8], moment: DateTime) -> Report
+    fn step_over(
+        &mut self,
+        alloc: Global,
+        nodes: &mut Holding,
+        piece: &[u8],
+        moment: DateTime,
+    ) -> Report
         ensures { StepsShared self.old self.new nodes.old nodes.new piece.now moment result }
     {
-        let Machine::Connection(connection) = &mut self.machine else {
+        let Machine::Connection(served) = &mut self.machine else {
             return Report::only(OTHER_HANDLE);
         };
-        nodes.step_connection(connection, &mut self.waiting, piece, moment)
+        nodes.step_connection(alloc, served, &mut self.waiting, piece, moment)
     }
 
     /// A step of a connection over these nodes; its octets wait behind those that do.
     fn step_connection(
         &mut self,
-        connection: &mut Connection,
+        alloc: Global,
+        served: &mut ServedConnection,
         waiting: &mut Waiting,
         piece: &[u8],
         moment: DateTime,
     ) -> Report
-        ensures { StepsShared (record { machine = machine.Connection connection.old; waiting = waiting.old }) (record { machine = machine.Connection connection.new; waiting = waiting.new })
+        ensures { StepsShared (record { machine = machine.Connection served.old; waiting = waiting.old }) (record { machine = machine.Connection served.new; waiting = waiting.new })
             self.old self.new piece.now moment result }
     {
         let Machine::Nodes(shared) = &mut self.machine else {
             return Report::only(OTHER_HANDLE);
         };
-        shared.step(connection, waiting, piece, moment)
+        shared.step(alloc, served, waiting, piece, moment)
     }
 }
 
@@ -51,19 +59,20 @@ impl SharedNodes {
     /// A step of a connection over these nodes, where no octets wait.
     fn step(
         &mut self,
-        connection: &mut Connection,
+        alloc: Global,
+        served: &mut ServedConnection,
         waiting: &mut Waiting,
         piece: &[u8],
         moment: DateTime,
     ) -> Report
-        ensures { (others : List ℕ) → StepsShared (record { machine = machine.Connection connection.old; waiting = waiting.old }) (record { machine = machine.Connection connection.new; waiting = waiting.new })
+        ensures { (others : List ℕ) → StepsShared (record { machine = machine.Connection served.old; waiting = waiting.old }) (record { machine = machine.Connection served.new; waiting = waiting.new })
             (record { machine = machine.Nodes self.old; waiting = others }) (record { machine = machine.Nodes self.new; waiting = others }) piece.now moment result }
     {
         if waiting.len() > 0 {
             return Report::only(FETCH_FIRST);
         }
-        let answer = connection.step(&mut self.services, piece, moment);
-        Report::of_step(answer, waiting)
+        let answer = served.connection.step(&mut self.services, piece, moment);
+        Report::of_stored(alloc, answer, waiting, &mut served.written)
     }
 }
 
@@ -81,7 +90,12 @@ pub extern "C" fn ua_connection_new(
     match allowed(limits) {
         Some(limits) => {
             let connection = Connection::new(alloc, limits, channel);
-            seat(alloc, Machine::Connection(connection), out)
+            let written = Untold::nothing(alloc);
+            let served = ServedConnection {
+                connection,
+                written,
+            };
+            seat(alloc, Machine::Connection(served), out)
         }
         None => BAD_LIMITS,
     }
@@ -114,7 +128,7 @@ pub extern "C" fn ua_connection_step(
         *connection = UaHandle::of(held);
         return NO_HANDLE;
     };
-    let report = held.step_over(&mut shared, piece, DateTime { ticks: moment });
+    let report = held.step_over(alloc, &mut shared, piece, DateTime { ticks: moment });
     *waiting = held.waiting.len();
     *connection = UaHandle::of(held);
     *nodes = UaHandle::of(shared);

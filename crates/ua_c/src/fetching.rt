@@ -16,7 +16,7 @@ impl Holding {
             Machine::Server(station) => station.server.held(),
             Machine::Client(client) => client.held(),
             Machine::Nodes(_) => 0,
-            Machine::Connection(connection) => connection.held(),
+            Machine::Connection(served) => served.connection.held(),
         }
     }
 
@@ -27,7 +27,7 @@ impl Holding {
             Machine::Server(station) => station.server.bound(),
             Machine::Client(client) => client.bound(),
             Machine::Nodes(_) => 0,
-            Machine::Connection(connection) => connection.bound(),
+            Machine::Connection(served) => served.connection.bound(),
         }
     }
 }

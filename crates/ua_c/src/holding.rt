@@ -6,11 +6,11 @@ use crate::report::Report;
 use crate::shared::SharedNodes;
 use crate::station::Station;
 use crate::status::{FETCH_FIRST, OK, OTHER_HANDLE};
+use crate::untold::ServedConnection;
 use crate::waiting::Waiting;
 use std::alloc::Global;
 use ua_builtin::DateTime;
 use ua_channel::ClientChannel;
-use ua_server::Connection;
 
 /// A machine over octets.
 #[derive(Drop)]
@@ -22,7 +22,7 @@ pub enum Machine {
     /// Nodes that connections share.
     Nodes(SharedNodes),
     /// A connection over shared nodes.
-    Connection(Connection),
+    Connection(ServedConnection),
 }
 
 /// What a handle holds: a machine, and the octets of what it answered that were not fetched yet.

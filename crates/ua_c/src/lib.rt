@@ -21,8 +21,11 @@ mod serving;
 mod shared;
 mod station;
 mod status;
+mod telling;
 mod texts;
 mod told;
+mod untold;
+mod views;
 mod waiting;
 mod words;
 

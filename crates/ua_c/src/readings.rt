@@ -45,7 +45,7 @@ pub struct UaReading {
 
 impl UaReading {
     /// Nothing is there.
-    fn nothing() -> UaReading
+    pub(crate) fn nothing() -> UaReading
         ensures { result ≡ no_reading }
     {
         UaReading {
@@ -162,7 +162,7 @@ fn status_of_set(set: Result<(), SetFault>) -> u32
 
 impl SharedNodes {
     /// The place of the node of this NodeId.
-    fn index_of(&self, id: &NodeId) -> Option<usize>
+    pub(crate) fn index_of(&self, id: &NodeId) -> Option<usize>
         ensures { result ≡ index_among self.now.ids.items id.now }
     {
         self.ids.iter().position(|known| *id == *known)

@@ -1,10 +1,14 @@
 //! What a step of a server comes to, for C.
 
 ghost use Rattle.std.specs.Prelude.{◌≡◌};
+ghost use Rattle.ua_c.specs.Connecting.{stored_after};
 ghost use Rattle.ua_c.specs.Serving.{Shows, nothing, code_of, status_of};
+ghost use Rattle.ua_c.specs.Telling.{untold_in};
 
 use crate::status::{CLOSED, ENDED, NO_MEMORY, OK, REFUSED};
+use crate::untold::Untold;
 use crate::waiting::Waiting;
+use std::alloc::Global;
 use ua_server::{End, Step, StepFault};
 
 /// A status, how many octets were taken, and the code of a refusal.
@@ -57,6 +61,34 @@ impl Report {
                 },
             ) => {
                 drop(written);
+                *waiting = Waiting::of(out);
+                Report::of_end(taken, end)
+            }
+            Err(StepFault::Closed) => Report::only(CLOSED),
+            Err(StepFault::OutOfMemory) => Report::only(NO_MEMORY),
+        }
+    }
+
+    /// The same of a step of which what its Write stored is to be told from now on.
+    pub(crate) fn of_stored(
+        alloc: Global,
+        answer: Result<Step, StepFault>,
+        waiting: &mut Waiting,
+        left: &mut Untold,
+    ) -> Report
+        ensures shows { Shows answer result waiting.old waiting.new }
+        ensures stored { untold_in left.new ≡ stored_after answer (untold_in left.old) }
+    {
+        match answer {
+            Ok(
+                Step {
+                    taken,
+                    out,
+                    end,
+                    written,
+                },
+            ) => {
+                *left = Untold::of(alloc, written);
                 *waiting = Waiting::of(out);
                 Report::of_end(taken, end)
             }

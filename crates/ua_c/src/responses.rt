@@ -14,7 +14,7 @@ use ua_texts::{
 };
 
 /// The response that octets are, or a status.
-fn response_of(alloc: Global, body: &[u8]) -> Result<Response, u32>
+pub(crate) fn response_of(alloc: Global, body: &[u8]) -> Result<Response, u32>
     ensures response { IfOk result (λ response. IsResponse body.now response) }
     ensures fault { IfErr result (λ status. IsNoResponse body.now status) }
 {

@@ -50,3 +50,5 @@ pub const UNKNOWN: u32 = 22;
 pub const MISMATCH: u32 = 23;
 /// A reading has no value within the octets, or no source time.
 pub const BAD_READING: u32 = 24;
+/// Nothing more is there.
+pub const NO_MORE: u32 = 25;

@@ -6,8 +6,9 @@ ghost use Rattle.ua_texts.specs.Names.{name_of_code};
 
 use crate::status::{
     BAD_LIMITS, BAD_NODES, BAD_OCTETS, BAD_READING, BAD_SIDE, BAD_TEXT, CLOSED, EMPTY, ENDED,
-    EXHAUSTED, FETCH_FIRST, MISMATCH, NO_HANDLE, NO_MEMORY, NOT_OPEN, OK, OTHER_HANDLE, REFUSED,
-    RENEW_PENDING, SERVICE, TOO_LARGE, TOO_MANY_PENDING, TOO_MANY_TOKENS, TOO_SMALL, UNKNOWN,
+    EXHAUSTED, FETCH_FIRST, MISMATCH, NO_HANDLE, NO_MEMORY, NO_MORE, NOT_OPEN, OK, OTHER_HANDLE,
+    REFUSED, RENEW_PENDING, SERVICE, TOO_LARGE, TOO_MANY_PENDING, TOO_MANY_TOKENS, TOO_SMALL,
+    UNKNOWN,
 };
 use crate::texts::put;
 use ua_builtin::StatusCode;
@@ -54,6 +55,7 @@ fn text_of_status(status: u32) -> Option<&'static str>
         UNKNOWN => Some("the response is that of another request, or nothing has this number"),
         MISMATCH => Some("the node takes no value of this type"),
         BAD_READING => Some("the reading has no value within the octets, or no source time"),
+        NO_MORE => Some("nothing more is there"),
         _ => None,
     }
 }
