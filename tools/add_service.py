@@ -15,7 +15,7 @@ everywhere is named last. The numbers are those of the binary encodings (OPC 100
 types, or Rust's; the header in front of a message is not named. What is no message, as an item of a request, stands
 behind the service and in front of what holds it, as `structure DeleteNodesItem`, under its comment.
 
-It writes, into this working copy, the lines of docs/ADDING.md of the steps 1 to 4, of 6 what is code, and of 7 the
+It writes, into this working copy, the lines of the steps 1 to 4 of CONTRIBUTING.md, of 6 what is code, and of 7 the
 rows that are by rule; of 5 it begins the files, and writes the arm that calls the handler, and what counts the
 items, the array of the request that is marked as those above. Then it lays out each crate by `rt fmt`, and prints the
 files, and what is left to write: reasons, answer and handler, octets of rows, makers.

@@ -228,9 +228,10 @@ def words_of(page: str) -> int:
 
 def report_counts(listing: list[str]) -> None:
     pages = [f for f in listing if f.endswith(".md") and f not in WRITTEN]
-    top, below = (sum(words_of(f) for f in pages if f.startswith("crates/") == it) for it in (False, True))
-    written = sum(len(read(f).split()) for f in (*WRITTEN, *pages)) - top - below
-    print(f"Words: {top} of the root and docs/, {below} of crates/, and {written} that a tool writes from the sources")
+    below, drafts = (sum(words_of(f) for f in pages if f.startswith(it)) for it in ("crates/", DRAFTS))
+    top = sum(words_of(f) for f in pages) - below - drafts
+    written = sum(len(read(f).split()) for f in (*WRITTEN, *pages)) - top - below - drafts
+    print(f"Words: {top} of the root and docs/, {below} of crates/, {drafts} of {DRAFTS}, and {written} that a tool writes from the sources")
     print("Lines of specs/, and of proofs/:")
     for crate in crates():
         specs, proofs = (sum(read(f).count("\n") for f in listing if f.startswith(f"crates/{crate}/{it}/")) for it in ("specs", "proofs"))

@@ -2,8 +2,8 @@
 """Writes docs/DEFINITIONS.md, and the copied parts of docs/THEOREMS.md: write_definitions [--check | --bare].
 
 docs/DEFINITIONS.md has each definition of specs/ that the contract of a public call of a library names: a row has its
-name, its file and line, and the comment above it. The crates stand from the lowest up; within one, a definition
-stands before what it is made of, as tools/trust.py has it.
+name, its file and line, and the comment above it, or where it has none the comment above its block, or the one before.
+The crates stand from the lowest up; within one, a definition stands before what it is made of, as tools/trust.py has it.
 
 docs/THEOREMS.md is written by hand but for what stands between a mark and the next `<!-- end -->`:
 
@@ -30,7 +30,7 @@ MARK = re.compile(r"^<!-- (?P<kind>contract|rests) (?P<calls>[\w: ]+) -->\n(?P<b
 SAME = re.compile(r"the same(?=[,;:]| of\b| where\b| by\b| in\b|$)")
 HEAD = """# Definitions
 
-Each definition that the contract of a public call of a library names, with its file and line, in the words of the comment above it. `tools/write_definitions.py` writes this page. The crates stand from the lowest up. Within a crate a definition stands before what it is made of. `tools/trust.py CALL` prints all definitions on which the contract of one call rests, also those that no contract names. [ENCODINGS.md](ENCODINGS.md) has the types, structures, messages and status codes as tables.
+Each definition that the contract of a public call of a library names, with its file and line, in the words of the comment above it; [ARCHITECTURE.md](ARCHITECTURE.md#words) explains these words. The crates stand from the lowest up. Within a crate a definition stands before what it is made of. `tools/trust.py CALL` prints all definitions on which the contract of one call rests, also those that no contract names. [ENCODINGS.md](ENCODINGS.md) has the types, structures, messages and status codes as tables. `tools/write_definitions.py` writes this page.
 """
 
 
@@ -70,8 +70,25 @@ def cell(text: str) -> str:
     return text.replace("|", "\\|").replace("<", "\\<")
 
 
+def said_above(text: str) -> str:
+    """What the last comment of a part of a file says: of the block in which what follows stands, or of what stands before it.
+
+    >>> said_above("-- a Variant\\nabbrev mutual\\n  ")
+    'a Variant'
+    >>> said_above("-- a text\\nabbrev text : Bool\\n\\nabbrev ")
+    '(under the comment: a text)'
+    """
+    last = list(re.finditer(r"^-- .*\n(?:-- .*\n)*", text, re.M))
+    if not last:
+        return ""
+    said = " ".join(line.removeprefix("-- ").removeprefix("---- ") for line in last[-1].group().splitlines())
+    return said if re.match(r"(?:\w+ )?mutual\n", text[last[-1].end():]) else f"(under the comment: {said})"
+
+
 def said_of(it: Unit) -> str:
     """The comment above a definition; where it says 'the same', also that of the definition above it in its file."""
+    if not it.comment:
+        return said_above(text_of(it.path)[:place_of(it)])
     above = [(at, name) for here, (name, at, _) in heads(it.path).items() if here == name and at < place_of(it)]
     if not SAME.match(it.comment) or not above:
         return it.comment
