@@ -35,7 +35,7 @@ IsOver Going = ⊥
 IsOver (Ended end) = Unit {0}
 IsOver Broken = Unit {0}
 
--- how far the connection is before a write that fails, and behind it: it was over, and stays as it was; or memory is refused
+-- how far the connection is before a write that fails, and behind it: it was over, and stays as it was; or it is broken from then on
 abbrev pub StopsWriting : Stage → Stage → Type 0
 StopsWriting Going new = new ≡ Broken
 StopsWriting (Ended end) new = new ≡ Ended end

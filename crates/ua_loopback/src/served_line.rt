@@ -54,7 +54,8 @@ fn add_both(
 /// pieces of at most the lengths that the line is told, and what the server says is read from it, in
 /// pieces too. Each answer of the server has the same moment.
 ///
-/// A write fails where memory is refused, and once the connection ended at the server.
+/// A write fails once the connection ended at the server; where one fails before that, the line is broken
+/// from then on.
 #[derive(Drop)]
 pub struct ServedLine<W: Began> {
     server: Server,
@@ -209,8 +210,8 @@ impl<W: Began> Line for ServedLine<W> {
         Ok(n)
     }
 
-    /// It fails only where the connection was over before, which it then stays, or where memory is refused,
-    /// which breaks the line.
+    /// It fails only where the connection was over before, which it then stays, or where this write breaks
+    /// the line.
     fn write(&mut self, octets: &[u8]) -> Result<usize, LineFault>
         ensures within { IfOk result (λ n. n ≤ length octets.now) }
         ensures some { 0 < length octets.now → IfOk result (λ n. 0 < n) }

@@ -11,8 +11,8 @@ pub trait Application {
     /// What it may do: from its state and that of the services to its state and that of the services then.
     ghost changes: { Self → State → Self → State → Type 0 };
 
-    /// Sets values, and sees those that clients wrote. It changes the nodes alone, as
-    /// [`Services::set`](crate::Services::set) does.
+    /// Sets values, by [`Services::set`](crate::Services::set), and looks at those that clients wrote. It
+    /// changes the nodes alone.
     fn act(&mut self, services: &mut Services)
         ensures changes { changes self.old services.old self.new services.new }
         ensures nodes { services.new ≡ with_nodes services.old services.new.nodes };

@@ -21,9 +21,8 @@ use ua_services::{
 
 impl Services {
     /// The body of the reply to a message with this body: the response to the request that it is,
-    /// or the ServiceFault that says that it is none. The results of a Read are written from where the
-    /// values of the nodes stand, so that what it takes beside its own octets does not grow with them.
-    /// Where memory is refused the state is as it was, or that which the message leaves.
+    /// or the ServiceFault that says that it is none. Where memory is refused the state is as it was, or
+    /// that which the message leaves.
     #[tactic(auto, using(crate::proofs::GivenUp::whole_body))]
     pub fn reply<S: Source>(
         &mut self,
