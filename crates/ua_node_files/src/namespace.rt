@@ -45,7 +45,7 @@ impl<T: Drop> From<AllocFailed<T>> for NamespaceFault {
 const FIRST_INDEX: usize = 2;
 
 /// The URIs of the namespaces from index 2 on, which a file names in order by lines such as
-/// `# namespace 2 urn:plant`. A URI has no space, no control character and no comma. A line that begins with
+/// `# namespace 2 urn:plant`. A URI has no comma and no byte below 0x21. A line that begins with
 /// `# namespace` and does not name the next index so is refused.
 pub fn namespaces<'a>(alloc: Global, text: &'a str) -> Result<Vec<&'a str>, NamespaceFault>
     ensures named { IfOk result (λ uris. AreNamed (namespace_lines text.now) (map (λ uri. uri.now) uris.items)) }
@@ -96,7 +96,7 @@ fn is_uri(text: &str) -> bool
     !text.is_empty() && are_of_uri(text.as_bytes())
 }
 
-/// Whether each octet is one of a URI: no space, no control character and no comma.
+/// Whether each octet is one of a URI: no comma and no byte below 0x21.
 fn are_of_uri(octets: &[u8]) -> bool
     ensures { result ≡ list_all is_of_uri octets.now }
 {

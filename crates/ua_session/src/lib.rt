@@ -7,7 +7,7 @@
 //! ```
 //! let question = Question::parse_read(alloc, &["ns=1;s=Pump"], 13, None)?;
 //! let style = AnswerStyle::exact(LineStyle::plain(false));
-//! ask_over(alloc, &mut line, limits, 4840, &question, &TokenPolicy::Auto, style, &mut moments, &mut out)?;
+//! ask_over(alloc, &mut line, limits, &url, &question, &TokenPolicy::Auto, style, &mut moments, &mut out)?;
 //! // `ns=1;s=Pump 00000000 Int32 6` is written to `out`
 //! ```
 //!
