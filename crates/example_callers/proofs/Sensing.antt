@@ -1,5 +1,5 @@
 -- A connection that is served beside a sensor: readings and what frames tell, as the events of the connection.
-use Rattle.std.proofs.Common.{◌≡◌, ℕ, ◌+◌, ◌≤◌, List, [], ◌∷◌, ◌++◌, Option, Some, None, Ok, length, take, drop, refl, sym, ◌∙◌, ap, subst, arith, append-nil, append_assoc, length-drop}
+use Rattle.std.proofs.Common.{◌≡◌, ℕ, ◌+◌, ◌≤◌, List, [], ◌∷◌, ◌++◌, Option, Some, None, Ok, Err, length, take, drop, refl, sym, ◌∙◌, ap, subst, arith, append-nil, append_assoc, length-drop}
 use Rattle.std.proofs.Math.Seq.{take-add}
 use Rattle.ua_builtin.specs.declared.date_time.DateTime.{DateTime}
 use Rattle.ua_builtin.specs.declared.node_id.NodeId.{NodeId}
@@ -7,17 +7,24 @@ use Rattle.ua_channel.specs.ServerStands.{channel_of}
 use Rattle.ua_channel.specs.ServerTold.{Told}
 use Rattle.ua_channel.specs.declared.server.ServerChannel.{ServerChannel}
 use Rattle.ua_frame.specs.declared.limits.Limits.{Limits}
-use Rattle.ua_nodes.specs.Set.{after_set}
+use Rattle.ua_nodes.specs.Set.{after_set, set_refusal}
+use Rattle.ua_nodes.specs.Table.{node_at}
+use Rattle.ua_nodes.specs.declared.fault.SetFault.{SetFault}
 use Rattle.ua_nodes.specs.declared.set.Reading.{Reading}
 use Rattle.ua_server.specs.History.{ConnectionEvent, Became, EndedAt, OverBy, StandsOver, StepOver, course_over, event_answer, heard_at, output_over, told_in}
+use Rattle.ua_server.specs.Now.{StepNow}
 use Rattle.ua_server.specs.Said.{Course, last_words, start}
 use Rattle.ua_server.specs.State.{State}
 use Rattle.ua_server.specs.declared.step.End.{End as Ending}
 use Rattle.ua_server.specs.declared.step.End.TheVariants as ending
 use Rattle.ua_server.specs.declared.step.Step.{Step}
+use Rattle.ua_server.specs.declared.step.StepFault.{StepFault}
+use Rattle.ua_server.specs.declared.step.StepFault.TheVariants as step_fault
 use Rattle.ua_frame.specs.Run.{Stopped, Over}
-use Rattle.example_callers.specs.Application.{AreOfSensor, ServesSensor, reading_set}
+use Rattle.example_callers.specs.Application.{AreOfSensor, IfSetFault, IfStepFault, RefusesReading, ServesSensor, StandsBesideSensor, reading_set}
 use Rattle.example_callers.specs.declared.application.Sensed.{Sensed}
+use Rattle.example_callers.specs.declared.application.SensorFault.{SensorFault}
+use Rattle.example_callers.specs.declared.application.SensorFault.TheVariants as sensor_fault
 
 -- ---- events in parts
 
@@ -86,22 +93,13 @@ module _ (channel : ℕ) (first : State) (hs es : List ConnectionEvent) (e : Con
 
 -- ---- readings in turn
 
--- events of these readings came behind those before, and the connection goes on
-pub record Reached (sensor : NodeId) (moment : DateTime) (used : List Reading) (channel : ℕ) (x : ServerChannel) (before : List ℕ) (hs : List ConnectionEvent) (first : State) (taken : List ℕ) (out_before out : List ℕ) (now : State) : Type 0 where
-  pub events : List ConnectionEvent
-  pub are : AreOfSensor sensor moment channel (course_over channel (start first []) hs) used events
-  pub added : List ℕ
-  pub added_is : out ≡ out_before ++ added
-  pub stands : StandsOver x (before ++ taken) (hs ++ events) first now
-  pub sent : output_over channel (start first []) (hs ++ events) ≡ output_over channel (start first []) hs ++ added
-
 -- the readings but these were used, and so many of the octets taken
 pub record SensorSoFar (sensor : NodeId) (moment : DateTime) (readings rest : List Reading) (old x : ServerChannel) (octets : List ℕ) (taken : ℕ) (began now : State) (out_before out : List ℕ) : Type 0 where
   pub within : taken ≤ length octets
   pub channel_is : channel_of x ≡ channel_of old
   pub used : List Reading
   pub parts : readings ≡ used ++ rest
-  pub to : (before : List ℕ) (hs : List ConnectionEvent) (first : State) → StandsOver old before hs first began → Reached sensor moment used (channel_of old) x before hs first (take taken octets) out_before out now
+  pub to : (before : List ℕ) (hs : List ConnectionEvent) (first : State) → StandsOver old before hs first began → StandsBesideSensor sensor moment used (channel_of old) x before hs first (take taken octets) out_before out now
 
 pub sensor_none : (sensor : NodeId) (moment : DateTime) (readings : List Reading) (old : ServerChannel) (octets : List ℕ) (began : State) (out : List ℕ) → SensorSoFar sensor moment readings readings old old octets 0 began began out out
 sensor_none sensor moment readings old octets began out = record {
@@ -134,7 +132,7 @@ module _ (sensor : NodeId) (moment : DateTime) (readings rest : List Reading) (r
   used_parts = so.parts ∙ sym (append_assoc so.used (r ∷ []) rest)
 
   module _ (before : List ℕ) (hs : List ConnectionEvent) (first : State) (s : StandsOver old before hs first began) where
-    abbrev was : Reached sensor moment so.used channel x before hs first (take taken octets) out_before out now
+    abbrev was : StandsBesideSensor sensor moment so.used channel x before hs first (take taken octets) out_before out now
     was = so.to before hs first s
 
     abbrev event : ConnectionEvent
@@ -232,3 +230,35 @@ sensor_all sensor moment readings rest old x octets taken began now out_before o
           subst (λ (e : Option Ending). OverBy e x (channel_of old) (before ++ take sensed.taken octets) r.added hs r.events first now now) (sym end_same)
           (subst (λ (n : ℕ). OverBy None x (channel_of old) (before ++ take n octets) r.added hs r.events first now now) (sym taken_same) (r.stands, r.sent));
     }
+
+-- ---- a reading that is refused, and a step that fails
+
+pub sensor_refused : (sensor : NodeId) (moment : DateTime) (readings rest : List Reading) (r : Reading) (old x y : ServerChannel) (octets : List ℕ) (taken : ℕ) (began now later : State) (out_before out : List ℕ)
+    → SensorSoFar sensor moment readings (r ∷ rest) old x octets taken began now out_before out → y ≡ x → later ≡ now → (fault : SetFault) → set_refusal (node_at now.nodes sensor) r ≡ Some fault
+    → (before : List ℕ) (hs : List ConnectionEvent) (first : State) → StandsOver old before hs first began → RefusesReading sensor moment readings (channel_of old) y before hs first octets out_before out later fault
+sensor_refused sensor moment readings rest r old x y octets taken began now later out_before out so same_x same_now fault refused before hs first s = record {
+  used = so.used;
+  reading = r;
+  unused = rest;
+  parts = so.parts;
+  refused = subst (λ (t : State). set_refusal (node_at t.nodes sensor) r ≡ Some fault) (sym same_now) refused;
+  taken = taken;
+  stands =
+      subst (λ (z : ServerChannel). StandsBesideSensor sensor moment so.used (channel_of old) z before hs first (take taken octets) out_before out later) (sym same_x)
+      (subst (λ (t : State). StandsBesideSensor sensor moment so.used (channel_of old) x before hs first (take taken octets) out_before out t) (sym same_now) (so.to before hs first s));
+}
+
+-- what holds of a refused reading holds then of another word of it
+pub on_set : (P Q : SetFault → Type 0) (fault : SensorFault) → IfSetFault P fault → ((f : SetFault) → P f → Q f) → IfSetFault Q fault
+on_set P Q (sensor_fault.Set f) h more = more f h
+on_set P Q (sensor_fault.Step f) h more = tt
+
+pub on_step : (P Q : StepFault → Type 0) (fault : SensorFault) → IfStepFault P fault → ((f : StepFault) → P f → Q f) → IfStepFault Q fault
+on_step P Q (sensor_fault.Set f) h more = tt
+on_step P Q (sensor_fault.Step f) h more = more f h
+
+-- a step that stood fails for memory alone
+pub for_memory : (limits : Limits) (channel number : ℕ) (moment : DateTime) (piece : List ℕ) (y : ServerChannel) (octets : List ℕ) (told : List Told) (now later : State) (f : StepFault)
+    → StepNow limits channel number moment piece (Err f) y octets told now later → f ≡ step_fault.OutOfMemory
+for_memory limits channel number moment piece y octets told now later step_fault.OutOfMemory h = refl
+for_memory limits channel number moment piece y octets told now later step_fault.Closed h = absurd h

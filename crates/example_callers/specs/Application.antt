@@ -1,12 +1,13 @@
 -- What an application does beside connections.
-use Rattle.std.specs.Prelude.{◌≡◌, ℕ, not, List, [], ◌∷◌, ◌++◌, take, Option, None, Result, Ok, Err}
+use Rattle.std.specs.Prelude.{◌≡◌, ℕ, not, List, [], ◌∷◌, ◌++◌, take, Option, None, Some, Result, Ok, Err}
 use Rattle.ua_builtin.specs.declared.date_time.DateTime.{DateTime}
 use Rattle.ua_builtin.specs.declared.node_id.NodeId.{NodeId}
 use Rattle.ua_frame.specs.declared.limits.Limits.{Limits}
 use Rattle.ua_channel.specs.ServerStands.{channel_of}
 use Rattle.ua_channel.specs.ServerTold.{Told}
 use Rattle.ua_channel.specs.declared.server.ServerChannel.{ServerChannel}
-use Rattle.ua_nodes.specs.Set.{after_set}
+use Rattle.ua_nodes.specs.Set.{after_set, set_refusal}
+use Rattle.ua_nodes.specs.Table.{node_at}
 use Rattle.ua_nodes.specs.declared.set.Reading.{Reading}
 use Rattle.ua_nodes.specs.declared.fault.SetFault.{SetFault}
 use Rattle.ua_variant.specs.declared.values.Scalar.TheVariants.{Boolean}
@@ -17,7 +18,7 @@ use Rattle.example_callers.specs.declared.application.SensorFault.{SensorFault}
 use Rattle.example_callers.specs.declared.application.SensorFault.TheVariants as sensor_fault
 use Rattle.example_callers.specs.declared.application.SetpointFault.{SetpointFault}
 use Rattle.example_callers.specs.declared.application.SetpointFault.TheVariants as setpoint
-use Rattle.ua_server.specs.History.{ConnectionEvent, Became, OverBy, course_over, heard_at}
+use Rattle.ua_server.specs.History.{ConnectionEvent, Became, OverBy, StandsOver, course_over, heard_at, output_over}
 use Rattle.ua_server.specs.Said.{Course, start}
 use Rattle.ua_server.specs.Sharing.{SharedEvent, StepAmong, at_moment}
 use Rattle.ua_server.specs.State.{State, with_nodes}
@@ -62,6 +63,26 @@ pub record ServesSensor (sensor : NodeId) (moment : DateTime) (readings : List R
   pub added_is : out ≡ out_before ++ added
   pub state_is : (course_over (channel_of old) (start first []) (hs ++ events)).state ≡ now
   pub comes_to : OverBy sensed.end new (channel_of old) (before ++ take sensed.taken octets) added hs events first now now
+
+-- a connection that stood behind these octets and events stands behind these octets more, of which frames came behind each of these readings,
+-- and what was added is what is sent over that
+pub record StandsBesideSensor (sensor : NodeId) (moment : DateTime) (used : List Reading) (channel : ℕ) (new : ServerChannel) (before : List ℕ) (hs : List ConnectionEvent) (first : State) (taken : List ℕ) (out_before out : List ℕ) (now : State) : Type 0 where
+  pub events : List ConnectionEvent
+  pub are : AreOfSensor sensor moment channel (course_over channel (start first []) hs) used events
+  pub added : List ℕ
+  pub added_is : out ≡ out_before ++ added
+  pub stands : StandsOver new (before ++ taken) (hs ++ events) first now
+  pub sent : output_over channel (start first []) (hs ++ events) ≡ output_over channel (start first []) hs ++ added
+
+-- a reading was refused: those in front of it were set, and the nodes as they then are do not take it
+pub record RefusesReading (sensor : NodeId) (moment : DateTime) (readings : List Reading) (channel : ℕ) (new : ServerChannel) (before : List ℕ) (hs : List ConnectionEvent) (first : State) (octets out_before out : List ℕ) (now : State) (fault : SetFault) : Type 0 where
+  pub used : List Reading
+  pub reading : Reading
+  pub unused : List Reading
+  pub parts : readings ≡ used ++ reading ∷ unused
+  pub refused : set_refusal (node_at now.nodes sensor) reading ≡ Some fault
+  pub taken : ℕ
+  pub stands : StandsBesideSensor sensor moment used channel new before hs first (take taken octets) out_before out now
 
 -- ---- a gateway
 

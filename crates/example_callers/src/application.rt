@@ -14,7 +14,8 @@ ghost use Rattle.ua_server.specs.State.{State, begun, with_nodes};
 ghost use Rattle.ua_server.specs.Stepping.{StepTakes};
 ghost use Rattle.ua_server.specs.Storing.{StepStores};
 ghost use Rattle.ua_server.specs.ServingOver.{ServesApplication};
-ghost use Rattle.example_callers.specs.Application.{BothStep, IfSetFault, IfStepFault, ServesSensor, pulses, step_in};
+ghost use Rattle.ua_server.specs.declared.step.StepFault.TheVariants as step_fault;
+ghost use Rattle.example_callers.specs.Application.{BothStep, IfSetFault, IfStepFault, RefusesReading, ServesSensor, pulses, step_in};
 
 use std::alloc::{AllocError, Global};
 use thiserror::Error;
@@ -86,6 +87,7 @@ pub struct Sensed {
 
 /// A server whose values move by themselves: sets a reading, takes octets of a client, sets the next reading
 /// and so on, until there is no reading more or the connection ended. What is to be sent is added to `out`.
+/// A reading that is refused ends it: what came before it stands, and the connection may go on.
 pub fn serve_sensor(
     connection: &mut Connection,
     services: &mut Services,
@@ -95,8 +97,12 @@ pub fn serve_sensor(
     moment: DateTime,
     out: &mut Vec<u8>,
 ) -> Result<Sensed, SensorFault>
-    ensures { (before : List ℕ) (hs : List ConnectionEvent) (first : State) → StandsOver (channel_at connection.old) before hs first (with_own_session connection.old services.old)
+    ensures served { (before : List ℕ) (hs : List ConnectionEvent) (first : State) → StandsOver (channel_at connection.old) before hs first (with_own_session connection.old services.old)
         → IfOk result (λ sensed. ServesSensor sensor.now moment readings.items (channel_at connection.old) before hs first octets.now out.old.items sensed (channel_at connection.new) out.new.items (with_own_session connection.new services.new)) }
+    ensures refused { (before : List ℕ) (hs : List ConnectionEvent) (first : State) → StandsOver (channel_at connection.old) before hs first (with_own_session connection.old services.old)
+        → IfErr result (IfSetFault (RefusesReading sensor.now moment readings.items (channel_of (channel_at connection.old)) (channel_at connection.new) before hs first octets.now out.old.items out.new.items (with_own_session connection.new services.new))) }
+    ensures failed { (before : List ℕ) (hs : List ConnectionEvent) (first : State) → StandsOver (channel_at connection.old) before hs first (with_own_session connection.old services.old)
+        → IfErr result (IfStepFault (λ fault. fault ≡ step_fault.OutOfMemory)) }
 {
     let mut taken = 0;
     for reading in readings {

@@ -1,14 +1,22 @@
-use Rattle.std.proofs.Common.{◌≡◌, ◌+◌, ◌++◌, ◌∷◌, [], List, ℕ, true, false, None, Some, Option, length, refl, sym, ◌∙◌, ap, subst, arith, rules}
+use Rattle.std.proofs.Common.{◌≡◌, ◌+◌, ◌++◌, ◌∷◌, [], List, ℕ, true, false, None, Some, Option, Err, take, drop, length, refl, sym, ◌∙◌, ap, subst, arith, rules}
 use Rattle.std.specs.Prelude.{is_some}
 use Rattle.std.specs.Vec.Iter.{into_iter_items, into_iter_len}
 use Rattle.std.proofs.lemmas.List.{take_rest}
-use Rattle.ua_channel.specs.ServerStands.{limits_of}
-use Rattle.ua_nodes.specs.Set.{after_set}
+use Rattle.ua_channel.specs.ServerStands.{channel_of, limits_of, next_of}
+use Rattle.ua_nodes.specs.Set.{after_set, set_refusal}
 use Rattle.ua_nodes.specs.declared.set.Reading.{Reading}
 use Rattle.ua_server.specs.Served.{channel_at, with_own_session}
-use Rattle.ua_server.specs.State.{with_nodes}
+use Rattle.ua_nodes.specs.Table.{node_at}
+use Rattle.ua_nodes.specs.declared.fault.SetFault.{SetFault}
+use Rattle.ua_server.specs.History.{told_in}
+use Rattle.ua_server.specs.Now.{StepNow}
+use Rattle.ua_server.specs.State.{State, with_nodes}
+use Rattle.ua_server.specs.declared.connection.Connection.{Connection}
+use Rattle.ua_server.specs.declared.step.StepFault.{StepFault}
+use Rattle.ua_server.specs.declared.step.StepFault.TheVariants as step_fault
+use Rattle.example_callers.specs.Application.{IfStepFault, RefusesReading}
 use Rattle.example_callers.proofs.Pieces.{pushed}
-use Rattle.example_callers.proofs.Sensing.{SensorSoFar, sensor_all, sensor_ends, sensor_more, sensor_none}
+use Rattle.example_callers.proofs.Sensing.{SensorSoFar, for_memory, on_set, on_step, sensor_all, sensor_ends, sensor_more, sensor_none, sensor_refused}
 use Rattle.example_callers.proofs.application.serve_sensor.Goals as goal
 
 nothing-left : {X : Type 0} (l : List X) → length l ≡ 0 → l ≡ []
@@ -34,8 +42,8 @@ loop-reading-init c =
       count,
     )
 
-pub returns-then-is_some : goal.returns-then-is_some
-returns-then-is_some c = λ before hs first stands.
+pub returns-then-is_some-clause-served : goal.returns-then-is_some-clause-served
+returns-then-is_some-clause-served c = λ before hs first stands.
     let at = c.loop-reading in
     let x = channel_at at.connection in
     let old = channel_at c.args.connection.now in
@@ -71,9 +79,42 @@ loop-reading-preserved c =
       (let was = at.invariant.1 in let gone = c.in-Some.ensures.steps.1 in let short = ap length steps in omega arith),
     )
 
-pub returns : goal.returns
-returns c = λ before hs first stands.
+pub returns-clause-served : goal.returns-clause-served
+returns-clause-served c = λ before hs first stands.
     let at = c.loop-reading in
     let empty : into_iter_items at.reading-iterator ≡ [] = nothing-left (into_iter_items at.reading-iterator) (sym at.invariant.1 ∙ c.in-None.ensures.steps.0) in
     sensor_all c.args.sensor.now c.args.moment c.args.readings.items (into_iter_items at.reading-iterator) (channel_at c.args.connection.now) (channel_at at.connection) c.args.octets.now at.taken
     (with_own_session c.args.connection.now c.args.services.now) (with_own_session at.connection at.services) c.args.out.now.items at.out.items at.invariant.0 empty (record { taken = at.taken; end = None }) refl refl before hs first stands
+
+pub returns-in-Err-clause-refused : goal.returns-in-Err-clause-refused
+returns-in-Err-clause-refused c = λ before hs first stands.
+    let at = c.loop-reading in
+    let old = channel_at c.args.connection.now in
+    let began = with_own_session c.args.connection.now c.args.services.now in
+    let now = with_own_session at.connection at.services in
+    let later = with_own_session c.set_and_step.new.connection c.set_and_step.new.services in
+    let rest = into_iter_items c.next.new.self in
+    let so =
+    subst (λ (rs : List Reading). SensorSoFar c.args.sensor.now c.args.moment c.args.readings.items rs old (channel_at at.connection) c.args.octets.now at.taken began now c.args.out.now.items at.out.items) c.in-Some.ensures.steps.0
+    at.invariant.0 in
+    on_set (λ (f : SetFault). (set_refusal (node_at at.services.nodes c.args.sensor.now) c.in-Some.reading ≡ Some f) × (c.set_and_step.new.connection ≡ at.connection) × (c.set_and_step.new.services ≡ at.services))
+    (λ (f : SetFault). RefusesReading c.args.sensor.now c.args.moment c.args.readings.items (channel_of old) (channel_at c.set_and_step.new.connection) before hs first c.args.octets.now c.args.out.now.items at.out.items later f)
+    c.in-Err.fault c.in-Err.ensures.refused
+    (λ f h. sensor_refused c.args.sensor.now c.args.moment c.args.readings.items rest c.in-Some.reading old (channel_at at.connection) (channel_at c.set_and_step.new.connection) c.args.octets.now at.taken began now later c.args.out.now.items at.out.items so
+    (ap channel_at h.1) (ap (λ (k : Connection). with_own_session k c.set_and_step.new.services) h.1 ∙ ap (λ (s : State). with_own_session at.connection s) h.2) f h.0 before hs first stands)
+
+pub returns-in-Err-clause-failed : goal.returns-in-Err-clause-failed
+returns-in-Err-clause-failed c = λ before hs first stands.
+    let at = c.loop-reading in
+    let x = channel_at at.connection in
+    let began = with_own_session c.args.connection.now c.args.services.now in
+    let now = with_own_session at.connection at.services in
+    let set = with_own_session at.connection (with_nodes at.services (after_set c.args.sensor.now c.in-Some.reading at.services.nodes)) in
+    let later = with_own_session c.set_and_step.new.connection c.set_and_step.new.services in
+    let reached = at.invariant.0.to before hs first stands in
+    let octets = before ++ take at.taken c.args.octets.now in
+    let told = told_in (hs ++ reached.events) in
+    on_step (λ (f : StepFault). StepNow (limits_of x) (channel_of x) (next_of x) c.args.moment (drop at.taken c.args.octets.now) (Err f) (channel_at c.set_and_step.new.connection) octets told set later) (λ (f : StepFault). f ≡ step_fault.OutOfMemory)
+    c.in-Err.fault (subst (λ (p : List ℕ). IfStepFault (λ (f : StepFault). StepNow (limits_of x) (channel_of x) (next_of x) c.args.moment p (Err f) (channel_at c.set_and_step.new.connection) octets told set later) c.in-Err.fault)
+    (take_rest c.args.octets.now at.taken) (c.in-Err.ensures.failed octets told reached.stands.goes))
+    (λ f h. for_memory (limits_of x) (channel_of x) (next_of x) c.args.moment (drop at.taken c.args.octets.now) (channel_at c.set_and_step.new.connection) octets told set later f h)
