@@ -1,4 +1,5 @@
 pub mod Identity
+pub mod Policy
 pub mod Request
 pub mod Response
 pub mod SessionRequests

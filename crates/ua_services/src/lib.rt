@@ -21,12 +21,14 @@ mod fault;
 mod identity;
 mod kinds;
 pub mod laws;
+mod policy;
 mod request;
 mod response;
 pub mod session_requests;
 
 pub use fault::{RequestFault, ResponseFault};
 pub use identity::{read_identity, write_identity};
+pub use policy::chosen_id;
 pub use request::{
     Request, RequestKind, read_request, read_request_for, request_body, skip_request, write_request,
 };
