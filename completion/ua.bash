@@ -5,11 +5,11 @@ _ua() {
     case $before in
         --policy) words='anonymous auto' ;;
         --connections) words='all' ;;
-        --attribute | --cut | --path | --range | --url) return ;;
+        --attribute | --cut | --path | --range | --record | --url) return ;;
     esac
     for ((at = 2; at < COMP_CWORD; at++)); do
         case ${COMP_WORDS[at]} in
-        --attribute | --connections | --cut | --path | --policy | --range | --url) at=$((at + 1)) ;;
+        --attribute | --connections | --cut | --path | --policy | --range | --record | --url) at=$((at + 1)) ;;
         -*) ;;
         *) place=$((place + 1)) ;;
         esac
@@ -20,9 +20,9 @@ _ua() {
         case ${COMP_WORDS[1]} in
         dissect) words='--help --hex --server --fields --names --strict --why'; files='0' ;;
         serve) words='--help --connections --requests --plain --standard --why'; files='0' ;;
-        endpoints) words='--help --policies --json --path --url --why' ;;
-        read) words='--help --attribute --range --names --times --json --plain --policy --path --url --strict --why' ;;
-        write) words='--help --names --json --plain --policy --path --url --strict --why' ;;
+        endpoints) words='--help --policies --json --path --url --record --why' ;;
+        read) words='--help --attribute --range --names --times --json --plain --policy --path --url --record --strict --why' ;;
+        write) words='--help --names --json --plain --policy --path --url --record --strict --why' ;;
         loop) words='--help --cut --tcp --names --plain --strict --why'; files='0 1' ;;
         version) words='--help' ;;
         help) words='dissect serve endpoints read write loop version help' ;;

@@ -6,10 +6,10 @@ use crate::carried::{carry, carry_pieces};
 use crate::client::client;
 use crate::failing_listener::accepts;
 use crate::fault::Fault;
-use crate::files::{file, text};
+use crate::files::{file, holds, text};
 use crate::lines::{carried, gathering, moment, stream};
 use crate::names::{client_fault, end, loop_fault, named_end, outcome};
-use crate::offline::offline_row;
+use crate::offline::{connected_row, offline_row};
 use crate::run::{broken_row, pipe_row, run_row, words_row};
 use crate::script::script;
 use crate::serve::{connections, memory_refused, request_lines, serve, serve_none, serve_tcp};
@@ -48,6 +48,7 @@ fn answer<R: Files + Net + Clock + AllocGlobal>(
     match kind {
         "file" => file(rt, words),
         "text" => text(rt, words),
+        "holds" => holds(rt, words),
         "run" => run_row(rt, taken, words),
         "pipe" => pipe_row(rt, taken, words),
         "broken" => broken_row(rt, taken, words),
@@ -70,6 +71,7 @@ fn answer<R: Files + Net + Clock + AllocGlobal>(
         "out-told" => out_told_row(rt, taken, words),
         "err" => err_row(rt, taken, words),
         "offline" => offline_row(rt, taken, words),
+        "connected" => connected_row(rt, taken, words),
         "carry" => carry(rt, words),
         "carried" => carried(rt, words),
         _ => text_answer(rt, kind, words),

@@ -1,7 +1,7 @@
 //! Files in the folder in which the program runs.
 
 use crate::fault::Fault;
-use crate::octets::octets_of;
+use crate::octets::{digits, octets_of};
 use crate::texts::{first_word, unmarked};
 use std::fs;
 use std::rt::Files;
@@ -9,6 +9,11 @@ use std::rt::Files;
 /// What a file holds.
 pub fn content<R: Files + AllocGlobal>(rt: &R, name: &str) -> Result<Vec<u8>, Fault> {
     Ok(fs::read(rt, name)?)
+}
+
+/// `holds NAME`: the octets of a file.
+pub fn holds<R: Files + AllocGlobal>(rt: &R, name: &str) -> Result<String, Fault> {
+    digits(rt.alloc(), &content(rt, name)?)
 }
 
 /// `file NAME OCTETS`: puts octets into a file.

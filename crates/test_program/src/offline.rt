@@ -1,21 +1,36 @@
-//! Runs of the program `ua` without a network.
+//! Runs of the program `ua` without a network, or with one that has said all before.
 
 use crate::fault::Fault;
+use crate::files::content;
 use crate::run::run_row;
 use crate::texts::first_word;
 use std::alloc::Allocator;
+use std::cell::Cell;
 use std::fs::{Metadata, OpenOptions};
 use std::io;
-use std::net::{Net, SocketAddr};
+use std::io::Write;
+use std::net::{Net, OpenListener, SocketAddr, TcpListener, TcpStream};
 use std::rt::Files;
 use std::time::{Clock, Duration};
 
-/// A runtime without its network: nothing can be listened on, or, where something can, nothing takes a
-/// connection.
+/// What a network does.
+#[derive(Clone, Copy)]
+enum Network<'a> {
+    /// Nothing can be listened on.
+    Deaf,
+    /// Nothing takes a connection.
+    Alone,
+    /// Whoever is connected to says these octets.
+    Says(&'a [u8]),
+}
+
+/// A runtime with such a network, at 1970-01-01.
 #[derive(Drop)]
-struct Offline<'a, R> {
+struct Offline<'a, R: Net> {
     rt: &'a R,
-    listens: bool,
+    network: Network<'a>,
+    /// The other end of the last connection, which stays open.
+    other: Cell<Option<R::Stream>>,
 }
 
 fn refused() -> io::Error {
@@ -28,18 +43,26 @@ impl<R: Net> Net for Offline<'_, R> {
     type Listener = R::Listener;
 
     fn bind(&self, addr: SocketAddr) -> io::Result<R::Listener> {
-        if self.listens {
-            return self.rt.bind(addr);
+        match self.network {
+            Network::Deaf => Err(refused()),
+            _ => self.rt.bind(addr),
         }
-        Err(refused())
     }
 
     fn connect(&self, _addr: SocketAddr) -> io::Result<R::Stream> {
-        Err(refused())
+        let Network::Says(octets) = self.network else {
+            return Err(refused());
+        };
+        let listener = TcpListener::bind(self.rt, "127.0.0.1:0")?;
+        let near = TcpStream::connect(self.rt, listener.local_addr()?)?;
+        let (mut far, _) = listener.accept()?;
+        far.write_all(octets)?;
+        self.other.set(Some(far));
+        Ok(near)
     }
 }
 
-impl<R: Alloc> Alloc for Offline<'_, R> {
+impl<R: Net + Alloc> Alloc for Offline<'_, R> {
     type A = R::A;
 
     fn alloc(&self) -> R::A {
@@ -47,17 +70,17 @@ impl<R: Alloc> Alloc for Offline<'_, R> {
     }
 }
 
-impl<R: Clock> Clock for Offline<'_, R> {
+impl<R: Net + Clock> Clock for Offline<'_, R> {
     fn monotonic(&self) -> io::Result<Duration> {
         self.rt.monotonic()
     }
 
     fn since_1970(&self) -> io::Result<Duration> {
-        self.rt.since_1970()
+        Ok(Duration::ZERO)
     }
 }
 
-impl<R: Files> Files for Offline<'_, R> {
+impl<R: Net + Files> Files for Offline<'_, R> {
     type File = R::File;
 
     type Dir = R::Dir;
@@ -111,10 +134,35 @@ pub fn offline_row<R: Files + Net + Clock + AllocGlobal>(
     words: &str,
 ) -> Result<String, Fault> {
     let (network, words) = first_word(words);
-    let listens = match network {
-        "deaf" => false,
-        "alone" => true,
+    let network = match network {
+        "deaf" => Network::Deaf,
+        "alone" => Network::Alone,
         _ => return Err(Fault::NoRow),
     };
-    run_row(&Offline { rt, listens }, taken, words)
+    run_over(rt, network, taken, words)
+}
+
+/// `connected FILE WORDS`: as `run`, at 1970-01-01, where whoever is connected to says what a file holds.
+pub fn connected_row<R: Files + Net + Clock + AllocGlobal>(
+    rt: &R,
+    taken: u16,
+    words: &str,
+) -> Result<String, Fault> {
+    let (file, words) = first_word(words);
+    let octets = content(rt, file)?;
+    run_over(rt, Network::Says(&octets), taken, words)
+}
+
+fn run_over<R: Files + Net + Clock + AllocGlobal>(
+    rt: &R,
+    network: Network<'_>,
+    taken: u16,
+    words: &str,
+) -> Result<String, Fault> {
+    let offline = Offline {
+        rt,
+        network,
+        other: Cell::new(None),
+    };
+    run_row(&offline, taken, words)
 }

@@ -13,3 +13,4 @@ mod Steps
 mod Settling
 mod Doing
 mod Examples
+mod Honest

@@ -2,3 +2,4 @@
 pub mod Talk
 pub mod Clients
 pub mod Example
+pub mod Records

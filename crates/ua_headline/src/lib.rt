@@ -6,3 +6,6 @@
 #![tactic(auto)]
 
 pub mod laws;
+mod records;
+
+pub use records::is_honest;

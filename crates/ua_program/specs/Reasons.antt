@@ -5,7 +5,7 @@ use Rattle.ua_session.specs.declared.fault.AskFault.{AskFault}
 use Rattle.ua_session.specs.declared.fault.AskFault.TheVariants.{Output}
 use Rattle.ua_program.specs.Refused.{RefusesNodes}
 use Rattle.ua_program.specs.declared.fault.Fault.{Fault}
-use Rattle.ua_program.specs.declared.fault.Fault.TheVariants.{Asking, CannotListen, CannotRead, NoMemory}
+use Rattle.ua_program.specs.declared.fault.Fault.TheVariants.{Asking, CannotListen, CannotRead, CannotWriteDown, CannotWriteUp, NoMemory}
 use Rattle.ua_program.specs.declared.output.Stop.{Stop}
 use Rattle.ua_program.specs.declared.output.Stop.TheVariants as stop
 
@@ -50,6 +50,10 @@ StopsAt fault why = StopsBy (λ told. (told ≡ fault) ⊎ (told ≡ NoMemory)) 
 -- why a file is not read: it cannot be, or memory was refused
 abbrev pub StopsAtFile : Bor (List ℕ) → Stop → Type 0
 StopsAtFile file why = StopsAt (CannotRead file) why
+
+-- why a record of this name is not written: one of its two files cannot be, or memory was refused
+abbrev pub StopsRecording : Bor (List ℕ) → Stop → Type 0
+StopsRecording name why = StopsAt (CannotWriteUp name) why ⊎ StopsAt (CannotWriteDown name) why
 
 -- why the nodes of a text are not served: its first bad line, or memory was refused
 abbrev pub StopsAtNodes : List ℕ → Stop → Type 0

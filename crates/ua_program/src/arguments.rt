@@ -122,6 +122,8 @@ pub struct ListEndpoints<'a> {
     pub server: Address<'a>,
     /// How the endpoints are printed.
     pub style: EndpointStyle,
+    /// By which name the octets each way are kept, if they are.
+    pub record: Option<&'a str>,
 }
 
 /// The words of `ua read`.
@@ -141,6 +143,8 @@ pub struct ReadNodes<'a> {
     pub style: AnswerStyle,
     /// Whether a bad status code has a status of its own.
     pub strict: bool,
+    /// By which name the octets each way are kept, if they are.
+    pub record: Option<&'a str>,
 }
 
 /// The words of `ua write`.
@@ -160,6 +164,8 @@ pub struct WriteNode<'a> {
     pub style: AnswerStyle,
     /// Whether a bad status code has a status of its own.
     pub strict: bool,
+    /// By which name the octets each way are kept, if they are.
+    pub record: Option<&'a str>,
 }
 
 /// The words of `ua loop`.
@@ -270,7 +276,11 @@ fn endpoints_of<'a>(matches: &ArgMatches<'a>) -> Result<Task<'a>, BadWord<'a>>
         json: matches.get_flag("json"),
     };
     let server = server_of(matches)?;
-    Ok(Task::Endpoints(ListEndpoints { server, style }))
+    Ok(Task::Endpoints(ListEndpoints {
+        server,
+        style,
+        record: matches.get_str("record"),
+    }))
 }
 
 fn dissect_of<'a>(matches: &ArgMatches<'a>) -> Task<'a>
@@ -317,6 +327,7 @@ fn write_of<'a>(matches: &ArgMatches<'a>) -> Result<Task<'a>, BadWord<'a>>
         policy: text_of(matches, "policy"),
         style: style_of(matches),
         strict: matches.get_flag("strict"),
+        record: matches.get_str("record"),
     }))
 }
 
@@ -353,6 +364,7 @@ fn read_of<'a>(nodes: Vec<&'a str>, matches: &ArgMatches<'a>) -> Result<Task<'a>
         policy: text_of(matches, "policy"),
         style: style_of(matches),
         strict: matches.get_flag("strict"),
+        record: matches.get_str("record"),
     }))
 }
 

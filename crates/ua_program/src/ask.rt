@@ -12,15 +12,18 @@ use crate::arguments::{Address, ListEndpoints, ReadNodes, WriteNode};
 use crate::fault::Fault;
 use crate::output::Stop;
 use crate::reason::cannot_connect;
+use crate::record::write_record;
 use std::alloc::{AllocError, Global};
 use std::io::Write;
 use std::net::{Ipv4Addr, Net, TcpStream};
+use std::rt::Files;
 use std::time::Clock;
 use ua_builtin::{UaString, Wire};
+use ua_channel::Line;
 use ua_exchange::limits;
 use ua_services::session_requests::local_url;
 use ua_session::{Question, TokenPolicy, Verdict, WordFault, ask_over, endpoints_over};
-use ua_tcp::{ClockMoments, TcpLine, without_delay};
+use ua_tcp::{ClockMoments, RecordedLine, TcpLine, without_delay};
 use ua_texts::AnswerStyle;
 
 /// A line to the server on a port of this machine.
@@ -72,9 +75,10 @@ pub fn url_of<'a>(alloc: Global, server: &Address<'_>) -> Result<UaString, Stop<
     Err(Stop::Fault(Fault::NoMemory))
 }
 
-/// Prints the endpoints of the server on a port of this machine.
-pub fn endpoints<'a, R: Net + Clock + AllocGlobal, O: Write>(
+/// Prints the endpoints of the server over a line.
+fn endpoints_line<'a, R: Clock + AllocGlobal, L: Line, O: Write>(
     rt: &R,
+    line: &mut L,
     asked: &ListEndpoints<'a>,
     out: &mut O,
 ) -> Result<(), Stop<'a>>
@@ -82,20 +86,45 @@ pub fn endpoints<'a, R: Net + Clock + AllocGlobal, O: Write>(
     ensures stopped { IfErr result (λ stop. StopsWriting stop ⊎ (out.new ≡ out.old) ⊎ HasListed asked.now.style (O.contents out.old) (O.contents out.new)) }
 {
     let url = url_of(rt.alloc(), &asked.server)?;
-    let mut line = connect(rt, asked.server.port)?;
     let mut moments = ClockMoments::new(rt);
     let ended = endpoints_over(
         rt.alloc(),
-        &mut line,
+        line,
         limits(),
         &url,
         asked.style,
         &mut moments,
         out,
     );
-    drop(line);
     drop(url);
     Ok(ended?)
+}
+
+/// Prints the endpoints of the server on a port of this machine.
+pub fn endpoints<'a, R: Files + Net + Clock + AllocGlobal, O: Write>(
+    rt: &R,
+    asked: &ListEndpoints<'a>,
+    out: &mut O,
+) -> Result<(), Stop<'a>>
+    ensures answered { OnOk result (HasListed asked.now.style (O.contents out.old) (O.contents out.new)) }
+    ensures stopped { IfErr result (λ stop. StopsWriting stop ⊎ (out.new ≡ out.old) ⊎ HasListed asked.now.style (O.contents out.old) (O.contents out.new)) }
+{
+    let mut line = connect(rt, asked.server.port)?;
+    let Some(name) = asked.record else {
+        return endpoints_line(rt, &mut line, asked, out);
+    };
+    let mut line = RecordedLine::new(rt.alloc(), line);
+    let ended = endpoints_line(rt, &mut line, asked, out);
+    let recorded = write_record(rt, name, &line);
+    drop(line);
+    // The fault of the command is told first.
+    match ended {
+        Ok(()) => match recorded {
+            Ok(()) => Ok(()),
+            Err(stop) => Err(stop),
+        },
+        Err(stop) => Err(stop),
+    }
 }
 
 /// The token policy that a word names: with `auto` the one that the server offers, else the one of
@@ -120,11 +149,14 @@ struct Asking<'a> {
     style: AnswerStyle,
     /// Whether a bad status code counts.
     strict: bool,
+    /// By which name the octets each way are kept, if they are.
+    record: Option<&'a str>,
 }
 
-/// Asks a question of the server on a port of this machine, and prints the answers.
-fn ask<'a, R: Net + Clock + AllocGlobal, O: Write>(
+/// Asks a question of the server over a line, and prints the answers.
+fn ask_line<'a, R: Clock + AllocGlobal, L: Line, O: Write>(
     rt: &R,
+    line: &mut L,
     question: &Question,
     how: &Asking<'a>,
     out: &mut O,
@@ -134,11 +166,10 @@ fn ask<'a, R: Net + Clock + AllocGlobal, O: Write>(
 {
     let policy = policy_of(rt.alloc(), how.policy)?;
     let url = url_of(rt.alloc(), &how.server)?;
-    let mut line = connect(rt, how.server.port)?;
     let mut moments = ClockMoments::new(rt);
     let ended = ask_over(
         rt.alloc(),
-        &mut line,
+        line,
         limits(),
         &url,
         question,
@@ -147,10 +178,37 @@ fn ask<'a, R: Net + Clock + AllocGlobal, O: Write>(
         &mut moments,
         out,
     );
-    drop(line);
     drop(url);
     drop(policy);
     Ok(ended?)
+}
+
+/// Asks a question of the server on a port of this machine, and prints the answers.
+fn ask<'a, R: Files + Net + Clock + AllocGlobal, O: Write>(
+    rt: &R,
+    question: &Question,
+    how: &Asking<'a>,
+    out: &mut O,
+) -> Result<Verdict, Stop<'a>>
+    ensures answered { OnOk result (HasAnswered how.now.style (O.contents out.old) (O.contents out.new)) }
+    ensures stopped { IfErr result (λ stop. StopsWriting stop ⊎ (out.new ≡ out.old) ⊎ HasAnswered how.now.style (O.contents out.old) (O.contents out.new)) }
+{
+    let mut line = connect(rt, how.server.port)?;
+    let Some(name) = how.record else {
+        return ask_line(rt, &mut line, question, how, out);
+    };
+    let mut line = RecordedLine::new(rt.alloc(), line);
+    let ended = ask_line(rt, &mut line, question, how, out);
+    let recorded = write_record(rt, name, &line);
+    drop(line);
+    // The fault of the command is told first.
+    match ended {
+        Ok(verdict) => match recorded {
+            Ok(()) => Ok(verdict),
+            Err(stop) => Err(stop),
+        },
+        Err(stop) => Err(stop),
+    }
 }
 
 /// What counts of codes that are bad: they do only where `--strict` asks for it.
@@ -181,7 +239,7 @@ pub fn write_question(alloc: Global, asked: &WriteNode<'_>) -> Result<Question, 
 }
 
 /// Asks what words ask for, if they do, and says what counts of the answers.
-fn ask_counted<'a, R: Net + Clock + AllocGlobal, O: Write>(
+fn ask_counted<'a, R: Files + Net + Clock + AllocGlobal, O: Write>(
     rt: &R,
     question: Result<Question, WordFault>,
     how: &Asking<'a>,
@@ -199,7 +257,7 @@ fn ask_counted<'a, R: Net + Clock + AllocGlobal, O: Write>(
 }
 
 /// Prints an attribute of nodes of the server on a port of this machine.
-pub fn read<'a, R: Net + Clock + AllocGlobal, O: Write>(
+pub fn read<'a, R: Files + Net + Clock + AllocGlobal, O: Write>(
     rt: &R,
     asked: &ReadNodes<'a>,
     out: &mut O,
@@ -213,12 +271,13 @@ pub fn read<'a, R: Net + Clock + AllocGlobal, O: Write>(
         policy: asked.policy,
         style: asked.style,
         strict: asked.strict,
+        record: asked.record,
     };
     ask_counted(rt, read_question(rt.alloc(), asked), &how, out)
 }
 
 /// Sets the Value of a node of the server on a port of this machine, and prints what became of it.
-pub fn write<'a, R: Net + Clock + AllocGlobal, O: Write>(
+pub fn write<'a, R: Files + Net + Clock + AllocGlobal, O: Write>(
     rt: &R,
     asked: &WriteNode<'a>,
     out: &mut O,
@@ -232,6 +291,7 @@ pub fn write<'a, R: Net + Clock + AllocGlobal, O: Write>(
         policy: asked.policy,
         style: asked.style,
         strict: asked.strict,
+        record: asked.record,
     };
     ask_counted(rt, write_question(rt.alloc(), asked), &how, out)
 }

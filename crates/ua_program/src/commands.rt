@@ -86,6 +86,12 @@ const URL: Word = Word {
     help: "the server's URL up to the path, in place of opc.tcp://localhost:PORT",
 };
 
+const RECORD: Word = Word {
+    name: "record",
+    kind: Kind::Text,
+    help: "the octets each way go to two files of this name, with .up and .down behind it",
+};
+
 const STRICT: Word = Word {
     name: "strict",
     kind: Kind::Flag,
@@ -164,6 +170,7 @@ const ENDPOINTS: &[Word] = &[
     JSON,
     PATH,
     URL,
+    RECORD,
     WHY,
 ];
 
@@ -195,6 +202,7 @@ const READ: &[Word] = &[
     POLICY,
     PATH,
     URL,
+    RECORD,
     STRICT,
     WHY,
 ];
@@ -222,6 +230,7 @@ const WRITE: &[Word] = &[
     POLICY,
     PATH,
     URL,
+    RECORD,
     STRICT,
     WHY,
 ];

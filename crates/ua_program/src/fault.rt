@@ -26,6 +26,12 @@ pub enum Fault<'a> {
     /// What is printed cannot be written.
     #[error("cannot write")]
     CannotWrite,
+    /// The file of a record cannot be written that has the octets that were sent; this is the record's name.
+    #[error("cannot write {0}.up")]
+    CannotWriteUp(&'a str),
+    /// The same of the octets that came.
+    #[error("cannot write {0}.down")]
+    CannotWriteDown(&'a str),
     /// Words ask for nothing, and why.
     #[error("{0}")]
     Words(WordFault),

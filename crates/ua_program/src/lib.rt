@@ -23,6 +23,7 @@ mod number;
 mod output;
 mod program;
 mod reason;
+mod record;
 mod serve;
 mod standard;
 mod tell;

@@ -32,6 +32,16 @@ pub fn cannot_read<'a>(file: &'a str, error: io::Error) -> Stop<'a>
     }
 }
 
+/// That a file of a record cannot be written, by what the system says.
+pub fn cannot_record<'a>(fault: Fault<'a>, error: io::Error) -> Stop<'a>
+    ensures { StopsAt fault.entry result }
+{
+    match error.kind() {
+        io::ErrorKind::OutOfMemory => Stop::Fault(Fault::NoMemory),
+        _ => Stop::Because(fault, Reason::System(error)),
+    }
+}
+
 /// That a port cannot be listened on, or gives no connection, by what the system says.
 pub fn cannot_listen<'a>(error: io::Error) -> Stop<'a>
     ensures { StopsAt CannotListen result }

@@ -11,8 +11,10 @@
 
 mod clock_moments;
 mod gathering_line;
+mod recorded_line;
 mod tcp_line;
 
 pub use clock_moments::ClockMoments;
 pub use gathering_line::GatheringLine;
+pub use recorded_line::RecordedLine;
 pub use tcp_line::{TcpLine, without_delay};

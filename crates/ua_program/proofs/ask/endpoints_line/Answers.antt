@@ -1,6 +1,6 @@
 use Rattle.std.proofs.lemmas.Result.{err_from_is_err_and}
 use Rattle.ua_program.proofs.Stops.{left_at}
-use Rattle.ua_program.proofs.ask.ask.Goals as goal
+use Rattle.ua_program.proofs.ask.endpoints_line.Goals as goal
 
 pub returns-in_err-ended-clause-stopped : goal.returns-in_err-ended-clause-stopped
 returns-in_err-ended-clause-stopped g c =

@@ -1,0 +1,53 @@
+//! The headline, of what both ends kept of their connection.
+
+ghost use Rattle.std.specs.Prelude.{◌≡◌, IsTrue, ℕ, List};
+ghost use Rattle.ua_channel.specs.Asks.{Placed};
+ghost use Rattle.ua_channel.specs.Client.{ClientGoes};
+ghost use Rattle.ua_channel.specs.ClientTold.{ClientTold};
+ghost use Rattle.ua_channel.specs.ServerStands.{Goes};
+ghost use Rattle.ua_channel.specs.ServerTold.{Told};
+ghost use Rattle.ua_channel_laws.specs.Outgoing.{Outgoing};
+ghost use Rattle.ua_server.specs.Served.{channel_in};
+ghost use Rattle.ua_tcp.specs.Records.{octets_read, octets_written};
+ghost use Rattle.ua_headline.specs.Records.{AreGiven, AreSent, IsHonest};
+ghost use Rattle.ua_headline.specs.Talk.{Ends, IsPrefix, heard_in, told_in};
+
+use crate::laws::the_headline;
+use ua_channel::ClientChannel;
+use ua_server::Server;
+use ua_tcp::RecordedLine;
+
+/// Whether what each end of a connection read is a prefix of what the other wrote, as both lines kept it:
+/// `here` the client's, `there` the server's. Where it is, the headline holds of these octets, over a
+/// socket too. What a line keeps its own calls say: that an end took and wrote just that is a premise.
+pub fn is_honest<K, L>(
+    server: &Server,
+    client: &ClientChannel,
+    here: &RecordedLine<K>,
+    there: &RecordedLine<L>,
+) -> bool
+    ensures honest { IsTrue result → IsHonest here.now there.now }
+    // What the server was told is a prefix of the turns.
+    ensures told { (e : Ends) (turns : List (List Outgoing)) (told : List Told) → IsTrue result →
+        AreSent e turns (channel_in server.now) (octets_written here.now) →
+        Goes (channel_in server.now) (octets_read there.now) told → IsPrefix told (told_in e turns) }
+    // What the client was told is a prefix of the server's answers, each under the RequestId of its own call.
+    ensures answered { (e : Ends) (turns : List (List Outgoing)) (told : List Told) (asks : List Placed)
+        (heard : List ClientTold) → IsTrue result →
+        AreSent e turns (channel_in server.now) (octets_written here.now) →
+        Goes (channel_in server.now) (octets_read there.now) told →
+        AreGiven e turns told client.now asks (octets_written there.now) →
+        ClientGoes client.now asks (octets_read here.now) heard → IsPrefix heard (heard_in e turns) }
+{
+    the_headline(server, client);
+    let up = begins(here.octets_written(), there.octets_read());
+    let down = begins(there.octets_written(), here.octets_read());
+    up && down
+}
+
+/// Whether octets begin with others.
+fn begins(octets: &[u8], prefix: &[u8]) -> bool
+    ensures { IsTrue result → IsPrefix prefix.now octets.now }
+{
+    octets.starts_with(prefix)
+}

@@ -1,0 +1,42 @@
+//! `--record`: the octets that went over a connection, in files.
+
+ghost use Rattle.std.specs.Prelude.{IfErr};
+ghost use Rattle.ua_program.specs.Reasons.{StopsAt, StopsRecording};
+
+use crate::fault::Fault;
+use crate::output::Stop;
+use crate::reason::cannot_record;
+use std::fs;
+use std::rt::Files;
+use ua_tcp::RecordedLine;
+
+/// Writes what a line kept to two files: what was written to it to the one of this name with `.up` behind
+/// it, what was read from it to that with `.down`. A file that is there is written anew.
+pub fn write_record<'a, R: Files + AllocGlobal, L>(
+    rt: &R,
+    name: &'a str,
+    line: &RecordedLine<L>,
+) -> Result<(), Stop<'a>>
+    ensures { IfErr result (λ stop. StopsRecording name.entry stop) }
+{
+    let up = format!(in rt.alloc(); "{name}.up")?;
+    write_octets(rt, &up, line.octets_written(), Fault::CannotWriteUp(name))?;
+    let down = format!(in rt.alloc(); "{name}.down")?;
+    write_octets(rt, &down, line.octets_read(), Fault::CannotWriteDown(name))?;
+    Ok(())
+}
+
+/// Writes octets to a file; the fault is told where that cannot be done.
+fn write_octets<'a, R: Files + AllocGlobal>(
+    rt: &R,
+    file: &str,
+    octets: &[u8],
+    fault: Fault<'a>,
+) -> Result<(), Stop<'a>>
+    ensures { IfErr result (λ stop. StopsAt fault.entry stop) }
+{
+    match fs::write(rt, file, octets) {
+        Ok(()) => Ok(()),
+        Err(error) => Err(cannot_record(fault, error)),
+    }
+}
