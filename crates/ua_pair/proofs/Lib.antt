@@ -1,6 +1,8 @@
 mod Elements
+mod EncodingTable
 pub mod Behind
 mod Bodies
+mod Named
 mod OneLine
 mod Befores
 mod CutBacks

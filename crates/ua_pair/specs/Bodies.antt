@@ -1,13 +1,19 @@
 -- The fields of a body: those of the message that it is.
 use Rattle.std.specs.Prelude.{◌≡◌, ℕ, Bool, List, [], Option, Some, None}
+use Rattle.ua_builtin.specs.Exact.{◌>>=◌}
+use Rattle.ua_builtin.specs.Format.{Format, most_levels}
+use Rattle.ua_builtin.specs.NodeId.{node_id}
+use Rattle.ua_opening.specs.Header.{service_fault}
 use Rattle.ua_opening.specs.SecureChannel.{open_request, close_request}
 use Rattle.ua_opening.specs.Message.{IsBody, message, body_of}
 use Rattle.ua_opening.specs.Open.{IsAnswer, answer_read}
 use Rattle.ua_services.specs.Request.{request}
 use Rattle.ua_services.specs.Response.{response}
-use Rattle.ua_pair.specs.Messages.{request_fields, response_fields, open_request_fields, open_answer_fields, close_request_fields}
+use Rattle.ua_pair.specs.Messages.{request_fields, response_fields, open_request_fields, open_answer_fields, close_request_fields, service_fault_fields}
 use Rattle.ua_pair.specs.declared.fields.body.BodyKind.{BodyKind}
 use Rattle.ua_pair.specs.declared.fields.body.BodyKind.TheVariants.{Request, Response, OpenRequest, OpenResponse, CloseRequest}
+use Rattle.ua_pair.specs.declared.side.Side.{Side}
+use Rattle.ua_pair.specs.declared.side.Side.TheVariants.{Client, Server}
 
 -- ---- by what reading gives
 
@@ -23,6 +29,17 @@ body_fields names Response octets = fields_found (response_fields names) (body_o
 body_fields names OpenRequest octets = fields_found (open_request_fields names) (body_of (message 446 open_request) octets)
 body_fields names OpenResponse octets = fields_found (open_answer_fields names) (answer_read octets)
 body_fields names CloseRequest octets = fields_found (close_request_fields names) (body_of (message 452 close_request) octets)
+
+-- ---- the header alone
+
+-- the value that stands behind the NodeId that octets begin with, whatever follows it
+abbrev pub behind_id : {A : Type 0} → Format A → List ℕ → Option A
+behind_id format octets = node_id.decode octets >>= λ id. format.decode most_levels id.1 >>= λ value. Some value.0
+
+-- the lines of the header of a message that this side sent, where it reads whole: a CloseSecureChannelRequest is a RequestHeader and no more, a ServiceFault a ResponseHeader (OPC 10000-4, 5.6.3 and 7.35)
+abbrev pub header_fields : Bool → Side → List ℕ → List ℕ
+header_fields names Client octets = fields_found (close_request_fields names) (behind_id close_request octets)
+header_fields names Server octets = fields_found (service_fault_fields names) (behind_id service_fault octets)
 
 -- ---- by what the octets encode
 

@@ -13,6 +13,7 @@ pub mod Laws
 -- The dissector, in the order in which its definitions are best read: the lines of frames, the names of messages, what of
 -- the frames before counts, what one frame says, the reasons against it, and last the lines of a whole list of octets.
 pub mod Lines
+pub mod Encodings
 pub mod Names
 pub mod Before
 pub mod Told

@@ -1,5 +1,6 @@
 -- The fields of messages: of each kind of request and response, and of the messages of the secure channel.
 use Rattle.std.specs.Prelude.{ℕ, Bool, List, [], codes}
+use Rattle.ua_opening.specs.declared.header.ServiceFault.{ServiceFault as ServiceFaultMessage}
 use Rattle.ua_opening.specs.declared.open.OpenAnswer.{OpenAnswer}
 use Rattle.ua_opening.specs.declared.open.OpenAnswer.TheVariants.{Open, Fault}
 use Rattle.ua_services.specs.declared.request.Request.{Request}
@@ -54,6 +55,10 @@ abbrev pub open_answer_tree : OpenAnswer → Tree
 open_answer_tree (Open m) = open_response_tree m
 open_answer_tree (Fault m) = structure (service_fault_entries m)
 
+-- a ServiceFault
+abbrev pub service_fault_tree : ServiceFaultMessage → Tree
+service_fault_tree m = structure (service_fault_entries m)
+
 -- ---- their lines
 
 -- the lines of a message, with the names of status codes or without: its fields have two blanks in front
@@ -79,6 +84,10 @@ open_response_fields names m = message_lines names (open_response_tree m)
 -- the lines of a request of CloseSecureChannel
 abbrev pub close_request_fields : Bool → CloseRequest → List ℕ
 close_request_fields names m = message_lines names (close_request_tree m)
+
+-- the lines of a ServiceFault
+abbrev pub service_fault_fields : Bool → ServiceFaultMessage → List ℕ
+service_fault_fields names m = message_lines names (service_fault_tree m)
 
 -- the lines of an answer to a request of OpenSecureChannel
 abbrev pub open_answer_fields : Bool → OpenAnswer → List ℕ

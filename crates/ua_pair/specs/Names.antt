@@ -1,8 +1,11 @@
 -- The names of messages, by the side that sent them: a client sends requests, a server responses.
-use Rattle.std.specs.Prelude.{ℕ, List, [], Option, Some, None, Result, Ok, Err, codes}
+use Rattle.std.specs.Prelude.{ℕ, Bool, true, false, ◌&&◌, cond, List, [], ◌++◌, Option, Some, None, Result, Ok, Err, codes}
+use Rattle.ua_builtin.specs.Exact.{◌>>=◌}
+use Rattle.ua_builtin.specs.NodeText.{node_text}
+use Rattle.ua_builtin.specs.declared.node_id.NodeId.{NodeId}
 use Rattle.ua_opening.specs.SecureChannel.{open_request}
 use Rattle.ua_opening.specs.declared.secure_channel.OpenRequest.{OpenRequest}
-use Rattle.ua_opening.specs.Message.{message, body_of}
+use Rattle.ua_opening.specs.Message.{message, body_of, id_of, standard_number}
 use Rattle.ua_opening.specs.Open.{answer_read}
 use Rattle.ua_services.specs.Request.{request_kind_name, request_read, kind_alone}
 use Rattle.ua_services.specs.Response.{response_kind_name, response_read, kind_of as response_kind_of}
@@ -14,6 +17,9 @@ use Rattle.ua_services.specs.declared.fault.RequestFault.{RequestFault}
 use Rattle.ua_services.specs.declared.fault.RequestFault.TheVariants as request_fault
 use Rattle.ua_services.specs.declared.fault.ResponseFault.{ResponseFault}
 use Rattle.ua_services.specs.declared.fault.ResponseFault.TheVariants as response_fault
+use Rattle.ua_texts.specs.Names.{name_in, name_part}
+use Rattle.ua_texts.specs.Shown.{escaped}
+use Rattle.ua_pair.specs.Encodings.{encodings}
 use Rattle.ua_pair.specs.declared.fields.body.BodyKind.{BodyKind}
 use Rattle.ua_pair.specs.declared.fields.body.BodyKind.TheVariants as kind
 use Rattle.ua_pair.specs.declared.side.Side.{Side}
@@ -59,6 +65,48 @@ response_name octets = response_name_of (response_read octets)
 abbrev pub message_name : Side → List ℕ → List ℕ
 message_name Client octets = request_name octets
 message_name Server octets = response_name octets
+
+-- ---- messages of no known kind
+
+-- what was read as a request begins with a NodeId that announces none
+abbrev pub is_unsupported_kind : Result RequestKind RequestFault → Bool
+is_unsupported_kind (Ok kind) = false
+is_unsupported_kind (Err (request_fault.Unsupported handle)) = true
+is_unsupported_kind (Err (request_fault.Unreadable handle)) = false
+is_unsupported_kind (Err request_fault.OutOfMemory) = false
+
+-- a message that a client sent is of no known kind
+abbrev pub is_unsupported_request : List ℕ → Bool
+is_unsupported_request octets = is_unsupported_kind (kind_alone (request_read octets))
+
+-- what was read as a response begins with a NodeId that announces none
+abbrev pub is_unknown : Result Response ResponseFault → Bool
+is_unknown (Ok m) = false
+is_unknown (Err response_fault.Unknown) = true
+is_unknown (Err response_fault.Unreadable) = false
+is_unknown (Err response_fault.OutOfMemory) = false
+
+-- a message that a server sent is of no known kind
+abbrev pub is_unsupported_response : List ℕ → Bool
+is_unsupported_response octets = is_unknown (response_read octets)
+
+-- a message that this side sent is of no known kind
+abbrev pub is_unsupported : Side → List ℕ → Bool
+is_unsupported Client octets = is_unsupported_request octets
+is_unsupported Server octets = is_unsupported_response octets
+
+-- the name of the message whose encoding has this id, where the table has it
+abbrev pub name_of_encoding : NodeId → Option (List ℕ)
+name_of_encoding id = standard_number id >>= name_in encodings
+
+-- the id of an encoding, and its name where the standard has one, each behind a blank: ` i=527 BrowseRequest`
+abbrev pub encoding_text : Option NodeId → List ℕ
+encoding_text None = []
+encoding_text (Some id) = codes " " ++ (escaped (node_text id) ++ name_part (name_of_encoding id))
+
+-- what the line of a message calls it: its name, and where names are wanted, the encoding of one of no known kind
+abbrev pub message_title : Bool → Side → List ℕ → List ℕ
+message_title names side octets = message_name side octets ++ cond (names && is_unsupported side octets) (encoding_text (id_of octets)) []
 
 -- ---- the bodies of OPN frames
 

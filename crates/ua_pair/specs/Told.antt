@@ -1,5 +1,5 @@
 -- The lines of one frame behind others: its own, and those of the message which it delivers.
-use Rattle.std.specs.Prelude.{ℕ, List, [], ◌++◌, cond, length, Option, Some, None, codes}
+use Rattle.std.specs.Prelude.{ℕ, Bool, ◌&&◌, List, [], ◌++◌, cond, length, Option, Some, None, codes}
 use Rattle.std.specs.List.{flat_map}
 use Rattle.ua_frame.specs.declared.frame.Frame.{Frame}
 use Rattle.ua_frame.specs.declared.kind.Kind.{Kind}
@@ -15,12 +15,12 @@ use Rattle.ua_chunk.specs.Item.{Item}
 use Rattle.ua_chunk.specs.Item.Item.{Whole, Aborted}
 use Rattle.ua_chunk.specs.Layout.{chunk_in}
 use Rattle.ua_chunk.specs.Opening.{opening_in}
-use Rattle.ua_pair.specs.Bodies.{body_fields}
+use Rattle.ua_pair.specs.Bodies.{body_fields, header_fields}
 use Rattle.ua_pair.specs.declared.fields.body.BodyKind.{BodyKind}
 use Rattle.ua_pair.specs.declared.options.DissectOptions.{DissectOptions}
 use Rattle.ua_pair.specs.Before.{message_chunks}
 use Rattle.ua_pair.specs.Lines.{hello_line, ack_line, error_line, opening_line, chunk_line, message_line, aborted_line}
-use Rattle.ua_pair.specs.Names.{message_kind, message_name, opening_kind, opening_name}
+use Rattle.ua_pair.specs.Names.{is_unsupported, message_kind, message_title, opening_kind, opening_name}
 
 -- the line of what was read, or nothing where nothing was
 abbrev pub line_if : {A : Type 0} → (A → List ℕ) → Option A → List ℕ
@@ -31,9 +31,17 @@ line_if line (Some m) = line m
 abbrev pub fields_of : DissectOptions → BodyKind → List ℕ → List ℕ
 fields_of options kind octets = cond options.fields (body_fields options.names kind octets) []
 
+-- the lines of the header of a message, where fields are wanted and it is of no known kind
+abbrev pub header_of : DissectOptions → Bool → List ℕ → List ℕ
+header_of options unsupported octets = cond (options.fields && unsupported) (header_fields options.names options.side octets) []
+
+-- the lines of the fields of a message, or of the header of one of no known kind, which has no fields
+abbrev pub message_fields : DissectOptions → List ℕ → List ℕ
+message_fields options octets = fields_of options (message_kind options.side) octets ++ header_of options (is_unsupported options.side octets) octets
+
 -- the lines of what a chunk delivers: that of the message, and those of its fields
 abbrev pub item_lines : DissectOptions → Item → List ℕ
-item_lines options (Whole id octets) = message_line id (length octets) (message_name options.side octets) ++ fields_of options (message_kind options.side) octets
+item_lines options (Whole id octets) = message_line id (length octets) (message_title options.names options.side octets) ++ message_fields options octets
 item_lines options (Aborted id code reason) = aborted_line options.names id code
 
 -- an OPN of this place and size: its line, that of its body, and those of its fields

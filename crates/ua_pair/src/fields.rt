@@ -16,8 +16,10 @@ mod secure_channel;
 mod session;
 mod text;
 
+pub(crate) use body::push_header_fields;
 pub use body::{BodyKind, push_body_fields};
 pub use message::{
     push_close_request_fields, push_open_answer_fields, push_open_request_fields,
     push_open_response_fields, push_request_fields, push_response_fields,
 };
+pub(crate) use text::push_node;

@@ -27,6 +27,8 @@
 #![tactic(auto)]
 
 mod dissector;
+mod encoding;
+mod encodings;
 mod fault;
 mod fields;
 pub mod laws;

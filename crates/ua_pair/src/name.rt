@@ -1,10 +1,11 @@
 //! The names of messages.
 
 ghost use Rattle.std.specs.List.{concat};
-ghost use Rattle.std.specs.Prelude.{◌≡◌, Some, IfOk};
+ghost use Rattle.std.specs.Prelude.{◌≡◌, Some, IfOk, string_bytes};
 ghost use Rattle.ua_pair.specs.declared.side.Side.TheVariants.{Client, Server};
-ghost use Rattle.ua_pair.specs.Names.{open_answer_name, request_name as name_of_request, response_name as name_of_response, message_name as name_of_message, opening_name as name_of_opening};
+ghost use Rattle.ua_pair.specs.Names.{open_answer_name, request_name as name_of_request, response_name as name_of_response, message_name as name_of_message, message_title as title_of_message, is_unsupported, is_unsupported_request, is_unsupported_response, opening_name as name_of_opening};
 
+use crate::encoding::push_encoding;
 use crate::side::Side;
 use std::alloc::{AllocError, Global};
 use ua_builtin::{Octets, ReadFault, Source};
@@ -20,47 +21,69 @@ const UNREADABLE: &str = "unreadable";
 /// The name of a body of no known kind.
 const UNSUPPORTED: &str = "unsupported";
 
-/// The name of a request.
-fn request_name<S: Source>(alloc: Global, src: &mut S) -> Result<&'static str, AllocError>
-    ensures { IfOk result (λ name. name.now ≡ name_of_request (S.octets src.old)) }
+/// The name of a request, and whether it is of no known kind.
+fn request_name<S: Source>(alloc: Global, src: &mut S) -> Result<(&'static str, bool), AllocError>
+    ensures name { IfOk result (λ named. named.0.now ≡ name_of_request (S.octets src.old)) }
+    ensures unsupported { IfOk result (λ named. named.1 ≡ is_unsupported_request (S.octets src.old)) }
 {
     match skip_request(alloc, src) {
-        Ok(kind) => Ok(kind.name()),
-        Err(RequestFault::Unsupported(_)) => Ok(UNSUPPORTED),
-        Err(RequestFault::Unreadable(_)) => Ok(UNREADABLE),
+        Ok(kind) => Ok((kind.name(), false)),
+        Err(RequestFault::Unsupported(_)) => Ok((UNSUPPORTED, true)),
+        Err(RequestFault::Unreadable(_)) => Ok((UNREADABLE, false)),
         Err(RequestFault::OutOfMemory) => Err(AllocError),
     }
 }
 
-/// The name of a response.
-fn response_name<S: Source>(alloc: Global, src: &mut S) -> Result<&'static str, AllocError>
-    ensures { IfOk result (λ name. name.now ≡ name_of_response (S.octets src.old)) }
+/// The name of a response, and whether it is of no known kind.
+fn response_name<S: Source>(alloc: Global, src: &mut S) -> Result<(&'static str, bool), AllocError>
+    ensures name { IfOk result (λ named. named.0.now ≡ name_of_response (S.octets src.old)) }
+    ensures unsupported { IfOk result (λ named. named.1 ≡ is_unsupported_response (S.octets src.old)) }
 {
     match read_response(alloc, src) {
         Ok(response) => {
             let name = response.kind().name();
             drop(response);
-            Ok(name)
+            Ok((name, false))
         }
-        Err(ResponseFault::Unknown) => Ok(UNSUPPORTED),
-        Err(ResponseFault::Unreadable) => Ok(UNREADABLE),
+        Err(ResponseFault::Unknown) => Ok((UNSUPPORTED, true)),
+        Err(ResponseFault::Unreadable) => Ok((UNREADABLE, false)),
         Err(ResponseFault::OutOfMemory) => Err(AllocError),
     }
 }
 
-/// The name of a message that this side sent.
-pub fn message_name(
+/// The name of a message that this side sent, and whether it is of no known kind.
+fn message_name(
     alloc: Global,
     side: Side,
     message: &Message,
-) -> Result<&'static str, AllocError>
-    ensures { IfOk result (λ name. name.now ≡ name_of_message side (concat message.now)) }
+) -> Result<(&'static str, bool), AllocError>
+    ensures name { IfOk result (λ named. named.0.now ≡ name_of_message side (concat message.now)) }
+    ensures unsupported { IfOk result (λ named. named.1 ≡ is_unsupported side (concat message.now)) }
 {
     let mut src = message.source();
     match side {
         Side::Client => request_name(alloc, &mut src),
         Side::Server => response_name(alloc, &mut src),
     }
+}
+
+/// What the line of a message that this side sent calls it, and whether it is of no known kind: its
+/// name, and where names are wanted and it is of no known kind, the id of its encoding and the name of that.
+pub fn message_title(
+    alloc: Global,
+    side: Side,
+    names: bool,
+    message: &Message,
+) -> Result<(String, bool), AllocError>
+    ensures title { IfOk result (λ titled. string_bytes titled.0 ≡ title_of_message names side (concat message.now)) }
+    ensures unsupported { IfOk result (λ titled. titled.1 ≡ is_unsupported side (concat message.now)) }
+{
+    let (name, unsupported) = message_name(alloc, side, message)?;
+    let mut title = String::from_str(alloc, name)?;
+    if names && unsupported {
+        push_encoding(alloc, &mut message.source(), &mut title)?;
+    }
+    Ok((title, unsupported))
 }
 
 /// The name of a request for a channel.

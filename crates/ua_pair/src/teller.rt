@@ -16,14 +16,14 @@ ghost use Rattle.ua_pair.specs.Telling.{TellerStands, Judges, JudgesKind};
 ghost use Rattle.ua_pair.specs.Refused.{greeting_reasons, frame_reasons};
 ghost use Rattle.ua_pair.specs.Lines.{message_line};
 ghost use Rattle.ua_pair.specs.Names.{message_kind as kind_of_message, opening_kind as kind_of_opening, opening_name as name_of_opening};
-ghost use Rattle.ua_pair.specs.Told.{fields_of, frame_lines, item_lines, line_if, place_behind};
+ghost use Rattle.ua_pair.specs.Told.{fields_of, frame_lines, header_of, item_lines, line_if, place_behind};
 
 use crate::fault::DissectFault;
-use crate::fields::{BodyKind, push_body_fields};
+use crate::fields::{BodyKind, push_body_fields, push_header_fields};
 use crate::line::{
     GreetingLine, push_aborted_line, push_chunk_line, push_message_line, push_opening_line,
 };
-use crate::name::{message_name, opening_name};
+use crate::name::{message_title, opening_name};
 use crate::options::DissectOptions;
 use crate::side::Side;
 use std::alloc::{AllocError, Global};
@@ -110,6 +110,24 @@ fn push_fields<S: Source>(
     }
 }
 
+/// Adds the lines of the header of a message of no known kind, where fields are wanted.
+fn push_header(
+    alloc: Global,
+    options: &DissectOptions,
+    unsupported: bool,
+    message: &Message,
+    lines: &mut String,
+) -> Result<(), AllocError>
+    ensures { OnOk result (string_bytes lines.new ≡ string_bytes lines.old ++ header_of options.now unsupported (concat message.now)) }
+{
+    if options.fields && unsupported {
+        let mut body = message.source();
+        push_header_fields(alloc, options.side, options.names, &mut body, lines)
+    } else {
+        Ok(())
+    }
+}
+
 /// Adds the line of a message, and those of its fields.
 fn push_message(
     alloc: Global,
@@ -120,10 +138,11 @@ fn push_message(
 ) -> Result<(), AllocError>
     ensures { OnOk result (string_bytes lines.new ≡ string_bytes lines.old ++ item_lines options.now (Whole request (concat message.now))) }
 {
-    let name = message_name(alloc, options.side, message)?;
-    push_message_line(lines, request, message.len(), name)?;
+    let (title, unsupported) = message_title(alloc, options.side, options.names, message)?;
+    push_message_line(lines, request, message.len(), &title)?;
     let mut src = message.source();
-    push_fields(alloc, options, message_kind(options.side), &mut src, lines)
+    push_fields(alloc, options, message_kind(options.side), &mut src, lines)?;
+    push_header(alloc, options, unsupported, message, lines)
 }
 
 /// Adds the lines of what a chunk delivers.

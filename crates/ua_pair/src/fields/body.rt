@@ -6,16 +6,17 @@ ghost use Rattle.ua_opening.specs.Message.{body_of, message, standard_number as 
 ghost use Rattle.ua_opening.specs.Open.{answer_read};
 ghost use Rattle.ua_services.specs.Request.{request};
 ghost use Rattle.ua_services.specs.Response.{response};
-ghost use Rattle.ua_pair.specs.Bodies.{AreBodyFields, body_fields, fields_found};
+ghost use Rattle.ua_pair.specs.Bodies.{AreBodyFields, behind_id, body_fields, fields_found, header_fields};
 ghost use Rattle.ua_pair.specs.Messages.{message_lines};
 
 use crate::fields::lines::Lines;
 use crate::fields::message::push_message;
+use crate::side::Side;
 use std::alloc::{AllocError, Global};
 use ua_builtin::{Identifier, MOST_LEVELS, NodeId, ReadFault, Source, Wire};
 use ua_services::{
     CloseRequest, OpenAnswer, OpenRequest, Request, RequestFault, Response, ResponseFault,
-    read_open_request, read_open_response, read_request, read_response,
+    ServiceFault, read_open_request, read_open_response, read_request, read_response,
 };
 
 /// What a body is read as, by who sent it and in which message (OPC 10000-6, 6.7.2).
@@ -167,5 +168,44 @@ pub fn push_body_fields<S: Source>(
         BodyKind::OpenRequest => push_found(alloc, found_open_request(alloc, src)?, names, out),
         BodyKind::OpenResponse => push_found(alloc, found_open_answer(alloc, src)?, names, out),
         BodyKind::CloseRequest => push_found(alloc, found_close_request(alloc, src)?, names, out),
+    }
+}
+
+/// The value that stands behind the NodeId that octets begin with, whatever follows it.
+fn found_behind<T: Wire, S: Source>(alloc: Global, src: &mut S) -> Result<Option<T>, AllocError>
+    ensures { IfOk result (λ found. found ≡ behind_id T.format (S.octets src.old)) }
+{
+    match NodeId::read_value(alloc, src, MOST_LEVELS) {
+        Ok(id) => drop(id),
+        Err(ReadFault::NoValue) => return Ok(None),
+        Err(ReadFault::OutOfMemory) => return Err(AllocError),
+    }
+    match T::read_value(alloc, src, MOST_LEVELS) {
+        Ok(value) => Ok(Some(value)),
+        Err(ReadFault::NoValue) => Ok(None),
+        Err(ReadFault::OutOfMemory) => Err(AllocError),
+    }
+}
+
+/// Adds the lines of the header of a message that this side sent, where it reads whole. The source is to
+/// be given up. Where memory is refused, some lines may stand there.
+pub(crate) fn push_header_fields<S: Source>(
+    alloc: Global,
+    side: Side,
+    names: bool,
+    src: &mut S,
+    out: &mut String,
+) -> Result<(), AllocError>
+    ensures { OnOk result (string_bytes out.new ≡ string_bytes out.old ++ header_fields names side (S.octets src.old)) }
+{
+    match side {
+        Side::Client => {
+            let found: Option<CloseRequest> = found_behind(alloc, src)?;
+            push_found(alloc, found, names, out)
+        }
+        Side::Server => {
+            let found: Option<ServiceFault> = found_behind(alloc, src)?;
+            push_found(alloc, found, names, out)
+        }
     }
 }
