@@ -2,7 +2,8 @@
 use Rattle.std.proofs.Common.{◌≡◌, ℕ, List, Option, Some, Result, Ok, Err}
 use Rattle.ua_structures.specs.declared.discovery.EndpointDescription.{EndpointDescription}
 use Rattle.ua_client.specs.declared.reply.Reply.{Reply}
-use Rattle.ua_session.specs.Policy.{ChoosesAmong, ChoosesBy, listed}
+use Rattle.ua_services.specs.Policy.{listed}
+use Rattle.ua_session.specs.Policy.{ChoosesAmong, ChoosesBy}
 use Rattle.ua_session.specs.Replies.{endpoints_of}
 use Rattle.ua_session.specs.declared.fault.AskFault.{AskFault}
 use Rattle.ua_session.specs.declared.fault.AskFault.TheVariants.{Connection, NoMemory, NoPolicy, Output, Service}

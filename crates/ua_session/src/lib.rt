@@ -37,7 +37,7 @@ mod words;
 pub use endpoints::endpoints_over;
 pub use fault::{AskFault, NotBegun, WordFault};
 pub use looping::{LoopFault, Looped, parse_lines, push_end, run_lines};
-pub use policy::{TokenPolicy, chosen_id};
+pub use policy::TokenPolicy;
 pub use question::Question;
 pub use session::ask_over;
 pub use verdict::Verdict;

@@ -1,6 +1,7 @@
 use Rattle.std.proofs.Common.{rules, ◌≡◌, subst}
 use Rattle.ua_client.specs.declared.reply.Reply.TheVariants.{Response as Responds}
-use Rattle.ua_session.specs.Policy.{ChoosesAmong, listed}
+use Rattle.ua_services.specs.Policy.{listed}
+use Rattle.ua_session.specs.Policy.{ChoosesAmong}
 use Rattle.ua_session.proofs.Choosing.{chosen_by}
 use Rattle.ua_session.proofs.policy.choose_in.Goals as goal
 
