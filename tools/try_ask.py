@@ -1,12 +1,10 @@
 #!/usr/bin/env python3
 """Lets the program `ua` ask servers over loopback connections: try_ask PROGRAM.
 
-PROGRAM is the built program, and the port 4840 has to be free. It asks itself, as a server in the
-background, for its endpoints, and writes and reads values; it asks servers that answer with what is
-written out in examples/c/data, whole, cut short, or with other frames in its
-place, and one that is silent at CloseSession; and it is given words and ports that it cannot take. What it asks and
-prints is compared with
-these streams and docs/PROGRAM.md; the status is 1 at the first difference.
+PROGRAM is the built program. It asks itself, as a server in the background, for its endpoints, and writes and reads
+values; it asks servers that answer with what is written out in examples/c/data, whole, cut short, or with other
+frames in its place, and one that is silent at CloseSession; and it is given words and ports that it cannot take. What
+it asks and prints is compared with these streams and docs/PROGRAM.md; the status is 1 at the first difference.
 """
 from __future__ import annotations
 
@@ -114,14 +112,14 @@ def try_endpoints(program: str) -> None:
     """`ua endpoints` asks servers that answer well, refuse, or answer what is none."""
     # A request of GetEndpoints has the header of CreateSession, and its answer the header and the
     # endpoints of that to CreateSession.
-    url = b'opc.tcp://localhost:4840'
+    url = b'opc.tcp://localhost:%d' % PORT
     asked = response(2, b'\x01\0\xAC\x01' + CREATE[28:57] + struct.pack('<I', len(url)) + url + 8 * b'\xFF')
     header, list_of_one = CREATED[28:52], CREATED[76:342]
     listed = response(2, b'\x01\0\xAF\x01' + header + list_of_one)
     unlisted = response(2, b'\x01\0\xAF\x01' + header + b'\xFF\xFF\xFF\xFF')
     begun, leave = [ACK, OPENED], numbered(LEAVE, 3)
     whole, broken = [HELLO, OPEN, asked, leave], [HELLO, OPEN, asked]
-    endpoint = 'opc.tcp://localhost:4840 1 %s\n' % POLICY
+    endpoint = 'opc.tcp://localhost:%d 1 %s\n' % (PORT, POLICY)
     rows = [
         (begun + [listed], whole, 0, endpoint, ''),
         (begun + [unlisted], whole, 0, '', ''),
@@ -242,7 +240,7 @@ def activating(frame: bytes, number: int, name: bytes) -> bytes:
 
 def try_policies(program: str) -> None:
     """`--policy` names the token policy, or takes that of an endpoint."""
-    url, none = b'opc.tcp://localhost:4840', POLICY.encode()
+    url, none = b'opc.tcp://localhost:%d' % PORT, POLICY.encode()
     secure = b'http://opcfoundation.org/UA/SecurityPolicy#Basic256Sha256'
     several: list[Endpoint] = [(url, 3, secure, [(b'signed', 0)]), (url, 1, secure, [(b'other', 0)]),
                                (url, 1, none, [(b'user', 1), (b'0', 0), (b'1', 0)]), (url, 1, none, [(b'2', 0)])]

@@ -1,11 +1,10 @@
 #!/usr/bin/env python3
 """Talks to the program `ua` over loopback connections: try_serve PROGRAM [COUNT].
 
-PROGRAM is the built program, and the port 4840 has to be free. It serves whole connections, ones
-that are cut in the middle or reset and ones that are refused, to a number of them or without an
-end, also where memory is refused at one of them or the system gives none, and is given words, files
-and a port that it cannot take. What it answers and prints is compared with what is written out in
-examples/c/data and docs/PROGRAM.md; the status is 1 at the first difference.
+PROGRAM is the built program. It serves whole connections, ones that are cut in the middle or reset and ones that are
+refused, to a number of them or without an end, also where memory is refused at one of them or the system gives none,
+and is given words, files and a port that it cannot take. What it answers and prints is compared with what is written
+out in examples/c/data and docs/PROGRAM.md; the status is 1 at the first difference.
 
 With COUNT it is asked as often for the values of one node, and of 1000 nodes, one request behind
 the other; printed is how many were answered a second, and the most memory that the program held.

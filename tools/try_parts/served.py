@@ -3,6 +3,7 @@ from __future__ import annotations
 
 import atexit
 import os
+import random
 import socket
 import struct
 import subprocess
@@ -10,7 +11,22 @@ import sys
 from typing import Callable, Iterator
 
 STREAMS = os.path.join(os.path.dirname(os.path.dirname(os.path.dirname(os.path.abspath(__file__)))), 'examples/c/data')
-PORT = 4840
+# That of the streams that are written out.
+PORT_WRITTEN = b'4840'
+
+
+def free_port() -> int:
+    """A port that is free, whose number has four digits."""
+    while True:
+        port = random.randrange(4840, 10000)
+        try:
+            socket.create_server(('127.0.0.1', port)).close()
+            return port
+        except OSError:
+            pass
+
+
+PORT = free_port()
 # 1970-01-01, the moment of the streams that are written out.
 MOMENT = struct.pack('<q', 116444736000000000)
 # Behind so many octets of the client no frame is unfinished.
@@ -20,9 +36,9 @@ SESSION_MADE = 347
 
 
 def written_out(name: str) -> bytes:
-    """A stream that is written out."""
+    """A stream that is written out, over this port."""
     with open(os.path.join(STREAMS, name), 'rb') as file:
-        return file.read()
+        return file.read().replace(PORT_WRITTEN, b'%d' % PORT)
 
 
 CLIENT = written_out('client.bin')

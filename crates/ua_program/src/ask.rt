@@ -6,7 +6,7 @@ ghost use Rattle.ua_session.specs.Words.{GivesRead, GivesWrite};
 ghost use Rattle.ua_session.specs.declared.verdict.Verdict.TheVariants.{AllGood, SomeBad};
 ghost use Rattle.ua_program.specs.Printed.{HasAnswered, HasListed};
 ghost use Rattle.ua_program.specs.Words.{base_url, policy_named, value_given, with_path};
-ghost use Rattle.ua_program.specs.Reasons.{StopsWriting};
+ghost use Rattle.ua_program.specs.Reasons.{StopsWriting, is_starved};
 
 use crate::arguments::{Address, ListEndpoints, ReadNodes, WriteNode};
 use crate::fault::Fault;
@@ -63,6 +63,7 @@ fn with_path(alloc: Global, url: &UaString, path: &str) -> Result<UaString, Allo
 pub fn url_of<'a>(alloc: Global, server: &Address<'_>) -> Result<UaString, Stop<'a>>
     ensures is { IfOk result (λ url. url ≡ with_path (base_url server.now.port (option_map (λ text. text.now) server.now.url)) server.now.path.now) }
     ensures encodable { IfOk result (λ url. IsTrue (text.encodable url)) }
+    ensures starved { IfErr result (λ why. is_starved why ≡ true) }
 {
     let base = base_url(alloc, server)?;
     let url = with_path(alloc, &base, server.path)?;

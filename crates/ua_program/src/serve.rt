@@ -28,8 +28,8 @@ use ua_builtin::UaString;
 use ua_channel::{Line, Moments};
 use ua_exchange::{MESSAGE_SIZE, limits};
 use ua_server::{
-    AnsweredRequest, Application, End, Endpoint, ServeFault, Services, Unwatched, Watch, serve,
-    serve_application, serve_watched,
+    AnsweredRequest, Application, End, Endpoint, NoApplication, ServeFault, Services, Unwatched,
+    Watch, serve, serve_application,
 };
 use ua_services::RequestKind;
 use ua_services::session_requests::local_url;
@@ -179,87 +179,8 @@ impl<'o, O: Write> Watch for RequestLines<'o, O> {
     }
 }
 
-/// Serves the client at the other end of a line, and prints the line of each request as it is
-/// answered. Gives the line of text that says what became of the connection.
-fn serve_telling<'a, L: Line, M: Moments, O: Write>(
-    alloc: Global,
-    line: &mut L,
-    services: &mut Services,
-    number: u32,
-    moments: &mut M,
-    out: &mut O,
-) -> Result<String, Stop<'a>>
-    ensures served { IfOk result (λ text. HasTold true number (O.contents out.old) (O.contents out.new) × IsConnectionLine number (string_bytes text)) }
-    ensures stopped { IfErr result (λ stop. StopsWriting stop ⊎ HasTold true number (O.contents out.old) (O.contents out.new)) }
-    ensures only { IfErr result StopsConnection }
-{
-    let mut lines = RequestLines {
-        alloc,
-        number,
-        out,
-        halt: None,
-    };
-    let outcome = serve_watched(alloc, line, services, limits(), number, moments, &mut lines);
-    let RequestLines {
-        alloc: _,
-        number: _,
-        out,
-        halt,
-    } = lines;
-    // No effect at run time. The proof reads what the writer holds from this use of it.
-    let _ = &*out;
-    match halt {
-        None => Ok(outcome_line(alloc, number, outcome)?),
-        Some(Halt::Memory) => Err(Stop::Fault(Fault::NoMemory)),
-        Some(Halt::Output(error)) => Err(Stop::Output(error)),
-    }
-}
-
-/// Serves the client at the other end of a line, with the lines of its requests where they are wanted.
-/// Gives the line of text that says what became of the connection.
-fn serve_client<'a, L: Line, M: Moments, O: Write>(
-    alloc: Global,
-    line: &mut L,
-    services: &mut Services,
-    number: u32,
-    requests: bool,
-    moments: &mut M,
-    out: &mut O,
-) -> Result<String, Stop<'a>>
-    ensures served { IfOk result (λ text. HasTold requests number (O.contents out.old) (O.contents out.new) × IsConnectionLine number (string_bytes text)) }
-    ensures stopped { IfErr result (λ stop. StopsWriting stop ⊎ HasTold requests number (O.contents out.old) (O.contents out.new)) }
-    ensures only { IfErr result StopsConnection }
-{
-    if requests {
-        serve_telling(alloc, line, services, number, moments, out)
-    } else {
-        Ok(serve_line(alloc, line, services, number, moments)?)
-    }
-}
-
-/// Serves the client of a connection, which has ended then. What is answered to requests that came
-/// together is sent together. Gives the line of text that says what became of the connection.
-fn serve_stream<'a, S: Read + Write + Drop, M: Moments, O: Write>(
-    alloc: Global,
-    stream: S,
-    services: &mut Services,
-    number: u32,
-    requests: bool,
-    moments: &mut M,
-    out: &mut O,
-) -> Result<String, Stop<'a>>
-    ensures served { IfOk result (λ text. HasTold requests number (O.contents out.old) (O.contents out.new) × IsConnectionLine number (string_bytes text)) }
-    ensures stopped { IfErr result (λ stop. StopsWriting stop ⊎ HasTold requests number (O.contents out.old) (O.contents out.new)) }
-    ensures only { IfErr result StopsConnection }
-{
-    let mut line = GatheringLine::new(alloc, TcpLine::new(stream));
-    let served = serve_client(alloc, &mut line, services, number, requests, moments, out);
-    // the last answers, or the ERR frame: whether the client gets them no connection tells
-    let _ = line.flush();
-    served
-}
-
-/// Does what [`serve_telling`] does, beside an application.
+/// Serves the client at the other end of a line beside an application, and prints the line of each request
+/// as it is answered. Gives the line of text that says what became of the connection.
 fn tell_beside<'a, L: Line, M: Moments, A: Application, O: Write>(
     alloc: Global,
     line: &mut L,
@@ -304,7 +225,8 @@ fn tell_beside<'a, L: Line, M: Moments, A: Application, O: Write>(
     }
 }
 
-/// Does what [`serve_client`] does, beside an application.
+/// Serves the client at the other end of a line beside an application, with the lines of its requests where
+/// they are wanted. Gives the line of text that says what became of the connection.
 fn serve_beside<'a, L: Line, M: Moments, A: Application, O: Write>(
     alloc: Global,
     line: &mut L,
@@ -335,15 +257,17 @@ fn serve_beside<'a, L: Line, M: Moments, A: Application, O: Write>(
     Ok(outcome_line(alloc, number, outcome)?)
 }
 
-/// Does what [`serve_stream`] does, and keeps CurrentTime by these moments.
-fn serve_timed<'a, S: Read + Write + Drop, M: Moments, T: Moments + Drop, O: Write>(
+/// Serves the client of a connection, which has ended then, beside an application. What is answered to
+/// requests that came together is sent together. Gives the line of text that says what became of the
+/// connection.
+fn serve_stream<'a, S: Read + Write + Drop, M: Moments, A: Application, O: Write>(
     alloc: Global,
     stream: S,
     services: &mut Services,
     number: u32,
     requests: bool,
     moments: &mut M,
-    times: T,
+    application: &mut A,
     out: &mut O,
 ) -> Result<String, Stop<'a>>
     ensures served { IfOk result (λ text. HasTold requests number (O.contents out.old) (O.contents out.new) × IsConnectionLine number (string_bytes text)) }
@@ -351,7 +275,6 @@ fn serve_timed<'a, S: Read + Write + Drop, M: Moments, T: Moments + Drop, O: Wri
     ensures only { IfErr result StopsConnection }
 {
     let mut line = GatheringLine::new(alloc, TcpLine::new(stream));
-    let mut keeper = TimeKeeper { moments: times };
     let served = serve_beside(
         alloc,
         &mut line,
@@ -359,7 +282,7 @@ fn serve_timed<'a, S: Read + Write + Drop, M: Moments, T: Moments + Drop, O: Wri
         number,
         requests,
         moments,
-        &mut keeper,
+        application,
         out,
     );
     // the last answers, or the ERR frame: whether the client gets them no connection tells
@@ -383,19 +306,30 @@ fn serve_asked<'a, R: Clock + AllocGlobal, S: Read + Write + Drop, O: Write>(
     let (alloc, requests) = (rt.alloc(), asked.requests);
     let mut moments = ClockMoments::new(rt);
     if asked.standard {
-        let times = ClockMoments::new(rt);
-        serve_timed(
+        let mut keeper = TimeKeeper {
+            moments: ClockMoments::new(rt),
+        };
+        serve_stream(
             alloc,
             stream,
             services,
             number,
             requests,
             &mut moments,
-            times,
+            &mut keeper,
             out,
         )
     } else {
-        serve_stream(alloc, stream, services, number, requests, &mut moments, out)
+        serve_stream(
+            alloc,
+            stream,
+            services,
+            number,
+            requests,
+            &mut moments,
+            &mut NoApplication,
+            out,
+        )
     }
 }
 
