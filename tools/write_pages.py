@@ -24,7 +24,9 @@ STATUS = [
 ]
 HAS_STRICT = "the status is 3 where "
 STRICT = "a status code of an answer is bad, or a frame is refused"
-TERM = re.compile(r'(\w+): (?:"((?:[^"\\]|\\.)*)"|Kind::(\w+)(?:\("([^"]*)"\))?|(\w+)|&\[\])')
+TERM = re.compile(r'(\w+): (?:"((?:[^"\\]|\\.)*)"|Kind::(\w+)(?:\(((?:"[^"]*"(?:, )?)*)\))?|(\w+)|&\[\])')
+# The texts that a kind has: how the help names the value, and what it is where nothing is said.
+TEXTS = {"Text": ("value",), "TextOr": ("value", "usual"), "NumberOr": ("usual",)}
 
 
 @dataclass(frozen=True)
@@ -45,13 +47,12 @@ class Word:
     def shown(self) -> str:
         """As a synopsis has it.
 
-        >>> Word("NODE", "Several", "").shown, Word("cut", "TextOr", "", "65535").shown, Word("hex", "Flag", "").shown
+        >>> Word("NODE", "Several", "").shown, Word("cut", "NumberOr", "", "65535").shown, Word("hex", "Flag", "").shown
         ('NODE..', '--cut N', '--hex')
         """
         if not self.is_option:
             return self.name + ".." * (self.kind == "Several")
-        number = "N" if self.usual.isdigit() else self.name.upper()
-        return f"--{self.name}" + ("" if self.kind == "Flag" else " " + (self.value or number))
+        return f"--{self.name}" + ("" if self.kind == "Flag" else " " + (self.value or "N"))
 
 
 @dataclass(frozen=True)
@@ -62,16 +63,15 @@ class Command:
 
 
 def entry(text: str) -> dict[str, str]:
-    """The fields of a struct of the table, and the kind with the text in its brackets.
+    """The fields of a struct of the table, and the kind with the texts in its brackets.
 
-    >>> entry('name: "cut",\\n kind: Kind::TextOr("7"),\\n help: "how many",')
-    {'name': 'cut', 'kind': 'TextOr', 'usual': '7', 'help': 'how many'}
+    >>> entry('name: "policy",\\n kind: Kind::TextOr("ID", "7"),\\n help: "which",')
+    {'name': 'policy', 'kind': 'TextOr', 'value': 'ID', 'usual': '7', 'help': 'which'}
     """
     found = {}
-    for name, text, kind, usual, other in TERM.findall(text):
+    for name, text, kind, texts, other in TERM.findall(text):
         found[name] = kind or other or text.replace('\\"', '"').replace("\\\\", "\\")
-        if usual:
-            found["usual"] = usual
+        found |= dict(zip(TEXTS.get(kind, ()), re.findall(r'"([^"]*)"', texts)))
     return found
 
 

@@ -14,11 +14,11 @@ enum Kind {
     Several,
     /// A flag, as `--hex`.
     Flag,
-    /// A text, as `--range 1:2`.
-    Text,
-    /// A text that is this one where nothing is said, as `--policy auto`.
-    TextOr(&'static str),
-    /// A number that is this one where nothing is said, as `--cut 7`.
+    /// A text, as `--range 1:2`; the help names it so.
+    Text(&'static str),
+    /// The same, and which text it is where nothing is said, as `--policy auto`.
+    TextOr(&'static str, &'static str),
+    /// A number that is this one where nothing is said, as `--cut 7`; the help names it N.
     NumberOr(&'static str),
 }
 
@@ -70,26 +70,26 @@ const PLAIN: Word = Word {
 
 const POLICY: Word = Word {
     name: "policy",
-    kind: Kind::TextOr("anonymous"),
+    kind: Kind::TextOr("ID", "anonymous"),
     help: "the id of the server's anonymous token policy, or auto to ask the server for it",
 };
 
 const PATH: Word = Word {
     name: "path",
-    kind: Kind::TextOr(""),
+    kind: Kind::TextOr("/P", ""),
     help: "the path of the server's URL, as /UA/Server",
 };
 
 const URL: Word = Word {
     name: "url",
-    kind: Kind::Text,
+    kind: Kind::Text("URL"),
     help: "the server's URL up to the path, in place of opc.tcp://localhost:PORT",
 };
 
 const RECORD: Word = Word {
     name: "record",
-    kind: Kind::Text,
-    help: "the octets each way go to two files of this name, with .up and .down behind it",
+    kind: Kind::Text("NAME"),
+    help: "the bytes each way go to two files of this name, with .up and .down behind it",
 };
 
 const STRICT: Word = Word {
@@ -108,7 +108,7 @@ const DISSECT: &[Word] = &[
     Word {
         name: "FILE",
         kind: Kind::Needed,
-        help: "the file of octets, or - for standard input",
+        help: "the file of bytes, or - for standard input",
     },
     Word {
         name: "hex",
@@ -118,7 +118,7 @@ const DISSECT: &[Word] = &[
     Word {
         name: "server",
         kind: Kind::Flag,
-        help: "the octets are those that a server sent",
+        help: "the bytes are those that a server sent",
     },
     Word {
         name: "fields",
@@ -188,7 +188,7 @@ const READ: &[Word] = &[
     },
     Word {
         name: "range",
-        kind: Kind::Text,
+        kind: Kind::Text("R"),
         help: "the elements of arrays that are read, as 2 or 1:9",
     },
     NAMES,
@@ -245,12 +245,12 @@ const LOOP: &[Word] = &[
     Word {
         name: "cut",
         kind: Kind::NumberOr("65535"),
-        help: "how many octets each end takes at once, from 1 to 65535",
+        help: "how many bytes each end takes at once, from 1 to 65535",
     },
     Word {
         name: "tcp",
         kind: Kind::Flag,
-        help: "the same octets go over a connection within this process, too",
+        help: "the same bytes go over a connection within this process, too",
     },
     NAMES,
     PLAIN,
@@ -262,7 +262,7 @@ const LOOP: &[Word] = &[
 const COMMANDS: &[Words] = &[
     Words {
         name: "dissect",
-        help: "prints the frames and messages of a file of octets",
+        help: "prints the frames and messages of a file of bytes",
         words: DISSECT,
     },
     Words {
@@ -314,10 +314,11 @@ fn arg<'a>(alloc: Global, word: &Word) -> Arg<'a> {
             .action(ArgAction::Set)
             .num_args(1..=usize::MAX),
         Kind::Flag => arg.long(word.name).action(ArgAction::SetTrue),
-        Kind::Text => arg.long(word.name),
-        Kind::TextOr(text) => arg.long(word.name).default_value(text),
+        Kind::Text(named) => arg.long(word.name).value_name(named),
+        Kind::TextOr(named, text) => arg.long(word.name).value_name(named).default_value(text),
         Kind::NumberOr(text) => arg
             .long(word.name)
+            .value_name("N")
             .default_value(text)
             .allow_negative_numbers(true),
     }
