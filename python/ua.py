@@ -35,7 +35,7 @@ from ctypes import POINTER, byref, c_char_p, c_int64, c_size_t, c_uint8, c_uint1
 from dataclasses import dataclass
 from typing import Any, Callable
 
-OK, NO_MEMORY, REFUSED, ENDED, TOO_SMALL, SERVICE, NO_MORE = 0, 1, 6, 7, 18, 21, 25
+OK, NO_MEMORY, REFUSED, ENDED, TOO_SMALL, SERVICE, NO_MORE, NO_TEXT = 0, 1, 6, 7, 18, 21, 25, 27
 EVENTS = ("NEED_MORE", "SEND", "OPEN", "ANSWERED", "ABORTED", "RENEWED", "FAILED", "FAILED_BY_PEER")
 # The type id of each number that a Variant may hold alone or in an array, and how `struct` reads it.
 NUMBERS = {1: "?", 2: "b", 3: "B", 4: "h", 5: "H", 6: "i", 7: "I", 8: "q", 9: "Q", 10: "f", 11: "d", 13: "q", 19: "I"}
@@ -52,7 +52,10 @@ class Handle(ctypes.Structure):
 class Limits(ctypes.Structure):
     """What one end of a connection allows: octets of frames each way, octets and chunks of messages."""
 
-    _fields_ = [(name, c_uint32) for name in ("receive_buffer_size", "send_buffer_size", "max_message_size", "max_chunk_count")]
+    _fields_ = [(name, c_uint32) for name in ("size", "receive_buffer_size", "send_buffer_size", "max_message_size", "max_chunk_count")]
+
+    def __init__(self, *sizes: int) -> None:
+        super().__init__(ctypes.sizeof(Limits), *sizes)
 
 
 class _Reading(ctypes.Structure):
@@ -100,8 +103,8 @@ def _call(name: str, *given: Any, ok: tuple[int, ...] = (OK,), **numbers: Any) -
     return status
 
 
-def _made(name: str, *given: Any, behind: tuple[Any, ...] = ()) -> bytes:
-    """What a call puts into a buffer, whose size it says where it is too small."""
+def _made(name: str, *given: Any, behind: tuple[Any, ...] = (), tells: tuple[str, ...] = ()) -> bytes:
+    """What a call puts into a buffer, whose size it says where it is too small. `tells` names the numbers behind it."""
     room = ROOM
     while True:
         buffer, needed = ctypes.create_string_buffer(room), c_size_t()
@@ -109,7 +112,7 @@ def _made(name: str, *given: Any, behind: tuple[Any, ...] = ()) -> bytes:
         if status == OK:
             return buffer.raw[: needed.value]
         if status != TOO_SMALL:
-            raise Error(name, status, **{"code": it.value for it in behind if isinstance(it, c_uint32)})
+            raise Error(name, status, **{told: it.value for told, it in zip(tells, behind)})
         room = needed.value
 
 
@@ -161,6 +164,35 @@ def decode(value: bytes) -> str:
     'Double 0x3fe0000000000000'
     """
     return _made("ua_decode_value", *_octets(value)).decode()
+
+
+def value_text(value: bytes, plain: bool = True) -> tuple[str, str] | None:
+    """The type and the text that denote a value, as people write them or as in a node file; None where it has none.
+
+    >>> value_text(double(0.5)), value_text(double(0.5), plain=False)
+    (('Double', '0.5'), ('Double', '0x3fe0000000000000'))
+    >>> value_text(bytes.fromhex("0cffffffff"))
+    """
+    size = c_size_t()
+    try:
+        text = _made("ua_value_text", *_octets(value), c_uint32(plain), behind=(size,)).decode()
+    except Error as error:
+        if error.status == NO_TEXT:
+            return None
+        raise
+    return text[: size.value], text[size.value + 1 :]
+
+
+def text_value(kind: str, text: str, plain: bool = True) -> bytes:
+    """The value that a type and a text denote.
+
+    >>> text_value("Double[]", "0.5,-1").hex()
+    '8b02000000000000000000e03f000000000000f0bf'
+    >>> text_value("Double", "much")
+    Traceback (most recent call last):
+    ua.Error: ua_text_value: a text is none of those that the call takes (reason 10)
+    """
+    return _made("ua_text_value", *_octets(kind), *_octets(text), c_uint32(plain), behind=(c_uint32(),), tells=("reason",))
 
 
 def _number(kind: int) -> Callable[[Any], bytes]:
@@ -356,23 +388,33 @@ class Client(_Held):
         return self.fetch()
 
     def request(self, name: str, *texts: str, moment: int | None = None) -> bytes:
-        """The body of a request, by the name of its call: `get_endpoints`, `create_session`, `activate_session`,
-        `close_session`, `read` (a token, lines of nodes, an index range), `write` (a token, a node, a type, a text)."""
+        """The body of a request, by the name of its call: `get_endpoints`, `create_session`, `activate_session` (a token, and
+        where it is not `anonymous` a PolicyId), `close_session`, `read` (a token, lines of nodes, an index range), `write` (a
+        token, a node, a type, a text)."""
         self.requests += 1
         split = 1 if name in ("read", "write") else len(texts)
         numbers = [c_int64(now() if moment is None else moment), c_uint32(self.requests)]
         first, rest = ([it for text in part for it in _octets(text)] for part in (texts[:split], texts[split:]))
-        return _made(f"ua_{name}_request", *first, *numbers, *rest)
+        tells = {"read": ("reason", "index"), "write": ("reason",), "activate_session": ("reason",) * (len(texts) == 2)}.get(name, ())
+        behind = tuple(c_size_t() if it == "index" else c_uint32() for it in tells)
+        if name == "activate_session" and len(texts) == 2:
+            return _made("ua_activate_session_request_as", *first, *numbers, behind=behind, tells=tells)
+        return _made(f"ua_{name}_request", *first, *numbers, *rest, behind=behind, tells=tells)
+
+
+def choose_policy(body: bytes) -> str:
+    """The PolicyId for an `activate_session`, of the reply to a GetEndpoints."""
+    return _made("ua_choose_policy", *_octets(body), behind=(c_uint32(),), tells=("code",)).decode()
 
 
 def session_token(body: bytes) -> str:
     """The text of the AuthenticationToken in the reply to a CreateSession."""
-    return _made("ua_session_token", *_octets(body), behind=(c_uint32(),)).decode()
+    return _made("ua_session_token", *_octets(body), behind=(c_uint32(),), tells=("code",)).decode()
 
 
 def response_text(nodes: list[str], body: bytes) -> str:
     """The lines of the reply to a Read or a Write of these nodes, or to a GetEndpoints."""
-    return _made("ua_response_text", *_octets("\n".join(nodes)), *_octets(body), behind=(c_uint32(),)).decode()
+    return _made("ua_response_text", *_octets("\n".join(nodes)), *_octets(body), behind=(c_uint32(),), tells=("code",)).decode()
 
 
 def response_kind(body: bytes) -> tuple[int, int]:

@@ -16,10 +16,12 @@ struct Handle {
     at: *mut u8,
 }
 
-/// What one end of a connection allows: octets of frames each way, octets and chunks of messages.
+/// What one end of a connection allows: octets of frames each way, octets and chunks of messages; in front the octets of
+/// this structure, as `default()` has them.
 #[repr(C)]
 #[derive(Debug, Clone, Copy)]
 pub struct Limits {
+    pub size: u32,
     pub receive_buffer_size: u32,
     pub send_buffer_size: u32,
     pub max_message_size: u32,
@@ -28,7 +30,8 @@ pub struct Limits {
 
 impl Default for Limits {
     fn default() -> Limits {
-        Limits { receive_buffer_size: 65535, send_buffer_size: 65535, max_message_size: 1048576, max_chunk_count: 256 }
+        let size = size_of::<Limits>() as u32;
+        Limits { size, receive_buffer_size: 65535, send_buffer_size: 65535, max_message_size: 1048576, max_chunk_count: 256 }
     }
 }
 
@@ -73,14 +76,17 @@ unsafe extern "C" {
     fn ua_dissect(octets: *const u8, octets_len: usize, side: u32, buffer: *mut u8, buffer_len: usize, needed: *mut usize) -> u32;
     fn ua_encode_value(kind: *const u8, kind_len: usize, text: *const u8, text_len: usize, buffer: *mut u8, buffer_len: usize, needed: *mut usize) -> u32;
     fn ua_decode_value(octets: *const u8, octets_len: usize, buffer: *mut u8, buffer_len: usize, needed: *mut usize) -> u32;
+    fn ua_value_text(octets: *const u8, octets_len: usize, plain: u32, buffer: *mut u8, buffer_len: usize, needed: *mut usize, name_size: *mut usize) -> u32;
+    fn ua_text_value(kind: *const u8, kind_len: usize, text: *const u8, text_len: usize, plain: u32, buffer: *mut u8, buffer_len: usize, needed: *mut usize, reason: *mut u32) -> u32;
     fn ua_get_endpoints_request(url: *const u8, url_len: usize, moment: i64, request: u32, buffer: *mut u8, buffer_len: usize, needed: *mut usize) -> u32;
     fn ua_create_session_request(url: *const u8, url_len: usize, moment: i64, request: u32, buffer: *mut u8, buffer_len: usize, needed: *mut usize) -> u32;
     fn ua_activate_session_request(token: *const u8, token_len: usize, moment: i64, request: u32, buffer: *mut u8, buffer_len: usize, needed: *mut usize) -> u32;
-    fn ua_activate_session_request_as(token: *const u8, token_len: usize, policy: *const u8, policy_len: usize, moment: i64, request: u32, buffer: *mut u8, buffer_len: usize, needed: *mut usize) -> u32;
+    fn ua_activate_session_request_as(token: *const u8, token_len: usize, policy: *const u8, policy_len: usize, moment: i64, request: u32, buffer: *mut u8, buffer_len: usize, needed: *mut usize, reason: *mut u32) -> u32;
     fn ua_close_session_request(token: *const u8, token_len: usize, moment: i64, request: u32, buffer: *mut u8, buffer_len: usize, needed: *mut usize) -> u32;
-    fn ua_read_request(token: *const u8, token_len: usize, moment: i64, request: u32, nodes: *const u8, nodes_len: usize, range: *const u8, range_len: usize, buffer: *mut u8, buffer_len: usize, needed: *mut usize) -> u32;
-    fn ua_write_request(token: *const u8, token_len: usize, moment: i64, request: u32, node: *const u8, node_len: usize, kind: *const u8, kind_len: usize, text: *const u8, text_len: usize, buffer: *mut u8, buffer_len: usize, needed: *mut usize) -> u32;
+    fn ua_read_request(token: *const u8, token_len: usize, moment: i64, request: u32, nodes: *const u8, nodes_len: usize, range: *const u8, range_len: usize, buffer: *mut u8, buffer_len: usize, needed: *mut usize, reason: *mut u32, index: *mut usize) -> u32;
+    fn ua_write_request(token: *const u8, token_len: usize, moment: i64, request: u32, node: *const u8, node_len: usize, kind: *const u8, kind_len: usize, text: *const u8, text_len: usize, buffer: *mut u8, buffer_len: usize, needed: *mut usize, reason: *mut u32) -> u32;
     fn ua_response_kind(body: *const u8, body_len: usize, response: *mut u32, service_result: *mut u32) -> u32;
+    fn ua_choose_policy(body: *const u8, body_len: usize, buffer: *mut u8, buffer_len: usize, needed: *mut usize, code: *mut u32) -> u32;
     fn ua_session_token(body: *const u8, body_len: usize, buffer: *mut u8, buffer_len: usize, needed: *mut usize, code: *mut u32) -> u32;
     fn ua_response_text(nodes: *const u8, nodes_len: usize, body: *const u8, body_len: usize, buffer: *mut u8, buffer_len: usize, needed: *mut usize, code: *mut u32) -> u32;
     fn ua_readings(body: *const u8, body_len: usize, readings: *mut CReading, readings_len: usize, count: *mut usize, code: *mut u32) -> u32;
@@ -121,10 +127,12 @@ impl Status {
     pub const MISMATCH: Status = Status(23);
     pub const BAD_READING: Status = Status(24);
     pub const NO_MORE: Status = Status(25);
+    pub const NO_POLICY: Status = Status(26);
+    pub const NO_TEXT: Status = Status(27);
 }
 
 /// `call` of ua.h answered `status`. The numbers are those that the call tells, each 0 where there is none: the bad
-/// line of a node file, its reason or that of a bad text, and the code for which a service failed.
+/// line of a node file, its reason or that of a bad text, which of several nodes it is, and the code for which a service failed.
 #[derive(Debug, Clone, PartialEq, Eq)]
 pub struct Error {
     pub call: &'static str,
@@ -132,6 +140,7 @@ pub struct Error {
     pub line: usize,
     pub reason: u32,
     pub code: u32,
+    pub index: usize,
 }
 
 impl fmt::Display for Error {
@@ -146,6 +155,9 @@ impl fmt::Display for Error {
         if self.code != 0 {
             write!(f, ", code {:08X}", self.code)?;
         }
+        if self.index != 0 {
+            write!(f, ", index {}", self.index)?;
+        }
         Ok(())
     }
 }
@@ -155,32 +167,32 @@ impl error::Error for Error {}
 pub type Result<T> = std::result::Result<T, Error>;
 
 fn fault(call: &'static str, status: u32) -> Error {
-    Error { call, status: Status(status), line: 0, reason: 0, code: 0 }
+    Error { call, status: Status(status), line: 0, reason: 0, code: 0, index: 0 }
 }
 
 fn check(call: &'static str, status: u32) -> Result<()> {
     if status == Status::OK.0 { Ok(()) } else { Err(fault(call, status)) }
 }
 
-/// What `made(buffer, its size, needed, code)` puts into a buffer, which is made larger where it is too small.
-fn put(call: &'static str, mut made: impl FnMut(*mut u8, usize, &mut usize, &mut u32) -> u32) -> Result<Vec<u8>> {
+/// What `made(buffer, its size, needed, numbers)` puts into a buffer, which is made larger where it is too small.
+fn put(call: &'static str, mut made: impl FnMut(*mut u8, usize, &mut usize, &mut Error) -> u32) -> Result<Vec<u8>> {
     let mut buffer = vec![0; 1024];
     loop {
-        let (mut needed, mut code) = (0, 0);
-        let status = made(buffer.as_mut_ptr(), buffer.len(), &mut needed, &mut code);
+        let (mut needed, mut told) = (0, fault(call, 0));
+        let status = made(buffer.as_mut_ptr(), buffer.len(), &mut needed, &mut told);
         match Status(status) {
             Status::OK => {
                 buffer.truncate(needed);
                 return Ok(buffer);
             }
             Status::TOO_SMALL => buffer.resize(needed, 0),
-            _ => return Err(Error { code, ..fault(call, status) }),
+            _ => return Err(Error { status: Status(status), ..told }),
         }
     }
 }
 
 /// The same of a text, which the library makes of UTF-8 alone.
-fn put_text(call: &'static str, made: impl FnMut(*mut u8, usize, &mut usize, &mut u32) -> u32) -> Result<String> {
+fn put_text(call: &'static str, made: impl FnMut(*mut u8, usize, &mut usize, &mut Error) -> u32) -> Result<String> {
     let octets = put(call, made)?;
     Ok(String::from_utf8(octets).unwrap_or_else(|error| String::from_utf8_lossy(error.as_bytes()).into_owned()))
 }
@@ -503,6 +515,25 @@ pub fn decode_value(value: &[u8]) -> Result<String> {
     put_text("ua_decode_value", |to, room, needed, _| unsafe { ua_decode_value(value.as_ptr(), value.len(), to, room, needed) })
 }
 
+/// The type and the text that denote a value, where it has such: as in a node file, or as people write them.
+#[rustfmt::skip]
+pub fn value_text(value: &[u8], plain: bool) -> Result<Option<(String, String)>> {
+    let mut size = 0;
+    match put_text("ua_value_text", |to, room, needed, _| unsafe { ua_value_text(value.as_ptr(), value.len(), plain.into(), to, room, needed, &mut size) }) {
+        Ok(whole) => Ok(Some((whole[..size].to_string(), whole[size + 1..].to_string()))),
+        Err(error) if error.status == Status::NO_TEXT => Ok(None),
+        Err(error) => Err(error),
+    }
+}
+
+/// The value that a type and a text denote.
+#[rustfmt::skip]
+pub fn text_value(kind: &str, text: &str, plain: bool) -> Result<Vec<u8>> {
+    put("ua_text_value", |to, room, needed, told| unsafe {
+        ua_text_value(kind.as_ptr(), kind.len(), text.as_ptr(), text.len(), plain.into(), to, room, needed, &mut told.reason)
+    })
+}
+
 /// The bodies of requests, for `Client::ask`; `handle` is the RequestHandle.
 pub mod request {
     use super::*;
@@ -527,8 +558,8 @@ pub mod request {
 
     #[rustfmt::skip]
     pub fn activate_session_as(token: &str, policy: &str, moment: i64, handle: u32) -> Result<Vec<u8>> {
-        put("ua_activate_session_request_as", |to, room, needed, _| unsafe {
-            ua_activate_session_request_as(token.as_ptr(), token.len(), policy.as_ptr(), policy.len(), moment, handle, to, room, needed)
+        put("ua_activate_session_request_as", |to, room, needed, told| unsafe {
+            ua_activate_session_request_as(token.as_ptr(), token.len(), policy.as_ptr(), policy.len(), moment, handle, to, room, needed, &mut told.reason)
         })
     }
 
@@ -541,15 +572,15 @@ pub mod request {
     /// `nodes` are NodeIds with an LF between; an empty range asks for the whole.
     #[rustfmt::skip]
     pub fn read(token: &str, nodes: &str, range: &str, moment: i64, handle: u32) -> Result<Vec<u8>> {
-        put("ua_read_request", |to, room, needed, _| unsafe {
-            ua_read_request(token.as_ptr(), token.len(), moment, handle, nodes.as_ptr(), nodes.len(), range.as_ptr(), range.len(), to, room, needed)
+        put("ua_read_request", |to, room, needed, told| unsafe {
+            ua_read_request(token.as_ptr(), token.len(), moment, handle, nodes.as_ptr(), nodes.len(), range.as_ptr(), range.len(), to, room, needed, &mut told.reason, &mut told.index)
         })
     }
 
     #[rustfmt::skip]
     pub fn write(token: &str, node: &str, kind: &str, text: &str, moment: i64, handle: u32) -> Result<Vec<u8>> {
-        put("ua_write_request", |to, room, needed, _| unsafe {
-            ua_write_request(token.as_ptr(), token.len(), moment, handle, node.as_ptr(), node.len(), kind.as_ptr(), kind.len(), text.as_ptr(), text.len(), to, room, needed)
+        put("ua_write_request", |to, room, needed, told| unsafe {
+            ua_write_request(token.as_ptr(), token.len(), moment, handle, node.as_ptr(), node.len(), kind.as_ptr(), kind.len(), text.as_ptr(), text.len(), to, room, needed, &mut told.reason)
         })
     }
 }
@@ -561,15 +592,20 @@ pub fn response_kind(body: &[u8]) -> Result<(u32, u32)> {
     Ok((response, result))
 }
 
+/// The PolicyId for `request::activate_session_as`, of the reply to a GetEndpoints.
+pub fn choose_policy(body: &[u8]) -> Result<String> {
+    put_text("ua_choose_policy", |to, room, needed, told| unsafe { ua_choose_policy(body.as_ptr(), body.len(), to, room, needed, &mut told.code) })
+}
+
 /// The text of the AuthenticationToken in the reply to a CreateSession.
 pub fn session_token(body: &[u8]) -> Result<String> {
-    put_text("ua_session_token", |to, room, needed, code| unsafe { ua_session_token(body.as_ptr(), body.len(), to, room, needed, code) })
+    put_text("ua_session_token", |to, room, needed, told| unsafe { ua_session_token(body.as_ptr(), body.len(), to, room, needed, &mut told.code) })
 }
 
 /// The lines of the reply to a Read or a Write of these nodes, or to a GetEndpoints.
 pub fn response_text(nodes: &str, body: &[u8]) -> Result<String> {
-    put_text("ua_response_text", |to, room, needed, code| unsafe {
-        ua_response_text(nodes.as_ptr(), nodes.len(), body.as_ptr(), body.len(), to, room, needed, code)
+    put_text("ua_response_text", |to, room, needed, told| unsafe {
+        ua_response_text(nodes.as_ptr(), nodes.len(), body.as_ptr(), body.len(), to, room, needed, &mut told.code)
     })
 }
 

@@ -221,6 +221,7 @@ class Examples:
             self.gateways['gateway.c'] = self.build_c('gateway')
             self.build_c('hammer')
             self.build_c('steps')
+            self.build_c('stack', '-pthread')
             self.build_c('threads', '-pthread')
             self.answers['c'] = self.build_c('answers')
         if self.is_there('c++', 'what is in C++'):
@@ -323,6 +324,13 @@ class Examples:
             words = ['valgrind', '--tool=helgrind', '--error-exitcode=9', '-q', self.at('threads')]
             same('threads.c under helgrind', run(words), 'as wanted\n')
 
+    def stack(self) -> None:
+        """No call takes more of a painted stack than include/ua.h says was measured."""
+        with open(os.path.join(INCLUDE, 'ua.h'), encoding='utf-8') as file:
+            most, = re.findall(r'#define UA_STACK_MEASURED (\d+)', file.read())
+        print(run([self.at('stack'), most]), end='')
+        say('the stack of the calls: below %s octets' % most)
+
     def hammer(self, pieces: int) -> None:
         """Pieces that are random, or parts of whole conversations that are changed."""
         streams = sorted(os.path.join(DATA, name) for name in os.listdir(DATA))
@@ -352,6 +360,7 @@ def main() -> None:
             examples.answer(language)
         if 'c' in examples.answers:
             examples.threads()
+            examples.stack()
         for gateway, built in examples.gateways.items():
             examples.ask(clients, gateway, lambda port, built=built: [built, examples.nodes, port, str(len(clients))])
             examples.ask_beside(clients, gateway)

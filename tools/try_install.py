@@ -26,7 +26,7 @@ PROGRAM = r"""
 int main(void)
 {
     const uint8_t *type = (const uint8_t *)"Int32", *text = (const uint8_t *)"5", *url = (const uint8_t *)"opc.tcp://localhost:4840";
-    struct ua_limits limits = {65535, 65535, 1048576, 256};
+    struct ua_limits limits = {sizeof limits, 65535, 65535, 1048576, 256};
     struct ua_handle client = {0};
     uint8_t octets[64];
     size_t count = 0;

@@ -15,13 +15,13 @@
 
 /* 1970-01-01 */
 static const int64_t moment = 116444736000000000;
-static const struct ua_limits limits = {65535, 65535, 1048576, 256}, small = {8192, 8192, 100, 1};
+static const struct ua_limits limits = {sizeof(struct ua_limits), 65535, 65535, 1048576, 256}, small = {sizeof(struct ua_limits), 8192, 8192, 100, 1};
 static const char nodes[] = "ns=1;s=Pump\trw\tPump\tInt32\t5\nns=1;s=" LONG "\trw\t" LONG "\tString\t" LONG "\n";
 static const char url[] = "opc.tcp://localhost:4840", long_url[] = "opc.tcp://localhost:4840/" LONG;
 static struct ua_handle server, client;
 static uint8_t up[4096], down[4096], request[1024], reply[4096], text[4096];
-static size_t up_count, down_count, request_count, reply_count, text_count;
-static uint32_t event, id, code;
+static size_t up_count, down_count, request_count, reply_count, text_count, bad_index;
+static uint32_t event, id, code, reason;
 
 static void check(uint32_t status, const char *what) {
     if (status != UA_OK) {
@@ -106,6 +106,8 @@ static void open_with(const struct ua_limits *allowed, const char *at) {
 }
 
 #define REQUEST request, sizeof request, &request_count
+#define BY_REASON REQUEST, &reason
+#define BY_INDEX REQUEST, &reason, &bad_index
 #define INTO text, sizeof text, &text_count
 
 /* The conversation of the two files. */
@@ -120,9 +122,9 @@ static void converse(char **files) {
     memcpy(token, text, text_count);
     token_count = text_count;
     ask(ua_activate_session_request(token, token_count, moment, 3, REQUEST), "activate_session");
-    ask(ua_write_request(token, token_count, moment, 4, TEXT("ns=1;s=Pump"), TEXT("Int32"), TEXT("6"), REQUEST), "write");
+    ask(ua_write_request(token, token_count, moment, 4, TEXT("ns=1;s=Pump"), TEXT("Int32"), TEXT("6"), BY_REASON), "write");
     say_text("lines", ua_response_text(TEXT("ns=1;s=Pump"), reply, reply_count, INTO, &code));
-    ask(ua_read_request(token, token_count, moment, 5, TEXT("ns=1;s=Pump"), TEXT(""), REQUEST), "read");
+    ask(ua_read_request(token, token_count, moment, 5, TEXT("ns=1;s=Pump"), TEXT(""), BY_INDEX), "read");
     say_text("lines", ua_response_text(TEXT("ns=1;s=Pump"), reply, reply_count, INTO, &code));
     ask(ua_close_session_request(token, token_count, moment, 6, REQUEST), "close_session");
     check(ua_client_close(&client, moment), "close");
@@ -140,15 +142,16 @@ static void go_on(void) {
     open_with(&limits, long_url);
     ask(ua_get_endpoints_request(TEXT(url), moment, 2, REQUEST), "get_endpoints");
     say_text("lines", ua_response_text(TEXT("i=0"), reply, reply_count, INTO, &code));
+    say_text("policy", ua_choose_policy(reply, reply_count, INTO, &code));
     check(ua_client_renew(&client, moment, &id), "renew");
     talk();
     printf("renew event %u id %u\n", (unsigned)event, (unsigned)id);
     ask(ua_create_session_request(TEXT(long_url), moment, 3, REQUEST), "create_session");
     say_text("token", ua_session_token(reply, reply_count, INTO, &code));
-    ask(ua_activate_session_request_as(text, text_count, TEXT("other"), moment, 4, REQUEST), "activate_session_as");
-    ask(ua_read_request(TEXT("ns=2;i=2"), moment, 5, TEXT("ns=1;s=" LONG "\nns=1;s=Pump\ni=9"), TEXT(""), REQUEST), "read");
+    ask(ua_activate_session_request_as(text, text_count, TEXT("other"), moment, 4, BY_REASON), "activate_session_as");
+    ask(ua_read_request(TEXT("ns=2;i=2"), moment, 5, TEXT("ns=1;s=" LONG "\nns=1;s=Pump\ni=9"), TEXT(""), BY_INDEX), "read");
     say_text("lines", ua_response_text(TEXT("ns=1;s=" LONG "\nns=1;s=Pump\ni=9"), reply, reply_count, INTO, &code));
-    ask(ua_write_request(TEXT("ns=2;i=2"), moment, 6, TEXT("ns=1;s=" LONG), TEXT("String"), TEXT(LONG "b"), REQUEST), "write");
+    ask(ua_write_request(TEXT("ns=2;i=2"), moment, 6, TEXT("ns=1;s=" LONG), TEXT("String"), TEXT(LONG "b"), BY_REASON), "write");
     say_text("lines", ua_response_text(TEXT("ns=1;s=" LONG), reply, reply_count, INTO, &code));
     ask(ua_close_session_request(TEXT("i=5"), moment, 7, REQUEST), "close_session"); /* the token of no session */
 }
@@ -169,13 +172,54 @@ static void fail(void) {
     printf("take %u took %zu event %u code %08X\n", (unsigned)status, taken, (unsigned)event, (unsigned)code);
 }
 
+/* A request of bad texts: which of them is told. */
+static void say_bad(const char *what, uint32_t status) {
+    printf("bad %s %u reason %u index %zu needs %zu\n", what, (unsigned)status, (unsigned)reason, bad_index, request_count);
+    bad_index = 0;
+}
+
+static void say_spelled(const uint8_t *octets, size_t count, uint32_t plain) {
+    size_t name;
+    uint32_t status = ua_value_text(octets, count, plain, INTO, &name);
+    printf("spelled %u name %zu %.*s\n", (unsigned)status, name, (int)text_count, (const char *)text);
+}
+
+static void say_read(const char *type, const char *spelled, uint32_t plain) {
+    uint32_t status = ua_text_value(TEXT(type), TEXT(spelled), plain, BY_REASON);
+    printf("read %u reason %u ", (unsigned)status, (unsigned)reason);
+    say_digits(type, request, request_count);
+}
+
+/* Which text is bad, and texts that come back. */
+static void tell_apart(void) {
+    say_bad("token", ua_read_request(TEXT("Pump"), moment, 5, TEXT("i=1"), TEXT(""), BY_INDEX));
+    say_bad("second node", ua_read_request(TEXT("i=1"), moment, 5, TEXT("i=1\nPump\nns=1;s=Row\nTank"), TEXT(""), BY_INDEX));
+    say_bad("nodes", ua_read_request(TEXT("i=1"), moment, 5, TEXT("i=1\n\xFF"), TEXT(""), BY_INDEX));
+    say_bad("range", ua_read_request(TEXT("i=1"), moment, 5, TEXT("i=1"), TEXT("\xFF"), BY_INDEX));
+    say_bad("node", ua_write_request(TEXT("i=1"), moment, 5, TEXT("Pump"), TEXT("Int32"), TEXT("6"), BY_REASON));
+    say_bad("type", ua_write_request(TEXT("i=1"), moment, 5, TEXT("i=1"), TEXT("Int"), TEXT("6"), BY_REASON));
+    say_bad("value", ua_write_request(TEXT("i=1"), moment, 5, TEXT("i=1"), TEXT("Int32"), TEXT("six"), BY_REASON));
+    say_bad("policy", ua_activate_session_request_as(TEXT("i=1"), TEXT("\xFF"), moment, 5, BY_REASON));
+    say_spelled((const uint8_t *)"\x0B\0\0\0\0\0\x80\x35\x40", 9, 0);
+    say_spelled((const uint8_t *)"\x0B\0\0\0\0\0\x80\x35\x40", 9, 1);
+    say_spelled((const uint8_t *)"\x0C\3\0\0\0a,b", 8, 1);
+    say_spelled((const uint8_t *)"\x8C\1\0\0\0\3\0\0\0a,b", 12, 1); /* its text is that of two Strings */
+    say_spelled((const uint8_t *)"\x0C\xFF\xFF\xFF\xFF", 5, 1);           /* the null String */
+    say_spelled((const uint8_t *)"\0", 1, 1);                                /* no value */
+    say_spelled((const uint8_t *)"\6\7\0\0", 4, 1);
+    say_read("Double", "21.5", 1);
+    say_read("Double", "21.5", 0);
+    say_read("Doubles", "21.5", 1);
+    say_read("DateTime", "1970-01-01T00:00:00Z", 1);
+}
+
 /* Calls without a handle. */
 static void make(void) {
-    check(ua_read_request(TEXT("ns=2;i=1"), moment, 5, TEXT("ns=1;s=Pump\ni=9999"), TEXT("1:9"), REQUEST), "read");
+    check(ua_read_request(TEXT("ns=2;i=1"), moment, 5, TEXT("ns=1;s=Pump\ni=9999"), TEXT("1:9"), BY_INDEX), "read");
     say_digits("read", request, request_count);
     check(ua_close_session_request(TEXT("ns=2;s=" LONG), moment, 6, REQUEST), "close_session");
     say_digits("close_session", request, request_count);
-    check(ua_activate_session_request_as(TEXT("ns=2;i=1"), TEXT(LONG), moment, 3, REQUEST), "activate_session_as");
+    check(ua_activate_session_request_as(TEXT("ns=2;i=1"), TEXT(LONG), moment, 3, BY_REASON), "activate_session_as");
     say_digits("activate_session_as", request, request_count);
     printf("refused"); /* a ReadResponse without results, whose ServiceResult is bad */
     say_kind((const uint8_t *)"\x01\0\x7A\x02" "\0\0\0\0\0\0\0\0" "\x05\0\0\0" "\0\0\x73\x80" "\0"
@@ -239,7 +283,7 @@ static void open_over(int k) {
 }
 
 static void read_over(int k) {
-    ask_over(k, ua_read_request(tokens[k], token_counts[k], moment, 3, TEXT(asked), TEXT(""), REQUEST), "read");
+    ask_over(k, ua_read_request(tokens[k], token_counts[k], moment, 3, TEXT(asked), TEXT(""), BY_INDEX), "read");
     printf("connection %d ", k);
     say_text("reads", ua_response_text(TEXT(asked), reply, reply_count, INTO, &code));
 }
@@ -305,7 +349,7 @@ static void share(void) {
     say_nodes(plant, "urn:\xFF");
     printf("node_find %u\n", (unsigned)ua_node_find(&shared, TEXT("i=1"), &taken));
     say_nodes(plant, "urn:a");
-    printf("connection_new %u\n", (unsigned)ua_connection_new(&(struct ua_limits){8191, 8192, 1, 1}, 1, &lines[0]));
+    printf("connection_new %u\n", (unsigned)ua_connection_new(&(struct ua_limits){sizeof(struct ua_limits), 8191, 8192, 1, 1}, 1, &lines[0]));
     printf("connection_step %u\n", (unsigned)ua_connection_step(&lines[0], &shared, no_limits, 4, moment, &taken, &waiting, &code));
     for (int k = 0; k < 2; k++)
         open_over(k);
@@ -329,7 +373,7 @@ static void share(void) {
     for (int k = 0; k < 2; k++)
         read_over(k);
     say_written(&shared, sizeof value);
-    ask_over(0, ua_write_request(tokens[0], token_counts[0], moment, 4, TEXT("ns=1;s=Pump"), TEXT("Int32"), TEXT("7"), REQUEST), "write");
+    ask_over(0, ua_write_request(tokens[0], token_counts[0], moment, 4, TEXT("ns=1;s=Pump"), TEXT("Int32"), TEXT("7"), BY_REASON), "write");
     say_readings(reply, reply_count, 2);
     read_over(1);
     say_readings(reply, reply_count, 1);
@@ -400,6 +444,7 @@ int main(int count, char **words) {
     go_on();
     fail();
     make();
+    tell_apart();
     share();
     number();
     name();

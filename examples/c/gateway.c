@@ -41,7 +41,7 @@ struct connection {
     const char *end; /* how it ends when all that waits was sent; NULL where it goes on */
 };
 
-static const struct ua_limits limits = {65535, 65535, 1048576, 256};
+static const struct ua_limits limits = {sizeof(struct ua_limits), 65535, 65535, 1048576, 256};
 static struct ua_nodes nodes; /* one table for all connections, the sensor and the setpoint */
 static size_t sensor = NO_INDEX, setpoint = NO_INDEX;
 static struct connection connections[MOST];

@@ -29,7 +29,7 @@
 /* A server and a client that streams are thrown at, and a server and a client that talk. */
 enum { SERVER, CLIENT, TALKING_SERVER, TALKING_CLIENT, HANDLES };
 
-static const struct ua_limits limits = {65535, 65535, 1048576, 256};
+static const struct ua_limits limits = {sizeof(struct ua_limits), 65535, 65535, 1048576, 256};
 static const char nodes[] = "ns=1;s=Pump\trw\tPump\tInt32\t5\nns=1;s=Row\trw\tRow\tInt32[]\t1,2,3\n";
 static const char url[] = "opc.tcp://localhost:4840";
 static const char *const asked_nodes[] = {"ns=1;s=Pump", "ns=1;s=Row", "ns=1;s=Pump\nns=1;s=Row"};
@@ -195,7 +195,8 @@ static uint32_t checked(uint32_t status) {
 /* The talking client asks a request of one of the calls, or other octets, or renews or closes. */
 static uint32_t ask(void) {
     struct ua_handle *client = &machines[TALKING_CLIENT].handle;
-    uint32_t id, choice = next(64), status = UA_OK;
+    uint32_t id, choice = next(64), status = UA_OK, reason = 0;
+    size_t index = 0;
     const char *read = asked_nodes[next(3)], *written = asked_nodes[next(8) == 0], *range = next(4) ? "" : "0:1";
     needed = 0;
     if (choice < 2)
@@ -203,18 +204,23 @@ static uint32_t ask(void) {
     else if (choice < 6)
         status = checked(ua_create_session_request(TEXT(url), 7, 1, text, make_room(), &needed));
     else if (choice < 8)
-        status = checked(ua_activate_session_request_as(TEXT(token), TEXT("anonymous"), 7, 1, text, make_room(), &needed));
+        status = checked(ua_activate_session_request_as(TEXT(token), TEXT("anonymous"), 7, 1, text, make_room(), &needed, &reason));
     else if (choice < 12)
         status = checked(ua_activate_session_request(TEXT(token), 7, 1, text, make_room(), &needed));
     else if (choice < 14)
         status = checked(ua_close_session_request(TEXT(token), 7, 1, text, make_room(), &needed));
     else if (choice < 36)
-        status = checked(ua_read_request(TEXT(token), 7, 1, TEXT(read), TEXT(range), text, make_room(), &needed));
+        status = checked(ua_read_request(TEXT(token), 7, 1, TEXT(read), TEXT(range), text, make_room(), &needed,
+                                         &reason, &index));
     else if (choice < 58)
         status = checked(ua_write_request(TEXT(token), 7, 1, TEXT(written), TEXT("Int32"), TEXT("6"), text,
-                                          make_room(), &needed));
+                                          make_room(), &needed, &reason));
     else if (choice < 60)
         needed = next(64);
+    if (reason != 0 && status != UA_BAD_TEXT && status != UA_NO_MEMORY)
+        fail("reason");
+    if (index != 0 && reason != UA_TEXT_NODE)
+        fail("index");
     if (status != UA_OK)
         return UA_OK;
     if (choice < 60)
@@ -227,6 +233,20 @@ static uint32_t ask(void) {
     if ((status == UA_OK) != (ua_waiting(client) > 0))
         fail("asked");
     return status;
+}
+
+/* A value with a text is the one that the text denotes. */
+static void come_back(const uint8_t *octets, size_t size) {
+    static uint8_t spelled[MOST_OCTETS * 8], back[MOST_OCTETS * 8];
+    uint32_t plain = next_of(&rooms, 2), reason = 7;
+    size_t whole, name, count = 0;
+    if (said(ua_value_text(octets, size, plain, spelled, sizeof spelled, &whole, &name)) != UA_OK)
+        return;
+    if (name >= whole || spelled[name] != ' ')
+        fail("the text of a value");
+    uint32_t status = said(ua_text_value(spelled, name, spelled + name + 1, whole - name - 1, plain, back, sizeof back, &count, &reason));
+    if (status != UA_NO_MEMORY && (status != UA_OK || reason || count != size || memcmp(back, octets, size)))
+        fail("a value that came back");
 }
 
 /* The results of a Read lie within its reply, and each value can be read. */
@@ -244,6 +264,8 @@ static void read_results(const uint8_t *octets, size_t size, uint32_t response) 
             fail("the place of a value");
         if (is->has_value && checked(ua_decode_value(octets + is->value_at, is->value_len, text, make_room_of(sizeof text), &needed)) == UA_BAD_OCTETS)
             fail("the octets of a value");
+        if (is->has_value)
+            come_back(octets + is->value_at, is->value_len);
         results++;
     }
 }

@@ -12,7 +12,7 @@
 
 #define TEXT(t) (const uint8_t *)(t), strlen(t)
 
-static const struct ua_limits limits = {65535, 65535, 1048576, 256};
+static const struct ua_limits limits = {sizeof(struct ua_limits), 65535, 65535, 1048576, 256};
 static const char nodes[] = "ns=1;s=Pump\trw\tPump\tInt32\t5\n";
 static const char url[] = "opc.tcp://localhost:4840";
 static struct ua_nodes shared;
@@ -57,7 +57,7 @@ static size_t ask(uint32_t status) {
 }
 
 int main(int count, char **words) {
-    size_t line, token_size, count_of, pump;
+    size_t line, token_size, count_of, pump, index;
     uint32_t code, reason;
     uint8_t token[64], value[UA_NUMBER_ROOM];
     if (count != 2 && count != 3)
@@ -78,7 +78,7 @@ int main(int count, char **words) {
     steps = 0;
     for (long read = atol(words[1]); read > 0; read--)
         count_of = ask(ua_read_request(token, token_size, 7, 1, TEXT("ns=1;s=Pump"), TEXT(""), request,
-                                       sizeof request, &size));
+                                       sizeof request, &size, &reason, &index));
     check(ua_response_text(TEXT("ns=1;s=Pump"), reply, count_of, text, sizeof text, &size, &code), "text");
     printf("steps %zu, last: %.*s", steps, (int)size, (const char *)text);
     ua_free(&client);

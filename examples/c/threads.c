@@ -12,7 +12,7 @@
 #define THREADS 4
 #define STEPS 20
 
-static const struct ua_limits limits = {65535, 65535, 1048576, 256};
+static const struct ua_limits limits = {sizeof(struct ua_limits), 65535, 65535, 1048576, 256};
 static const char url[] = "opc.tcp://localhost:4840", pump[] = "ns=1;s=Pump";
 
 /* A client and a connection that talk, over nodes. */
@@ -84,14 +84,15 @@ static void begin(struct talk *of, uint32_t channel) {
 static void write_and_read(struct talk *of, int number) {
     uint8_t body[1024], reply[4096], text[128];
     char written[16], wanted[64];
-    size_t size, got;
-    uint32_t code, status;
+    size_t size, got, index;
+    uint32_t code, status, reason;
     snprintf(written, sizeof written, "%d", number);
     snprintf(wanted, sizeof wanted, "%s 00000000 Int32 %d\n", pump, number);
     status = ua_write_request(of->token, of->token_len, 7, ++of->request, TEXT(pump), TEXT("Int32"), TEXT(written), body,
-                              sizeof body, &size);
+                              sizeof body, &size, &reason);
     ask(of, status, body, size, reply, sizeof reply);
-    status = ua_read_request(of->token, of->token_len, 7, ++of->request, TEXT(pump), NULL, 0, body, sizeof body, &size);
+    status = ua_read_request(of->token, of->token_len, 7, ++of->request, TEXT(pump), NULL, 0, body, sizeof body, &size,
+                             &reason, &index);
     got = ask(of, status, body, size, reply, sizeof reply);
     need(ua_response_text(TEXT(pump), reply, got, text, sizeof text, &size, &code) == UA_OK, "text");
     need(size == strlen(wanted) && memcmp(text, wanted, size) == 0, "lines");

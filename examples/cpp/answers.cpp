@@ -152,7 +152,7 @@ void conversation() {
     std::array<std::uint8_t, 3> three{};
     auto front = connection.fetch(three);
     say("fetched", std::to_string(front.size()) + " " + std::string(ua::text_of(front)));
-    say_error("limits", [] { ua::Client(url, {1, 1, 1, 1}); });
+    say_error("limits", [] { ua::Client(url, {sizeof(ua::Limits), 1, 1, 1, 1}); });
 }
 
 int main() {

@@ -29,6 +29,9 @@
  * What every call keeps
  *
  * - It returns, and reads and writes nothing but what it is given and what its handle owns.
+ * - It takes at most UA_STACK_MEASURED octets of the stack: of octets from the network some 2,100 for each level
+ *   of their values, of which they have at most 100. That is measured by examples/c/stack.c, not proved;
+ *   docs/C.md has the numbers.
  * - A status other than UA_OK, UA_ENDED and UA_REFUSED means that nothing was taken. Such a call
  *   changes nothing but its numbers, unless its comment says more of it; a buffer is written only
  *   with UA_OK.
@@ -57,11 +60,15 @@ extern "C" {
 #define UA_VERSION_PATCH 0
 #define UA_VERSION (UA_VERSION_MAJOR * 65536u + UA_VERSION_MINOR * 256u + UA_VERSION_PATCH)
 
+/* The octets of stack that a call takes at most, as measured on x86-64 (211,204 of them on a build without a proof). */
+#define UA_STACK_MEASURED 262144
+
 /* Statuses. */
 enum {
     UA_OK = 0,               /* the call did what it is for */
     UA_NO_MEMORY = 1,        /* memory was refused */
-    UA_BAD_LIMITS = 2,       /* a size of frames is below 8192, or messages may have no octet or chunk */
+    UA_BAD_LIMITS = 2,       /* a size of frames is below 8192, or messages may have no octet or chunk;
+                                or `size` is not that of the structure */
     UA_BAD_NODES = 3,        /* a line of the node file is none */
     UA_NO_HANDLE = 4,        /* the handle holds nothing */
     UA_CLOSED = 5,           /* the connection ended or failed before */
@@ -85,7 +92,9 @@ enum {
                                 nothing has this number; there is no such node */
     UA_MISMATCH = 23,        /* the node takes no value of this type */
     UA_BAD_READING = 24,     /* the reading has no value within the octets, or no source time */
-    UA_NO_MORE = 25          /* nothing more is there */
+    UA_NO_MORE = 25,         /* nothing more is there */
+    UA_NO_POLICY = 26,       /* no endpoint has a token policy that fits */
+    UA_NO_TEXT = 27          /* the value has no text that denotes it */
 };
 
 /* Why a line of a node file is none: the first of these that holds. */
@@ -101,10 +110,16 @@ enum {
 
 /* Which of several texts is none. */
 enum {
-    UA_TEXT_NODES = 1,
+    UA_TEXT_NODES = 1,       /* the node file, or all lines of a request together: no UTF-8 */
     UA_TEXT_URL = 2,
     UA_TEXT_APPLICATION_URI = 3,
-    UA_TEXT_NAME = 4
+    UA_TEXT_NAME = 4,
+    UA_TEXT_TOKEN = 5,
+    UA_TEXT_POLICY = 6,
+    UA_TEXT_NODE = 7,        /* a node; of several the one at the index */
+    UA_TEXT_RANGE = 8,
+    UA_TEXT_TYPE = 9,
+    UA_TEXT_VALUE = 10
 };
 
 /* Events of ua_client_take. */
@@ -178,8 +193,10 @@ struct ua_reading {
 };
 
 /* What one end of a connection allows: the octets of frames each way (8192 at least), and for
- * messages the octets and the number of chunks (1 at least). */
+ * messages the octets and the number of chunks (1 at least). `size` is `sizeof(struct ua_limits)`: by it a
+ * library of a later version tells the structure of this one. */
 struct ua_limits {
+    uint32_t size;
     uint32_t receive_buffer_size;
     uint32_t send_buffer_size;
     uint32_t max_message_size;
@@ -389,14 +406,32 @@ uint32_t ua_encode_value(const uint8_t *type, size_t type_len, const uint8_t *te
                          uint8_t *buffer, size_t buffer_len, size_t *needed);
 
 /* The type and the text, with a space between, of the Variant that octets encode and nothing behind it,
- * as `ua read` prints them. UA_TOO_SMALL, UA_BAD_OCTETS (no Variant of at most 100 levels),
+ * as `ua read` prints them. Not each such text is taken by ua_encode_value, and some are taken as another value:
+ * ua_value_text has the others alone. UA_TOO_SMALL, UA_BAD_OCTETS (no Variant of at most 100 levels),
  * UA_NO_MEMORY. */
 uint32_t ua_decode_value(const uint8_t *octets, size_t octets_len, uint8_t *buffer,
                          size_t buffer_len, size_t *needed);
 
+/* ---- texts that come back: what ua_value_text makes, ua_text_value takes, and gives the canonical encoding
+ * of just that value. Where `plain` is not 0, both speak as `ua read --plain` and `ua write --plain` do: Float
+ * and Double are decimals, times are those of RFC 3339 */
+
+/* The type and the text, with a space between, of the Variant that octets encode, where the two denote it.
+ * `name_size` is how many octets the name of the type has; the text stands behind it and the space. UA_NO_TEXT: they do
+ * not; docs/C.md says of which values. UA_TOO_SMALL: `name_size` is told, too. UA_BAD_OCTETS, UA_NO_MEMORY. */
+uint32_t ua_value_text(const uint8_t *octets, size_t octets_len, uint32_t plain, uint8_t *buffer,
+                       size_t buffer_len, size_t *needed, size_t *name_size);
+
+/* The canonical encoding of the value that a type and a text denote. UA_BAD_TEXT, UA_NO_MEMORY: `reason` is
+ * UA_TEXT_TYPE or UA_TEXT_VALUE, and 0 at every other status. UA_TOO_SMALL. */
+uint32_t ua_text_value(const uint8_t *type, size_t type_len, const uint8_t *text, size_t text_len,
+                       uint32_t plain, uint8_t *buffer, size_t buffer_len, size_t *needed,
+                       uint32_t *reason);
+
 /* ---- requests from texts, as bodies for ua_client_ask: UA_TOO_SMALL, as above; UA_BAD_TEXT: a text is
- * not UTF-8, or not what it stands for, or too large to be encoded; UA_NO_MEMORY. `request` is the
- * RequestHandle, any number. A token is the text that ua_session_token gave; a node a NodeId's text, as
+ * not UTF-8, or not what it stands for, or too large to be encoded; UA_NO_MEMORY. Where a call takes several
+ * texts, `reason` is with these two a number UA_TEXT_.. , or 0 where it is the request as a whole. `request` is
+ * the RequestHandle, any number. A token is the text that ua_session_token gave; a node a NodeId's text, as
  * `ns=1;s=Pump`; nodes are such texts, with an LF between */
 
 /* A GetEndpoints for the server of this URL. */
@@ -415,11 +450,12 @@ uint32_t ua_activate_session_request(const uint8_t *token, size_t token_len, int
                                      uint32_t request, uint8_t *buffer, size_t buffer_len,
                                      size_t *needed);
 
-/* The same under the token policy with this PolicyId, as the server's endpoint names it. */
+/* The same under the token policy with this PolicyId, as the server's endpoint names it and ua_choose_policy
+ * tells it. */
 uint32_t ua_activate_session_request_as(const uint8_t *token, size_t token_len,
                                         const uint8_t *policy, size_t policy_len, int64_t moment,
                                         uint32_t request, uint8_t *buffer, size_t buffer_len,
-                                        size_t *needed);
+                                        size_t *needed, uint32_t *reason);
 
 /* A CloseSession under this token. */
 uint32_t ua_close_session_request(const uint8_t *token, size_t token_len, int64_t moment,
@@ -427,17 +463,19 @@ uint32_t ua_close_session_request(const uint8_t *token, size_t token_len, int64_
                                   size_t *needed);
 
 /* A Read of the Values of nodes, in their order, or of the parts of arrays that an index range (`0:3`)
- * names, which is asked for as it stands; an empty range asks for the whole. */
+ * names, which is asked for as it stands; an empty range asks for the whole. Where `reason` is UA_TEXT_NODE,
+ * `index` is which of the nodes it is, from 0: the first that is none. */
 uint32_t ua_read_request(const uint8_t *token, size_t token_len, int64_t moment, uint32_t request,
                          const uint8_t *nodes, size_t nodes_len, const uint8_t *range,
-                         size_t range_len, uint8_t *buffer, size_t buffer_len, size_t *needed);
+                         size_t range_len, uint8_t *buffer, size_t buffer_len, size_t *needed,
+                         uint32_t *reason, size_t *index);
 
 /* A Write that sets the Value of one node to the one that a type and a text denote, as in
  * ua_encode_value, without a status and times. */
 uint32_t ua_write_request(const uint8_t *token, size_t token_len, int64_t moment, uint32_t request,
                           const uint8_t *node, size_t node_len, const uint8_t *type,
                           size_t type_len, const uint8_t *text, size_t text_len, uint8_t *buffer,
-                          size_t buffer_len, size_t *needed);
+                          size_t buffer_len, size_t *needed, uint32_t *reason);
 
 /* ---- what a reply says: UA_BAD_OCTETS: the body is that of no response that this library reads;
  * UA_NO_MEMORY */
@@ -451,6 +489,12 @@ uint32_t ua_response_kind(const uint8_t *body, size_t body_len, uint32_t *respon
 /* ---- the same with UA_TOO_SMALL, as above; UA_SERVICE: it is a ServiceFault with `code`, which is 0 at
  * every other status; UA_UNKNOWN: it is the response to another request. A bad ServiceResult of a
  * response of the request's own kind is not told: ask ua_response_kind first */
+
+/* The PolicyId of the token policy for ua_activate_session_request_as, of the reply to a GetEndpoints: that of
+ * the first policy for users without a name of the first endpoint that has one and is by UA TCP, with the
+ * security policy and the mode None. It has no octet where it is null. UA_NO_POLICY: there is none. */
+uint32_t ua_choose_policy(const uint8_t *body, size_t body_len, uint8_t *buffer, size_t buffer_len,
+                          size_t *needed, uint32_t *code);
 
 /* The text of the AuthenticationToken in the reply to a CreateSession. It names the token for the
  * requests above; an identifier that is null reads as an empty one there. */

@@ -54,7 +54,9 @@ enum class Status : std::uint32_t {
     unknown = UA_UNKNOWN,
     mismatch = UA_MISMATCH,
     bad_reading = UA_BAD_READING,
-    no_more = UA_NO_MORE
+    no_more = UA_NO_MORE,
+    no_policy = UA_NO_POLICY,
+    no_text = UA_NO_TEXT
 };
 
 /* Why a line of a node file is none: Error::reason() of Status::bad_nodes. */
@@ -73,7 +75,13 @@ enum class BadText : std::uint32_t {
     nodes = UA_TEXT_NODES,
     url = UA_TEXT_URL,
     application_uri = UA_TEXT_APPLICATION_URI,
-    name = UA_TEXT_NAME
+    name = UA_TEXT_NAME,
+    token = UA_TEXT_TOKEN,
+    policy = UA_TEXT_POLICY,
+    node = UA_TEXT_NODE,
+    range = UA_TEXT_RANGE,
+    type = UA_TEXT_TYPE,
+    value = UA_TEXT_VALUE
 };
 
 /* What came of octets that a client took. */
@@ -215,6 +223,7 @@ public:
         std::uint32_t reason = 0; /* a BadLine or a BadText */
         std::uint32_t code = 0;   /* the status code of OPC UA for which a service or a connection failed */
         std::size_t needed = 0;   /* how many octets the call needs room for */
+        std::size_t index = 0;    /* which of several nodes is none, from 0, where the reason is BadText::node */
     };
 
     Error(const char *call, std::uint32_t status, const Numbers &numbers) noexcept
@@ -229,6 +238,7 @@ public:
         add("reason %zu", numbers.reason);
         add("code %08zX", numbers.code);
         add("needed %zu", numbers.needed);
+        add("index %zu", numbers.index);
     }
 
     const char *what() const noexcept override { return text_; }
@@ -238,6 +248,7 @@ public:
     std::uint32_t reason() const noexcept { return numbers_.reason; }
     std::uint32_t code() const noexcept { return numbers_.code; }
     std::size_t needed() const noexcept { return numbers_.needed; }
+    std::size_t index() const noexcept { return numbers_.index; }
 
 private:
     void add(const char *form, std::size_t number) noexcept {
@@ -264,13 +275,13 @@ inline const std::uint8_t *at(std::string_view text) noexcept {
     return reinterpret_cast<const std::uint8_t *>(text.data());
 }
 
-/* What `made(buffer, size, &needed, &code)` puts into room, which is asked once more where the room has grown. */
+/* What `made(buffer, size, &needed, &numbers)` puts into room, which is asked once more where the room has grown. */
 template <class Made>
 Octets put(const char *call, Room room, Made made) {
     for (;;) {
         Error::Numbers numbers;
         auto had = room.size();
-        auto status = made(room.data(), had, &numbers.needed, &numbers.code);
+        auto status = made(room.data(), had, &numbers.needed, &numbers);
         if (status == UA_OK)
             return {room.data(), numbers.needed};
         if (status != UA_TOO_SMALL || !room.fit(numbers.needed) || room.size() == had)
@@ -466,7 +477,7 @@ struct Reading {
 /* ---- nodes, connections, clients */
 
 using Limits = ua_limits;
-inline constexpr Limits usual_limits = {65535, 65535, 1048576, 256};
+inline constexpr Limits usual_limits = {sizeof(Limits), 65535, 65535, 1048576, 256};
 
 /* What a server of nodes says of itself. */
 struct About {
@@ -657,6 +668,32 @@ inline std::string_view decode_value(Octets value, Room room) {
     }));
 }
 
+/* How values are written as texts: as in a node file, or as people write them. */
+enum class Style : std::uint32_t { exact = 0, plain = 1 };
+
+/* A type and a text that denote a value. */
+struct Spelling {
+    std::string_view type, text;
+};
+
+/* Those of a value; nothing where it has none. */
+inline std::optional<Spelling> value_text(Octets value, Style style, Room room) {
+    std::size_t needed = 0, name_size = 0;
+    if (ua_value_text(value.data(), value.size(), std::uint32_t(style), room.data(), 0, &needed, &name_size) == UA_NO_TEXT)
+        return std::nullopt;
+    auto whole = text_of(detail::put("ua_value_text", room, [&](auto *to, auto size, auto *put, auto *) {
+        return ua_value_text(value.data(), value.size(), std::uint32_t(style), to, size, put, &name_size);
+    }));
+    return Spelling{whole.substr(0, name_size), whole.substr(name_size + 1)};
+}
+
+inline Octets text_value(std::string_view type, std::string_view text, Style style, Room room) {
+    return detail::put("ua_text_value", room, [&](auto *to, auto size, auto *needed, auto *told) {
+        return ua_text_value(detail::at(type), type.size(), detail::at(text), text.size(), std::uint32_t(style), to, size,
+                             needed, &told->reason);
+    });
+}
+
 /* ---- bodies of requests, for Client::ask; `request` is the RequestHandle */
 
 inline Octets get_endpoints_request(std::string_view url, std::int64_t moment, std::uint32_t request, Room room) {
@@ -679,9 +716,9 @@ inline Octets activate_session_request(std::string_view token, std::int64_t mome
 
 inline Octets activate_session_request_as(std::string_view token, std::string_view policy, std::int64_t moment,
                                           std::uint32_t request, Room room) {
-    return detail::put("ua_activate_session_request_as", room, [&](auto *to, auto size, auto *needed, auto *) {
+    return detail::put("ua_activate_session_request_as", room, [&](auto *to, auto size, auto *needed, auto *told) {
         return ua_activate_session_request_as(detail::at(token), token.size(), detail::at(policy), policy.size(),
-                                              moment, request, to, size, needed);
+                                              moment, request, to, size, needed, &told->reason);
     });
 }
 
@@ -694,17 +731,18 @@ inline Octets close_session_request(std::string_view token, std::int64_t moment,
 /* `nodes` are NodeIds with an LF between; an empty range asks for the whole. */
 inline Octets read_request(std::string_view token, std::string_view nodes, std::string_view range, std::int64_t moment,
                            std::uint32_t request, Room room) {
-    return detail::put("ua_read_request", room, [&](auto *to, auto size, auto *needed, auto *) {
+    return detail::put("ua_read_request", room, [&](auto *to, auto size, auto *needed, auto *told) {
         return ua_read_request(detail::at(token), token.size(), moment, request, detail::at(nodes), nodes.size(),
-                               detail::at(range), range.size(), to, size, needed);
+                               detail::at(range), range.size(), to, size, needed, &told->reason, &told->index);
     });
 }
 
 inline Octets write_request(std::string_view token, std::string_view node, std::string_view type,
                             std::string_view text, std::int64_t moment, std::uint32_t request, Room room) {
-    return detail::put("ua_write_request", room, [&](auto *to, auto size, auto *needed, auto *) {
+    return detail::put("ua_write_request", room, [&](auto *to, auto size, auto *needed, auto *told) {
         return ua_write_request(detail::at(token), token.size(), moment, request, detail::at(node), node.size(),
-                                detail::at(type), type.size(), detail::at(text), text.size(), to, size, needed);
+                                detail::at(type), type.size(), detail::at(text), text.size(), to, size, needed,
+                                &told->reason);
     });
 }
 
@@ -724,15 +762,22 @@ inline Kind response_kind(Octets body) {
     return {Response(response), service_result};
 }
 
+/* The PolicyId for activate_session_request_as, of the reply to a GetEndpoints. */
+inline std::string_view choose_policy(Octets body, Room room) {
+    return text_of(detail::put("ua_choose_policy", room, [&](auto *to, auto size, auto *needed, auto *told) {
+        return ua_choose_policy(body.data(), body.size(), to, size, needed, &told->code);
+    }));
+}
+
 inline std::string_view session_token(Octets body, Room room) {
-    return text_of(detail::put("ua_session_token", room, [&](auto *to, auto size, auto *needed, auto *code) {
-        return ua_session_token(body.data(), body.size(), to, size, needed, code);
+    return text_of(detail::put("ua_session_token", room, [&](auto *to, auto size, auto *needed, auto *told) {
+        return ua_session_token(body.data(), body.size(), to, size, needed, &told->code);
     }));
 }
 
 inline std::string_view response_text(std::string_view nodes, Octets body, Room room) {
-    return text_of(detail::put("ua_response_text", room, [&](auto *to, auto size, auto *needed, auto *code) {
-        return ua_response_text(detail::at(nodes), nodes.size(), body.data(), body.size(), to, size, needed, code);
+    return text_of(detail::put("ua_response_text", room, [&](auto *to, auto size, auto *needed, auto *told) {
+        return ua_response_text(detail::at(nodes), nodes.size(), body.data(), body.size(), to, size, needed, &told->code);
     }));
 }
 
@@ -761,7 +806,7 @@ Readings readings(Octets body, Row &places) {
         places.resize(count);
         status = made();
     }
-    detail::check("ua_readings", status, {0, 0, code, 0});
+    detail::check("ua_readings", status, {0, 0, code, 0, 0});
     return {body, {places.data(), count}};
 }
 

@@ -121,6 +121,21 @@ static inline uint32_t ua_decode_value_some(const uint8_t *octets, size_t octets
 }
 #define ua_decode_value ua_decode_value_some
 
+static inline uint32_t ua_value_text_some(const uint8_t *octets, size_t octets_len, uint32_t plain,
+    uint8_t *buffer, size_t buffer_len, size_t *needed, size_t *name_size) {
+    return ua_value_text(ua_some(octets), octets_len, plain, ua_room(buffer), buffer_len, needed,
+        name_size);
+}
+#define ua_value_text ua_value_text_some
+
+static inline uint32_t ua_text_value_some(const uint8_t *type, size_t type_len, const uint8_t *text,
+    size_t text_len, uint32_t plain, uint8_t *buffer, size_t buffer_len, size_t *needed,
+    uint32_t *reason) {
+    return ua_text_value(ua_some(type), type_len, ua_some(text), text_len, plain, ua_room(buffer),
+        buffer_len, needed, reason);
+}
+#define ua_text_value ua_text_value_some
+
 static inline uint32_t ua_get_endpoints_request_some(const uint8_t *url, size_t url_len,
     int64_t moment, uint32_t request, uint8_t *buffer, size_t buffer_len, size_t *needed) {
     return ua_get_endpoints_request(ua_some(url), url_len, moment, request, ua_room(buffer),
@@ -144,9 +159,9 @@ static inline uint32_t ua_activate_session_request_some(const uint8_t *token, si
 
 static inline uint32_t ua_activate_session_request_as_some(const uint8_t *token, size_t token_len,
     const uint8_t *policy, size_t policy_len, int64_t moment, uint32_t request, uint8_t *buffer,
-    size_t buffer_len, size_t *needed) {
+    size_t buffer_len, size_t *needed, uint32_t *reason) {
     return ua_activate_session_request_as(ua_some(token), token_len, ua_some(policy), policy_len,
-        moment, request, ua_room(buffer), buffer_len, needed);
+        moment, request, ua_room(buffer), buffer_len, needed, reason);
 }
 #define ua_activate_session_request_as ua_activate_session_request_as_some
 
@@ -159,17 +174,20 @@ static inline uint32_t ua_close_session_request_some(const uint8_t *token, size_
 
 static inline uint32_t ua_read_request_some(const uint8_t *token, size_t token_len, int64_t moment,
     uint32_t request, const uint8_t *nodes, size_t nodes_len, const uint8_t *range,
-    size_t range_len, uint8_t *buffer, size_t buffer_len, size_t *needed) {
+    size_t range_len, uint8_t *buffer, size_t buffer_len, size_t *needed, uint32_t *reason,
+    size_t *index) {
     return ua_read_request(ua_some(token), token_len, moment, request, ua_some(nodes), nodes_len,
-        ua_some(range), range_len, ua_room(buffer), buffer_len, needed);
+        ua_some(range), range_len, ua_room(buffer), buffer_len, needed, reason, index);
 }
 #define ua_read_request ua_read_request_some
 
 static inline uint32_t ua_write_request_some(const uint8_t *token, size_t token_len, int64_t moment,
     uint32_t request, const uint8_t *node, size_t node_len, const uint8_t *type, size_t type_len,
-    const uint8_t *text, size_t text_len, uint8_t *buffer, size_t buffer_len, size_t *needed) {
+    const uint8_t *text, size_t text_len, uint8_t *buffer, size_t buffer_len, size_t *needed,
+    uint32_t *reason) {
     return ua_write_request(ua_some(token), token_len, moment, request, ua_some(node), node_len,
-        ua_some(type), type_len, ua_some(text), text_len, ua_room(buffer), buffer_len, needed);
+        ua_some(type), type_len, ua_some(text), text_len, ua_room(buffer), buffer_len, needed,
+        reason);
 }
 #define ua_write_request ua_write_request_some
 
@@ -178,6 +196,12 @@ static inline uint32_t ua_response_kind_some(const uint8_t *body, size_t body_le
     return ua_response_kind(ua_some(body), body_len, response, service_result);
 }
 #define ua_response_kind ua_response_kind_some
+
+static inline uint32_t ua_choose_policy_some(const uint8_t *body, size_t body_len, uint8_t *buffer,
+    size_t buffer_len, size_t *needed, uint32_t *code) {
+    return ua_choose_policy(ua_some(body), body_len, ua_room(buffer), buffer_len, needed, code);
+}
+#define ua_choose_policy ua_choose_policy_some
 
 static inline uint32_t ua_session_token_some(const uint8_t *body, size_t body_len, uint8_t *buffer,
     size_t buffer_len, size_t *needed, uint32_t *code) {

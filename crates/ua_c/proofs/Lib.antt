@@ -1,4 +1,5 @@
 mod Asked
+mod Chosen
 mod Connected
 mod Gotten
 pub mod Handles
@@ -10,4 +11,5 @@ mod Parts
 mod Replied
 mod Seen
 mod Served
+mod Spaced
 pub mod Values

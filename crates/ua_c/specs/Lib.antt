@@ -1,4 +1,6 @@
 pub mod Asking
+pub mod BadText
+pub mod Choosing
 pub mod Connecting
 pub mod Fetching
 pub mod Handled
@@ -10,6 +12,7 @@ pub mod Requests
 pub mod Responses
 pub mod Serving
 pub mod Shared
+pub mod Spelled
 pub mod Status
 pub mod Telling
 pub mod Texts

@@ -1,12 +1,16 @@
 -- The limits that C hands over.
-use Rattle.std.specs.Prelude.{Option, Some, None}
+use Rattle.std.specs.Prelude.{◌≡◌, ℕ, Option, Some, None}
 use Rattle.ua_frame.specs.Limits.{AreAllowed, HasSizes}
 use Rattle.ua_frame.specs.declared.limits.Limits.{Limits}
 use Rattle.ua_c.specs.declared.limits.UaLimits.{UaLimits}
 
--- each number is at least the least one
+-- the octets of the structure: five numbers of 32 bits
+abbrev pub limits_size : ℕ
+limits_size = 20
+
+-- it has so many octets, and each number is at least the least one
 abbrev pub AreEnough : UaLimits → Type 0
-AreEnough c = AreAllowed c.receive_buffer_size c.send_buffer_size c.max_message_size c.max_chunk_count
+AreEnough c = (c.size ≡ limits_size) × AreAllowed c.receive_buffer_size c.send_buffer_size c.max_message_size c.max_chunk_count
 
 -- these limits are those numbers
 abbrev pub AreThese : UaLimits → Limits → Type 0

@@ -1,6 +1,6 @@
 -- Requests from texts.
-use Rattle.std.specs.Prelude.{◌≡◌, ◌⊎◌, ℕ, nat_eq, List, [], ◌∷◌, map, Option, Some, Result, Ok, Err, IsTrue, IsFalse}
-use Rattle.std.specs.List.{AllZip, Any, slice_split}
+use Rattle.std.specs.Prelude.{◌≡◌, ◌⊎◌, ◌<◌, false, ℕ, nat_eq, List, [], ◌∷◌, length, get_or, take, map, Option, Some, Result, Ok, Err, IsTrue, IsFalse}
+use Rattle.std.specs.List.{AllZip, slice_split}
 use Rattle.std.specs.Str.{IsUtf8}
 use Rattle.ua_builtin.specs.NodeText.{NamesNode}
 use Rattle.ua_builtin.specs.declared.date_time.DateTime.{DateTime}
@@ -13,8 +13,10 @@ use Rattle.ua_structures.specs.declared.attribute.ReadValueId.{ReadValueId}
 use Rattle.ua_texts.specs.Script.{range_of}
 use Rattle.ua_variant.specs.View.{variant_of}
 use Rattle.ua_variant.specs.declared.values.Variant.{Variant}
-use Rattle.ua_c.specs.Status.{no_memory, bad_text}
-use Rattle.ua_c.specs.Texts.{HasNoValue, IsKept, IsNoString, IsString, IsValueOf, Puts}
+use Rattle.ua_c.specs.BadText.{IsBad}
+use Rattle.ua_c.specs.Status.{no_memory, bad_text, text_node, text_nodes, text_policy, text_range, text_token}
+use Rattle.ua_c.specs.declared.bad_text.BadText.{BadText}
+use Rattle.ua_c.specs.Texts.{HasNoValueBy, IsKept, IsNoString, IsString, IsValueOf, Puts}
 
 -- ---- the texts of NodeIds
 
@@ -47,18 +49,35 @@ lines text = slice_split (λ b. nat_eq b 10) text
 abbrev pub AreNamed : List ℕ → List NodeId → Type 0
 AreNamed text nodes = AllZip Names (lines text) nodes
 
--- memory was refused, or a line names no NodeId
-abbrev pub AreUnnamed : List ℕ → ℕ → Type 0
-AreUnnamed text status = (status ≡ no_memory) ⊎ ((status ≡ bad_text) × Any NamesNone (lines text))
+-- the line at a place is the first that names no NodeId
+pub record IsFirstNone (text : List ℕ) (index : ℕ) : Type 0 where
+  pub before : List NodeId
+  pub are : AllZip Names (take index (lines text)) before
+  pub line : List ℕ
+  pub here : index < length (lines text)
+  pub is : get_or (lines text) index line ≡ line
+  pub none : NamesNone line
+
+-- memory was refused at the line at a place, or it is the first that names no NodeId
+abbrev pub IsUnnamedAt : List ℕ → ℕ → ℕ → Type 0
+IsUnnamedAt text index status = (status ≡ no_memory) ⊎ ((status ≡ bad_text) × IsFirstNone text index)
+
+-- the same of a text that is to blame; or memory was refused for the list
+abbrev pub AreUnnamed : List ℕ → BadText → Type 0
+AreUnnamed text bad = IsBad text_nodes (λ status. status ≡ no_memory) bad ⊎ ((bad.text ≡ text_node) × IsUnnamedAt text bad.index bad.status)
 
 -- octets are UTF-8, and their lines the texts of NodeIds
 pub record AreNodeTexts (octets : List ℕ) (nodes : List NodeId) : Type 0 where
   pub utf8 : IsUtf8 octets
   pub named : AreNamed octets nodes
 
--- memory was refused, or octets are not UTF-8, or a line of them is the text of no NodeId
-abbrev pub AreNoNodes : List ℕ → ℕ → Type 0
-AreNoNodes octets status = (status ≡ no_memory) ⊎ ((status ≡ bad_text) × (¬ (IsUtf8 octets) ⊎ Any NamesNone (lines octets)))
+-- memory was refused, or octets are not UTF-8
+abbrev pub IsNoText : List ℕ → ℕ → Type 0
+IsNoText octets status = (status ≡ no_memory) ⊎ ((status ≡ bad_text) × ¬ (IsUtf8 octets))
+
+-- the whole is to blame, as text_nodes, or the line at the index, as text_node: it is the first that is the text of no NodeId
+abbrev pub AreNoNodes : List ℕ → BadText → Type 0
+AreNoNodes octets bad = IsBad text_nodes (IsNoText octets) bad ⊎ ((bad.text ≡ text_node) × IsUnnamedAt octets bad.index bad.status)
 
 -- ---- index ranges
 
@@ -66,10 +85,6 @@ AreNoNodes octets status = (status ≡ no_memory) ⊎ ((status ≡ bad_text) × 
 pub record IsRangeText (octets : List ℕ) (range : Option (List ℕ)) : Type 0 where
   pub utf8 : IsUtf8 octets
   pub is : range ≡ range_of octets
-
--- memory was refused, or octets are not UTF-8
-abbrev pub IsNoRange : List ℕ → ℕ → Type 0
-IsNoRange octets status = (status ≡ no_memory) ⊎ ((status ≡ bad_text) × ¬ (IsUtf8 octets))
 
 -- ---- requests
 
@@ -96,10 +111,10 @@ pub record IsActivation (token policy : List ℕ) (moment : DateTime) (handle : 
   pub is_policy : IsString policy
   pub is : r ≡ activate_session_as (Some policy) id moment handle
 
--- the same, or why there is none
-abbrev pub MakesActivation : List ℕ → List ℕ → DateTime → ℕ → Result Request ℕ → Type 0
+-- the same, or why there is none, and which text is to blame
+abbrev pub MakesActivation : List ℕ → List ℕ → DateTime → ℕ → Result Request BadText → Type 0
 MakesActivation token policy moment handle (Ok r) = IsActivation token policy moment handle r
-MakesActivation token policy moment handle (Err status) = IsNoNode token status ⊎ IsNoString policy status
+MakesActivation token policy moment handle (Err bad) = IsBad text_token (IsNoNode token) bad ⊎ IsBad text_policy (IsNoString policy) bad
 
 -- the items of a Read of the Values of nodes, or of the parts of them that an index range names
 abbrev pub items_of : Option (List ℕ) → List NodeId → List ReadValueId
@@ -115,10 +130,10 @@ pub record IsReadOf (token : List ℕ) (moment : DateTime) (handle : ℕ) (nodes
   pub is_range : IsRangeText range part
   pub is : r ≡ read id moment handle (items_of part each)
 
--- the same, or why there is none
-abbrev pub MakesRead : List ℕ → DateTime → ℕ → List ℕ → List ℕ → Result Request ℕ → Type 0
+-- the same, or why there is none, and which text is to blame
+abbrev pub MakesRead : List ℕ → DateTime → ℕ → List ℕ → List ℕ → Result Request BadText → Type 0
 MakesRead token moment handle nodes range (Ok r) = IsReadOf token moment handle nodes range r
-MakesRead token moment handle nodes range (Err status) = IsNoNode token status ⊎ AreNoNodes nodes status ⊎ IsNoRange range status
+MakesRead token moment handle nodes range (Err bad) = IsBad text_token (IsNoNode token) bad ⊎ AreNoNodes nodes bad ⊎ IsBad text_range (IsNoText range) bad
 
 -- a Write that sets the Value of one node to that of a type and a text, without a status and times
 pub record IsWriteOf (token : List ℕ) (moment : DateTime) (handle : ℕ) (node kind text : List ℕ) (r : Request) : Type 0 where
@@ -130,10 +145,10 @@ pub record IsWriteOf (token : List ℕ) (moment : DateTime) (handle : ℕ) (node
   pub is_value : IsValueOf kind text value
   pub is : r ≡ write id moment handle (value_for_node item (value_alone (variant_of value)) ∷ [])
 
--- the same, or why there is none
-abbrev pub MakesWrite : List ℕ → DateTime → ℕ → List ℕ → List ℕ → List ℕ → Result Request ℕ → Type 0
+-- the same, or why there is none, and which text is to blame
+abbrev pub MakesWrite : List ℕ → DateTime → ℕ → List ℕ → List ℕ → List ℕ → Result Request BadText → Type 0
 MakesWrite token moment handle node kind text (Ok r) = IsWriteOf token moment handle node kind text r
-MakesWrite token moment handle node kind text (Err status) = IsNoNode token status ⊎ IsNoNode node status ⊎ HasNoValue kind text status
+MakesWrite token moment handle node kind text (Err bad) = IsBad text_token (IsNoNode token) bad ⊎ IsBad text_node (IsNoNode node) bad ⊎ HasNoValueBy false kind text bad
 
 -- ---- bodies
 
@@ -146,6 +161,17 @@ PutsBody r before after needed status = (IsTrue (request.encodable r) × Puts (r
 abbrev pub PutsMade : Result Request ℕ → List ℕ → List ℕ → ℕ → ℕ → Type 0
 PutsMade (Ok r) before after needed status = PutsBody r before after needed status
 PutsMade (Err why) before after needed status = IsKept before after needed × (status ≡ why)
+
+-- the same, and which text is to blame is told; 0 where there is a request
+abbrev pub PutsTold : Result Request BadText → List ℕ → List ℕ → ℕ → ℕ → ℕ → Type 0
+PutsTold (Ok r) before after needed reason status = PutsBody r before after needed status × (reason ≡ 0)
+PutsTold (Err bad) before after needed reason status = IsKept before after needed × (status ≡ bad.status) × (reason ≡ bad.text)
+
+-- a request is `P`, or there is none for a text that is `P`; its body is put into a buffer, and the text told
+pub record Tells (P : Result Request BadText → Type 0) (before after : List ℕ) (needed reason status : ℕ) : Type 0 where
+  pub made : Result Request BadText
+  pub is : P made
+  pub puts : PutsTold made before after needed reason status
 
 -- a request is `P`, or there is none for a reason that is `P`; its body is put into a buffer
 pub record Makes (P : Result Request ℕ → Type 0) (before after : List ℕ) (needed status : ℕ) : Type 0 where

@@ -15,6 +15,7 @@ use Rattle.ua_texts.specs.declared.fault.AnswerFault.{AnswerFault}
 use Rattle.ua_texts.specs.declared.fault.AnswerFault.TheVariants.{Service, Unknown, OutOfMemory}
 use Rattle.ua_c.specs.Requests.{AreNoNodes, AreNodeTexts}
 use Rattle.ua_c.specs.Status.{ok, no_memory, bad_octets, service, unknown}
+use Rattle.ua_c.specs.declared.bad_text.BadText.{BadText}
 use Rattle.ua_c.specs.Texts.{IsKept, Puts}
 
 -- ---- texts
@@ -122,10 +123,14 @@ IsTold (Service code) told status = (status ≡ service) × (told ≡ code.code)
 IsTold Unknown told status = (status ≡ unknown) × (told ≡ 0)
 IsTold OutOfMemory told status = (status ≡ no_memory) × (told ≡ 0)
 
+-- memory was refused, or the lines of octets are not the texts of NodeIds
+abbrev pub HasNoNodes : List ℕ → ℕ → Type 0
+HasNoNodes nodes status = (bad : BadText) × AreNoNodes nodes bad × (bad.status ≡ status)
+
 -- the lines of the response that octets are, to what was asked of the nodes that lines name, or why there are none
 abbrev pub LinesBy : List ℕ → List ℕ → ℕ → Result (List ℕ) ℕ → Type 0
 LinesBy nodes body code (Ok text) = (code ≡ 0) × OfResponse body (λ r. AreLinesFor nodes r text)
-LinesBy nodes body code (Err status) = ((AreNoNodes nodes status ⊎ IsNoResponse body status) × (code ≡ 0)) ⊎ OfResponse body (λ r. TellsNone (HasNoLinesFor nodes) r code status)
+LinesBy nodes body code (Err status) = ((HasNoNodes nodes status ⊎ IsNoResponse body status) × (code ≡ 0)) ⊎ OfResponse body (λ r. TellsNone (HasNoLinesFor nodes) r code status)
 
 -- ---- buffers
 

@@ -105,9 +105,17 @@ bad_reading = 24
 abbrev pub no_more : ℕ
 no_more = 25
 
+-- no endpoint has a token policy that fits
+abbrev pub no_policy : ℕ
+no_policy = 26
+
+-- the value has no text that denotes it
+abbrev pub no_text : ℕ
+no_text = 27
+
 -- ---- which of several texts is none
 
--- the node file
+-- the node file, or the lines of a request
 abbrev pub text_nodes : ℕ
 text_nodes = 1
 
@@ -122,3 +130,27 @@ text_application_uri = 3
 -- the application's name
 abbrev pub text_name : ℕ
 text_name = 4
+
+-- the token
+abbrev pub text_token : ℕ
+text_token = 5
+
+-- the PolicyId
+abbrev pub text_policy : ℕ
+text_policy = 6
+
+-- a node, of several the one at the index that is told
+abbrev pub text_node : ℕ
+text_node = 7
+
+-- the index range
+abbrev pub text_range : ℕ
+text_range = 8
+
+-- the type
+abbrev pub text_type : ℕ
+text_type = 9
+
+-- the value
+abbrev pub text_value : ℕ
+text_value = 10

@@ -1,5 +1,5 @@
 -- What needs no handle: octets as lines, and values as texts.
-use Rattle.std.specs.Prelude.{◌≡◌, ◌⊎◌, ◌≤◌, ◌<◌, ℕ, List, ◌++◌, length, drop, Bool, Option, Some, None, IsTrue, IsFalse}
+use Rattle.std.specs.Prelude.{◌≡◌, ◌⊎◌, ◌≤◌, ◌<◌, ℕ, List, ◌++◌, length, drop, Bool, false, cond, Option, Some, None, IsTrue, IsFalse}
 use Rattle.std.specs.Str.{IsUtf8}
 use Rattle.ua_nodes.specs.TypeName.{type_denoted}
 use Rattle.ua_nodes.specs.ValueText.{value_denoted}
@@ -8,11 +8,15 @@ use Rattle.ua_wire.specs.Format.{IsWhole, Within, most_levels}
 use Rattle.ua_pair.specs.Dissected.{AreLines, plain}
 use Rattle.ua_pair.specs.declared.side.Side.{Side}
 use Rattle.ua_pair.specs.declared.side.Side.TheVariants.{Client, Server}
+use Rattle.ua_texts.specs.PlainRead.{plain_denoted}
 use Rattle.ua_texts.specs.Values.{variant_text}
+use Rattle.ua_variant.specs.Data.{VariantData}
 use Rattle.ua_variant.specs.Formats.{variant_format}
 use Rattle.ua_variant.specs.View.{variant_of}
 use Rattle.ua_variant.specs.declared.values.Variant.{Variant}
-use Rattle.ua_c.specs.Status.{ok, no_memory, bad_text, too_small, bad_side, bad_octets}
+use Rattle.ua_c.specs.BadText.{IsBad}
+use Rattle.ua_c.specs.Status.{ok, no_memory, bad_text, too_small, bad_side, bad_octets, text_type, text_value}
+use Rattle.ua_c.specs.declared.bad_text.BadText.{BadText}
 
 -- ---- buffers
 
@@ -67,28 +71,44 @@ DissectsTo octets number before after needed status =
 
 -- ---- values
 
--- a value is that which a type and a text denote
-pub record IsValueOf (kind text : List ℕ) (value : Variant) : Type 0 where
+-- the value that a text denotes at a type or at an array of it, where decimals and times are wanted as people write them too
+abbrev pub denoted_by : Bool → ℕ → Bool → List ℕ → Option VariantData
+denoted_by plain number array text = cond plain (plain_denoted number array text) (value_denoted number array text)
+
+-- a value is that which a type and a text denote so
+pub record IsValueBy (plain : Bool) (kind text : List ℕ) (value : Variant) : Type 0 where
   pub kind_utf8 : IsUtf8 kind
   pub text_utf8 : IsUtf8 text
   pub number : ℕ
   pub array : Bool
   pub type_is : type_denoted kind ≡ Some (number, array)
-  pub value_is : value_denoted number array text ≡ Some (variant_of value)
+  pub value_is : denoted_by plain number array text ≡ Some (variant_of value)
+
+-- the same, as in a node file
+abbrev pub IsValueOf : List ℕ → List ℕ → Variant → Type 0
+IsValueOf kind text value = IsValueBy false kind text value
 
 -- a type is named, of which a text denotes no value
-pub record DenotesNone (kind text : List ℕ) : Type 0 where
+pub record DenotesNone (plain : Bool) (kind text : List ℕ) : Type 0 where
   pub number : ℕ
   pub array : Bool
   pub type_is : type_denoted kind ≡ Some (number, array)
-  pub none : value_denoted number array text ≡ None
+  pub none : denoted_by plain number array text ≡ None
 
--- why a type and a text denote none
-abbrev pub IsBadText : List ℕ → List ℕ → Type 0
-IsBadText kind text = ¬ (IsUtf8 kind) ⊎ ¬ (IsUtf8 text) ⊎ (type_denoted kind ≡ None) ⊎ DenotesNone kind text
+-- octets are no type
+abbrev pub IsNoType : List ℕ → ℕ → Type 0
+IsNoType kind status = (status ≡ bad_text) × (¬ (IsUtf8 kind) ⊎ (type_denoted kind ≡ None))
+
+-- memory was refused, or octets are not the text of a value of a type
+abbrev pub IsNoValue : Bool → List ℕ → List ℕ → ℕ → Type 0
+IsNoValue plain kind text status = (status ≡ no_memory) ⊎ ((status ≡ bad_text) × (¬ (IsUtf8 text) ⊎ DenotesNone plain kind text))
+
+-- why a type and a text denote none, and which of the two is to blame
+abbrev pub HasNoValueBy : Bool → List ℕ → List ℕ → BadText → Type 0
+HasNoValueBy plain kind text bad = IsBad text_type (IsNoType kind) bad ⊎ IsBad text_value (IsNoValue plain kind text) bad
 
 abbrev pub HasNoValue : List ℕ → List ℕ → ℕ → Type 0
-HasNoValue kind text status = (status ≡ no_memory) ⊎ ((status ≡ bad_text) × IsBadText kind text)
+HasNoValue kind text status = IsNoType kind status ⊎ IsNoValue false kind text status
 
 -- a value can be encoded, and octets are its canonical encoding
 abbrev pub IsEncodingOf : Variant → List ℕ → Type 0

@@ -36,7 +36,9 @@ text_of_status k =
     cond (nat_eq k 23) (Some (codes "the node takes no value of this type")) (
     cond (nat_eq k 24) (Some (codes "the reading has no value within the octets, or no source time")) (
     cond (nat_eq k 25) (Some (codes "nothing more is there")) (
-    None))))))))))))))))))))))))))
+    cond (nat_eq k 26) (Some (codes "no endpoint has a token policy that fits")) (
+    cond (nat_eq k 27) (Some (codes "the value has no text that denotes it")) (
+    None))))))))))))))))))))))))))))
 
 -- a text is put into a buffer, where there is one; else nothing was written
 abbrev pub PutsWord : Option (List ℕ) → List ℕ → List ℕ → ℕ → ℕ → Type 0

@@ -6,6 +6,8 @@
 #![tactic(auto)]
 
 mod asking;
+mod bad_text;
+mod choosing;
 mod connecting;
 mod fetching;
 mod handle;
@@ -19,6 +21,7 @@ mod requests;
 mod responses;
 mod serving;
 mod shared;
+mod spelled;
 mod station;
 mod status;
 mod telling;

@@ -2,10 +2,15 @@
 
 ghost use Rattle.std.specs.Prelude.{◌≡◌, IfOk, IfErr};
 ghost use Rattle.ua_services.specs.SessionRequests.{activate_session, close_session, create_session, get_endpoints};
-ghost use Rattle.ua_c.specs.Requests.{AreNamed, AreNoNodes, AreNodeTexts, AreUnnamed, IsNoNode, IsNoRange, IsNodeText, IsRangeText, IsUnnamed, Makes, MakesActivation, MakesOfUrl, MakesRead, MakesUnder, MakesWrite, Names, PutsBody, PutsMade, items_of};
+ghost use Rattle.ua_c.specs.Requests.{AreNamed, AreNoNodes, AreNodeTexts, AreUnnamed, IsNoNode, IsNoText, IsNodeText, IsRangeText, IsUnnamed, Makes, MakesActivation, MakesOfUrl, MakesRead, MakesUnder, MakesWrite, Names, PutsBody, PutsMade, PutsTold, Tells, items_of};
+ghost use Rattle.ua_c.specs.BadText.{index_in};
+ghost use Rattle.ua_c.specs.Status.{text_node};
 
-use crate::status::{BAD_TEXT, NO_MEMORY};
-use crate::texts::{put, string_of, value_of};
+use crate::bad_text::BadText;
+use crate::status::{
+    BAD_TEXT, NO_MEMORY, TEXT_NODE, TEXT_NODES, TEXT_POLICY, TEXT_RANGE, TEXT_TOKEN,
+};
+use crate::texts::{put, string_of, value_by};
 use std::alloc::{AllocError, Global};
 use std::str;
 use ua_builtin::{DateTime, NodeId, TextFault, UaString, WriteFault};
@@ -39,39 +44,50 @@ pub(crate) fn node_of(alloc: Global, octets: &[u8]) -> Result<NodeId, u32>
     }
 }
 
-/// The NodeIds that the lines of a text name, or a status.
-fn nodes_named(alloc: Global, text: &str) -> Result<Vec<NodeId>, u32>
+/// A node among lines that is none, by the place of its line.
+fn bad_line(index: usize, status: u32) -> BadText
+    ensures { result ≡ record { status = status; text = text_node; index = index } }
+{
+    BadText {
+        status,
+        text: TEXT_NODE,
+        index,
+    }
+}
+
+/// The NodeIds that the lines of a text name, or the first line that names none.
+fn nodes_named(alloc: Global, text: &str) -> Result<Vec<NodeId>, BadText>
     ensures nodes { IfOk result (λ nodes. AreNamed text.now nodes.items) }
-    ensures fault { IfErr result (λ status. AreUnnamed text.now status) }
+    ensures fault { IfErr result (λ bad. AreUnnamed text.now bad) }
 {
     let mut nodes = Vec::new(alloc);
     for line in text.split('\n') {
         let node = match node_named(alloc, line) {
             Ok(node) => node,
-            Err(status) => return Err(status),
+            Err(status) => return Err(bad_line(nodes.as_slice().len(), status)),
         };
         let Ok(()) = nodes.push(node) else {
-            return Err(NO_MEMORY);
+            return Err(BadText::only(TEXT_NODES, NO_MEMORY));
         };
     }
     Ok(nodes)
 }
 
-/// The NodeIds that the lines of octets name, or a status.
-pub(crate) fn nodes_of(alloc: Global, octets: &[u8]) -> Result<Vec<NodeId>, u32>
+/// The NodeIds that the lines of octets name, or why there are none.
+pub(crate) fn nodes_of(alloc: Global, octets: &[u8]) -> Result<Vec<NodeId>, BadText>
     ensures nodes { IfOk result (λ nodes. AreNodeTexts octets.now nodes.items) }
-    ensures fault { IfErr result (λ status. AreNoNodes octets.now status) }
+    ensures fault { IfErr result (λ bad. AreNoNodes octets.now bad) }
 {
     match str::from_utf8(octets) {
         Ok(text) => nodes_named(alloc, text),
-        Err(_) => Err(BAD_TEXT),
+        Err(_) => Err(BadText::only(TEXT_NODES, BAD_TEXT)),
     }
 }
 
 /// The index range that octets are, null where there are none, or a status.
 fn range_of(alloc: Global, octets: &[u8]) -> Result<UaString, u32>
     ensures range { IfOk result (λ range. IsRangeText octets.now range) }
-    ensures fault { IfErr result (λ status. IsNoRange octets.now status) }
+    ensures fault { IfErr result (λ status. IsNoText octets.now status) }
 {
     if octets.is_empty() {
         return Ok(UaString::null());
@@ -94,6 +110,38 @@ fn put_request(alloc: Global, request: Request, buffer: &mut [u8], needed: &mut 
         Ok(body) => put(body.as_slice(), buffer, needed),
         Err(WriteFault::NotWritable) => BAD_TEXT,
         Err(WriteFault::OutOfMemory) => NO_MEMORY,
+    }
+}
+
+/// Puts the body of a request into a buffer, if there is one, and tells which text is to blame where there
+/// is none.
+fn put_told(
+    alloc: Global,
+    made: Result<Request, BadText>,
+    buffer: &mut [u8],
+    needed: &mut usize,
+    reason: &mut u32,
+) -> u32
+    ensures { PutsTold made buffer.old buffer.new needed.new reason.new result }
+{
+    *reason = 0;
+    match made {
+        Ok(request) => put_request(alloc, request, buffer, needed),
+        Err(bad) => {
+            *needed = 0;
+            *reason = bad.text;
+            bad.status
+        }
+    }
+}
+
+/// The place of the line that is to blame, 0 where none is.
+fn index_in(made: &Result<Request, BadText>) -> usize
+    ensures { result ≡ index_in made.now }
+{
+    match made {
+        Ok(_) => 0,
+        Err(bad) => bad.index,
     }
 }
 
@@ -145,21 +193,21 @@ fn activating_as(
     policy: &[u8],
     moment: DateTime,
     handle: u32,
-) -> Result<Request, u32>
+) -> Result<Request, BadText>
     ensures { MakesActivation token.now policy.now moment handle result }
 {
     let policy = match string_of(alloc, policy) {
         Ok(policy) => policy,
-        Err(status) => return Err(status),
+        Err(status) => return Err(BadText::only(TEXT_POLICY, status)),
     };
     let token = match node_of(alloc, token) {
         Ok(token) => token,
-        Err(status) => return Err(status),
+        Err(status) => return Err(BadText::only(TEXT_TOKEN, status)),
     };
     match activate_session_request_as(alloc, token, policy, moment, handle) {
         Ok(request) => Ok(request),
-        Err(WriteFault::NotWritable) => Err(BAD_TEXT),
-        Err(WriteFault::OutOfMemory) => Err(NO_MEMORY),
+        Err(WriteFault::NotWritable) => Err(BadText::only(TEXT_POLICY, BAD_TEXT)),
+        Err(WriteFault::OutOfMemory) => Err(BadText::only(TEXT_POLICY, NO_MEMORY)),
     }
 }
 
@@ -187,24 +235,24 @@ fn reading(
     handle: u32,
     nodes: &[u8],
     range: &[u8],
-) -> Result<Request, u32>
+) -> Result<Request, BadText>
     ensures { MakesRead token.now moment handle nodes.now range.now result }
 {
     let range = match range_of(alloc, range) {
         Ok(range) => range,
-        Err(status) => return Err(status),
+        Err(status) => return Err(BadText::only(TEXT_RANGE, status)),
     };
     let nodes = match nodes_of(alloc, nodes) {
         Ok(nodes) => nodes,
-        Err(status) => return Err(status),
+        Err(bad) => return Err(bad),
     };
     let token = match node_of(alloc, token) {
         Ok(token) => token,
-        Err(status) => return Err(status),
+        Err(status) => return Err(BadText::only(TEXT_TOKEN, status)),
     };
     match items_of(alloc, nodes.as_slice(), &range) {
         Ok(items) => Ok(read_request(token, moment, handle, items)),
-        Err(_) => Err(NO_MEMORY),
+        Err(_) => Err(BadText::only(TEXT_NODES, NO_MEMORY)),
     }
 }
 
@@ -217,25 +265,25 @@ fn writing(
     node: &[u8],
     kind: &[u8],
     text: &[u8],
-) -> Result<Request, u32>
+) -> Result<Request, BadText>
     ensures { MakesWrite token.now moment handle node.now kind.now text.now result }
 {
-    let value = match value_of(alloc, kind, text) {
+    let value = match value_by(alloc, kind, text, false) {
         Ok(value) => value,
-        Err(status) => return Err(status),
+        Err(bad) => return Err(bad),
     };
     let node = match node_of(alloc, node) {
         Ok(node) => node,
-        Err(status) => return Err(status),
+        Err(status) => return Err(BadText::only(TEXT_NODE, status)),
     };
     let token = match node_of(alloc, token) {
         Ok(token) => token,
-        Err(status) => return Err(status),
+        Err(status) => return Err(BadText::only(TEXT_TOKEN, status)),
     };
     let mut items = Vec::new(alloc);
     match items.push(write_item(node, value)) {
         Ok(()) => Ok(write_request(token, moment, handle, items)),
-        Err(_) => Err(NO_MEMORY),
+        Err(_) => Err(BadText::only(TEXT_NODE, NO_MEMORY)),
     }
 }
 
@@ -301,11 +349,12 @@ pub extern "C" fn ua_activate_session_request_as(
     handle: u32,
     buffer: &mut [u8],
     needed: &mut usize,
+    reason: &mut u32,
 ) -> u32
-    ensures { Makes (λ made. MakesActivation token.now policy.now (record { ticks = moment }) handle made) buffer.old buffer.new needed.new result }
+    ensures { Tells (λ made. MakesActivation token.now policy.now (record { ticks = moment }) handle made) buffer.old buffer.new needed.new reason.new result }
 {
     let made = activating_as(alloc, token, policy, DateTime { ticks: moment }, handle);
-    put_made(alloc, made, buffer, needed)
+    put_told(alloc, made, buffer, needed, reason)
 }
 
 /// The body of a CloseSession under this token.
@@ -339,8 +388,10 @@ pub extern "C" fn ua_read_request(
     range: &[u8],
     buffer: &mut [u8],
     needed: &mut usize,
+    reason: &mut u32,
+    index: &mut usize,
 ) -> u32
-    ensures { Makes (λ made. MakesRead token.now (record { ticks = moment }) handle nodes.now range.now made) buffer.old buffer.new needed.new result }
+    ensures { Tells (λ made. MakesRead token.now (record { ticks = moment }) handle nodes.now range.now made × (index.new ≡ index_in made)) buffer.old buffer.new needed.new reason.new result }
 {
     let made = reading(
         alloc,
@@ -350,7 +401,8 @@ pub extern "C" fn ua_read_request(
         nodes,
         range,
     );
-    put_made(alloc, made, buffer, needed)
+    *index = index_in(&made);
+    put_told(alloc, made, buffer, needed, reason)
 }
 
 /// The body of a Write that sets the Value of a node to the one that a type and a text denote.
@@ -365,8 +417,9 @@ pub extern "C" fn ua_write_request(
     text: &[u8],
     buffer: &mut [u8],
     needed: &mut usize,
+    reason: &mut u32,
 ) -> u32
-    ensures { Makes (λ made. MakesWrite token.now (record { ticks = moment }) handle node.now kind.now text.now made) buffer.old buffer.new needed.new result }
+    ensures { Tells (λ made. MakesWrite token.now (record { ticks = moment }) handle node.now kind.now text.now made) buffer.old buffer.new needed.new reason.new result }
 {
     let made = writing(
         alloc,
@@ -377,5 +430,5 @@ pub extern "C" fn ua_write_request(
         kind,
         text,
     );
-    put_made(alloc, made, buffer, needed)
+    put_told(alloc, made, buffer, needed, reason)
 }

@@ -132,7 +132,7 @@ fn lines(alloc: Global, nodes: &[u8], body: &[u8], code: &mut u32) -> Result<Str
     *code = 0;
     let nodes = match nodes_of(alloc, nodes) {
         Ok(nodes) => nodes,
-        Err(status) => return Err(status),
+        Err(bad) => return Err(bad.status),
     };
     let response = match response_of(alloc, body) {
         Ok(response) => response,
@@ -144,7 +144,7 @@ fn lines(alloc: Global, nodes: &[u8], body: &[u8], code: &mut u32) -> Result<Str
 }
 
 /// Puts a text into a buffer, if there is one.
-fn put_text(made: Result<String, u32>, buffer: &mut [u8], needed: &mut usize) -> u32
+pub(crate) fn put_text(made: Result<String, u32>, buffer: &mut [u8], needed: &mut usize) -> u32
     ensures { PutsReply (octets_in made) buffer.old buffer.new needed.new result }
 {
     match made {

@@ -10,21 +10,12 @@ ghost use Rattle.ua_c.specs.Texts.{IsNoString, IsStringOf};
 use crate::handle::UaNodes;
 use crate::holding::Machine;
 use crate::making::{nodes_of, seat};
-use crate::status::NO_MEMORY;
+use crate::status::{NO_MEMORY, TEXT_APPLICATION_URI, TEXT_NAME, TEXT_NODES, TEXT_URL};
 use crate::texts::string_of;
 use std::alloc::{AllocError, Global};
 use ua_builtin::{NodeId, UaString};
 use ua_nodes::{LineReason, NodeTable};
 use ua_server::{Endpoint, Services};
-
-/// The text of the node file.
-pub const TEXT_NODES: u32 = 1;
-/// The text of the URL.
-pub const TEXT_URL: u32 = 2;
-/// The text of the ApplicationUri.
-pub const TEXT_APPLICATION_URI: u32 = 3;
-/// The text of the application's name.
-pub const TEXT_NAME: u32 = 4;
 
 /// A line has not just five fields.
 const LINE_FIELDS: u32 = 1;

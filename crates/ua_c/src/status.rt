@@ -52,3 +52,28 @@ pub const MISMATCH: u32 = 23;
 pub const BAD_READING: u32 = 24;
 /// Nothing more is there.
 pub const NO_MORE: u32 = 25;
+/// No endpoint has a token policy that fits.
+pub const NO_POLICY: u32 = 26;
+/// The value has no text that denotes it.
+pub const NO_TEXT: u32 = 27;
+
+/// The text of nodes: the node file, or the lines of a request.
+pub const TEXT_NODES: u32 = 1;
+/// The text of the URL.
+pub const TEXT_URL: u32 = 2;
+/// The text of the ApplicationUri.
+pub const TEXT_APPLICATION_URI: u32 = 3;
+/// The text of the application's name.
+pub const TEXT_NAME: u32 = 4;
+/// The text of the token.
+pub const TEXT_TOKEN: u32 = 5;
+/// The text of the PolicyId.
+pub const TEXT_POLICY: u32 = 6;
+/// The text of a node, of several the one at the index that is told.
+pub const TEXT_NODE: u32 = 7;
+/// The text of the index range.
+pub const TEXT_RANGE: u32 = 8;
+/// The text of the type.
+pub const TEXT_TYPE: u32 = 9;
+/// The text of the value.
+pub const TEXT_VALUE: u32 = 10;

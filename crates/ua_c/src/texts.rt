@@ -1,18 +1,23 @@
 //! What needs no handle: octets as lines, and values as texts.
 
-ghost use Rattle.std.specs.Prelude.{◌≡◌, ◌⊎◌, IfOk, IfErr, MatchOption, string_bytes};
+ghost use Rattle.std.specs.Prelude.{◌≡◌, ◌⊎◌, IfOk, IfErr, IsErrOf, MatchOption, None, Some, string_bytes};
+ghost use Rattle.ua_nodes.specs.declared.fault.ValueFault.TheVariants.{NotValue};
 ghost use Rattle.ua_pair.specs.Dissected.{AreLines, plain};
+ghost use Rattle.ua_variant.specs.View.{variant_of};
 ghost use Rattle.ua_c.specs.Status.{no_memory};
-ghost use Rattle.ua_c.specs.Texts.{DecodesTo, DissectsTo, EncodesTo, HasNoValue, IsEncodingOf, IsNoEncoding, IsNoSide, IsNoString, IsNoValueEncoded, IsSide, IsStringOf, IsTextOf, IsValueOf, Puts};
+ghost use Rattle.ua_c.specs.Texts.{DecodesTo, DissectsTo, EncodesTo, HasNoValue, HasNoValueBy, IsEncodingOf, IsNoEncoding, IsNoSide, IsNoString, IsNoValueEncoded, IsSide, IsStringOf, IsTextOf, IsValueBy, IsValueOf, Puts, denoted_by};
 
-use crate::status::{BAD_OCTETS, BAD_SIDE, BAD_TEXT, NO_MEMORY, OK, TOO_SMALL};
+use crate::bad_text::BadText;
+use crate::status::{
+    BAD_OCTETS, BAD_SIDE, BAD_TEXT, NO_MEMORY, OK, TEXT_TYPE, TEXT_VALUE, TOO_SMALL,
+};
 use crate::waiting::move_front;
 use std::alloc::{AllocError, Global};
 use std::str;
 use ua_builtin::{UaString, Wire, WriteFault};
 use ua_nodes::{ValueFault, parse_type, parse_value};
 use ua_pair::{Side, dissect};
-use ua_texts::push_variant;
+use ua_texts::{parse_plain_value, push_variant};
 use ua_variant::Variant;
 
 /// Copies octets to the front of a buffer where they fit, and says how many they are.
@@ -86,24 +91,59 @@ pub extern "C" fn ua_dissect(
     }
 }
 
+/// The value that a text denotes at a type, where decimals and times are wanted as people write them too.
+fn parse_by(
+    alloc: Global,
+    kind: u8,
+    array: bool,
+    text: &str,
+    plain: bool,
+) -> Result<Variant, ValueFault>
+    ensures value { IfOk result (λ v. denoted_by plain kind array text.now ≡ Some (variant_of v)) }
+    ensures none { IsErrOf result NotValue → denoted_by plain kind array text.now ≡ None }
+{
+    if plain {
+        parse_plain_value(alloc, kind, array, text)
+    } else {
+        parse_value(alloc, kind, array, text)
+    }
+}
+
+/// The value that a type and a text denote, where decimals and times are wanted as people write them too;
+/// or which of the two is none.
+pub(crate) fn value_by(
+    alloc: Global,
+    kind: &[u8],
+    text: &[u8],
+    plain: bool,
+) -> Result<Variant, BadText>
+    ensures value { IfOk result (λ value. IsValueBy plain kind.now text.now value) }
+    ensures fault { IfErr result (λ bad. HasNoValueBy plain kind.now text.now bad) }
+{
+    let Ok(kind) = str::from_utf8(kind) else {
+        return Err(BadText::only(TEXT_TYPE, BAD_TEXT));
+    };
+    let Some((kind, array)) = parse_type(kind) else {
+        return Err(BadText::only(TEXT_TYPE, BAD_TEXT));
+    };
+    let Ok(text) = str::from_utf8(text) else {
+        return Err(BadText::only(TEXT_VALUE, BAD_TEXT));
+    };
+    match parse_by(alloc, kind, array, text, plain) {
+        Ok(value) => Ok(value),
+        Err(ValueFault::NotValue) => Err(BadText::only(TEXT_VALUE, BAD_TEXT)),
+        Err(ValueFault::OutOfMemory) => Err(BadText::only(TEXT_VALUE, NO_MEMORY)),
+    }
+}
+
 /// The value that a type and a text denote, or a status.
-pub(crate) fn value_of(alloc: Global, kind: &[u8], text: &[u8]) -> Result<Variant, u32>
+fn value_of(alloc: Global, kind: &[u8], text: &[u8]) -> Result<Variant, u32>
     ensures value { IfOk result (λ value. IsValueOf kind.now text.now value) }
     ensures fault { IfErr result (λ status. HasNoValue kind.now text.now status) }
 {
-    let Ok(kind) = str::from_utf8(kind) else {
-        return Err(BAD_TEXT);
-    };
-    let Ok(text) = str::from_utf8(text) else {
-        return Err(BAD_TEXT);
-    };
-    let Some((kind, array)) = parse_type(kind) else {
-        return Err(BAD_TEXT);
-    };
-    match parse_value(alloc, kind, array, text) {
+    match value_by(alloc, kind, text, false) {
         Ok(value) => Ok(value),
-        Err(ValueFault::NotValue) => Err(BAD_TEXT),
-        Err(ValueFault::OutOfMemory) => Err(NO_MEMORY),
+        Err(bad) => Err(bad.status),
     }
 }
 

@@ -6,9 +6,9 @@ ghost use Rattle.ua_texts.specs.Names.{name_of_code};
 
 use crate::status::{
     BAD_LIMITS, BAD_NODES, BAD_OCTETS, BAD_READING, BAD_SIDE, BAD_TEXT, CLOSED, EMPTY, ENDED,
-    EXHAUSTED, FETCH_FIRST, MISMATCH, NO_HANDLE, NO_MEMORY, NO_MORE, NOT_OPEN, OK, OTHER_HANDLE,
-    REFUSED, RENEW_PENDING, SERVICE, TOO_LARGE, TOO_MANY_PENDING, TOO_MANY_TOKENS, TOO_SMALL,
-    UNKNOWN,
+    EXHAUSTED, FETCH_FIRST, MISMATCH, NO_HANDLE, NO_MEMORY, NO_MORE, NO_POLICY, NO_TEXT, NOT_OPEN,
+    OK, OTHER_HANDLE, REFUSED, RENEW_PENDING, SERVICE, TOO_LARGE, TOO_MANY_PENDING,
+    TOO_MANY_TOKENS, TOO_SMALL, UNKNOWN,
 };
 use crate::texts::put;
 use ua_builtin::StatusCode;
@@ -56,6 +56,8 @@ fn text_of_status(status: u32) -> Option<&'static str>
         MISMATCH => Some("the node takes no value of this type"),
         BAD_READING => Some("the reading has no value within the octets, or no source time"),
         NO_MORE => Some("nothing more is there"),
+        NO_POLICY => Some("no endpoint has a token policy that fits"),
+        NO_TEXT => Some("the value has no text that denotes it"),
         _ => None,
     }
 }

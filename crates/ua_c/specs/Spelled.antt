@@ -1,0 +1,79 @@
+-- Values as texts that denote them.
+use Rattle.std.specs.Prelude.{◌≡◌, ◌⊎◌, ℕ, List, ◌∷◌, ◌++◌, length, nat_eq, Bool, false, cond, not, IsTrue}
+use Rattle.ua_wire.specs.Format.{Within, most_levels}
+use Rattle.ua_texts.specs.Plain.{IsPlainVariant}
+use Rattle.ua_texts.specs.PlainLeaf.{Either}
+use Rattle.ua_texts.specs.Values.{variant_text}
+use Rattle.ua_variant.specs.Data.{VariantData}
+use Rattle.ua_variant.specs.Formats.{variant_format}
+use Rattle.ua_variant.specs.View.{variant_of}
+use Rattle.ua_variant.specs.declared.values.Variant.{Variant}
+use Rattle.ua_c.specs.BadText.{only}
+use Rattle.ua_c.specs.Status.{no_memory, no_text, text_value}
+use Rattle.ua_c.specs.Texts.{HasNoValueBy, IsEncodingOf, IsKept, IsNoEncoding, IsNoValueEncoded, IsValueBy, Puts}
+use Rattle.ua_c.specs.declared.bad_text.BadText.{BadText}
+
+-- a value is wanted as people write it: the number is not 0
+abbrev pub is_plain : ℕ → Bool
+is_plain n = not (nat_eq n 0)
+
+-- the type and the text that are printed of a value, as people write it where this is wanted
+abbrev pub IsSpelled : Bool → VariantData → List ℕ → Type 0
+IsSpelled plain v text = Either plain (IsPlainVariant false v text) (text ≡ variant_text v)
+
+-- the value that a type and a text denote has this canonical encoding
+pub record IsBack (plain : Bool) (kind text canonical : List ℕ) : Type 0 where
+  pub value : Variant
+  pub is : IsValueBy plain kind text value
+  pub are : IsEncodingOf value canonical
+
+-- a text is a type of so many octets, a space, and a text that denotes the value with this canonical encoding
+pub record IsSpellingOf (plain : Bool) (canonical text : List ℕ) (name_size : ℕ) : Type 0 where
+  pub kind : List ℕ
+  pub rest : List ℕ
+  pub size : name_size ≡ length kind
+  pub parts : text ≡ kind ++ 32 ∷ rest
+  pub back : IsBack plain kind rest canonical
+
+-- the same of the value of at most 100 levels that octets encode
+pub record IsSpelling (plain : Bool) (octets text : List ℕ) (name_size : ℕ) : Type 0 where
+  pub value : Variant
+  pub encodes : Within variant_format.encodes variant_format.depth most_levels value octets
+  pub is : IsSpellingOf plain (variant_format.canonical value) text name_size
+
+-- the text was put into a buffer
+pub record PutsSpelling (plain : Bool) (octets before after : List ℕ) (needed name_size status : ℕ) : Type 0 where
+  pub text : List ℕ
+  pub is : IsSpelling plain octets text name_size
+  pub puts : Puts text before after needed status
+
+-- or there is none: memory was refused, octets encode no value, or they encode one that has no such text
+abbrev pub LacksSpelling : List ℕ → ℕ → Type 0
+LacksSpelling octets status = (status ≡ no_memory) ⊎ IsNoValueEncoded octets status ⊎ (status ≡ no_text)
+
+abbrev pub SpellsTo : Bool → List ℕ → List ℕ → List ℕ → ℕ → ℕ → ℕ → Type 0
+SpellsTo plain octets before after needed name_size status =
+    PutsSpelling plain octets before after needed name_size status ⊎ (IsKept before after needed × (name_size ≡ 0) × LacksSpelling octets status)
+
+-- ---- the other way
+
+-- the encoding of the value that a type and a text denote was put into a buffer
+pub record PutsValueBy (plain : Bool) (kind text before after : List ℕ) (needed status : ℕ) : Type 0 where
+  pub value : Variant
+  pub is : IsValueBy plain kind text value
+  pub octets : List ℕ
+  pub are : IsEncodingOf value octets
+  pub puts : Puts octets before after needed status
+
+-- or it cannot be encoded
+pub record CannotEncodeBy (plain : Bool) (kind text : List ℕ) (bad : BadText) : Type 0 where
+  pub value : Variant
+  pub is : IsValueBy plain kind text value
+  pub to_blame : bad.text ≡ text_value
+  pub not_one : IsNoEncoding value bad.status
+
+-- or there is none, and which text is to blame is told
+abbrev pub EncodesBy : Bool → List ℕ → List ℕ → List ℕ → List ℕ → ℕ → ℕ → ℕ → Type 0
+EncodesBy plain kind text before after needed reason status =
+    (PutsValueBy plain kind text before after needed status × (reason ≡ 0))
+    ⊎ (IsKept before after needed × (HasNoValueBy plain kind text (only reason status) ⊎ CannotEncodeBy plain kind text (only reason status)))
