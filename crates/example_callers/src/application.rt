@@ -1,5 +1,5 @@
-//! An application beside connections: it sets values, hands on what clients write, and serves two of them
-//! over one table.
+//! An application beside connections: it sets values, passes on what clients write, and serves two
+//! of them over one node table.
 
 ghost use Rattle.std.specs.Prelude.{◌≡◌, ◌++◌, ◌∷◌, [], ℕ, List, None, Some, Ok, Err, IfErr, IfOk, OnErr, OnOk};
 ghost use Rattle.ua_channel.specs.ServerStands.{limits_of, channel_of, next_of, Goes};
@@ -30,7 +30,7 @@ use ua_server::{
 use ua_services::WriteValue;
 use ua_variant::{Scalar, Variant};
 
-/// Why a reading was not set, or octets were not taken behind it.
+/// Why a reading was not set, or bytes were not taken after it.
 #[derive(Clone, Copy, PartialEq, Eq, Debug, Error)]
 pub enum SensorFault {
     #[error("{0}")]
@@ -39,8 +39,8 @@ pub enum SensorFault {
     Step(StepFault),
 }
 
-/// Sets what a sensor measured, and then takes octets of a client: they are answered from the nodes with
-/// this reading. A reading that is refused changes nothing, and no octets are taken.
+/// Sets what a sensor measured, and then takes bytes of a client: they are answered from the nodes
+/// with this reading. A reading that is refused changes nothing, and no bytes are taken.
 pub fn set_and_step(
     connection: &mut Connection,
     services: &mut Services,
@@ -76,7 +76,7 @@ pub fn set_and_step(
     }
 }
 
-/// What became of octets of a client that came beside a sensor.
+/// The result for bytes of a client that came beside a sensor.
 #[derive(Clone, Copy, PartialEq, Eq, Debug)]
 pub struct Sensed {
     /// How many of them were taken.
@@ -85,9 +85,10 @@ pub struct Sensed {
     pub end: Option<End>,
 }
 
-/// A server whose values move by themselves: sets a reading, takes octets of a client, sets the next reading
-/// and so on, until there is no reading more or the connection ended. What is to be sent is added to `out`.
-/// A reading that is refused ends it: what came before it stands, and the connection may go on.
+/// A server whose values move by themselves: it sets a reading, takes bytes of a client, sets the
+/// next reading and so on, until there are no more readings or the connection ended. The bytes to
+/// be sent are added to `out`. A reading that is refused ends it: what came before it remains, and
+/// the connection may go on.
 pub fn serve_sensor(
     connection: &mut Connection,
     services: &mut Services,
@@ -131,17 +132,17 @@ pub fn serve_sensor(
     Ok(Sensed { taken, end: None })
 }
 
-/// Why octets of a client were not taken, or not all that they stored was handed on.
+/// Why bytes of a client were not taken, or not all that they stored was passed on.
 #[derive(Drop)]
 pub enum SetpointFault {
     /// The step failed.
     Step(StepFault),
-    /// The step is done, and its answer is to be sent, but memory was refused for what it stored: none of
-    /// that was handed on.
+    /// The step is done, and its answer is to be sent, but an allocation for what it stored failed:
+    /// none of that was passed on.
     NotHandedOn(Step),
 }
 
-/// Takes octets of a client, and adds what they wrote to the setpoints that a gateway hands on.
+/// Takes bytes of a client, and adds what they wrote to the setpoints that a gateway passes on.
 pub fn take_setpoints(
     alloc: Global,
     connection: &mut Connection,
@@ -177,7 +178,7 @@ fn hand_on(alloc: Global, step: &Step, setpoints: &mut Vec<WriteValue>) -> Resul
     Ok(())
 }
 
-/// Takes octets of two clients over one table, those of the first one first.
+/// Takes bytes of two clients over one node table, those of the first one first.
 pub fn step_both(
     first: &mut Connection,
     second: &mut Connection,
@@ -196,7 +197,8 @@ pub fn step_both(
     (one, two)
 }
 
-/// A switch that a node tells of: each time that it acts it sets what it is, and is the other way then.
+/// A switch whose state a node holds: each time that it acts it sets the node to its state, and
+/// then changes over.
 #[derive(Drop)]
 pub struct Pulse {
     pub id: NodeId,
@@ -221,7 +223,7 @@ impl Application for Pulse {
     }
 }
 
-/// Serves a client at the other end of a line, whose Reads find the switch on and off in turn.
+/// Serves a client at the other end of a transport, whose Reads find the switch on and off in turn.
 pub fn serve_pulse<L: Line, M: Moments, W: Watch>(
     alloc: Global,
     line: &mut L,

@@ -1,6 +1,6 @@
-//! Uses of the stack, as its callers write them, each with a contract of its own: a value through
-//! octets and back, the frames of a piece of a stream, a value of a node file, the body of a request, a conversation
-//! over a line, octets that a server serves.
+//! Uses of the stack, as its callers write them, each with a contract of its own: a value encoded
+//! and decoded again, the frames in a fragment of a stream, a value of a node file, the body of a
+//! request, a conversation over a transport, bytes that a server serves.
 #![tactic(auto)]
 
 mod application;

@@ -9,8 +9,9 @@ use std::alloc::Global;
 use ua_builtin::{DateTime, Octets, StatusCode};
 use ua_services::{Request, RequestFault, ServiceFault, read_request};
 
-/// Reads the body of a request. A body that is none gives the fault to answer it with, sent at a
-/// moment: under the handle of the request, or 0 where none was read. The fault can be written.
+/// Reads the body of a request. For a body that is none it gives the ServiceFault to answer with,
+/// at a timestamp: under the RequestHandle of the request, or 0 where none was read. The fault can
+/// be encoded.
 pub fn take_request(alloc: Global, body: &[u8], moment: DateTime) -> Result<Request, ServiceFault>
     ensures found { IfOk result (λ m. IsBody request m body.now) }
     ensures encodable { IfErr result (λ fault. IsTrue (service_fault.encodable fault)) }

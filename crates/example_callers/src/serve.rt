@@ -1,4 +1,4 @@
-//! Octets that a server serves.
+//! Bytes that a server serves.
 
 ghost use Rattle.std.specs.Prelude.{◌≡◌, ◌<◌, ◌++◌, [], ℕ, List, None, Ok, Err, IfErr, IfOk, OnErr, OnOk, length};
 ghost use Rattle.ua_channel.specs.ServerStands.{IsDone};
@@ -15,12 +15,12 @@ use ua_builtin::DateTime;
 use ua_frame::Limits;
 use ua_server::{End, Server, Services, StepFault};
 
-/// Serves octets that came behind others, all of which a server took: it reads or writes its nodes as
-/// they ask, and all that is to be sent back is added to `out`. Says how the connection ended, if it
-/// did; what came behind its end is passed over.
+/// Serves bytes that came after others, all of which a server took: it reads or writes its nodes as
+/// they ask, and adds all bytes to be sent back to `out`. Returns how the connection ended, if it
+/// did; what came after its end is passed over.
 ///
-/// Each clause but the last is of every server that began so, took just these octets before, and
-/// answered all of them at this moment.
+/// Each clause but the last applies to every server that began so, took just these bytes before,
+/// and answered all of them at this timestamp.
 pub fn serve_octets(
     server: &mut Server,
     services: &mut Services,
@@ -28,14 +28,15 @@ pub fn serve_octets(
     moment: DateTime,
     out: &mut Vec<u8>,
 ) -> Result<Option<End>, StepFault>
-    // Octets in: while the connection goes on, the server took all of them.
+    // Bytes in: while the connection goes on, the server took all of them.
     ensures takes { (b : Beginning) (before : List ℕ) → Serves b server.old services.old before → moment ≡ b.moment → result ≡ Ok None → Serves b server.new services.new (before ++ octets.now) }
-    // Nodes changed: the services are what all octets leave.
+    // Nodes changed: the services are as all bytes leave them.
     ensures leaves { (b : Beginning) (before : List ℕ) → Serves b server.old services.old before → moment ≡ b.moment → OnOk result (services.new ≡ services_after b (before ++ octets.now)) }
-    // Octets out: what is added is what the server says of them.
+    // Bytes out: what is added is the server's output for them.
     ensures answers { (b : Beginning) (before : List ℕ) → Serves b server.old services.old before → moment ≡ b.moment → OnOk result (Answers b before (before ++ octets.now) out.old.items out.new.items) }
     ensures ends { (b : Beginning) (before : List ℕ) → Serves b server.old services.old before → moment ≡ b.moment → IfOk result (λ end. EndsAt (stage_of end) b (before ++ octets.now)) }
-    // Where memory is refused, the services are what a front of them leaves, and what is added is what the server says of a front of that.
+    // If an allocation fails, the services are as a prefix of the bytes leaves them, and what is
+    // added is the server's output for a prefix of that.
     ensures breaks { (b : Beginning) (before : List ℕ) → Serves b server.old services.old before → moment ≡ b.moment → OnErr result (BreaksOff b before (before ++ octets.now) out.old.items out.new.items services.new) }
     ensures memory { (b : Beginning) (before : List ℕ) → Serves b server.old services.old before → moment ≡ b.moment → IfErr result (λ fault. fault ≡ OutOfMemory) }
     // A server that ended takes nothing more.
@@ -58,8 +59,8 @@ pub fn serve_octets(
     Ok(None)
 }
 
-/// Serves a connection that a client begins: octets that came over it. What is to be sent back is added
-/// to `out`. Says how the connection ended, if it did.
+/// Serves a connection that a client begins: bytes that came over it. The bytes to be sent back are
+/// added to `out`. Returns how the connection ended, if it did.
 pub fn serve_connection(
     alloc: Global,
     limits: Limits,

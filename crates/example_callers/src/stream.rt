@@ -5,7 +5,7 @@ ghost use Rattle.ua_frame.specs.Reader.{StandsAfter};
 
 use ua_frame::{Frame, FrameFault, FrameReader};
 
-/// Takes a whole piece of a stream, and adds its frames to those that came before.
+/// Takes a whole fragment of a stream, and adds its frames to those that came before.
 pub fn take_frames(
     reader: &mut FrameReader,
     piece: &[u8],

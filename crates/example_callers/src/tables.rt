@@ -25,8 +25,8 @@ pub enum TableFault {
     Memory(#[from] AllocError),
 }
 
-/// Loads a node file, and reads the whole value of a node at a moment, with both times: what a
-/// server answers, a refusal included. The answer can be written.
+/// Loads a node file, and reads the whole value of a node at a timestamp, with both timestamps:
+/// what a server answers, a refusal included. The answer can be encoded.
 pub fn value_in_file(
     alloc: Global,
     file: &str,

@@ -1,4 +1,4 @@
-//! A conversation over a line.
+//! A conversation over a transport.
 
 ghost use Rattle.std.specs.Prelude.{◌≡◌, ◌∷◌, [], length, IfOk, IsTrue};
 ghost use Rattle.ua_services.specs.SessionRequests.{read, write};
@@ -14,8 +14,8 @@ use ua_services::Request;
 use ua_services::session_requests::{read_request, write_request};
 use ua_structures::{ReadValueId, WriteValue};
 
-/// Opens a connection over a line, begins a session, writes values, then reads values, and closes: the
-/// replies to the Write and to the Read.
+/// Opens a connection over a transport, begins a session, writes values, then reads values, and
+/// closes: gives the replies to the Write and to the Read.
 pub fn write_and_read<L: Line>(
     alloc: Global,
     line: &mut L,

@@ -1,4 +1,4 @@
-//! Values through octets.
+//! Values encoded and decoded.
 
 ghost use Rattle.std.specs.Prelude.{◌≡◌, IfOk};
 
@@ -7,7 +7,7 @@ use thiserror::Error;
 use ua_builtin::laws::{canonical_encodes, encodes_once};
 use ua_builtin::{MOST_LEVELS, Octets, ReadFault, Wire, WriteFault};
 
-/// Why a value did not pass through octets.
+/// Why a value was not encoded and decoded.
 #[derive(Clone, Copy, PartialEq, Eq, Debug, Error)]
 pub enum PassFault {
     #[error("{0}")]
@@ -16,7 +16,7 @@ pub enum PassFault {
     Read(#[from] ReadFault),
 }
 
-/// Writes a value and reads it again: what comes back is the value.
+/// Encodes a value and decodes it again: the result is the value.
 pub fn through_octets<T: Wire + Drop>(alloc: Global, value: &T) -> Result<T, PassFault>
     ensures { IfOk result (λ back. back ≡ value.now) }
 {

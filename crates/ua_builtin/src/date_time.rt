@@ -3,7 +3,7 @@
 use std::alloc::{AllocError, Global};
 use ua_wire::{ReadFault, Skip, Source, Wire};
 
-/// A moment, in units of 100 nanoseconds since 1601-01-01 00:00 UTC: every number is kept
+/// A time in units of 100 nanoseconds since 1601-01-01 00:00 UTC; every number is preserved
 /// (OPC 10000-6, 5.2.2.5).
 #[derive(Clone, Copy, PartialEq, Eq, Debug)]
 pub struct DateTime {

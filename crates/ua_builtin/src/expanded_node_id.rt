@@ -5,10 +5,10 @@ use crate::node_id::NodeId;
 use std::alloc::{AllocError, Global};
 use ua_wire::{ReadFault, Source, UaString, Wire};
 
-/// The name of a node that may be on another server: with the URI of its namespace, unless that is
-/// null, and the index of its server, where 0 is the server itself (OPC 10000-6, 5.2.2.10).
+/// The NodeId of a node that may be on another server: with its NamespaceUri, unless that is null,
+/// and its ServerIndex, where 0 is the local server (OPC 10000-6, 5.2.2.10).
 ///
-/// A namespace index beside a URI means nothing, and is kept and written as it is.
+/// A namespace index beside a URI has no meaning; it is preserved and encoded as it is.
 #[derive(PartialEq, Eq, Debug, Drop)]
 pub struct ExpandedNodeId {
     pub node_id: NodeId,
@@ -28,7 +28,7 @@ impl ExpandedNodeId {
     ghost use Rattle.ua_builtin.specs.Flags.{flagged_text};
     ghost use Rattle.ua_builtin.specs.ExpandedNodeId.{octet_of, flagged_index, is_here};
 
-    /// A value of its own, equal to this one.
+    /// Returns an owned copy, equal to this value.
     pub fn try_clone(&self) -> Result<ExpandedNodeId, AllocError>
         ensures { IfOk result (λ v. v ≡ self.now) }
     {
@@ -39,7 +39,7 @@ impl ExpandedNodeId {
         })
     }
 
-    // The form octet with the flags of what is there.
+    // The form byte with the flags of what is there.
     fn octet(&self) -> u8
         ensures { result ≡ octet_of self.now }
     {
@@ -48,7 +48,7 @@ impl ExpandedNodeId {
             + flags::flag_of(HAS_SERVER_INDEX, self.server_index != 0)
     }
 
-    // Adds the index unless it is 0.
+    // Appends the index unless it is 0.
     fn append_index(&self, out: &mut Vec<u8>) -> Result<(), AllocError>
         ensures ok { OnOk result (out.new.items ≡ out.old.items ++ (flagged_index (not (is_here self.now.server_index))).canonical self.now.server_index) }
         ensures err { OnErr result (Extends out.old.items out.new.items) }
@@ -59,7 +59,7 @@ impl ExpandedNodeId {
         self.server_index.append(out)
     }
 
-    // Adds the URI unless it is null, and the index unless it is 0.
+    // Appends the URI unless it is null, and the index unless it is 0.
     fn append_behind(&self, out: &mut Vec<u8>) -> Result<(), AllocError>
         requires { IsTrue ((flagged_text (is_some self.now.namespace_uri)).encodable self.now.namespace_uri) }
         ensures ok { OnOk result (out.new.items ≡ out.old.items ++ ((flagged_text (is_some self.now.namespace_uri)).canonical self.now.namespace_uri ++ (flagged_index (not (is_here self.now.server_index))).canonical self.now.server_index)) }

@@ -5,11 +5,11 @@ use crate::xml_element::XmlElement;
 use std::alloc::{AllocError, Global};
 use ua_wire::{ReadFault, Skip, Source, UaBytes, Wire, append_two};
 
-/// The encoding of the object that holds nothing: the NodeId of two octets, and no body.
+/// The encoding of the object that holds nothing: the NodeId of two bytes, and no body.
 const NULL_OBJECT: [u8; 3] = [0x00, 0x00, 0x00];
 
-/// The body of an [`ExtensionObject`]. A ByteString or an XmlElement that is null is a body, and
-/// differs from none.
+/// The body of an [`ExtensionObject`]. A null ByteString or XmlElement is a body, and differs from
+/// no body.
 #[derive(PartialEq, Eq, Debug, Drop)]
 pub enum ExtensionBody {
     Absent,
@@ -17,8 +17,8 @@ pub enum ExtensionBody {
     Xml(XmlElement),
 }
 
-/// A structure of any type: the NodeId of its type's encoding, and its octets, which are kept as
-/// they stand (OPC 10000-6, 5.2.2.15).
+/// A structure of any type: the NodeId of its encoding, and its encoded bytes, which are preserved
+/// as they are (OPC 10000-6, 5.2.2.15).
 #[derive(PartialEq, Eq, Debug, Drop)]
 pub struct ExtensionObject {
     pub type_id: NodeId,
@@ -28,7 +28,7 @@ pub struct ExtensionObject {
 impl ExtensionBody {
     ghost use Rattle.std.specs.Prelude.{◌≡◌, IfOk};
 
-    /// A value of its own, equal to this one.
+    /// Returns an owned copy, equal to this value.
     pub fn try_clone(&self) -> Result<ExtensionBody, AllocError>
         ensures { IfOk result (λ v. v ≡ self.now) }
     {
@@ -44,8 +44,8 @@ impl ExtensionObject {
     ghost use Rattle.std.specs.Prelude.{◌≡◌, ◌↔◌, IsTrue, IfOk};
     ghost use Rattle.ua_builtin.specs.ExtensionObject.{null_object};
 
-    /// The object that holds nothing: the null NodeId, and no body (OPC 10000-6, 5.2.2.15). Takes no
-    /// memory.
+    /// The ExtensionObject without a structure: the null NodeId and no body (OPC 10000-6,
+    /// 5.2.2.15). Allocates nothing.
     #[inline]
     pub fn null() -> ExtensionObject
         ensures { result ≡ null_object }
@@ -56,7 +56,7 @@ impl ExtensionObject {
         }
     }
 
-    /// Whether the object holds nothing.
+    /// Whether this is the null ExtensionObject.
     #[inline]
     fn is_null(&self) -> bool
         ensures { IsTrue result ↔ (self.now ≡ null_object) }
@@ -66,7 +66,7 @@ impl ExtensionObject {
             && matches!(self.body, ExtensionBody::Absent)
     }
 
-    /// A value of its own, equal to this one.
+    /// Returns an owned copy, equal to this value.
     pub fn try_clone(&self) -> Result<ExtensionObject, AllocError>
         ensures { IfOk result (λ v. v ≡ self.now) }
     {
@@ -82,7 +82,7 @@ impl ExtensionBody {
     ghost use Rattle.ua_wire.specs.Format.{Extends};
     ghost use Rattle.ua_builtin.specs.ExtensionObject.{body_fits, body_octets};
 
-    // Adds the octet for the kind of body, and the body.
+    // Appends the byte for the kind of body, and the body.
     fn append_kind(&self, out: &mut Vec<u8>) -> Result<(), AllocError>
         requires { IsTrue (body_fits self.now) }
         ensures ok { OnOk result (out.new.items ≡ out.old.items ++ body_octets self.now) }

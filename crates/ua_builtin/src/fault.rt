@@ -1,17 +1,17 @@
-//! Why texts are not read.
+//! Errors of parsing texts.
 
 ghost use Rattle.std.specs.Prelude.{◌≡◌};
 
 use std::alloc::AllocError;
 use thiserror::Error;
 
-/// Why a text is not read as a NodeId.
+/// The reason why a text was not parsed as a NodeId.
 #[derive(Clone, Copy, PartialEq, Eq, Debug, Error)]
 pub enum TextFault {
-    /// The text names no NodeId.
+    /// The text is no NodeId.
     #[error("the text is not a NodeId")]
     NotNodeId,
-    /// Memory was refused.
+    /// An allocation failed.
     #[error("out of memory")]
     OutOfMemory,
 }

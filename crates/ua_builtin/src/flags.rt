@@ -1,4 +1,5 @@
-//! What a mask flags: the bit of a part that is there, and texts that are there where it is set.
+//! Fields that an encoding mask announces: the bit of a field that is present, and Strings that are
+//! present if their bit is set.
 
 ghost use Rattle.std.specs.Prelude.{◌≡◌, ◌≤◌, ◌++◌, IsTrue, OnOk, OnErr, is_some};
 ghost use Rattle.ua_wire.specs.Format.{most_levels, Gives, StaysBehind, Extends};
@@ -7,7 +8,7 @@ ghost use Rattle.ua_builtin.specs.Flags.{flag_bit, flagged_text};
 use std::alloc::{AllocError, Global};
 use ua_wire::{ReadFault, Source, UaString, Wire};
 
-/// The bit of a part that is there, else 0.
+/// The bit of a field that is present, else 0.
 #[inline]
 pub fn flag_of(bit: u8, is_there: bool) -> u8
     ensures value { result ≡ flag_bit bit is_there }
@@ -16,7 +17,7 @@ pub fn flag_of(bit: u8, is_there: bool) -> u8
     if is_there { bit } else { 0 }
 }
 
-/// Reads a text where it is flagged; else it is null.
+/// Decodes a String if its bit is set; otherwise it is null.
 pub fn read_flagged<S: Source>(
     alloc: Global,
     src: &mut S,
@@ -33,14 +34,14 @@ pub fn read_flagged<S: Source>(
     UaString::read_value(alloc, src, depth)
 }
 
-/// Whether a text that is flagged where it isn't null can be encoded.
+/// Whether a String that is encoded unless it is null can be encoded.
 pub fn is_flagged_encodable(text: &UaString) -> bool
     ensures { result ≡ (flagged_text (is_some text.now)).encodable text.now }
 {
     !text.is_some() || text.is_encodable()
 }
 
-/// Adds a text unless it is null.
+/// Appends the encoding of a String unless it is null.
 pub fn append_flagged(text: &UaString, out: &mut Vec<u8>) -> Result<(), AllocError>
     requires { IsTrue ((flagged_text (is_some text.now)).encodable text.now) }
     ensures ok { OnOk result (out.new.items ≡ out.old.items ++ (flagged_text (is_some text.now)).canonical text.now) }

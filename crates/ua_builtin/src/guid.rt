@@ -4,8 +4,8 @@ use std::alloc::{AllocError, Global};
 use ua_wire::{ReadFault, Skip, Source, Wire, fill_octets};
 use uuid::Uuid;
 
-/// A Guid, which the crate `uuid` reads and prints: its first three fields are encoded with the
-/// least octet first (OPC 10000-6, 5.2.2.6).
+/// A Guid, which the crate `uuid` parses and prints; its first three fields are encoded
+/// little-endian (OPC 10000-6, 5.2.2.6).
 #[derive(Clone, Copy, PartialEq, Eq, Hash, Debug)]
 pub struct Guid {
     pub uuid: Uuid,

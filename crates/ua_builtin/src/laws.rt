@@ -1,6 +1,6 @@
-//! Laws that a caller may rely on, each the contract of a function that does nothing at run time:
-//! of the built-in types, of tables of reasons (`first_reasons`), and from `ua_wire` those of every
-//! value that octets encode.
+//! Laws for callers, each the contract of a function that does nothing at run time: of the built-in
+//! types, of tables of errors (`first_reasons`), and, re-exported from `ua_wire`, of every type
+//! with an encoding.
 
 ghost use Rattle.std.specs.Prelude.{◌≡◌, ◌++◌, IsTrue, List, [], ◌∷◌, ℕ, Bool, false, Some, None, map, option_map};
 ghost use Rattle.std.specs.Bool.{Decides};
@@ -17,19 +17,19 @@ pub use ua_wire::laws::{
     canonical_encodes, counts_within_octets, encodes_in_octets, encodes_once, reads_back,
 };
 
-/// Two NodeIds are equal where they mean the same: the same namespace, and the same identifier of the
-/// same kind, whatever form encoded them.
+/// Two NodeIds compare equal if they identify the same node: the same namespace, and the same
+/// identifier of the same kind, whichever form encoded them.
 pub fn equal_node_ids_are_the_same()
     ensures { (a b : NodeId) → Decides (⟦<NodeId as PartialEq>⟧.eq a b) (a ≡ b) }
 {}
 
-/// A text names one NodeId at most: so what `to_text` prints is parsed to the same NodeId, with an
-/// empty identifier in place of a null one.
+/// A text is the form of at most one NodeId: what `to_text` prints is parsed to the same NodeId,
+/// with an empty identifier in place of a null one.
 pub fn texts_name_one_node_id()
     ensures { (v w : NodeId) (text : List ℕ) → NamesNode v text → NamesNode w text → v ≡ w }
 {}
 
-/// Every DateTime can be written.
+/// Every DateTime can be encoded.
 #[inline]
 #[tactic(auto, unfolding(crate::specs::DateTime::date_time))]
 pub fn moment_is_encodable(moment: &DateTime)
@@ -38,7 +38,7 @@ pub fn moment_is_encodable(moment: &DateTime)
     let _ticks = moment.ticks;
 }
 
-/// Every StatusCode can be written.
+/// Every StatusCode can be encoded.
 #[inline]
 #[tactic(auto, unfolding(crate::specs::Status::status_code))]
 pub fn status_is_encodable(status: &StatusCode)
@@ -47,8 +47,9 @@ pub fn status_is_encodable(status: &StatusCode)
     let _code = status.code;
 }
 
-/// The first reason of two tables, one behind the other, is that of the first one, or else of the
-/// second; a last one that does not hold changes nothing; and by other names it is the same one.
+/// The first error that holds in two tables, one after the other, is that of the first table, else
+/// that of the second; a last entry that does not hold changes nothing; renaming the errors renames
+/// the result.
 pub fn first_reasons<A, B>()
     ensures joined { (reasons more : List (A × Bool)) → first_reason (reasons ++ more) ≡ or_else (first_reason reasons) (first_reason more) }
     ensures among { (reasons more : List (A × Bool)) (a : A) → first_reason reasons ≡ Some a → first_reason (reasons ++ more) ≡ Some a }

@@ -1,7 +1,7 @@
-//! The built-in types of OPC UA Binary: how octets encode them, both ways (OPC 10000-6, 5.2.2).
+//! The built-in types of OPC UA Binary, decoded and encoded (OPC 10000-6, 5.2.2).
 //!
-//! Its contract is that of [`Wire`]: `read` takes just the front that encodes a value, answers
-//! `NoValue` only where no front encodes one, and `write` adds the one canonical encoding.
+//! The contract is that of [`Wire`]: `read` consumes exactly the prefix that encodes a value,
+//! returns `NoValue` only if no prefix encodes one, and `write` appends the one canonical encoding.
 //!
 //! ```
 //! let pump = NodeId::parse_text(alloc, "ns=1;s=Pump")?;
@@ -9,7 +9,7 @@
 //! pump.write(&mut out)?; // 03 01 00 04 00 00 00 and `Pump`
 //! let mut src = Octets::new(out.as_slice());
 //! let same = NodeId::read(alloc, &mut src, MOST_LEVELS)?;
-//! let equal = same == pump; // true: they mean the same
+//! let equal = same == pump; // true: they identify the same node
 //! let text = same.to_text(alloc)?; // `ns=1;s=Pump` again
 //! let now = DateTime { ticks: 116_444_736_000_000_000 }; // 1970-01-01
 //! now.write(&mut out)?;

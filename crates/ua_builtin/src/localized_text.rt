@@ -4,8 +4,7 @@ use crate::flags;
 use std::alloc::{AllocError, Global};
 use ua_wire::{ReadFault, Source, UaString, Wire};
 
-/// A text for people, and the locale of its language; either may be null
-/// (OPC 10000-6, 5.2.2.14; OPC 10000-3, 8.5).
+/// A text for people and its locale; either may be null (OPC 10000-6, 5.2.2.14; OPC 10000-3, 8.5).
 #[derive(PartialEq, Eq, Debug, Drop)]
 pub struct LocalizedText {
     pub locale: UaString,
@@ -19,7 +18,7 @@ const TEXT: u8 = 0x02;
 impl LocalizedText {
     ghost use Rattle.std.specs.Prelude.{◌≡◌, IfOk};
 
-    /// A value of its own, equal to this one.
+    /// Returns an owned copy, equal to this value.
     pub fn try_clone(&self) -> Result<LocalizedText, AllocError>
         ensures { IfOk result (λ v. v ≡ self.now) }
     {

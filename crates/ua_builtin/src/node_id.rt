@@ -21,7 +21,7 @@ const GUID: u8 = 0x04;
 
 const OPAQUE: u8 = 0x05;
 
-/// What names a node within its namespace (OPC 10000-3, 8.2).
+/// The identifier of a node within its namespace (OPC 10000-3, 8.2).
 #[derive(PartialEq, Eq, Hash, Debug, Drop)]
 pub enum Identifier {
     Numeric(u32),
@@ -30,8 +30,8 @@ pub enum Identifier {
     Opaque(UaBytes),
 }
 
-/// The name of a node: its namespace, which is an index into the server's table of namespaces, and
-/// its identifier there (OPC 10000-6, 5.2.2.9).
+/// The identifier of a node in a server: the index of its namespace in the server's NamespaceArray,
+/// and its identifier in that namespace (OPC 10000-6, 5.2.2.9).
 #[derive(PartialEq, Eq, Hash, Debug, Drop)]
 pub struct NodeId {
     pub namespace: u16,
@@ -41,7 +41,7 @@ pub struct NodeId {
 impl Identifier {
     ghost use Rattle.std.specs.Prelude.{◌≡◌, IfOk};
 
-    /// A value of its own, equal to this one.
+    /// Returns an owned copy, equal to this value.
     pub fn try_clone(&self) -> Result<Identifier, AllocError>
         ensures { IfOk result (λ v. v ≡ self.now) }
     {
@@ -60,7 +60,7 @@ impl NodeId {
     ghost use Rattle.ua_wire.specs.Format.{most_levels, Gives, StaysBehind, Extends};
     ghost use Rattle.ua_builtin.specs.NodeId.{node, null_id, in_form, form_of};
 
-    /// A node's name of these parts.
+    /// Makes a NodeId of a namespace index and an identifier.
     #[inline]
     pub fn new(namespace: u16, identifier: Identifier) -> NodeId
         ensures { result ≡ node namespace identifier }
@@ -71,7 +71,7 @@ impl NodeId {
         }
     }
 
-    /// The null NodeId, which names no node: `i=0` (OPC 10000-6, 5.2.2.9). Takes no memory.
+    /// The null NodeId, which identifies no node: `i=0` (OPC 10000-6, 5.2.2.9). Allocates nothing.
     #[inline]
     pub fn null() -> NodeId
         ensures { result ≡ null_id }
@@ -79,14 +79,14 @@ impl NodeId {
         NodeId::new(0, Identifier::Numeric(0))
     }
 
-    /// A value of its own, equal to this one.
+    /// Returns an owned copy, equal to this value.
     pub fn try_clone(&self) -> Result<NodeId, AllocError>
         ensures { IfOk result (λ v. v ≡ self.now) }
     {
         Ok(NodeId::new(self.namespace, self.identifier.try_clone()?))
     }
 
-    /// Reads what stands behind the form octet.
+    /// Reads what follows the form byte.
     pub(crate) fn read_form<S: Source>(
         alloc: Global,
         src: &mut S,
@@ -126,7 +126,7 @@ impl NodeId {
         }
     }
 
-    /// Passes over what stands behind the form octet.
+    /// Skips what follows the form byte.
     pub(crate) fn skip_form<S: Source>(
         alloc: Global,
         src: &mut S,
@@ -148,7 +148,7 @@ impl NodeId {
         }
     }
 
-    /// The form octet that a writer sets: that of the shortest form.
+    /// The form byte that a writer sets: that of the shortest form.
     pub(crate) fn form(&self) -> u8
         ensures { result ≡ form_of self.now }
     {
@@ -168,7 +168,7 @@ impl NodeId {
         }
     }
 
-    /// Whether what stands behind the form octet can be encoded.
+    /// Whether what follows the form byte can be encoded.
     pub(crate) fn is_form_encodable(&self) -> bool
         ensures { result ≡ (in_form (form_of self.now)).encodable self.now }
     {
@@ -184,7 +184,7 @@ impl NodeId {
         }
     }
 
-    /// Adds what stands behind the form octet.
+    /// Appends what follows the form byte.
     pub(crate) fn append_form(&self, out: &mut Vec<u8>) -> Result<(), AllocError>
         requires { IsTrue ((in_form (form_of self.now)).encodable self.now) }
         ensures ok { OnOk result (out.new.items ≡ out.old.items ++ (in_form (form_of self.now)).canonical self.now) }
@@ -199,7 +199,7 @@ impl NodeId {
     }
 }
 
-/// Adds a number and its namespace in the shortest form that holds both.
+/// Appends a number and its namespace in the shortest form that holds both.
 fn append_numeric(namespace: u16, number: u32, out: &mut Vec<u8>) -> Result<(), AllocError>
     ensures ok { OnOk result (out.new.items ≡ out.old.items ++ (in_form (shortest_form namespace number)).canonical (node namespace (Numeric number))) }
     ensures err { OnErr result (Extends out.old.items out.new.items) }

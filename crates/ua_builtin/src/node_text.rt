@@ -1,4 +1,4 @@
-//! NodeIds as texts.
+//! NodeIds in their text form.
 
 ghost use Rattle.std.specs.Prelude.{◌≡◌, ◌^◌, ◌++◌, ℕ, List, string_bytes, Some, option_map, IfOk, IsErrOf, IfSome, IsNone, OnOk, MatchOption};
 ghost use Rattle.base64.specs.Engines.{standard};
@@ -19,8 +19,8 @@ use ua_wire::{UaBytes, UaString};
 use uuid::Uuid;
 
 impl NodeId {
-    /// The text of this NodeId: `ns=` and its namespace unless that is 0, and its identifier, where
-    /// null is as empty (OPC 10000-6, 5.3.1.10).
+    /// The text form of this NodeId: `ns=` and its namespace index unless that is 0, and its
+    /// identifier, where a null one is printed as an empty one (OPC 10000-6, 5.3.1.10).
     pub fn to_text(&self, alloc: Global) -> Result<String, AllocError>
         ensures text { IfOk result (λ t. string_bytes t ≡ node_text self.now) }
         ensures names { IfOk result (λ t. NamesNode (filled self.now) (string_bytes t)) }
@@ -30,8 +30,8 @@ impl NodeId {
         Ok(text)
     }
 
-    /// The NodeId that a text names. The namespace may be left out or 0, a number may begin with
-    /// zeros, and a Guid's digits are taken in either case.
+    /// Parses a NodeId from its text form. The namespace may be left out or 0, a number may begin
+    /// with zeros, and the digits of a Guid may be of either case.
     pub fn parse_text(alloc: Global, text: &str) -> Result<NodeId, TextFault>
         ensures found { IfOk result (λ v. NamesNode v text.now) }
         ensures none { IsErrOf result NotNodeId → (v : NodeId) → ¬ (NamesNode v text.now) }
@@ -45,7 +45,7 @@ impl NodeId {
 }
 
 impl Identifier {
-    // Adds the text of the identifier.
+    // Appends the text of the identifier.
     fn append_text(&self, alloc: Global, out: &mut String) -> Result<(), AllocError>
         ensures text { OnOk result (string_bytes out.new ≡ string_bytes out.old ++ identifier_text self.now) }
         ensures names { OnOk result (NamesIdentifier (filled_identifier self.now) (identifier_text self.now)) }
@@ -130,7 +130,7 @@ fn parse_identifier(alloc: Global, text: &str) -> Result<Identifier, TextFault>
     Err(TextFault::NotNodeId)
 }
 
-// What stands behind a prefix.
+// What follows a prefix.
 fn behind<'a>(text: &'a str, prefix: &str) -> Option<&'a str>
     ensures { IsBehind prefix.now text.now (option_map (λ r. r.now) result) }
 {

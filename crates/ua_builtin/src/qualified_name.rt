@@ -3,7 +3,7 @@
 use std::alloc::{AllocError, Global};
 use ua_wire::{ReadFault, Skip, Source, UaString, Wire, append_two};
 
-/// A name within a namespace, which is an index into the server's table of namespaces
+/// A name qualified by a namespace, which is an index into the server's NamespaceArray
 /// (OPC 10000-6, 5.2.2.13).
 #[derive(PartialEq, Eq, Debug, Drop)]
 pub struct QualifiedName {
@@ -14,7 +14,7 @@ pub struct QualifiedName {
 impl QualifiedName {
     ghost use Rattle.std.specs.Prelude.{◌≡◌, IfOk};
 
-    /// A value of its own, equal to this one.
+    /// Returns an owned copy, equal to this value.
     pub fn try_clone(&self) -> Result<QualifiedName, AllocError>
         ensures { IfOk result (λ v. v ≡ self.now) }
     {

@@ -3,7 +3,7 @@
 use std::alloc::{AllocError, Global};
 use ua_wire::{ReadFault, Skip, Source, UaBytes, Wire};
 
-/// An XML element as octets, which are never looked at, or null (OPC 10000-6, 5.2.2.8).
+/// An XML element as bytes, which are never parsed, or null (OPC 10000-6, 5.2.2.8).
 #[derive(PartialEq, Eq, Debug, Drop)]
 pub struct XmlElement {
     pub octets: UaBytes,
@@ -12,7 +12,7 @@ pub struct XmlElement {
 impl XmlElement {
     ghost use Rattle.std.specs.Prelude.{◌≡◌, IfOk};
 
-    /// A value of its own, equal to this one.
+    /// Returns an owned copy, equal to this value.
     pub fn try_clone(&self) -> Result<XmlElement, AllocError>
         ensures { IfOk result (λ v. v ≡ self.now) }
     {

@@ -33,7 +33,7 @@ impl Holding {
         }
     }
 
-    /// Octets of the server.
+    /// Bytes of the server.
     fn take(&mut self, alloc: Global, piece: &[u8], moment: DateTime) -> Told
         ensures { TakesMachine self.old self.new piece.now moment result }
     {
@@ -106,8 +106,8 @@ pub extern "C" fn ua_client_hello(alloc: Global, h: &mut UaHandle) -> u32
     status
 }
 
-/// Takes octets of the server up to the end of the first frame at which there is something to be sent
-/// or to be told, else the whole piece.
+/// Takes bytes of the server up to the end of the first frame at which there is something to send
+/// or an event, else the whole fragment.
 #[unsafe(no_mangle)]
 pub extern "C" fn ua_client_take(
     alloc: Global,
@@ -137,7 +137,7 @@ pub extern "C" fn ua_client_take(
     told.status
 }
 
-/// The chunks of a call with this body, which wait to be fetched, and its request id.
+/// The chunks of a call with this body, which wait to be fetched, and its RequestId.
 #[unsafe(no_mangle)]
 pub extern "C" fn ua_client_ask(alloc: Global, h: &mut UaHandle, body: &[u8], id: &mut u32) -> u32
     ensures { OfHandle h.old.value h.new.value (λ why. (result ≡ why) × (id.new ≡ 0)) (λ old new. AsksMachine old new body.now result id.new) }
@@ -152,7 +152,7 @@ pub extern "C" fn ua_client_ask(alloc: Global, h: &mut UaHandle, body: &[u8], id
     status
 }
 
-/// The OPN that asks for a further token, which waits to be fetched, and its request id.
+/// The OPN that asks for a further token, which waits to be fetched, and its RequestId.
 #[unsafe(no_mangle)]
 pub extern "C" fn ua_client_renew(alloc: Global, h: &mut UaHandle, moment: i64, id: &mut u32) -> u32
     ensures { OfHandle h.old.value h.new.value (λ why. (result ≡ why) × (id.new ≡ 0)) (λ old new. RenewsMachine old new (record { ticks = moment }) result id.new) }

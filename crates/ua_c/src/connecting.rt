@@ -36,7 +36,7 @@ impl Holding {
         nodes.step_connection(alloc, served, &mut self.waiting, piece, moment)
     }
 
-    /// A step of a connection over these nodes; its octets wait behind those that do.
+    /// A step of a connection over these nodes; its bytes wait after those that wait already.
     fn step_connection(
         &mut self,
         alloc: Global,
@@ -56,7 +56,7 @@ impl Holding {
 }
 
 impl SharedNodes {
-    /// A step of a connection over these nodes, where no octets wait.
+    /// A step of a connection over these nodes, where no bytes wait.
     fn step(
         &mut self,
         alloc: Global,
@@ -76,8 +76,8 @@ impl SharedNodes {
     }
 }
 
-/// Makes a connection of these limits, whose channel will have this id, over whichever nodes it is stepped
-/// with, and puts it into a handle.
+/// Makes a connection with these limits, whose channel will have this SecureChannelId, over
+/// whichever nodes it is stepped with, and puts it into a handle.
 #[unsafe(no_mangle)]
 pub extern "C" fn ua_connection_new(
     alloc: Global,
@@ -101,8 +101,9 @@ pub extern "C" fn ua_connection_new(
     }
 }
 
-/// One step of a connection over nodes: takes octets of its client up to the end of the first frame that is
-/// answered or that ends the connection, else the whole piece. What is to be sent then waits to be fetched.
+/// One step of a connection over nodes: takes bytes of its client up to the end of the first frame
+/// that is answered or that ends the connection, else the whole fragment. The bytes to be sent then
+/// wait to be fetched.
 #[unsafe(no_mangle)]
 pub extern "C" fn ua_connection_step(
     alloc: Global,

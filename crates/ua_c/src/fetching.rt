@@ -1,4 +1,4 @@
-//! What any handle answers: how many octets it holds, and those that wait.
+//! The calls on any handle: how many bytes it holds, and those that wait.
 
 ghost use Rattle.std.specs.Prelude.{◌≡◌, length};
 ghost use Rattle.ua_c.specs.Fetching.{Bounds, Counts, FetchesHandle, Holds};
@@ -32,7 +32,7 @@ impl Holding {
     }
 }
 
-/// How many octets are held of what is not whole yet; 0 where the handle holds nothing.
+/// How many bytes of unfinished frames and messages are held; 0 where the handle holds nothing.
 #[unsafe(no_mangle)]
 pub extern "C" fn ua_held(alloc: Global, h: &mut UaHandle) -> usize
     ensures held { Counts (λ holding. Holds holding.machine result) result h.old.value }
@@ -46,7 +46,7 @@ pub extern "C" fn ua_held(alloc: Global, h: &mut UaHandle) -> usize
     count
 }
 
-/// The most octets that may be held; 0 where the handle holds nothing.
+/// The most bytes that may be held; 0 where the handle holds nothing.
 #[unsafe(no_mangle)]
 pub extern "C" fn ua_bound(alloc: Global, h: &mut UaHandle) -> usize
     ensures bound { Counts (λ holding. Bounds holding.machine result) result h.old.value }
@@ -60,7 +60,7 @@ pub extern "C" fn ua_bound(alloc: Global, h: &mut UaHandle) -> usize
     count
 }
 
-/// How many octets wait to be fetched; 0 where the handle holds nothing.
+/// How many bytes wait to be fetched; 0 where the handle holds nothing.
 #[unsafe(no_mangle)]
 pub extern "C" fn ua_waiting(alloc: Global, h: &mut UaHandle) -> usize
     ensures waiting { Counts (λ holding. result ≡ length holding.waiting) result h.old.value }
@@ -74,7 +74,7 @@ pub extern "C" fn ua_waiting(alloc: Global, h: &mut UaHandle) -> usize
     count
 }
 
-/// Moves as many of the octets that wait as fit to the front of a buffer, and says how many.
+/// Moves as many of the waiting bytes as fit to the start of a buffer, and returns how many.
 #[unsafe(no_mangle)]
 pub extern "C" fn ua_fetch(
     alloc: Global,

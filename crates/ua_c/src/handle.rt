@@ -12,7 +12,7 @@ use std::alloc::Global;
 use std::marker::Model;
 use std::ptr::null_mut;
 
-/// A handle: to C a struct of one pointer that it never reads, null where nothing is held.
+/// A handle: for C a struct of one pointer that C never reads, null where nothing is held.
 #[repr(C)]
 pub struct UaHandle {
     at: *mut u8,
@@ -28,10 +28,10 @@ impl Model for UaHandle {
     ghost also_owns = { λ h. held (heap.dealloc_token h.alloc) holding_row h.at h.value };
 }
 
-/// The handle of nodes, which to C is a type of its own.
+/// The handle of nodes, for C a type of its own.
 pub type UaNodes = UaHandle;
 
-/// The handle of a connection, which to C is a type of its own.
+/// The handle of a connection, for C a type of its own.
 pub type UaConnection = UaHandle;
 
 impl UaHandle {
@@ -99,7 +99,7 @@ impl Drop for UaHandle {
     }
 }
 
-/// Lets go of what a handle holds, which then holds nothing.
+/// Drops what a handle holds, which then holds nothing.
 #[unsafe(no_mangle)]
 pub extern "C" fn ua_free(alloc: Global, h: &mut UaHandle)
     ensures { h.new.value ≡ None }

@@ -12,7 +12,7 @@ use std::alloc::Global;
 use ua_builtin::DateTime;
 use ua_channel::ClientChannel;
 
-/// A machine over octets.
+/// A machine that takes and gives bytes.
 #[derive(Drop)]
 pub enum Machine {
     /// A server with its services.
@@ -25,7 +25,7 @@ pub enum Machine {
     Connection(ServedConnection),
 }
 
-/// What a handle holds: a machine, and the octets of what it answered that were not fetched yet.
+/// What a handle holds: a machine, and the bytes of its answers that were not fetched yet.
 #[derive(Drop)]
 pub struct Holding {
     pub machine: Machine,

@@ -1,8 +1,8 @@
-//! The stack for C, as a static library: a server and a client over octets, and what needs no handle.
-//! `include/ua.h` declares each call, and says what C has to keep.
+//! The stack for C, as a static library: a server and a client that take and give bytes, and calls
+//! that need no handle. `include/ua.h` declares each call, and states the rules that C has to keep.
 //!
-//! A call does what the library's call does, and says so: its contract has that call's clauses over
-//! what the handle owns. There is no logic of its own.
+//! A call does what the library's call does, and its contract states so: it has that call's clauses
+//! over what the handle owns. The crate has no logic of its own.
 #![tactic(auto)]
 
 mod asking;

@@ -1,15 +1,15 @@
-//! What one end allows, as C says it.
+//! The limits of one end, as C gives them.
 
 ghost use Rattle.std.specs.Prelude.{IfSome, None};
 ghost use Rattle.ua_c.specs.Limits.{Allowed};
 
 use ua_frame::Limits;
 
-/// The octets of [`UaLimits`].
+/// The size of [`UaLimits`] in bytes.
 const SIZE: u32 = 20;
 
-/// What one end of a connection allows: sizes of frames in octets, and for messages the octets and
-/// the number of chunks; in front of them how many octets this structure has.
+/// The limits of one end of a connection: the frame sizes in bytes, and the most bytes and chunks
+/// of a message. The first field is the size of this structure in bytes.
 #[repr(C)]
 pub struct UaLimits {
     pub size: u32,
@@ -19,8 +19,8 @@ pub struct UaLimits {
     pub max_chunk_count: u32,
 }
 
-/// The limits that these numbers are; none where one is below the least, or where the structure is of
-/// another size.
+/// The limits that these numbers are; `None` where one is below the least, or where the structure is
+/// of another size.
 pub(crate) fn allowed(limits: &UaLimits) -> Option<Limits>
     ensures { Allowed limits.now result }
 {

@@ -43,7 +43,7 @@ pub(crate) fn seat(alloc: Global, machine: Machine, out: &mut UaHandle) -> u32
     }
 }
 
-/// Makes a client of these limits for the server of this URL, and puts it into a handle.
+/// Makes a client with these limits for the server of this URL, and puts it into a handle.
 #[unsafe(no_mangle)]
 pub extern "C" fn ua_client_new(
     alloc: Global,
@@ -65,8 +65,8 @@ pub extern "C" fn ua_client_new(
     }
 }
 
-/// The nodes that the lines of a text write, or a status, the number of the first bad line and that of the
-/// reason.
+/// The nodes that the lines of a text describe, or a status, the number of the first bad line and
+/// that of the reason.
 pub(crate) fn nodes_of(
     alloc: Global,
     octets: &[u8],
@@ -101,7 +101,7 @@ pub(crate) fn nodes_of(
     }
 }
 
-/// What a server says of itself.
+/// What a server tells about itself.
 fn endpoint(alloc: Global, url: UaString, message_limit: u32) -> Result<Endpoint, AllocError>
     ensures { IfOk result (λ e. e ≡ endpoint_of url message_limit) }
 {
@@ -128,7 +128,7 @@ fn services(
     Ok(Services::new(nodes, endpoint))
 }
 
-/// A server of these limits over nodes, or a status and the number of the first bad line.
+/// A server with these limits over nodes, or a status and the number of the first bad line.
 fn station(
     alloc: Global,
     nodes: &[u8],
@@ -149,8 +149,9 @@ fn station(
     }
 }
 
-/// Makes a server of these limits over the nodes of a node file, that is found at this URL, for a
-/// channel of this id, and puts it into a handle. A bad node file says its first bad line.
+/// Makes a server with these limits and this URL over the nodes of a node file, for a channel with
+/// this SecureChannelId, and puts it into a handle. For a bad node file it gives the first bad
+/// line.
 #[unsafe(no_mangle)]
 pub extern "C" fn ua_server_new(
     alloc: Global,

@@ -20,14 +20,14 @@ use ua_builtin::{DateTime, NodeId, StatusCode, Wire};
 use ua_nodes::{Reading, SetFault, Variable};
 use ua_variant::Variant;
 
-/// A value, by the place of its encoding in octets, with its status and times: a DataValue (OPC 10000-4, 7.11).
-/// A field is there where its flag is not 0.
+/// A DataValue (OPC 10000-4, 7.11): where the encoding of its value stands in a byte buffer, its
+/// status and its timestamps. A field is there where its flag is not 0.
 #[repr(C)]
 #[derive(Clone, Copy)]
 pub struct UaReading {
-    /// Where the encoding of the value begins, in octets.
+    /// Where the encoding of the value begins, in bytes.
     pub value_at: usize,
-    /// The octets of the encoding.
+    /// The length of the encoding, in bytes.
     pub value_len: usize,
     pub source_time: i64,
     pub server_time: i64,
@@ -65,7 +65,8 @@ impl UaReading {
         }
     }
 
-    /// What a node holds, with a value whose encoding has so many octets and stands at the front of them.
+    /// What a node holds, with a value whose encoding has so many bytes and stands at the start of
+    /// them.
     fn held(node: &Variable, value_len: usize) -> UaReading
         ensures { result ≡ reading_held node.now value_len }
     {
@@ -87,7 +88,7 @@ impl UaReading {
         reading
     }
 
-    /// The octets of the value, where the reading has one that lies within these octets.
+    /// The bytes of the value, where the reading has one that lies within these bytes.
     fn value_in<'a>(&self, octets: &'a [u8]) -> Option<&'a [u8]>
         ensures part { MatchOption result (¬ (HasPart octets.now self.now)) (λ part. HasPart octets.now self.now) }
         ensures octets { IfSome result (λ part. part.now ≡ part_of octets.now self.now) }
@@ -123,7 +124,7 @@ impl UaReading {
     }
 }
 
-/// The reading that C hands over, with its value within these octets, or a status.
+/// The reading that C hands over, with its value within these bytes, or a status.
 fn reading_of(alloc: Global, octets: &[u8], given: &UaReading) -> Result<Reading, u32>
     ensures reading { IfOk result (λ reading. IsReadingOf octets.now given.now reading) }
     ensures fault { IfErr result (λ status. IsNoReading octets.now given.now status) }
@@ -148,7 +149,7 @@ fn reading_of(alloc: Global, octets: &[u8], given: &UaReading) -> Result<Reading
     }
 }
 
-/// What is told of a reading that was set, or not.
+/// The status for a reading that was set, or not.
 fn status_of_set(set: Result<(), SetFault>) -> u32
     ensures { MatchResult set (λ _. result ≡ ok) (λ fault. result ≡ status_of_set (Some fault)) }
 {
@@ -168,7 +169,7 @@ impl SharedNodes {
         self.ids.iter().position(|known| *id == *known)
     }
 
-    /// The place of the node that octets name, or a status.
+    /// The place of the node that bytes name, or a status.
     fn find(&self, alloc: Global, node: &[u8], index: &mut usize) -> u32
         ensures { FindsIn self.now node.now index.new result }
     {
@@ -209,7 +210,8 @@ impl SharedNodes {
         nodes.get(id)
     }
 
-    /// Puts the encoding of the value of the node at a place into a buffer, and says what it holds.
+    /// Puts the encoding of the value of the node at a place into a buffer, and gives what the node
+    /// holds.
     fn get(
         &self,
         alloc: Global,
@@ -274,7 +276,7 @@ impl Holding {
     }
 }
 
-/// The index of the node of a NodeId, which stays: its place in the node file.
+/// The index of the node of a NodeId, which stays the same: its place in the node file.
 #[unsafe(no_mangle)]
 pub extern "C" fn ua_node_find(
     alloc: Global,
@@ -312,7 +314,7 @@ pub extern "C" fn ua_node_set(
     status
 }
 
-/// What a node holds: the encoding of its value in a buffer, its status and times.
+/// What a node holds: the encoding of its value in a buffer, its status and timestamps.
 #[unsafe(no_mangle)]
 pub extern "C" fn ua_node_get(
     alloc: Global,

@@ -1,4 +1,4 @@
-//! What a step of a server comes to, for C.
+//! The result of a step of a server, for C.
 
 ghost use Rattle.std.specs.Prelude.{◌≡◌};
 ghost use Rattle.ua_c.specs.Connecting.{stored_after};
@@ -11,7 +11,7 @@ use crate::waiting::Waiting;
 use std::alloc::Global;
 use ua_server::{End, Step, StepFault};
 
-/// A status, how many octets were taken, and the code of a refusal.
+/// A status, how many bytes were taken, and the StatusCode of a refusal.
 #[derive(Clone, Copy)]
 pub struct Report {
     pub status: u32,
@@ -31,7 +31,7 @@ impl Report {
         }
     }
 
-    /// What a step comes to that took so many octets, and ended the connection or not.
+    /// The result of a step that took so many bytes, and ended the connection or not.
     fn of_end(taken: usize, end: Option<End>) -> Report
         ensures { result ≡ record { status = status_of end; taken = taken; code = code_of end } }
     {
@@ -47,7 +47,7 @@ impl Report {
         }
     }
 
-    /// What a step comes to; what it says waits from now on.
+    /// The result of a step, whose output waits from now on.
     pub(crate) fn of_step(answer: Result<Step, StepFault>, waiting: &mut Waiting) -> Report
         ensures { Shows answer result waiting.old waiting.new }
     {
@@ -69,7 +69,7 @@ impl Report {
         }
     }
 
-    /// The same of a step of which what its Write stored is to be told from now on.
+    /// The same for a step, where the items that its Write stored are to be told from now on.
     pub(crate) fn of_stored(
         alloc: Global,
         answer: Result<Step, StepFault>,

@@ -33,7 +33,7 @@ fn node_named(alloc: Global, text: &str) -> Result<NodeId, u32>
     }
 }
 
-/// The NodeId that octets name, or a status.
+/// The NodeId that bytes name, or a status.
 pub(crate) fn node_of(alloc: Global, octets: &[u8]) -> Result<NodeId, u32>
     ensures node { IfOk result (λ node. IsNodeText octets.now node) }
     ensures fault { IfErr result (λ status. IsNoNode octets.now status) }
@@ -73,7 +73,7 @@ fn nodes_named(alloc: Global, text: &str) -> Result<Vec<NodeId>, BadText>
     Ok(nodes)
 }
 
-/// The NodeIds that the lines of octets name, or why there are none.
+/// The NodeIds that the lines in these bytes name, or why there are none.
 pub(crate) fn nodes_of(alloc: Global, octets: &[u8]) -> Result<Vec<NodeId>, BadText>
     ensures nodes { IfOk result (λ nodes. AreNodeTexts octets.now nodes.items) }
     ensures fault { IfErr result (λ bad. AreNoNodes octets.now bad) }
@@ -84,7 +84,7 @@ pub(crate) fn nodes_of(alloc: Global, octets: &[u8]) -> Result<Vec<NodeId>, BadT
     }
 }
 
-/// The index range that octets are, null where there are none, or a status.
+/// The index range that bytes are, null where there are none, or a status.
 fn range_of(alloc: Global, octets: &[u8]) -> Result<UaString, u32>
     ensures range { IfOk result (λ range. IsRangeText octets.now range) }
     ensures fault { IfErr result (λ status. IsNoText octets.now status) }
@@ -322,7 +322,7 @@ pub extern "C" fn ua_create_session_request(
     put_made(alloc, made, buffer, needed)
 }
 
-/// The body of an ActivateSession under this token, by a user without a name.
+/// The body of an ActivateSession under this token, by an anonymous user.
 #[unsafe(no_mangle)]
 pub extern "C" fn ua_activate_session_request(
     alloc: Global,
@@ -338,7 +338,7 @@ pub extern "C" fn ua_activate_session_request(
     put_made(alloc, made, buffer, needed)
 }
 
-/// The body of an ActivateSession under this token, by a user without a name, under the token policy
+/// The body of an ActivateSession under this token, by an anonymous user, under the token policy
 /// with this PolicyId.
 #[unsafe(no_mangle)]
 pub extern "C" fn ua_activate_session_request_as(

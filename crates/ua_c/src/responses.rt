@@ -13,7 +13,7 @@ use ua_texts::{
     AnswerFault, EndpointStyle, LineStyle, push_endpoints, push_read_answers, push_write_answers,
 };
 
-/// The response that octets are, or a status.
+/// The response that bytes encode, or a status.
 pub(crate) fn response_of(alloc: Global, body: &[u8]) -> Result<Response, u32>
     ensures response { IfOk result (λ response. IsResponse body.now response) }
     ensures fault { IfErr result (λ status. IsNoResponse body.now status) }
@@ -34,7 +34,8 @@ fn kind_of(response: &Response) -> (u32, u32)
     (number, response.header().service_result.code)
 }
 
-/// The text of the token in a response to CreateSession, or a status and the code of a failed service.
+/// The text of the token in a response to CreateSession, or a status and the code of a failed
+/// service.
 fn token_in(alloc: Global, response: &Response, code: &mut u32) -> Result<String, u32>
     ensures token { IfOk result (λ text. IsToken response.now (string_bytes text)) }
     ensures fault { IfErr result (λ status. TellsNone HasNoToken response.now code.new status) }
@@ -54,7 +55,7 @@ fn token_in(alloc: Global, response: &Response, code: &mut u32) -> Result<String
     }
 }
 
-/// The text of the token in the response that octets are.
+/// The text of the token in the response that bytes encode.
 fn token(alloc: Global, body: &[u8], code: &mut u32) -> Result<String, u32>
     ensures { TokenBy body.now code.new (octets_in result) }
 {
@@ -91,7 +92,7 @@ fn push_lines(
     }
 }
 
-/// What is told of lines that were not made: a status, and the code of a failed service.
+/// The status for lines that were not made, and the code of a failed service.
 fn status_of(fault: AnswerFault, code: &mut u32) -> u32
     ensures { IsTold fault code.new result }
 {
@@ -125,7 +126,7 @@ fn lines_in(
     }
 }
 
-/// The lines of the response that octets are, to what was asked of the nodes that lines name.
+/// The lines of the response that bytes encode, to what was asked of the nodes that lines name.
 fn lines(alloc: Global, nodes: &[u8], body: &[u8], code: &mut u32) -> Result<String, u32>
     ensures { LinesBy nodes.now body.now code.new (octets_in result) }
 {
@@ -156,7 +157,7 @@ pub(crate) fn put_text(made: Result<String, u32>, buffer: &mut [u8], needed: &mu
     }
 }
 
-/// Which response a body is, by the number of its encoding, and its ServiceResult.
+/// The kind of response that a body is, by the number of its encoding, and its ServiceResult.
 #[unsafe(no_mangle)]
 pub extern "C" fn ua_response_kind(
     alloc: Global,
@@ -195,8 +196,8 @@ pub extern "C" fn ua_session_token(
     put_text(made, buffer, needed)
 }
 
-/// The lines of the response to a Read or a Write of the nodes that lines name, or to a GetEndpoints, as
-/// `ua read`, `ua write` and `ua endpoints` print them.
+/// The lines of the response to a Read or a Write of the nodes that lines name, or to a
+/// GetEndpoints, as `ua read`, `ua write` and `ua endpoints` print them.
 #[unsafe(no_mangle)]
 pub extern "C" fn ua_response_text(
     alloc: Global,

@@ -10,8 +10,9 @@ use crate::status::NO_HANDLE;
 use std::alloc::Global;
 use ua_builtin::DateTime;
 
-/// One step of a server: takes octets of a client up to the end of the first frame that is answered or
-/// that ends the connection, else the whole piece. What is to be sent then waits to be fetched.
+/// One step of a server: takes bytes of a client up to the end of the first frame that is answered
+/// or that ends the connection, else the whole fragment. The bytes to be sent then wait to be
+/// fetched.
 #[unsafe(no_mangle)]
 pub extern "C" fn ua_server_step(
     alloc: Global,
@@ -40,8 +41,8 @@ pub extern "C" fn ua_server_step(
     report.status
 }
 
-/// The next connection of a server: a new channel over the same nodes and services, without a session.
-/// What still waited to be fetched is let go.
+/// The next connection of a server: a new channel over the same nodes and services, without a
+/// session. Bytes that still waited to be fetched are dropped.
 #[unsafe(no_mangle)]
 pub extern "C" fn ua_server_next_connection(alloc: Global, h: &mut UaHandle, channel: u32) -> u32
     ensures { OfHandle h.old.value h.new.value (λ why. result ≡ why) (λ old new. NextMachine old new channel result) }

@@ -1,4 +1,4 @@
-//! Nodes apart from connections: one table, and what a server says of itself, for any number of them.
+//! Nodes apart from connections: one node table and endpoint, for any number of connections.
 
 ghost use Rattle.std.specs.Prelude.{◌≡◌, ◌+◌, IfOk, IfErr, OnOk};
 ghost use Rattle.std.specs.Map.{keys_of};
@@ -17,7 +17,7 @@ use ua_builtin::{NodeId, UaString};
 use ua_nodes::{LineReason, NodeTable};
 use ua_server::{Endpoint, Services};
 
-/// A line has not just five fields.
+/// A line does not have exactly five fields.
 const LINE_FIELDS: u32 = 1;
 /// The first field of a line names no NodeId.
 const LINE_NODE: u32 = 2;
@@ -68,7 +68,7 @@ fn ids_of(alloc: Global, nodes: &NodeTable) -> Result<Vec<NodeId>, AllocError>
     Ok(ids)
 }
 
-/// The String that octets are, or a status; then `reason` is the number of this text.
+/// The String that bytes are, or a status; then `reason` is the number of this text.
 fn text_of(alloc: Global, octets: &[u8], number: u32, reason: &mut u32) -> Result<UaString, u32>
     ensures value { IfOk result (λ value. IsStringOf octets.now value) }
     ensures fault { IfErr result (λ status. IsNoString octets.now status) }
@@ -78,7 +78,7 @@ fn text_of(alloc: Global, octets: &[u8], number: u32, reason: &mut u32) -> Resul
     string_of(alloc, octets)
 }
 
-/// What a server says of itself, or a status and the number of the text that is none.
+/// What a server tells about itself, or a status and the number of the text that is none.
 #[tactic(auto, using(crate::proofs::Connected::about_made))]
 fn about(
     alloc: Global,
@@ -100,7 +100,7 @@ fn about(
     })
 }
 
-/// The nodes of a file with what a server of them says of itself, or a status, the number of the first bad
+/// The nodes of a file with the endpoint of their server, or a status, the number of the first bad
 /// line and that of the reason.
 fn shared(
     alloc: Global,
@@ -126,8 +126,9 @@ fn shared(
     }
 }
 
-/// Makes the nodes of a node file, with what a server of them says of itself, for any number of connections,
-/// and puts them into a handle. A bad node file says its first bad line and why.
+/// Makes the nodes of a node file, with the endpoint of their server, for any number of
+/// connections, and puts them into a handle. For a bad node file it gives the first bad line and
+/// the reason.
 #[unsafe(no_mangle)]
 pub extern "C" fn ua_nodes_new(
     alloc: Global,

@@ -1,12 +1,12 @@
-//! What calls answer, as numbers.
+//! The statuses of calls, as numbers.
 
 /// The call did what it is for.
 pub const OK: u32 = 0;
-/// Memory was refused.
+/// An allocation failed.
 pub const NO_MEMORY: u32 = 1;
 /// The limits are below the least.
 pub const BAD_LIMITS: u32 = 2;
-/// A line of the node file is none.
+/// A line of the node file is malformed.
 pub const BAD_NODES: u32 = 3;
 /// The handle holds nothing.
 pub const NO_HANDLE: u32 = 4;
@@ -16,7 +16,7 @@ pub const CLOSED: u32 = 5;
 pub const REFUSED: u32 = 6;
 /// The peer closed the connection.
 pub const ENDED: u32 = 7;
-/// Octets wait to be fetched.
+/// Bytes wait to be fetched.
 pub const FETCH_FIRST: u32 = 8;
 /// A text is none of those that the call takes.
 pub const BAD_TEXT: u32 = 9;
@@ -30,9 +30,9 @@ pub const TOO_MANY_PENDING: u32 = 12;
 pub const RENEW_PENDING: u32 = 13;
 /// 16 tokens are held.
 pub const TOO_MANY_TOKENS: u32 = 14;
-/// All request ids were used.
+/// All RequestIds were used.
 pub const EXHAUSTED: u32 = 15;
-/// The server takes no message of so many octets or chunks.
+/// The server takes no message of so many bytes or chunks.
 pub const TOO_LARGE: u32 = 16;
 /// The body of a call is empty.
 pub const EMPTY: u32 = 17;
@@ -40,15 +40,15 @@ pub const EMPTY: u32 = 17;
 pub const TOO_SMALL: u32 = 18;
 /// There is no such side.
 pub const BAD_SIDE: u32 = 19;
-/// The octets are none of what the call takes.
+/// The bytes do not encode what the call takes.
 pub const BAD_OCTETS: u32 = 20;
 /// The service failed.
 pub const SERVICE: u32 = 21;
-/// The response is that of another request.
+/// The response belongs to another request.
 pub const UNKNOWN: u32 = 22;
 /// The node takes no value of this type.
 pub const MISMATCH: u32 = 23;
-/// A reading has no value within the octets, or no source time.
+/// A reading has no value within the bytes, or no source timestamp.
 pub const BAD_READING: u32 = 24;
 /// Nothing more is there.
 pub const NO_MORE: u32 = 25;

@@ -18,7 +18,7 @@ use ua_builtin::{Wire, WriteFault};
 use ua_services::WriteValue;
 use ua_variant::DataValue;
 
-/// The canonical encoding of the value of a DataValue, no octets where it has none, or a status.
+/// The canonical encoding of the value of a DataValue, no bytes where it has none, or a status.
 fn encoding_in(alloc: Global, value: &DataValue) -> Result<Vec<u8>, u32>
     ensures octets { IfOk result (λ octets. EncodesHeld value.now.value octets.items) }
     ensures fault { IfErr result (λ status. EncodesNone value.now.value status) }
@@ -102,8 +102,8 @@ impl Holding {
     }
 }
 
-/// The next item of what the Write that a connection's last step answered stored: the index of its node, the
-/// encoding of its value in a buffer, its status and times.
+/// The next item that was stored by the Write which the connection's last step answered: the index
+/// of its node, the encoding of its value in a buffer, its status and timestamps.
 #[unsafe(no_mangle)]
 pub extern "C" fn ua_next_written(
     alloc: Global,

@@ -1,4 +1,4 @@
-//! What needs no handle: octets as lines, and values as texts.
+//! Calls that need no handle: the dissector, and values as texts.
 
 ghost use Rattle.std.specs.Prelude.{◌≡◌, ◌⊎◌, IfOk, IfErr, IsErrOf, MatchOption, None, Some, string_bytes};
 ghost use Rattle.ua_nodes.specs.declared.fault.ValueFault.TheVariants.{NotValue};
@@ -20,7 +20,7 @@ use ua_pair::{Side, dissect};
 use ua_texts::{parse_plain_value, push_variant};
 use ua_variant::Variant;
 
-/// Copies octets to the front of a buffer where they fit, and says how many they are.
+/// Copies bytes to the start of a buffer where they fit, and returns how many they are.
 pub(crate) fn put(octets: &[u8], buffer: &mut [u8], needed: &mut usize) -> u32
     ensures { Puts octets.now buffer.old buffer.new needed.new result }
 {
@@ -32,7 +32,7 @@ pub(crate) fn put(octets: &[u8], buffer: &mut [u8], needed: &mut usize) -> u32
     OK
 }
 
-/// The String that octets are, or a status.
+/// The String that bytes are, or a status.
 pub(crate) fn string_of(alloc: Global, octets: &[u8]) -> Result<UaString, u32>
     ensures value { IfOk result (λ value. IsStringOf octets.now value) }
     ensures fault { IfErr result (λ status. IsNoString octets.now status) }
@@ -61,7 +61,7 @@ fn side_of(number: u32) -> Option<Side>
     }
 }
 
-/// The lines of octets that one side sent.
+/// The dissector's lines for the bytes that one side sent.
 fn lines_of(alloc: Global, octets: &[u8], side: Side) -> Result<String, AllocError>
     ensures { IfOk result (λ text. AreLines (plain side) octets.now (string_bytes text)) }
 {
@@ -70,7 +70,8 @@ fn lines_of(alloc: Global, octets: &[u8], side: Side) -> Result<String, AllocErr
     Ok(text)
 }
 
-/// The octets that one side of a connection sent, as lines, frame by frame and message by message.
+/// The dissector's lines for the bytes that one side of a connection sent, frame by frame and
+/// message by message.
 #[unsafe(no_mangle)]
 pub extern "C" fn ua_dissect(
     alloc: Global,
@@ -184,7 +185,7 @@ pub extern "C" fn ua_encode_value(
     }
 }
 
-/// The type and the text of the value that octets encode, or a status.
+/// The type and the text of the value that bytes encode, or a status.
 fn text_of(alloc: Global, octets: &[u8]) -> Result<String, u32>
     ensures text { IfOk result (λ text. IsTextOf octets.now (string_bytes text)) }
     ensures fault { IfErr result (λ status. (status ≡ no_memory) ⊎ IsNoValueEncoded octets.now status) }
@@ -203,7 +204,7 @@ fn text_of(alloc: Global, octets: &[u8]) -> Result<String, u32>
     }
 }
 
-/// The type and the text of the value that octets encode.
+/// The type and the text of the value that bytes encode.
 #[unsafe(no_mangle)]
 pub extern "C" fn ua_decode_value(
     alloc: Global,

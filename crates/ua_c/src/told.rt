@@ -1,4 +1,4 @@
-//! What a client's channel tells and answers, for C.
+//! The events and answers of a client's channel, for C.
 
 ghost use Rattle.std.specs.Prelude.{◌≡◌};
 ghost use Rattle.ua_c.specs.Asking.{ShowsAsk, ShowsEvent, ShowsClose, ShowsTake, only, status_for};
@@ -11,7 +11,7 @@ use crate::waiting::Waiting;
 use std::alloc::Global;
 use ua_channel::{AskFault, ClientEvent, ClientTakeFault};
 
-/// More octets are to come.
+/// More bytes are to come.
 const EVENT_NEED_MORE: u32 = 0;
 /// What waits is to be sent.
 const EVENT_SEND: u32 = 1;
@@ -28,8 +28,8 @@ const EVENT_FAILED: u32 = 6;
 /// The server refused, by an ERR frame.
 const EVENT_FAILED_BY_PEER: u32 = 7;
 
-/// A status, how many octets were taken, and what they told: an event, the request id or the token
-/// that it speaks of, and a code.
+/// A status, how many bytes were taken, and their event, with its RequestId or TokenId and its
+/// code.
 #[derive(Clone, Copy)]
 pub struct Told {
     pub status: u32,
@@ -59,7 +59,7 @@ impl Told {
         }
     }
 
-    /// What is told of octets that were taken; what is to be sent or to be read waits from now on.
+    /// The event of bytes that were taken; what is to be sent or to be read waits from now on.
     fn of_event(alloc: Global, taken: usize, event: ClientEvent, waiting: &mut Waiting) -> Told
         ensures { ShowsEvent taken event result waiting.old waiting.new }
     {
@@ -87,7 +87,7 @@ impl Told {
         }
     }
 
-    /// What is told of an answer of a client's channel.
+    /// The answer of a client's channel, for C.
     pub(crate) fn of_take(
         alloc: Global,
         answer: Result<(usize, ClientEvent), ClientTakeFault>,
@@ -118,7 +118,7 @@ fn status_for(fault: AskFault) -> u32
     }
 }
 
-/// A status, and the request id of what is asked, which is to be sent and waits from now on.
+/// A status, and the RequestId of what is asked, which is to be sent and waits from now on.
 pub(crate) fn of_ask(answer: Result<(u32, Vec<u8>), AskFault>, waiting: &mut Waiting) -> (u32, u32)
     ensures { ShowsAsk answer result.0 result.1 waiting.old waiting.new }
 {

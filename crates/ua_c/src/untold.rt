@@ -8,7 +8,8 @@ use std::alloc::{AllocError, Global};
 use ua_server::{Connection, Written};
 use ua_services::WriteValue;
 
-/// The items that a Write stored, of which some were told. They are read when the first is asked for.
+/// The items that a Write stored, of which some were told. They are read when the first is asked
+/// for.
 #[derive(Drop)]
 pub struct Untold {
     /// What was stored, while none of it was asked for.
@@ -18,7 +19,8 @@ pub struct Untold {
     pub told: usize,
 }
 
-/// A connection, and what the Write that its last step answered stored, as far as it was not told yet.
+/// A connection, and what the Write that its last step answered stored, as far as it was not told
+/// yet.
 #[derive(Drop)]
 pub struct ServedConnection {
     pub connection: Connection,
@@ -66,8 +68,8 @@ impl Untold {
     }
 }
 
-/// A status, and what is told of an item: the place of its node, the octets of its value, and what the client
-/// said beside it.
+/// A status, and an item: the place of its node, the length of its value's encoding, and what the
+/// client wrote beside it.
 #[derive(Clone, Copy)]
 pub struct ToldItem {
     pub status: u32,

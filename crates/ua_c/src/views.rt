@@ -1,5 +1,5 @@
-//! The results of a Read, as views of the body of its response: what they say, and where in the body the
-//! values are encoded.
+//! The results of a Read, as views of the body of its response: their statuses and timestamps, and
+//! where in the body their values are encoded.
 
 ghost use Rattle.std.specs.Prelude.{◌≡◌, ◌⊎◌, ◌≤◌, ◌↔◌, Some, IfOk, IfErr, IsTrue, OnOk, MatchOption};
 ghost use Rattle.ua_builtin.specs.Format.{Behind, most_levels};
@@ -33,7 +33,7 @@ macro_rules! numbered {
 }
 
 impl UaReading {
-    /// What a DataValue says, with a value whose encoding takes so many octets from a place on.
+    /// The reading of a DataValue, with a value whose encoding takes so many bytes from a place on.
     pub(crate) fn of_value(value: &DataValue, value_at: usize, value_len: usize) -> UaReading
         ensures { result ≡ reading_of value.now value_at value_len }
     {
@@ -67,7 +67,7 @@ impl UaReading {
     }
 }
 
-/// So many octets of a field, where it is there.
+/// So many bytes of a field, where it is there.
 fn size_if<T>(field: &Option<T>, size: usize) -> usize
     requires small { size ≤ 8 }
     ensures is { result ≡ if_there field.now size }
@@ -79,7 +79,7 @@ fn size_if<T>(field: &Option<T>, size: usize) -> usize
     }
 }
 
-/// The octets of the fields of a DataValue but its value.
+/// The bytes of the fields of a DataValue except its value.
 fn fields_size(value: &DataValue) -> usize
     ensures { result ≡ fields_size value.now }
 {
@@ -90,7 +90,7 @@ fn fields_size(value: &DataValue) -> usize
         + size_if(&value.server_picoseconds, 2)
 }
 
-/// Reads a DataValue of a body, and says where in it the value is encoded.
+/// Reads a DataValue of a body, and returns where in it the value is encoded.
 #[tactic(auto, using(crate::proofs::Seen::value_takes, crate::proofs::Seen::value_seen))]
 fn view_value(alloc: Global, body: &[u8], source: &mut Octets<'_>) -> Result<UaReading, ReadFault>
     requires stands { Behind body.now source.old }
@@ -143,7 +143,7 @@ fn view_array(
     view_each(alloc, body, source, count)
 }
 
-/// Reads a ReadResponse of a body, behind its NodeId.
+/// Reads a ReadResponse of a body, after its NodeId.
 fn view_response(
     alloc: Global,
     body: &[u8],
@@ -160,7 +160,7 @@ fn view_response(
     Ok(readings)
 }
 
-/// What is told of a fault.
+/// The status for a fault.
 fn status_of(fault: ReadFault) -> u32
     ensures { result ≡ status_of fault }
 {
@@ -211,8 +211,8 @@ fn last_readings(
     }
 }
 
-/// The readings in a body that is the response to a Read, or a status; none where its NodeId announces another
-/// message.
+/// The readings in a body that is the response to a Read, or a status; none where its NodeId
+/// announces another message.
 fn readings_in(alloc: Global, body: &[u8]) -> Result<Option<Vec<UaReading>>, u32>
     ensures readings { IfOk result (λ found. MatchOption found (AnnouncesOther body.now) (λ readings. OfResponse body.now (AreResults body.now readings.items))) }
     ensures fault { IfErr result (λ status. IsNoResponse body.now status) }
@@ -231,7 +231,8 @@ fn readings_in(alloc: Global, body: &[u8]) -> Result<Option<Vec<UaReading>>, u32
     }
 }
 
-/// Why a response that is none to a Read has no results: a status, and the code of a failed service.
+/// Why a response that is none to a Read has no results: a status, and the code of a failed
+/// service.
 fn without(response: &Response, code: &mut u32) -> u32
     requires other { HasNoResults response.now }
     ensures { TellsNone HasNoResults response.now code.new result }
@@ -248,7 +249,7 @@ fn without(response: &Response, code: &mut u32) -> u32
     }
 }
 
-/// The readings in the response to a Read that octets are the body of, or a status.
+/// The readings in the response to a Read that bytes are the body of, or a status.
 fn readings_of(alloc: Global, body: &[u8], code: &mut u32) -> Result<Vec<UaReading>, u32>
     ensures readings { IfOk result (λ readings. (code.new ≡ 0) × OfResponse body.now (AreResults body.now readings.items)) }
     ensures fault { IfErr result (λ status. (IsNoResponse body.now status × (code.new ≡ 0)) ⊎ OfResponse body.now (λ r. TellsNone HasNoResults r code.new status)) }
@@ -268,7 +269,7 @@ fn readings_of(alloc: Global, body: &[u8], code: &mut u32) -> Result<Vec<UaReadi
     Err(status)
 }
 
-/// Copies readings to the front of a buffer where they fit, and says how many they are.
+/// Copies readings to the start of a buffer where they fit, and returns how many they are.
 fn put_readings(readings: &[UaReading], buffer: &mut [UaReading], count: &mut usize) -> u32
     ensures { PutsReadings readings.now buffer.old buffer.new count.new result }
 {
@@ -280,7 +281,8 @@ fn put_readings(readings: &[UaReading], buffer: &mut [UaReading], count: &mut us
     OK
 }
 
-/// The results of the Read whose response a body is: what each says, and where in the body its value is.
+/// The results of the Read whose response a body is: the status and timestamps of each, and where
+/// in the body its value is.
 #[unsafe(no_mangle)]
 pub extern "C" fn ua_readings(
     alloc: Global,

@@ -1,4 +1,4 @@
-//! Octets that wait to be fetched.
+//! Bytes that wait to be fetched.
 
 ghost use Rattle.std.specs.Prelude.{◌≡◌, ◌++◌, [], length, min, take, drop, IfOk};
 ghost use Rattle.std.specs.List.{concat};
@@ -8,14 +8,14 @@ use std::alloc::{AllocError, Global};
 use std::marker::Model;
 use ua_chunk::Message;
 
-/// Octets that wait to be fetched. A message is joined when its first octets are fetched, so that
-/// nothing of it is lost where memory is refused.
+/// Bytes that wait to be fetched. A message is joined when its first bytes are fetched, so that
+/// nothing of it is lost where an allocation fails.
 #[derive(Drop)]
 pub struct Waiting {
     octets: Vec<u8>,
     /// How many of them were fetched.
     fetched: usize,
-    /// A message of which nothing was fetched. It stands in the place of the octets.
+    /// A message of which nothing was fetched. It takes the place of the bytes.
     message: Option<Message>,
 }
 
@@ -33,7 +33,7 @@ impl Model for Waiting {
     ghost invariant = { λ w. w.fetched ≤ length w.octets.items };
 }
 
-/// The octets of a message, joined.
+/// The bytes of a message, joined.
 fn joined(alloc: Global, message: &Message) -> Result<Vec<u8>, AllocError>
     ensures { IfOk result (λ octets. octets.items ≡ concat message.now) }
 {
@@ -45,7 +45,7 @@ fn joined(alloc: Global, message: &Message) -> Result<Vec<u8>, AllocError>
 }
 
 impl Waiting {
-    /// These octets wait.
+    /// These bytes wait.
     pub(crate) fn of(octets: Vec<u8>) -> Waiting
         ensures { result ≡ octets.items }
     {
@@ -56,7 +56,7 @@ impl Waiting {
         }
     }
 
-    /// The octets of a message wait.
+    /// The bytes of a message wait.
     pub(crate) fn message(alloc: Global, message: Message) -> Waiting
         ensures { result ≡ concat message }
     {
@@ -67,14 +67,14 @@ impl Waiting {
         }
     }
 
-    /// No octets wait.
+    /// No bytes wait.
     pub(crate) fn none(alloc: Global) -> Waiting
         ensures { result ≡ [] }
     {
         Waiting::of(Vec::new(alloc))
     }
 
-    /// How many octets wait.
+    /// How many bytes wait.
     pub(crate) fn len(&self) -> usize
         ensures { result ≡ length self.now }
     {
@@ -84,7 +84,7 @@ impl Waiting {
         }
     }
 
-    /// Moves as many octets as fit to the front of a buffer, and says how many.
+    /// Moves as many bytes as fit to the start of a buffer, and returns how many.
     pub(crate) fn fetch(&mut self, alloc: Global, buffer: &mut [u8]) -> Result<usize, AllocError>
         ensures { Fetches self.old self.new buffer.old buffer.new result }
     {
@@ -108,7 +108,7 @@ impl Waiting {
     }
 }
 
-/// Copies as many octets as fit to the front of a buffer, and says how many.
+/// Copies as many bytes as fit to the start of a buffer, and returns how many.
 pub(crate) fn move_front(octets: &[u8], buffer: &mut [u8]) -> usize
     ensures count { result ≡ min (length octets.now) (length buffer.old) }
     ensures buffer { buffer.new ≡ take result octets.now ++ drop result buffer.old }

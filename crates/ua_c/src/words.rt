@@ -1,4 +1,4 @@
-//! What the library says of itself, and words for its numbers and those of the standard.
+//! The library's version, and words for its numbers and those of the standard.
 
 ghost use Rattle.std.specs.Prelude.{◌≡◌, option_map};
 ghost use Rattle.ua_c.specs.Words.{PutsWord, text_of_status, version};

@@ -1,4 +1,4 @@
-//! What a server and a client agree to.
+//! The agreement of a server and a client.
 
 ghost use Rattle.std.specs.Prelude.{◌≡◌, ◌<◌, ◌+◌, ◌^◌};
 ghost use Rattle.ua_channel.specs.inside.ServerParts.{JudgesHello};
@@ -10,7 +10,7 @@ use ua_builtin::{StatusCode, Wire};
 use ua_chunk::{CHUNK_HEADERS, Lane};
 use ua_frame::{Ack, Hello, Limits, agree};
 
-/// What a server and a client agreed to: the ACK, and the client's limits of a message.
+/// The agreement of a server and a client: the Acknowledge, and the client's limits of a message.
 #[derive(Clone, Copy)]
 pub struct Agreement {
     ack: Ack,
@@ -42,7 +42,7 @@ impl Agreement {
         self.ack
     }
 
-    /// The largest frame that the server takes.
+    /// The largest frame that the server receives.
     #[inline]
     pub(crate) fn receive_size(&self) -> u32
         ensures size { result ≡ self.now.ack.receive_buffer_size }
@@ -51,7 +51,7 @@ impl Agreement {
         self.ack.receive_buffer_size
     }
 
-    /// Where replies go on a channel under a token.
+    /// Where replies go on a SecureChannel under a token.
     pub(crate) fn lane(&self, channel: u32, token: u32) -> Lane
         ensures lane { result ≡ lane_of channel token self.now }
         ensures room { 0 < result.room }
@@ -67,7 +67,7 @@ impl Agreement {
     }
 }
 
-/// What a server with these limits agrees to at the body of a HEL.
+/// The agreement of a server with these limits on the body of a HEL.
 pub fn judge_hello(alloc: Global, limits: &Limits, body: &[u8]) -> Result<Agreement, StepFault>
     ensures { JudgesHello limits.now body.now result }
 {

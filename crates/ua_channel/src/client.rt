@@ -1,4 +1,4 @@
-//! The client's end of a secure channel.
+//! The client's end of a SecureChannel.
 
 mod address;
 mod agreed;

@@ -14,23 +14,25 @@ use crate::step_fault::StepFault;
 use std::alloc::Global;
 use ua_frame::{Frame, FrameReader, Gate, HEADER_LEN};
 
-/// The rules of an end of a connection, where `P` is how far a connection has come.
+/// The rules of an end of a connection, where `P` is the phase of the connection.
 pub trait EndRules<P> {
-    /// What a frame comes to.
+    /// The event of a frame.
     type Event;
 
-    /// Which frames come next, which are refused, what they tell, and where the end then is.
+    /// Which frames come next, which are refused, which events they have, and the state of the end
+    /// after them.
     ghost side: { Side Self P Self.Event };
 
-    /// Shows that what was done by the time that so many octets had come was done once more had come.
+    /// Shows that what was done by the time that so many bytes had arrived was done once more had
+    /// arrived.
     fn lawful()
         ensures { (k : side.Key) (n m : ℕ) → n ≤ m → side.placed k n → side.placed k m };
 
-    /// The gate for the next frame.
+    /// The filter for the next frame.
     fn gate(&self, phase: &P) -> Gate
         ensures { (k : side.Key) (frames : List Frame) → side.holds self.now k phase.now frames → result ≡ (side.rules self.now k).gate frames };
 
-    /// Takes a frame, and says how much may be held behind it.
+    /// Takes a frame, and returns how much may be held after it.
     fn on_frame(
         &self,
         alloc: Global,
@@ -43,14 +45,14 @@ pub trait EndRules<P> {
             → JudgesNext side self.now k frames frame phase.new bound.new result }
         ensures failed { OnErr result (bound.new ≡ bound.old) };
 
-    /// How many octets are held of unfinished messages.
+    /// The number of bytes held of unfinished messages.
     fn messages_held(&self, phase: &P) -> usize
         ensures held { (k : side.Key) (frames : List Frame) → side.holds self.now k phase.now frames → result ≡ open_octets (received frames).messages }
         ensures within { (k : side.Key) (frames : List Frame) → side.holds self.now k phase.now frames
             → (8 ≤ ((side.rules self.now k).gate frames).largest) × (result + ((side.rules self.now k).gate frames).largest ≤ side.bound self.now frames) }
         ensures done { side.done phase.now → result ≡ 0 };
 
-    /// How far a connection has come that ended.
+    /// The phase of a connection that ended.
     fn ended() -> P
         ensures { side.done result };
 }
@@ -62,7 +64,7 @@ pub struct EndCore<R, P> {
     pub rules: R,
     pub reader: FrameReader,
     pub numbers: Numbers,
-    /// The most octets that may be held.
+    /// The maximum number of bytes that may be held.
     pub bound: usize,
     pub phase: P,
 }
@@ -81,7 +83,7 @@ impl<R: EndRules<P>, P: Drop> EndCore<R, P> {
         self.phase = R::ended();
     }
 
-    /// What a whole frame comes to, and the gate for the next one.
+    /// The event of a complete frame, and the filter for the next one.
     fn on_whole(&mut self, frame: Frame) -> Result<Option<R::Event>, StepFault>
         requires shape { HasShape frame }
         requires empty { self.old.reader.held ≡ [] }
@@ -105,7 +107,8 @@ impl<R: EndRules<P>, P: Drop> EndCore<R, P> {
         }
     }
 
-    /// One call of the reader, and what its frame comes to, with the octets that were taken.
+    /// One call of the reader, and the event of its frame, with the number of bytes that were
+    /// taken.
     fn step(&mut self, piece: &[u8]) -> (usize, Result<Option<R::Event>, StepFault>)
         ensures steps { (k : R.side.Key) (octets : List ℕ) (told : List R.side.Told) → EndGoes R.side self.old k octets told
             → EndSteps R.side piece.now result.0 result.1 self.new k octets told }
@@ -126,8 +129,8 @@ impl<R: EndRules<P>, P: Drop> EndCore<R, P> {
         }
     }
 
-    /// Takes octets up to the end of the first frame that tells something, else the whole piece,
-    /// and says how many it took.
+    /// Takes bytes up to the end of the first frame that has an event, or else the whole piece, and
+    /// returns how many it took.
     pub fn next_event(&mut self, piece: &[u8]) -> (usize, Result<Option<R::Event>, StepFault>)
         ensures nexts { (k : R.side.Key) (octets : List ℕ) (told : List R.side.Told) → EndGoes R.side self.old k octets told
             → EndNexts R.side piece.now result.0 result.1 self.new k octets told }
@@ -147,8 +150,7 @@ impl<R: EndRules<P>, P: Drop> EndCore<R, P> {
         (taken, Ok(None))
     }
 
-    /// How many octets are held: those of a frame that is not whole, and those of unfinished
-    /// messages.
+    /// The number of bytes held: those of an incomplete frame, and those of unfinished messages.
     pub fn held(&self) -> usize
         ensures held { (k : R.side.Key) (octets : List ℕ) (frames : List Frame) (rest : List ℕ) → EndStands R.side self.now k octets frames rest
             → result ≡ length rest + open_octets (received frames).messages }

@@ -1,18 +1,18 @@
-//! The secure channel of a connection under the security policy None (OPC 10000-6, 6.7 and 7.1),
-//! with no IO.
+//! The SecureChannel of a connection under the SecurityPolicy None (OPC 10000-6, 6.7 and 7.1),
+//! without input and output.
 //!
-//! Its contract is that of [`ServerChannel::take`] and [`ClientChannel::take`]: whatever the pieces in
-//! which octets come, the events of their frames in order, or at the first wrong frame the first
-//! reason against it.
+//! The main contracts are those of [`ServerChannel::take`] and [`ClientChannel::take`]: however the
+//! bytes are fragmented, they return the events of the frames in order, or at the first invalid
+//! frame the first error that applies to it.
 //!
 //! ```
 //! let mut channel = ServerChannel::new(alloc, limits, channel_id);
-//! let (size, event) = channel.take(piece, moment)?; // then go on with &piece[size..]
+//! let (size, event) = channel.take(piece, moment)?; // then continue with &piece[size..]
 //! match event {
 //!     ServerEvent::Send(octets) => write(&octets), // an ACK or an OPN response
 //!     ServerEvent::Asked(id, message) => write(&channel.reply(id, &answer(message))?),
 //!     ServerEvent::Aborted(_) | ServerEvent::NeedMore => {}
-//!     ServerEvent::Closed => hang_up(), // as after `Refused`, whose ERR frame is written first
+//!     ServerEvent::Closed => hang_up(), // as after `Refused`, whose ERR message is written first
 //! }
 //! ```
 #![tactic(auto)]

@@ -1,38 +1,41 @@
-//! The line that a connection runs over.
+//! The transport of a connection.
 
 ghost use Rattle.std.specs.Prelude.{◌≡◌, ◌≤◌, ◌<◌, ℕ, Option, length, IfOk};
 ghost use Rattle.ua_channel.specs.Line.{Traffic, HandsOut, WriteTakes, IfTrafficKnown, failures_after};
 
 use thiserror::Error;
 
-/// Why a call of a line moved nothing.
+/// Why a call of a transport moved no bytes.
 #[derive(Clone, Copy, PartialEq, Eq, Debug, Error)]
 pub enum LineFault {
-    /// The line failed.
+    /// The transport failed.
     #[error("the line failed")]
     Failed,
 }
 
-/// A line: octets that come from a peer, and octets that go to it.
+/// The transport trait: bytes that come from a peer, and bytes that go to it.
 ///
-/// A call that fails moves no octets, and the line may be used again. What a line says of its octets
-/// holds where it tells them; a socket does not tell them.
+/// A call that fails moves no bytes, and the transport may be used again. The clauses about bytes
+/// hold where the traffic of the transport is known; that of a socket is not.
 pub trait Line {
-    /// The octets to come, by what else is written, and those written so far, where the line tells them.
+    /// The bytes to come, depending on what else is written, and the bytes written so far, where
+    /// they are known.
     ghost traffic: { Self → Option Traffic };
 
-    /// How many calls failed so far, from the greatest number of 64 bits on again from 0.
+    /// The number of calls that failed so far. After the greatest number of 64 bits it restarts at
+    /// 0.
     ghost failures: { Self → ℕ };
 
-    /// Hands out the next octets, as many as it likes up to the length of the buffer, and answers
-    /// how many. None into a buffer with room is the end: no octets are to come unless more is written.
+    /// Reads the next bytes, as many as the transport chooses up to the length of the buffer, and
+    /// returns how many. 0 bytes into a non-empty buffer is the end: no bytes come unless more is
+    /// written.
     fn read(&mut self, buffer: &mut [u8]) -> Result<usize, LineFault>
         ensures within { IfOk result (λ n. n ≤ length buffer.new) }
         ensures failed { failures self.new ≡ failures_after (failures self.old) result }
         ensures octets { IfTrafficKnown (HandsOut result buffer.new) (traffic self.old) (traffic self.new) };
 
-    /// Takes the first of these octets, as many as it likes but at least one where there is one, and
-    /// answers how many.
+    /// Writes the first of these bytes, as many as the transport chooses but at least one if there
+    /// is one, and returns how many.
     fn write(&mut self, octets: &[u8]) -> Result<usize, LineFault>
         ensures within { IfOk result (λ n. n ≤ length octets.now) }
         ensures some { 0 < length octets.now → IfOk result (λ n. 0 < n) }

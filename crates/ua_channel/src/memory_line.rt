@@ -1,4 +1,4 @@
-//! A line over memory.
+//! A transport over memory.
 
 ghost use Rattle.std.specs.Prelude.{◌≡◌, ◌≤◌, ◌<◌, [], Some, Option, length, drop, min, IfOk, Ok};
 ghost use Rattle.ua_channel.specs.Line.{HandsOut, WriteTakes, failures_after};
@@ -8,7 +8,7 @@ use crate::line::{Line, LineFault};
 use std::alloc::Global;
 use std::marker::Model;
 
-/// The calls of one direction: the most that each moves, and which of them fails.
+/// The calls of one direction: the maximum that each moves, and which of them fails.
 #[derive(Drop)]
 struct Pace {
     limits: Vec<usize>,
@@ -22,7 +22,7 @@ impl Model for Pace {
 }
 
 impl Pace {
-    /// How many of so many octets the next call moves, unless it fails.
+    /// How many of so many bytes the next call moves, unless it fails.
     fn step(&mut self, octets: usize) -> Result<usize, LineFault>
         ensures moves { result ≡ moves self.old octets }
         ensures behind { self.new ≡ after_call self.old }
@@ -46,8 +46,8 @@ impl Pace {
     }
 }
 
-/// A line over memory, for tests: it hands out given octets and keeps those written, in pieces of
-/// the lengths that it is told, and fails where it is told to.
+/// A transport over memory, for tests: it delivers given bytes and keeps those written, in
+/// fragments of given lengths, and fails where it is told to.
 #[derive(Drop)]
 pub struct MemoryLine {
     octets: Vec<u8>,
@@ -67,11 +67,11 @@ impl Model for MemoryLine {
 }
 
 impl MemoryLine {
-    /// A line from which these octets come, in this order, and then the end.
+    /// A transport from which these bytes come, in this order, and then the end.
     ///
-    /// `reads` and `writes` are the most octets that each read gives and each write takes, in turn
-    /// and again from the first; 0 counts as 1, and an empty list sets no limit. The read and the
-    /// write that `fail_read` and `fail_write` name, counted from 1, fail once.
+    /// `reads` and `writes` are the maximum numbers of bytes of each read and each write, used in
+    /// turn and again from the first; 0 counts as 1, and an empty list sets no limit. The read and
+    /// the write whose numbers `fail_read` and `fail_write` give, counted from 1, fail once.
     pub fn new(
         alloc: Global,
         octets: Vec<u8>,
@@ -101,7 +101,7 @@ impl MemoryLine {
         }
     }
 
-    /// The octets written so far.
+    /// The bytes written so far.
     pub fn written(&self) -> &[u8]
         ensures { result.now ≡ self.now.traffic.written }
     {
@@ -136,7 +136,7 @@ impl Line for MemoryLine {
         }
     }
 
-    /// A write fails where it is told to, and where it finds no memory, as it may at each call.
+    /// A write fails where it is told to, and where an allocation fails, as it may at each call.
     fn write(&mut self, octets: &[u8]) -> Result<usize, LineFault>
         ensures within { IfOk result (λ n. n ≤ length octets.now) }
         ensures some { 0 < length octets.now → IfOk result (λ n. 0 < n) }

@@ -1,21 +1,21 @@
-//! Where moments come from.
+//! Sources of timestamps.
 
 ghost use Rattle.std.specs.Prelude.{◌≡◌, ◌≤◌, ℤ, List, [], length, drop};
 ghost use Rattle.ua_channel.specs.Moments.{GivesFirst};
 
 use std::marker::Model;
 
-/// What gives moments, one after the other, in the ticks of a DateTime.
+/// A source of timestamps, one after the other, in the ticks of a DateTime.
 pub trait Moments {
-    /// A moment leads from what gives it before to what gives it after.
+    /// Relates the source before a timestamp, the timestamp and the source after it.
     ghost gives: { Self → ℤ → Self → Type 0 };
 
-    /// The next moment.
+    /// The next timestamp.
     fn next(&mut self) -> i64
         ensures { gives self.old result self.new };
 }
 
-/// The moments of a list in turn, its last one again and again, 0 where it is empty.
+/// The timestamps of a list in turn, then its last one again and again; 0 where the list is empty.
 #[derive(Drop)]
 pub struct ListMoments {
     moments: Vec<i64>,
@@ -31,7 +31,7 @@ impl Model for ListMoments {
 }
 
 impl ListMoments {
-    /// These moments, from the first on.
+    /// These timestamps, from the first one.
     pub fn new(moments: Vec<i64>) -> ListMoments
         ensures { result ≡ moments.items }
     {

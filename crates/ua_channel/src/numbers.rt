@@ -1,10 +1,10 @@
-//! Sequence numbers of what one end sends.
+//! SequenceNumbers of what one end sends.
 
 ghost use Rattle.std.specs.Prelude.{◌<◌, ◌≤◌};
 
 use ua_chunk::next_number;
 
-/// The sequence numbers that one end gives its chunks: 1, 2, 3, .. up to 4294966272, and then 1
+/// The SequenceNumbers that one end gives its chunks: 1, 2, 3, .. up to 4294966272, and then 1
 /// again (OPC 10000-6, 6.7.2.4).
 #[derive(Clone, Copy, Debug)]
 pub struct Numbers {
@@ -33,14 +33,14 @@ impl Numbers {
         self.next
     }
 
-    /// Goes on behind one chunk.
+    /// Continues after one chunk.
     pub(crate) fn step(&mut self)
         ensures { self.new.next ≡ next_number self.old.next }
     {
         self.go_on(next_number(self.next));
     }
 
-    /// Goes on at this number.
+    /// Continues at this number.
     pub(crate) fn go_on(&mut self, next: u32)
         requires { (0 < next) × (next ≤ 4294966272) }
         ensures { self.new.next ≡ next }

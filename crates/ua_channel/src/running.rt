@@ -1,4 +1,4 @@
-//! An open channel, at a server.
+//! An open channel of a server.
 
 ghost use Rattle.std.specs.Prelude.{◌≡◌, option_map};
 
@@ -14,7 +14,7 @@ use ua_frame::{Frame, Limits};
 /// The first token.
 const FIRST_TOKEN: u32 = 1;
 
-/// A channel that has a token, at a server.
+/// A channel of a server that has a token.
 #[derive(Drop)]
 pub struct Running {
     agreement: Agreement,
@@ -38,7 +38,7 @@ impl Running {
     ghost use Rattle.ua_channel.specs.inside.ServerParts.{JudgesFirst, Judges, JudgesClose, ids_reasons};
     ghost use Rattle.ua_channel.specs.ServerStands.{Stays, HasGreeted};
 
-    /// A channel that the first OPN opens, and what that tells.
+    /// A channel that the first OPN opens, and its event.
     pub(crate) fn open(
         alloc: Global,
         limits: &Limits,
@@ -81,7 +81,7 @@ impl Running {
         self.agreement.lane(channel, self.used)
     }
 
-    /// How many octets are held of unfinished messages.
+    /// The number of bytes held of unfinished messages.
     pub(crate) fn held(&self) -> usize
         ensures held { (limits : Limits) (before : Received) → Stays limits self.now before → result ≡ open_octets before.messages }
         ensures bound { (limits : Limits) (before : Received) → 0 < limits.max_message_size → Stays limits self.now before → result ≤ 4 * limits.max_message_size }
@@ -89,14 +89,14 @@ impl Running {
         self.assembler.held()
     }
 
-    /// How many messages are unfinished.
+    /// The number of unfinished messages.
     pub(crate) fn open_count(&self) -> usize
         ensures { (limits : Limits) (before : Received) → Stays limits self.now before → result ≡ length (open_ids before.messages) }
     {
         self.assembler.open_count()
     }
 
-    /// Why the ids of a chunk's channel and token are refused.
+    /// Why the SecureChannelId and the TokenId of a chunk are refused.
     #[inline(always)]
     fn judge_ids(&self, channel: u32, chunk: &Chunk) -> Option<StatusCode>
         ensures { option_map (λ status. status.code) result ≡ first_reason (ids_reasons chunk.now channel self.now.used self.now.issued) }

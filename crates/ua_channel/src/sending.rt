@@ -1,4 +1,4 @@
-//! What a server sends.
+//! The bytes that a server sends.
 
 ghost use Rattle.std.specs.Prelude.{◌≡◌, ◌<◌, ◌+◌, ◌++◌, ◌^◌, ℕ, List, is_some, length, IfOk, OnOk};
 ghost use Rattle.ua_frame.specs.Frames.{frame_octets};
@@ -16,14 +16,15 @@ use ua_frame::{Kind, ack_octets, header_octets};
 use ua_opening::{OpenResponse, write_open_response};
 use ua_wire::NULL_COUNT;
 
-/// The octets of an OPN frame in front of its body: the frame's header, the channel's id, the
-/// policy None, two nulls, the sequence number and the request id.
+/// The length in bytes of the headers of an OPN frame before its body: the eight header bytes of
+/// the frame, the SecureChannelId, the policy None, two nulls, the SequenceNumber and the
+/// RequestId.
 const OPENING_HEADERS: usize = 79;
 
-/// The octets of the body of an OPN response without a nonce.
+/// The length in bytes of the body of an OPN response without a nonce.
 const OPENED_LEN: usize = 56;
 
-/// The ACK frame of what was agreed to.
+/// The ACK message of an agreement.
 pub fn agreed_octets(alloc: Global, agreement: &Agreement) -> Result<Vec<u8>, AllocError>
     ensures { IfOk result (λ out. out.items ≡ frame_octets (ack_frame agreement.now.ack)) }
 {
@@ -32,7 +33,7 @@ pub fn agreed_octets(alloc: Global, agreement: &Agreement) -> Result<Vec<u8>, Al
     Ok(out)
 }
 
-/// Adds an OPN frame under the policy None up to its body, which is to have so many octets.
+/// Appends an OPN frame under the policy None up to its body, which will have so many bytes.
 pub fn append_opening(
     channel: u32,
     sequence: u32,
@@ -56,7 +57,7 @@ pub fn append_opening(
     Ok(())
 }
 
-/// What an OPN response says.
+/// The content of an OPN response.
 #[derive(Clone, Copy)]
 pub struct Opening {
     pub channel: u32,
@@ -66,7 +67,7 @@ pub struct Opening {
     pub lifetime: u32,
 }
 
-/// The OPN frame of a response that is made at this moment.
+/// The OPN frame of a response with this timestamp.
 pub fn opened_octets(
     alloc: Global,
     opening: &Opening,
@@ -87,15 +88,15 @@ pub fn opened_octets(
     let response = OpenResponse::new(moment, handle, channel, token, lifetime);
     let written = write_open_response(&response, &mut out);
     drop(response);
-    // A response without a nonce can be encoded, so this is want of memory.
+    // A response without a nonce can be encoded, so this is a failed allocation.
     match written {
         Ok(()) => Ok(out),
         Err(_) => Err(AllocError),
     }
 }
 
-/// A reply: the chunks of its body, or where the client takes no such body an abort that says so. The
-/// numbers go on behind them.
+/// A reply: the chunks of its body, or an abort where the client does not accept the body. The
+/// SequenceNumbers continue after them.
 pub fn reply_octets(
     alloc: Global,
     lane: &Lane,

@@ -16,12 +16,12 @@ use ua_builtin::DateTime;
 use ua_chunk::Lane;
 use ua_frame::{FrameReader, LEAST_BUFFER_SIZE, Limits};
 
-/// How far a connection has come.
+/// The phases of a connection.
 #[derive(Drop)]
 pub enum Phase {
     /// It waits for the HEL.
     Waiting,
-    /// It agreed, and waits for the first OPN.
+    /// It agreed on the HEL, and waits for the first OPN.
     Greeted(Agreement),
     /// It has a token.
     Open(Running),
@@ -29,11 +29,11 @@ pub enum Phase {
     Done,
 }
 
-/// The server's end of a connection: it takes the octets of a client in whatever pieces they come,
-/// and makes those that are to be sent (OPC 10000-6, 6.7 and 7.1).
+/// The server's end of a connection: it takes the bytes of a client, however they are fragmented,
+/// and returns the bytes to send (OPC 10000-6, 6.7 and 7.1).
 ///
-/// A connection begins with the client's HEL and its OPN, which are answered by [`take`]; then come
-/// messages, tokens that are renewed, and one CLO. After a fault, and after the CLO, the channel
+/// A connection begins with the client's HEL and its OPN, which [`take`] answers; then come
+/// messages, renewals of the token, and one CLO. After a fault, and after the CLO, the channel
 /// holds nothing and takes nothing more.
 ///
 /// [`take`]: ServerChannel::take
@@ -61,8 +61,8 @@ impl ServerChannel {
     ghost use Rattle.ua_channel.specs.declared.server_event.Event.TheVariants as inner;
     ghost use Rattle.ua_channel.specs.declared.server_event.ServerEvent.TheVariants as handed;
 
-    /// Waits for the HEL of a client, on behalf of a server with these limits, whose channel will
-    /// have this id.
+    /// Waits for the HEL of a client. The server has these limits, and its channel will have this
+    /// SecureChannelId.
     pub fn new(alloc: Global, limits: Limits, channel: u32) -> ServerChannel
         ensures stands { ChannelStands result [] [] [] }
         ensures goes { Goes result [] [] }
@@ -92,7 +92,7 @@ impl ServerChannel {
         }
     }
 
-    /// Makes octets that are to be sent an event. Without them the channel fails.
+    /// Returns the bytes to send as an event. Without them the channel fails.
     fn send(&mut self, octets: Result<Vec<u8>, AllocError>) -> Result<ServerEvent, ChannelFault>
         ensures sent { MatchResult octets (λ out. result ≡ Ok (handed.Send out)) (λ _. result ≡ Err fault.OutOfMemory) }
         ensures good { OnOk result (self.new ≡ self.old) }
@@ -109,7 +109,7 @@ impl ServerChannel {
         }
     }
 
-    /// What is answered at an event of the last frame. The moment is that of an OPN response.
+    /// The event that is returned for the last frame. `moment` is the timestamp of an OPN response.
     fn answer(&mut self, event: Event, moment: DateTime) -> Result<ServerEvent, ChannelFault>
         ensures closes { event ≡ inner.Closed → result ≡ Ok handed.Closed }
         ensures answers { (octets : List ℕ) (told : List Told) → StandsWith event self.old octets told
@@ -154,8 +154,8 @@ impl ServerChannel {
         }
     }
 
-    /// Takes octets up to the end of the first frame at which there is something to be answered, else
-    /// the whole piece, and says how many it took. The moment is that of an OPN response.
+    /// Takes bytes up to the end of the first frame that has an event, or else the whole piece, and
+    /// returns how many it took. `moment` is the timestamp of an OPN response.
     fn go_on(
         &mut self,
         piece: &[u8],
@@ -179,8 +179,8 @@ impl ServerChannel {
         }
     }
 
-    /// Takes octets as [`take`](ServerChannel::take) does, and says at a refusal too how many: up to
-    /// the end of the frame that is refused, or to the eighth octet of the header that is.
+    /// Takes bytes as [`take`](ServerChannel::take) does, and returns also at a refusal how many it
+    /// took: up to the end of the refused frame, or to the eighth byte of the refused header.
     pub fn advance(
         &mut self,
         piece: &[u8],
@@ -188,15 +188,16 @@ impl ServerChannel {
     ) -> (usize, Result<ServerEvent, ChannelFault>)
         ensures answers { (octets : List ℕ) (told : List Told) → Goes self.old octets told
             → AnswersAt (channel_of self.old) (next_of self.old) moment piece.now result.0 result.1 self.new octets told }
-        // A message that is handed out is the bodies of its chunks: nothing is joined.
+        // A message that is returned is the bodies of its chunks, which are not joined.
         ensures parts { (octets : List ℕ) (told : List Told) → Goes self.old octets told
             → IfOk result.1 (λ e. AsksInParts (parts_asked e) self.new (octets ++ take result.0 piece.now)) }
         ensures progress { Progress piece.now result.0 result.1 }
         ensures closed { IsDone self.old → (result.0 ≡ 0) × (result.1 ≡ Err fault.Closed) × (self.new ≡ self.old) }
-        // Where memory is refused, what was taken ends at the eighth octet of a good header, or within its frame.
+        // Where an allocation fails, the bytes taken end at the eighth byte of a valid header, or
+        // within its frame.
         ensures starves { (octets : List ℕ) (told : List Told) → Goes self.old octets told → IsErrOf result.1 fault.OutOfMemory
             → StarvedAt self.new (octets ++ take result.0 piece.now) told }
-        // After want of memory, the bound is what it was before the call.
+        // After `OutOfMemory` the bound is what it was before the call.
         ensures starved { IsErrOf result.1 fault.OutOfMemory → bound_of self.new ≡ bound_of self.old }
         ensures limits { limits_of self.new ≡ limits_of self.old }
         ensures channel { channel_of self.new ≡ channel_of self.old }
@@ -217,9 +218,10 @@ impl ServerChannel {
         }
     }
 
-    /// Takes octets up to the end of the first frame at which something is to be sent, was asked or
-    /// given up, or the channel is closed; else the whole piece. The moment is that of an OPN
-    /// response. After a fault, and after a close, it answers `Closed`.
+    /// Takes bytes up to the end of the first frame at which bytes are to be sent, a message is
+    /// complete or aborted, or the channel is closed; or else the whole piece. Returns how many it
+    /// took. `moment` is the timestamp of an OPN response. After a fault, and after a close, it
+    /// returns `Closed`.
     pub fn take(
         &mut self,
         piece: &[u8],
@@ -227,14 +229,14 @@ impl ServerChannel {
     ) -> Result<(usize, ServerEvent), ChannelFault>
         ensures answers { (octets : List ℕ) (told : List Told) → Goes self.old octets told
             → ServerAnswers (channel_of self.old) (next_of self.old) moment piece.now result self.new octets told }
-        // A message that is handed out is the bodies of its chunks: nothing is joined.
+        // A message that is returned is the bodies of its chunks, which are not joined.
         ensures parts { (octets : List ℕ) (told : List Told) → Goes self.old octets told
             → IfOk result (λ r. AsksInParts (parts_asked r.1) self.new (octets ++ take r.0 piece.now)) }
         ensures closed { IsDone self.old → (result ≡ Err fault.Closed) × (self.new ≡ self.old) }
-        // Where memory is refused, it is within a frame whose header is there and good.
+        // Where an allocation fails, it is within a frame whose header is complete and valid.
         ensures starves { (octets : List ℕ) (told : List Told) → Goes self.old octets told → IsErrOf result fault.OutOfMemory
             → (n : ℕ) × (n ≤ length piece.now) × StarvedAt self.new (octets ++ take n piece.now) told }
-        // After want of memory, the bound is what it was before the call.
+        // After `OutOfMemory` the bound is what it was before the call.
         ensures starved { IsErrOf result fault.OutOfMemory → bound_of self.new ≡ bound_of self.old }
         ensures limits { limits_of self.new ≡ limits_of self.old }
         ensures channel { channel_of self.new ≡ channel_of self.old }
@@ -258,8 +260,8 @@ impl ServerChannel {
         }
     }
 
-    /// The most octets that the body of a reply can have to be sent; none where the client sets no
-    /// such limit, and where no channel is open. One with more becomes an abort.
+    /// The maximum size, in bytes, of a body that can be sent as a reply; `None` where the client
+    /// sets no such limit, and where no channel is open. A larger body becomes an abort.
     pub fn most_octets(&self) -> Option<usize>
         ensures most { (octets : List ℕ) (frames : List Frame) (rest : List ℕ) → ChannelStands self.now octets frames rest → (IsWithoutToken self.now → ⊥)
             → (lane : Lane) → RepliesGo (limits_of self.now) (channel_of self.now) (received frames) lane → (0 < lane.room) × (result ≡ most_octets lane) }
@@ -271,9 +273,9 @@ impl ServerChannel {
         }
     }
 
-    /// The reply under a request id: the chunks of its body under the last token that the client used,
-    /// or where the client takes no such body an abort that says so; and which of both it is. Where no
-    /// memory is found the channel fails.
+    /// The reply under a RequestId: the chunks of its body under the last token that the client
+    /// used, or an abort where the client does not accept the body; and which of both it is. Where
+    /// an allocation fails, the channel fails.
     pub fn respond(&mut self, id: u32, body: &[u8]) -> Result<SentReply, ReplyFault>
         requires { 0 < length body.now }
         ensures stands { (octets : List ℕ) (frames : List Frame) (rest : List ℕ) → ChannelStands self.old octets frames rest
@@ -281,7 +283,7 @@ impl ServerChannel {
         ensures sent { (octets : List ℕ) (frames : List Frame) (rest : List ℕ) → ChannelStands self.old octets frames rest
             → IfOk result (λ sent. (lane : Lane) × RepliesGo (limits_of self.old) (channel_of self.old) (received frames) lane
             × IsReply lane body.now (next_of self.old) id sent.octets.items (next_of self.new) × (sent.is_abort ≡ is_some (cut_refusal lane body.now))) }
-        // No channel is open before the first OPN, and once the channel ended, and then alone.
+        // No channel is open before the first OPN or after the channel ended, and in no other case.
         ensures not_open { IsErrOf result NotOpen ↔ IsWithoutToken self.old }
         ensures unchanged { IsErrOf result NotOpen → self.new ≡ self.old }
         ensures before { (octets : List ℕ) (frames : List Frame) (rest : List ℕ) → ChannelStands self.old octets frames rest
@@ -303,7 +305,8 @@ impl ServerChannel {
         }
     }
 
-    /// The octets that [`respond`](ServerChannel::respond) answers: the reply, or an abort in its place.
+    /// The bytes that [`respond`](ServerChannel::respond) returns: the reply, or an abort in its
+    /// place.
     pub fn reply(&mut self, id: u32, body: &[u8]) -> Result<Vec<u8>, ReplyFault>
         requires { 0 < length body.now }
         ensures stands { (octets : List ℕ) (frames : List Frame) (rest : List ℕ) → ChannelStands self.old octets frames rest
@@ -311,7 +314,7 @@ impl ServerChannel {
         ensures sent { (octets : List ℕ) (frames : List Frame) (rest : List ℕ) → ChannelStands self.old octets frames rest
             → IfOk result (λ out. (lane : Lane) × RepliesGo (limits_of self.old) (channel_of self.old) (received frames) lane
             × IsReply lane body.now (next_of self.old) id out.items (next_of self.new)) }
-        // No channel is open before the first OPN, and once the channel ended, and then alone.
+        // No channel is open before the first OPN or after the channel ended, and in no other case.
         ensures not_open { IsErrOf result NotOpen ↔ IsWithoutToken self.old }
         ensures unchanged { IsErrOf result NotOpen → self.new ≡ self.old }
         ensures before { (octets : List ℕ) (frames : List Frame) (rest : List ℕ) → ChannelStands self.old octets frames rest
@@ -337,8 +340,8 @@ impl ServerChannel {
         self.end.fail();
     }
 
-    /// How many octets are held: those of a frame that is not whole, and those of unfinished
-    /// messages. They are never more than [`bound`](ServerChannel::bound) says.
+    /// The number of bytes held: those of an incomplete frame, and those of unfinished messages. It
+    /// is never more than [`bound`](ServerChannel::bound).
     pub fn held(&self) -> usize
         ensures held { (octets : List ℕ) (frames : List Frame) (rest : List ℕ) → ChannelStands self.now octets frames rest
             → result ≡ held_after (received frames) rest }
@@ -349,8 +352,8 @@ impl ServerChannel {
         self.end.held()
     }
 
-    /// The most octets that may be held: 8192 before the ACK, then those of a frame of the agreed
-    /// size and of 4 messages of the greatest size.
+    /// The maximum number of bytes that may be held: 8192 before the ACK; after it those of a frame
+    /// of the agreed size and of 4 messages of the maximum size.
     pub fn bound(&self) -> usize
         ensures stands { (octets : List ℕ) (frames : List Frame) (rest : List ℕ) → ChannelStands self.now octets frames rest
             → result ≡ bound_after (limits_of self.now) (received frames) }
@@ -359,7 +362,7 @@ impl ServerChannel {
         self.end.bound
     }
 
-    /// How many messages are unfinished.
+    /// The number of unfinished messages.
     pub fn open_count(&self) -> usize
         ensures count { (octets : List ℕ) (frames : List Frame) (rest : List ℕ) → ChannelStands self.now octets frames rest
             → result ≡ length (open_ids (received frames).messages) }

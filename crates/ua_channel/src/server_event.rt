@@ -1,38 +1,38 @@
-//! What comes of octets at a server.
+//! The events of the bytes that a server takes.
 
 ghost use Rattle.std.specs.Prelude.{◌≡◌};
 
 use crate::agreement::Agreement;
 use ua_chunk::{Delivered, Message};
 
-/// What came of the octets so far.
+/// The event of the bytes so far.
 #[derive(Drop)]
 pub enum ServerEvent {
-    /// Nothing yet.
+    /// No event; more bytes are needed.
     NeedMore,
-    /// These octets are to be sent: the ACK, or the OPN response.
+    /// Send these bytes: the ACK, or the OPN response.
     Send(Vec<u8>),
-    /// A whole message, under its request id.
+    /// A complete message, with its RequestId.
     Asked(u32, Message),
-    /// The client gave up the message of this request id.
+    /// The client aborted the message with this RequestId.
     Aborted(u32),
     /// The client closed the channel.
     Closed,
 }
 
-/// What a frame comes to.
+/// The event of a frame.
 #[derive(Drop)]
 pub enum Event {
     /// The ACK is to be sent.
     Agreed(Agreement),
-    /// The answer to an OPN is to be sent.
+    /// The response to an OPN is to be sent.
     Opened {
         request: u32,
         handle: u32,
         token: u32,
         lifetime: u32,
     },
-    /// A whole message, whose last chunk used this token.
+    /// A complete message, whose last chunk used this token.
     Asked {
         request: u32,
         token: u32,

@@ -1,4 +1,4 @@
-//! Why a server's channel ends, or gives no reply.
+//! Faults of a server's channel.
 
 ghost use Rattle.std.specs.Prelude.{◌≡◌};
 
@@ -7,10 +7,10 @@ use thiserror::Error;
 use ua_builtin::StatusCode;
 use ua_frame::error_frame;
 
-/// Why a server's channel ended. It then takes nothing more.
+/// Why a server's channel ended. It takes nothing more.
 #[derive(Clone, Copy, PartialEq, Eq, Debug, Error)]
 pub enum ChannelFault {
-    /// The octets are refused with this code, and this ERR frame is to be sent.
+    /// The bytes are refused with this StatusCode, and this ERR message is to be sent.
     #[error("refused")]
     Refused {
         code: StatusCode,
@@ -19,7 +19,7 @@ pub enum ChannelFault {
     /// The channel was closed, or an earlier call failed.
     #[error("closed")]
     Closed,
-    /// Memory was refused.
+    /// An allocation failed.
     #[error("out of memory")]
     OutOfMemory,
 }
@@ -30,7 +30,7 @@ pub enum ReplyFault {
     /// No channel is open: there was no OPN yet, or the channel was closed or failed.
     #[error("no channel is open")]
     NotOpen,
-    /// Memory was refused. The channel has failed.
+    /// An allocation failed. The channel has failed.
     #[error("out of memory")]
     OutOfMemory,
 }
@@ -38,7 +38,7 @@ pub enum ReplyFault {
 impl ChannelFault {
     ghost use Rattle.ua_channel.specs.inside.StepFaults.{of_step};
 
-    /// What a fault of a step comes to.
+    /// The fault of a step, as one of the channel.
     pub(crate) fn of_step(fault: StepFault) -> ChannelFault
         ensures { result ≡ of_step fault }
     {

@@ -1,4 +1,4 @@
-//! OPN frames at a server: what they ask for, and why they are refused.
+//! OPN frames at a server: their requests, and why they are refused.
 
 ghost use Rattle.std.specs.Prelude.{◌≡◌, option_map};
 ghost use Rattle.ua_builtin.specs.Reasons.{first_reason};
@@ -12,13 +12,13 @@ use ua_chunk::read_open;
 use ua_frame::Frame;
 use ua_opening::{OpenRequest, read_open_request};
 
-/// To issue a token, as a RequestType (OPC 10000-4, 5.6.2).
+/// The RequestType Issue, which issues a token (OPC 10000-4, 5.6.2).
 const ISSUE: i32 = 0;
 
-/// To renew a token, as a RequestType (OPC 10000-4, 5.6.2).
+/// The RequestType Renew, which renews a token (OPC 10000-4, 5.6.2).
 const RENEW: i32 = 1;
 
-/// No security, as a MessageSecurityMode (OPC 10000-4, 7.20).
+/// The MessageSecurityMode None (OPC 10000-4, 7.20).
 const NO_SECURITY: i32 = 1;
 
 /// The lifetime of a token where none is asked for, in milliseconds: an hour.
@@ -72,7 +72,7 @@ fn asked_by(request: &OpenRequest) -> Asked
     }
 }
 
-/// What the request asks for that is the whole of these octets.
+/// The content of the request that is exactly these bytes.
 fn read_asked(alloc: Global, octets: &[u8]) -> Result<Asked, StepFault>
     ensures { ReadsAsked octets.now result }
 {
@@ -105,8 +105,8 @@ fn judge_asked(asked: &Asked, on: u32, channel: u32, issued: u32) -> Option<Stat
     None
 }
 
-/// What an OPN has opened on a channel where so many tokens were issued. Its sequence number, and
-/// whether a token is left, are for the caller to judge.
+/// The opening of an OPN on a channel with so many issued tokens. The caller checks its
+/// SequenceNumber, and whether a token is left.
 pub fn judge_opening(
     alloc: Global,
     channel: u32,

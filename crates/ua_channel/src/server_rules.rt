@@ -1,4 +1,4 @@
-//! The rules of a server: what it makes of a frame.
+//! The rules of a server for frames.
 
 ghost use Rattle.std.specs.Prelude.{◌≡◌, ◌≢◌, OnErr};
 ghost use Rattle.ua_frame.specs.declared.frame.Frame.{Frame};
@@ -22,14 +22,14 @@ use std::alloc::Global;
 use ua_chunk::{MOST_OPEN, read_chunk};
 use ua_frame::{Frame, Gate, Kind, LEAST_BUFFER_SIZE, Limits};
 
-/// What a server does with frames: its limits, and the id of its channel.
+/// The rules of a server for frames: its limits, and its SecureChannelId.
 #[derive(Drop)]
 pub struct ServerRules {
     pub limits: Limits,
     pub channel: u32,
 }
 
-/// The gate for a HEL.
+/// The filter for a HEL.
 pub fn hello_gate() -> Gate
     ensures { result ≡ first_gate }
 {

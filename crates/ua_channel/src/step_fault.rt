@@ -16,14 +16,14 @@ pub enum StepFault {
     Peer(StatusCode),
     /// The channel is closed.
     Closed,
-    /// Memory was refused.
+    /// An allocation failed.
     OutOfMemory,
 }
 
 impl StepFault {
     ghost use Rattle.ua_channel.specs.inside.StepFaults.{of_frame_fault, of_open_fault, of_chunk_fault, least_at};
 
-    /// What a fault of the frame reader comes to.
+    /// The fault of the frame reader, as one of a step.
     pub(crate) fn of_frame(fault: FrameFault) -> StepFault
         ensures { result ≡ of_frame_fault fault }
     {
@@ -34,7 +34,7 @@ impl StepFault {
         }
     }
 
-    /// The least number of octets that are taken at this fault, where there are some.
+    /// The minimum number of bytes that are taken at this fault, if there are any.
     pub(crate) fn least(&self) -> usize
         ensures { result ≡ least_at self.now }
     {
@@ -44,7 +44,7 @@ impl StepFault {
         }
     }
 
-    /// What a fault of an OPN's headers comes to.
+    /// The fault of an OPN's headers, as one of a step.
     pub(crate) fn of_open(fault: OpenFault) -> StepFault
         ensures { result ≡ of_open_fault fault }
     {
@@ -55,7 +55,8 @@ impl StepFault {
         }
     }
 
-    /// What a fault of the assembler comes to, where this is the code of a message that is too large.
+    /// The fault of the assembler, as one of a step, where this is the StatusCode of a message that
+    /// is too large.
     pub(crate) fn of_chunk(fault: AssembleFault, too_large: StatusCode) -> StepFault
         ensures { result ≡ of_chunk_fault too_large.code fault }
     {

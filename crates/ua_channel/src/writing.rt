@@ -1,12 +1,13 @@
-//! Octets that go to a line whole.
+//! Complete writes to a transport.
 
 ghost use Rattle.std.specs.Prelude.{◌≡◌};
 ghost use Rattle.ua_channel.specs.Line.{IfTrafficKnown, StopsWithin, Wrote, failures_after};
 
 use crate::line::Line;
 
-/// Writes octets whole: by one write where the line takes them so, and where it takes fewer, on from where
-/// it stopped. Where the line fails it says behind how many of them.
+/// Writes all the bytes: by one write where the transport takes them so, and by further writes of
+/// the rest where it takes fewer. Where the transport fails, it returns how many bytes were written
+/// before.
 pub fn write_whole<L: Line>(line: &mut L, octets: &[u8]) -> Result<(), usize>
     ensures within { StopsWithin octets.now result }
     ensures wrote { IfTrafficKnown (Wrote octets.now result) (L.traffic line.old) (L.traffic line.new) }

@@ -1,10 +1,10 @@
-//! Laws of both ends: what a client writes is what a server takes, and what a server writes is what a
-//! client takes, one message after the other.
+//! Laws of both ends: a server accepts what a client writes, and a client accepts what a server
+//! writes, one message after the other.
 //!
-//! Each function does nothing; its contract is the law. A connection of two ends is followed by them
-//! from the HEL to the CLO: `ServerReads` says where the server is behind what the client wrote,
-//! `ClientReads` where the client is behind what the server wrote, whatever the pieces in which it
-//! came.
+//! Each function has no effect; its contract is the law. Together they follow a connection of two
+//! ends from the HEL to the CLO: `ServerReads` gives the state of the server after what the client
+//! wrote, `ClientReads` that of the client after what the server wrote, however these bytes are
+//! fragmented.
 
 ghost use Rattle.std.specs.Prelude.{◌≡◌, ◌<◌, ◌≤◌, ◌+◌, ◌^◌, ◌∷◌, ◌++◌, [], ℕ, List, Option, None, Some, IsTrue, IsFalse, length, map};
 ghost use Rattle.std.specs.List.{AllByRecursion, range_with_len};
@@ -44,43 +44,44 @@ ghost use Rattle.ua_channel.specs.ServerTold.{Told, Told as server_told, issued}
 ghost use Rattle.ua_channel.specs.declared.client.channel.ClientChannel.{ClientChannel};
 ghost use Rattle.ua_channel.specs.declared.server.ServerChannel.{ServerChannel};
 
-/// A server takes the HEL of a client, and agrees.
+/// A server accepts the HEL of a client, and acknowledges it.
 pub fn server_reads_hello()
     ensures { (limits : Limits) (channel : ℕ) (client : Limits) (url : Option (List ℕ)) → IsTrue (hello.encodable (hello_to client url)) → url_length url ≤ 4095 →
         ServerReads limits channel (frame_octets (hello_frame (hello_to client url))) (server_told.Agreed (agreement_of limits (hello_to client url)) ∷ []) (greeted_at (hello_to client url)) }
 {}
 
-/// Behind it a server takes the first OPN, and issues the first token.
+/// After the HEL a server accepts the first OPN, and issues the first token.
 pub fn server_reads_opening()
     ensures { (limits : Limits) (channel : ℕ) (octets : List ℕ) (told : List Told) (at : AtServer) (moment : DateTime) →
         ServerReads limits channel octets told at → at.issued ≡ 0 → at.next ≡ 1 → IsTrue (date_time.encodable moment) →
         ServerReads limits channel (octets ++ frame_octets (first_open moment)) (told ++ server_told.Opened 1 0 1 3600000 ∷ []) (with_token at) }
 {}
 
-/// A server takes the chunks of a call whose body is within its limits, and is asked it whole.
+/// A server accepts the chunks of a call whose body is within its limits, and reports the call
+/// complete.
 pub fn server_reads_call()
     ensures { (limits : Limits) (channel : ℕ) (octets : List ℕ) (told : List Told) (at : AtServer) (lane : Lane) (body : List ℕ) (id : ℕ) →
         channel < 2 ^ 32 → id < 2 ^ 32 → ServerReads limits channel octets told at → IsLaneTo limits channel at lane → IsBodyFor limits lane.room body →
         ServerReads limits channel (octets ++ chunks_octets (chunks_of lane body at.next id)) (told ++ server_told.Asked id lane.token body ∷ []) (with_message at lane body) }
 {}
 
-/// A server takes an OPN that renews the token, and issues the next one.
+/// A server accepts an OPN that renews the token, and issues the next one.
 pub fn server_reads_renewal()
     ensures { (limits : Limits) (channel : ℕ) (octets : List ℕ) (told : List Told) (at : AtServer) (id : ℕ) (moment : DateTime) →
         ServerReads limits channel octets told at → 0 < at.issued → at.issued < 4294967295 → channel < 2 ^ 32 → id < 2 ^ 32 → IsTrue (date_time.encodable moment) →
         ServerReads limits channel (octets ++ frame_octets (renewal_frame channel at.next id moment)) (told ++ server_told.Opened id 0 (at.issued + 1) 3600000 ∷ []) (with_token at) }
 {}
 
-/// A server takes a CLO, and the channel is closed.
+/// A server accepts a CLO, and the channel is closed.
 pub fn server_reads_close()
     ensures { (limits : Limits) (channel : ℕ) (octets : List ℕ) (told : List Told) (at : AtServer) (token id : ℕ) (moment : DateTime) →
         ServerReads limits channel octets told at → IsTakenAt at token → channel < 2 ^ 32 → id < 2 ^ 32 →
         ServerCloses limits channel (octets ++ frame_octets (close_frame channel token at.next id moment)) (told ++ server_told.Closed ∷ []) }
 {}
 
-/// Whatever came before: behind whole frames that are good, with its channel open and no message
-/// unfinished, a server stands as the laws here say it, with any number next that may follow and is at
-/// most 4294966272. There is such a number.
+/// Whatever was received before: after complete valid frames, with its channel open and no message
+/// unfinished, a server is in a state of these laws, with any next SequenceNumber that may follow
+/// and is at most 4294966272. There is such a number.
 pub fn server_reads_run()
     ensures reads { (limits : Limits) (channel : ℕ) (octets : List ℕ) (frames : List Frame) → Run (server_rules limits channel) octets frames [] Going → 0 < issued (received frames) → open_ids (received frames).messages ≡ [] →
         (next : ℕ) → IsTrue (may_follow (received frames).last next) → next ≤ 4294966272 →
@@ -88,13 +89,13 @@ pub fn server_reads_run()
     ensures numbered { (last : Option ℕ) → (next : ℕ) × IsTrue (may_follow last next) × (next ≤ 4294966272) }
 {}
 
-/// A client takes the ACK of a server to its HEL.
+/// A client accepts the ACK of a server to its HEL.
 pub fn client_reads_ack()
     ensures { (limits server : Limits) (url : Option (List ℕ)) → IsTrue (ack.encodable (ack_to (hello_to limits url) server)) →
         ClientAgrees limits (frame_octets (ack_frame (ack_to (hello_to limits url) server))) (client_told.Agreed (ack_to (hello_to limits url) server) ∷ []) (ack_to (hello_to limits url) server) }
 {}
 
-/// Behind it a client takes the OPN response to its first OPN, and the channel is open.
+/// After the ACK a client accepts the OPN response to its first OPN, and the channel is open.
 pub fn client_reads_opened()
     ensures { (limits : Limits) (octets : List ℕ) (told : List ClientTold) (a : Ack) (channel number handle token lifetime : ℕ) (moment : DateTime) →
         ClientAgrees limits octets told a → IsAnswered channel number 1 handle token lifetime moment →
@@ -102,7 +103,7 @@ pub fn client_reads_opened()
         (opened_at a channel token (next_number number)) }
 {}
 
-/// A client may ask between two messages, a call or a renewal, each under the next request id; it is
+/// A client may send a call or a renewal between two messages, each under the next RequestId; it is
 /// then unanswered.
 pub fn client_asks()
     ensures call { (limits : Limits) (asks : List Placed) (octets : List ℕ) (told : List ClientTold) (at : AtClient) → ClientReads limits asks octets told at →
@@ -111,26 +112,28 @@ pub fn client_asks()
         ClientReads limits (asks ++ (length octets, Renewal (next_id (asked_in asks))) ∷ []) octets told (with_renewal at (next_id (asked_in asks))) }
 {}
 
-/// A client takes what a server sends in reply to a call that is unanswered: the chunks of the reply,
-/// and is told it whole; or, where the reply is past the client's limits, the abort in its place.
+/// A client accepts what a server sends in reply to an unanswered call: the chunks of the reply,
+/// which it reports complete; or, where the reply exceeds the client's limits, the abort in its
+/// place.
 pub fn client_reads_reply()
     ensures { (limits : Limits) (asks : List Placed) (octets : List ℕ) (told : List ClientTold) (at : AtClient) (lane : Lane) (id : ℕ) (body : List ℕ) →
         ClientReads limits asks octets told at → IsLaneBack limits at lane → IsTrue (is_in id at.pending) → id < 2 ^ 32 → 0 < length body →
         ClientReads limits asks (octets ++ (replied lane body at.next id).0) (told ++ told_reply (cut_refusal lane body) id body ∷ []) (with_reply at lane.token id (replied lane body at.next id).1) }
 {}
 
-/// A client takes the OPN response to the one renewal that is unanswered, which brings a token that
-/// it does not hold.
+/// A client accepts the OPN response to the one unanswered renewal, which brings a token that it
+/// does not hold.
 pub fn client_reads_renewed()
     ensures { (limits : Limits) (asks : List Placed) (octets : List ℕ) (told : List ClientTold) (at : AtClient) (id handle token lifetime : ℕ) (moment : DateTime) →
         ClientReads limits asks octets told at → IsAnswered at.channel at.next id handle token lifetime moment → at.renewals ≡ id ∷ [] → IsFalse (is_in token at.tokens) →
         ClientReads limits asks (octets ++ frame_octets (opened_frame at.channel at.next id handle token lifetime moment)) (told ++ client_told.Renewed token ∷ []) (with_answer at token (next_number at.next)) }
 {}
 
-/// Whatever came before, and whatever was asked: behind whole frames that are good, with its channel
-/// open and no message unfinished, a client stands as the laws here say it, with any number next that
-/// may follow and is at most 4294966272. All was asked by then, under request ids below the next one, as
-/// what a channel asks is, whose ids are counted on from 2. There is a newest of the tokens that it holds.
+/// Whatever was received and sent before: after complete valid frames, with its channel open and no
+/// message unfinished, a client is in a state of these laws, with any next SequenceNumber that may
+/// follow and is at most 4294966272. All operations were sent by then, under RequestIds below the
+/// next one; those of a channel are, as it counts RequestIds from 2. One of the tokens that it
+/// holds is the newest.
 pub fn client_reads_run()
     ensures reads { (limits : Limits) (asks : List Placed) (octets : List ℕ) (frames : List Frame) → Run (client_rules limits asks) octets frames [] Going →
         AllByRecursion (λ (a : Placed). a.0 ≤ length octets) asks → AllByRecursion (λ (a : Asking). id_of a < next_id (asked_in asks)) (asked_in asks) →
@@ -151,9 +154,9 @@ pub fn client_reads_run()
         × (map id_of (asked_in asks) ≡ range_with_len 2 (length (asked_in asks))) }
 {}
 
-/// Behind any beginning of octets that a server reads, in whatever pieces it came, its channel was
-/// told a beginning of what they tell, and behind all of them all of it. None of them is refused, and
-/// none closes the channel.
+/// After any prefix of bytes that a server reads, however it was fragmented, its channel has
+/// reported a prefix of their events, and after all the bytes all of the events. None of the bytes
+/// is refused, and none closes the channel.
 pub fn server_follows()
     ensures begins { (x : ServerChannel) (octets more : List ℕ) (told all : List Told) (at : AtServer) → Goes x octets told →
         ServerReads (limits_of x) (channel_of x) (octets ++ more) all at → (later : List Told) × (all ≡ told ++ later) }
@@ -165,8 +168,8 @@ pub fn server_follows()
         ServerReads (limits_of x) (channel_of x) (octets ++ more) all at → ⊥ }
 {}
 
-/// The same of octets that end with a CLO: behind all of them the channel is closed, and it is closed
-/// behind no beginning that told it less.
+/// The same for bytes that end with a CLO: after all of them the channel is closed, and it is not
+/// closed after a prefix for which it reported fewer events.
 pub fn server_follows_to_the_close()
     ensures begins { (x : ServerChannel) (octets more : List ℕ) (told all : List Told) → Goes x octets told →
         ServerCloses (limits_of x) (channel_of x) (octets ++ more) all → (later : List Told) × (all ≡ told ++ later) }
@@ -177,10 +180,10 @@ pub fn server_follows_to_the_close()
         ServerCloses (limits_of x) (channel_of x) (octets ++ more) all → ⊥ }
 {}
 
-/// Behind a beginning of octets that a client reads, by whose end all was asked, in whatever pieces it
-/// came, its channel was told a beginning of what they tell, and behind all of them all of it: the asks
-/// of the channel are those under which the octets are read to their end. With these asks it does not
-/// fail.
+/// A client has received a prefix of bytes that it reads, at whose end all operations were sent,
+/// however it was fragmented. Then its channel has reported a prefix of their events, and after all
+/// the bytes all of the events: the operations of the channel are those under which the bytes are
+/// read to their end. With these operations it does not fail.
 pub fn client_follows()
     ensures begins { (x : ClientChannel) (asks : List Placed) (octets more : List ℕ) (told all : List ClientTold) (at : AtClient) → ClientGoes x asks octets told →
         ClientReads (client_limits x) asks (octets ++ more) all at → (later : List ClientTold) × (all ≡ told ++ later) }
@@ -191,7 +194,7 @@ pub fn client_follows()
 {}
 
 /// What a client sends between two messages: a call goes as chunks on the channel, under the newest
-/// token and the next request id; a renewal and the CLO likewise.
+/// token and the next RequestId; a renewal and the CLO likewise.
 pub fn client_sends()
     ensures call { (x : ClientChannel) (asks : List Placed) (octets : List ℕ) (frames : List Frame) (rest : List ℕ) (told : List ClientTold) (at : AtClient) →
         ClientStands x asks octets frames rest → ClientReads (client_limits x) asks octets told at →
@@ -207,8 +210,8 @@ pub fn client_sends()
         out ≡ frame_octets (close_frame at.channel at.newest number (next_id (asked_in asks)) moment) }
 {}
 
-/// Why a client refuses to ask between two messages: for too many unanswered calls or tokens, or
-/// request ids that are used up, or a body past the server's limits; it may always close.
+/// Why a client refuses an operation between two messages: too many unanswered calls or tokens, no
+/// RequestId left, or a body above the server's limits. It may always close.
 pub fn client_refuses()
     ensures call { (x : ClientChannel) (asks : List Placed) (octets : List ℕ) (frames : List Frame) (rest : List ℕ) (told : List ClientTold) (at : AtClient) →
         ClientStands x asks octets frames rest → ClientReads (client_limits x) asks octets told at →
@@ -221,9 +224,9 @@ pub fn client_refuses()
         closing_refused x ≡ None }
 {}
 
-/// Where a server and a client are in step, which they are behind the opening, each sends what the
-/// other takes: the client's calls are in a lane to the server, and a body that the client does not
-/// refuse is within the server's limits; the server's replies are in a lane to the client.
+/// Where a server and a client are in step, as they are after the opening, each sends what the
+/// other accepts: the client's calls are in a lane to the server, and a body that the client does
+/// not refuse is within the server's limits; the server's replies are in a lane to the client.
 pub fn ends_in_step()
     ensures opened { (server client : Limits) (url : Option (List ℕ)) (channel next : ℕ) →
         AreInStep server client url channel (with_token (greeted_at (hello_to client url))) (opened_at (ack_to (hello_to client url) server) channel 1 next) }
@@ -235,8 +238,8 @@ pub fn ends_in_step()
         channel < 2 ^ 32 → s.used < 2 ^ 32 → IsLaneBack client c (lane_back server channel s) }
 {}
 
-/// They stay in step: by a call, by a reply, by a renewal, and by its answer with the token that the
-/// server issued.
+/// They stay in step after a call, a reply, a renewal, and the response to a renewal with the token
+/// that the server issued.
 pub fn ends_stay_in_step()
     ensures call { (server client : Limits) (url : Option (List ℕ)) (channel : ℕ) (s : AtServer) (c : AtClient) → AreInStep server client url channel s c →
         (body : List ℕ) (id : ℕ) → latest c.tokens ≡ Some c.newest → AreInStep server client url channel (with_message s (lane_from c) body) (with_call c id) }

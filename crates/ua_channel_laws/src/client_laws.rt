@@ -1,6 +1,6 @@
 //! Laws of a client's channel.
 //!
-//! Each function does nothing; its contract is the law.
+//! Each function has no effect; its contract is the law.
 
 ghost use Rattle.std.specs.Prelude.{◌≡◌, ◌↔◌, ◌∷◌, ◌++◌, [], ℕ, List, Some, length, map, false};
 ghost use Rattle.ua_builtin.specs.Reasons.{first_reason};
@@ -27,36 +27,36 @@ ghost use Rattle.ua_channel.specs.Received.{received};
 ghost use Rattle.ua_channel.specs.declared.client.channel.ClientChannel.{ClientChannel};
 ghost use Rattle.ua_channel.specs.declared.client.fault.AskFault.TheVariants.{NotOpen};
 
-/// Any octets, with what was asked among them, have just one reading at a client, whatever the pieces
-/// in which they come, and it stops at the first frame that is wrong, for the first reason of the table
-/// that holds of it.
+/// Every byte sequence, with the operations that were sent within it, has exactly one reading at a
+/// client, however it is fragmented. The reading stops at the first invalid frame, for the first
+/// error of the table that applies to it.
 pub fn client_reads()
     ensures some { (limits : Limits) (asks : List Placed) → HasReadings (client_rules limits asks) }
     ensures one { (limits : Limits) (asks : List Placed) → HasOneReading (client_rules limits asks) }
     ensures first_wrong { (limits : Limits) (asks : List Placed) → StopsAtFirstWrong (client_rules limits asks) }
 {}
 
-/// A client's channel stands after some octets and asks in one way: with these frames, this rest, and
-/// this told.
+/// The state of a client's channel after bytes and operations is unique: these frames, this rest,
+/// and these events.
 pub fn client_stands_once()
     ensures frames { (x : ClientChannel) (asks : List Placed) (octets : List ℕ) (fs gs : List Frame) (rest more : List ℕ) →
         ClientStands x asks octets fs rest → ClientStands x asks octets gs more → (fs ≡ gs) × (rest ≡ more) }
     ensures told { (x : ClientChannel) (asks : List Placed) (octets : List ℕ) (told more : List ClientTold) → ClientGoes x asks octets told → ClientGoes x asks octets more → told ≡ more }
 {}
 
-/// A channel that stands behind a frame which tells something goes on with that told.
+/// A channel in the state after a frame that has an event continues with that event reported.
 pub fn client_goes_on()
     ensures { (x : ClientChannel) (asks : List Placed) (octets : List ℕ) (told : List ClientTold) (e : ClientTold) → ClientGoesTelling x asks octets told e → ClientGoes x asks octets (told ++ e ∷ []) }
 {}
 
-/// What frames tell a client of its calls is what their chunks deliver, in that order.
+/// The events that frames have for a client's calls are what their chunks deliver, in that order.
 pub fn client_tells_delivered()
     ensures { (limits : Limits) (asks : List Placed) (frames : List Frame) →
         told_of_calls (events (client_rules limits asks) frames) ≡ map told_item (delivered (received frames).messages) }
 {}
 
-/// Of frames that a client takes, all that is delivered under the request id of a call is the one item
-/// with which it is paired, or nothing; and nothing is delivered under another id.
+/// Of the frames that a client accepts, all that is delivered under the RequestId of a call is the
+/// one item with which it is paired, or nothing; nothing is delivered under another RequestId.
 pub fn client_pairs()
     ensures once { (limits : Limits) (asks : List Placed) (frames : List Frame) → AllAfter (Fits (client_rules limits asks)) frames →
         map (with_all (received frames).messages) (calls (asked_in asks)) ≡ map as_list (paired (asked_in asks) (received frames).messages) }
@@ -64,8 +64,8 @@ pub fn client_pairs()
         is_in id (calls (asked_in asks)) ≡ false → delivered_under id (received frames).messages ≡ [] }
 {}
 
-/// No channel is open before the first good OPN response, and once the channel failed or was closed;
-/// then nothing can be asked.
+/// No channel is open before the first good OPN response, or after the channel failed or was
+/// closed; then no operation can be sent.
 pub fn client_is_open()
     ensures stands { (x : ClientChannel) (asks : List Placed) (octets : List ℕ) (frames : List Frame) (rest : List ℕ) →
         ClientStands x asks octets frames rest → HasNoChannel x ↔ (responses (received frames).openings ≡ []) }
@@ -75,10 +75,10 @@ pub fn client_is_open()
     ensures closes { (x : ClientChannel) → HasNoChannel x ↔ (closing_refused x ≡ Some NotOpen) }
 {}
 
-/// What a client sends when it is asked, by what it received and asked, wherever the octets end, in
-/// the middle of a frame or of a message too: a call goes as chunks on the channel, under the newest
-/// token and the next request id, in frames of the size that the server receives; a renewal and the
-/// CLO likewise.
+/// What a client sends for an operation, given what it received and sent, wherever the bytes end,
+/// even inside a frame or a message: a call goes as chunks on the channel, under the newest token
+/// and the next RequestId, in frames of the size that the server receives; a renewal and the CLO
+/// likewise.
 pub fn client_sends_asked()
     ensures call { (x : ClientChannel) (asks : List Placed) (octets : List ℕ) (frames : List Frame) (rest : List ℕ) → ClientStands x asks octets frames rest →
         (number : ℕ) (body : List ℕ) (id : ℕ) (out : List ℕ) (next : ℕ) → SendsCall x number body id out next → IsCalled (received frames) (asked_in asks) number body id out next }
@@ -88,9 +88,9 @@ pub fn client_sends_asked()
         (number : ℕ) (moment : DateTime) (out : List ℕ) → SendsClosing x number moment out → IsClosed (received frames) (asked_in asks) number moment out }
 {}
 
-/// Why a client refuses to ask, by what it received and asked, wherever the octets end: that no
-/// channel is open, then too many unanswered calls or tokens, request ids that are used up, and a
-/// body past the server's limits.
+/// Why a client refuses an operation, given what it received and sent, wherever the bytes end: no
+/// channel is open, then too many unanswered calls or tokens, no RequestId left, and a body above
+/// the server's limits.
 pub fn client_refuses_asked()
     ensures call { (x : ClientChannel) (asks : List Placed) (octets : List ℕ) (frames : List Frame) (rest : List ℕ) → ClientStands x asks octets frames rest →
         (more : ℕ) (body : List ℕ) → call_refused x more body ≡ first_reason (call_reasons (received frames) (asked_in asks) more body) }
@@ -100,16 +100,17 @@ pub fn client_refuses_asked()
         closing_refused x ≡ first_reason (closing_reasons (received frames)) }
 {}
 
-/// What is judged of a call after so many more calls is what is judged of it once these were asked,
-/// each under the next request id, with nothing received between them.
+/// A call is judged after so many more calls as it is judged once these were sent, each under the
+/// next RequestId, with nothing received between them.
 pub fn client_judges()
     ensures { (x y : ClientChannel) (asks : List Placed) (octets : List ℕ) (frames : List Frame) (rest : List ℕ) (bodies : List (List ℕ)) (body : List ℕ) → ClientStands x asks octets frames rest →
         ClientStands y (asks ++ asks_at (length octets) (next_id (asked_in asks)) (map CallWith bodies)) octets frames rest → call_refused x (length bodies) body ≡ call_refused y 0 body }
 {}
 
-/// The frames that a client takes, one after the other, are just those of a conversation in plain
-/// words, or of the beginning of one. So octets have no wrong frame exactly where their frames are a
-/// conversation, and what stands behind them is less than a frame with nothing wrong in its header.
+/// The frames that a client accepts, one after the other, are exactly those of a conversation in
+/// plain words, or of the beginning of one. So a byte sequence has no invalid frame exactly where
+/// its frames are a conversation, and the bytes after them are less than a frame with no error in
+/// its header.
 pub fn client_converses()
     ensures frames { (limits : Limits) (asks : List Placed) (frames : List Frame) → AllAfter (Fits (client_rules limits asks)) frames ↔ ClientConversation limits asks frames }
     ensures going { (limits : Limits) (asks : List Placed) (octets : List ℕ) (frames : List Frame) (rest : List ℕ) →

@@ -1,9 +1,11 @@
-//! Laws of what a client sends at once and what a server answers to it, over octets alone: any calls and
-//! renewals, and any answers to them; and of a connection of any such rounds. That the pieces do not matter
-//! in which octets come, `both_ends::server_follows` and `client_follows` say.
+//! Laws of what a client sends at once and what a server answers to it, over bytes alone: any calls
+//! and renewals, any answers to them, and a connection of any such rounds.
+//! `both_ends::server_follows` and `client_follows` say that the fragmentation of the bytes does
+//! not matter.
 //!
-//! Each function does nothing; its contract is the law. Both ends are where they may be between two
-//! messages, with any limits, URL and channel, and each OPN has a moment of its own.
+//! Each function has no effect; its contract is the law. Both ends are in any state that they may
+//! have between two messages, with any limits, URL and channel, and each OPN has a timestamp of its
+//! own.
 
 ghost use Rattle.std.specs.Prelude.{◌≡◌, ◌<◌, ◌≤◌, ◌^◌, ◌++◌, ◌∷◌, [], ℕ, List, Option, None, Some, IsTrue, length};
 ghost use Rattle.std.specs.List.{AllByRecursion};
@@ -33,10 +35,10 @@ ghost use Rattle.ua_channel.specs.ServerSends.{opened_frame};
 ghost use Rattle.ua_channel.specs.ServerTold.{Told, Told as server_told};
 ghost use Rattle.ua_channel.specs.declared.client.channel.ClientChannel.{ClientChannel};
 
-/// What a client sends of calls and renewals, none of which it refuses, a server with which it is in step
-/// reads: it is told just these, in their order, each body whole, once and under its own request id, and
-/// each renewal. Both are then in step again, and the number that the client sends next is the one that
-/// the server waits for.
+/// A server reads the calls and renewals that a client in step with it sends, where the client
+/// refuses none of them. It reports exactly these, in order, each body complete, once and under its
+/// own RequestId, and each renewal. Both are then in step again, and the SequenceNumber that the
+/// client sends next is the one that the server expects.
 pub fn server_reads_outgoing()
     ensures reads { (server client : Limits) (url : Option (List ℕ)) (channel : ℕ) (octets : List ℕ) (told : List Told) (s : AtServer) (c : AtClient) (id : ℕ) (outgoing : List Outgoing) →
         channel < 2 ^ 32 → ServerReads server channel octets told s → AreInStep server client url channel s c → latest c.tokens ≡ Some c.newest →
@@ -46,8 +48,8 @@ pub fn server_reads_outgoing()
     ensures numbers { (lane : Lane) (s : AtServer) (outgoing : List Outgoing) → outgoing_number (Some lane) s.next outgoing ≡ (server_behind lane s outgoing).next }
 {}
 
-/// A client's channel refuses the first of them for just the reason that is named: so the next one, where
-/// it stands between two messages.
+/// Between two messages a client's channel refuses the next call or renewal for exactly the reason
+/// that `outgoing_refusal` gives.
 pub fn client_refuses_outgoing()
     ensures call { (x : ClientChannel) (asks : List Placed) (octets : List ℕ) (frames : List Frame) (rest : List ℕ) (told : List ClientTold) (at : AtClient) →
         ClientStands x asks octets frames rest → ClientReads (client_limits x) asks octets told at →
@@ -57,15 +59,16 @@ pub fn client_refuses_outgoing()
         (moment : DateTime) → renewal_refused x ≡ outgoing_refusal at (next_id (asked_in asks)) (RenewalAt moment ∷ []) }
 {}
 
-/// The client then asked these, at the place where it stands, and they are unanswered.
+/// The client has then sent these operations, at its place among the bytes, and they are
+/// unanswered.
 pub fn client_asks_outgoing()
     ensures { (limits : Limits) (asks : List Placed) (octets : List ℕ) (told : List ClientTold) (c : AtClient) (outgoing : List Outgoing) → ClientReads limits asks octets told c →
         ClientReads limits (asks ++ asks_at (length octets) (next_id (asked_in asks)) outgoing) octets told (client_behind c (next_id (asked_in asks)) outgoing) }
 {}
 
-/// What a server answers, in whatever order, a client reads: it is told just these answers, each call its
-/// own reply, or where the reply is past the client's limits that it was given up, and each further token.
-/// Where they were in step, they are so again.
+/// A client reads what a server answers, in whatever order. It reports exactly these answers: for
+/// each call its own reply or, where the reply exceeds the client's limits, the abort in its place,
+/// and each further token. Where both ends were in step, they are in step again.
 pub fn client_reads_answers()
     ensures reads { (limits : Limits) (asks : List Placed) (octets : List ℕ) (told : List ClientTold) (c : AtClient) (lane : Lane) (answers : List Answer) →
         ClientReads limits asks octets told c → IsLaneBack limits c lane → AreAnswersTo lane c answers →
@@ -75,8 +78,9 @@ pub fn client_reads_answers()
         AreInStep server client url channel s (client_answered_all (lane_back server channel s) c answers) }
 {}
 
-/// A server and a client are connected behind the opening, of any limits, URL and channel whose HEL, ACK
-/// and OPNs can be written: the HEL and the first OPN up, the ACK and the OPN response down.
+/// A server and a client are connected after the opening, with any limits, URL and channel for
+/// which the HEL, the ACK and the OPNs can be written: the client sends the HEL and the first OPN,
+/// the server the ACK and the OPN response.
 pub fn ends_connect()
     ensures { (server client : Limits) (url : Option (List ℕ)) (channel lifetime : ℕ) (asked answered : DateTime) →
         IsTrue (hello.encodable (hello_to client url)) → url_length url ≤ 4095 → IsTrue (ack.encodable (ack_to (hello_to client url) server)) →
@@ -86,12 +90,12 @@ pub fn ends_connect()
         (record { server = with_token (greeted_at (hello_to client url)); client = opened_at (ack_to (hello_to client url) server) channel 1 2; id = 2 }) }
 {}
 
-/// Where they are connected, any rounds of calls, renewals and answers, each of which may be, leave them
-/// connected: the server is told just what the client sent, in order, each body whole, once and under its
-/// own request id, and each renewal; and the client just what was answered, each call that is answered its
-/// own reply, or where that is past its limits that it was given up, and each further token. What is sent in
-/// a round may be answered in that one or in any later one; the client sends where it took all that was
-/// answered before.
+/// Both ends stay connected by any rounds of calls, renewals and answers, each of which is allowed.
+/// The server reports exactly what the client sent, in order, each body complete, once and under
+/// its own RequestId, and each renewal. The client reports exactly what was answered: for each
+/// answered call its own reply or, where that exceeds its limits, the abort in its place, and each
+/// further token. What is sent in a round may be answered in that round or in any later one; the
+/// client sends after it took all earlier answers.
 pub fn rounds_reach_both_ends()
     ensures { (server client : Limits) (url : Option (List ℕ)) (channel : ℕ) (up : List ℕ) (told : List Told) (asks : List Placed) (down : List ℕ) (heard : List ClientTold) (at : BothEnds) (rounds : List Round) →
         channel < 2 ^ 32 → AreConnected server client url channel up told asks down heard at → AreRounds server channel at rounds →
@@ -99,9 +103,9 @@ pub fn rounds_reach_both_ends()
         (down ++ rounds_down server channel at rounds) (heard ++ rounds_heard server channel at rounds) (rounds_behind server channel at rounds) }
 {}
 
-/// There are such rounds: with the least limits, calls in front of a renewal and behind it while it is
-/// unanswered, which go under the old token, and one behind its answer, which goes under the new one;
-/// replies out of order, and one that is past the client's limits. Each call is then answered.
+/// There are such rounds: with the minimum limits, calls before a renewal and, while it is
+/// unanswered, after it, which use the old token, and one after its response, which uses the new
+/// one; replies out of order, and one that exceeds the client's limits. Each call is then answered.
 pub fn there_are_rounds()
     ensures are { (asked answered : DateTime) → IsTrue (date_time.encodable asked) → IsTrue (date_time.encodable answered) → AreRounds least_limits 7 behind_opening (example_rounds asked answered) }
     ensures told { (asked answered : DateTime) → rounds_told least_limits 7 behind_opening (example_rounds asked answered) ≡ example_told }

@@ -1,6 +1,6 @@
-//! Laws of channels.
+//! Laws of a server's channel, and of frames at either end.
 //!
-//! Each function does nothing; its contract is the law.
+//! Each function has no effect; its contract is the law.
 
 ghost use Rattle.std.specs.Prelude.{◌≡◌, ◌↔◌, ◌∷◌, ◌++◌, [], ℕ, List, None, Some, map};
 ghost use Rattle.ua_frame.specs.After.{AllAfter};
@@ -24,46 +24,48 @@ ghost use Rattle.ua_channel.specs.ServerStands.{channel_of, limits_of, Goes, Goe
 ghost use Rattle.ua_channel.specs.ServerTold.{Told, Told as told};
 ghost use Rattle.ua_channel.specs.declared.server.ServerChannel.{ServerChannel};
 
-/// What was received with one frame more is what that frame makes of what was received before.
+/// What was received with one more frame is the effect of that frame on what was received before.
 pub fn one_frame_more()
     ensures first { received [] ≡ nothing_received }
     ensures more { (frames : List Frame) (frame : Frame) → received (frames ++ frame ∷ []) ≡ after (received frames) (content frame) }
 {}
 
-/// Any octets have just one reading at a server, whatever the pieces in which they come, and it stops
-/// at the first frame that is wrong, for the first reason of the table that holds of it.
+/// Every byte sequence has exactly one reading at a server, however it is fragmented. The reading
+/// stops at the first invalid frame, for the first error of the table that applies to it.
 pub fn server_reads()
     ensures some { (limits : Limits) (channel : ℕ) → HasReadings (server_rules limits channel) }
     ensures one { (limits : Limits) (channel : ℕ) → HasOneReading (server_rules limits channel) }
     ensures first_wrong { (limits : Limits) (channel : ℕ) → StopsAtFirstWrong (server_rules limits channel) }
 {}
 
-/// A server's channel stands after some octets in one way: with these frames, this rest, and this told.
+/// The state of a server's channel after bytes is unique: these frames, this rest, and these
+/// events.
 pub fn server_stands_once()
     ensures frames { (x : ServerChannel) (octets : List ℕ) (fs gs : List Frame) (rest more : List ℕ) →
         ChannelStands x octets fs rest → ChannelStands x octets gs more → (fs ≡ gs) × (rest ≡ more) }
     ensures told { (x : ServerChannel) (octets : List ℕ) (told more : List Told) → Goes x octets told → Goes x octets more → told ≡ more }
 {}
 
-/// A channel that stands behind a frame which tells something goes on with that told.
+/// A channel in the state after a frame that has an event continues with that event reported.
 pub fn server_goes_on()
     ensures { (x : ServerChannel) (octets : List ℕ) (told : List Told) (e : Told) → GoesTelling x octets told e → Goes x octets (told ++ e ∷ []) }
 {}
 
-/// Right behind a whole message a reply goes under the token of its last chunk, to what was agreed.
+/// Directly after a complete message a reply goes under the token of its last chunk, to what was
+/// agreed.
 pub fn server_replies()
     ensures { (x : ServerChannel) (octets : List ℕ) (before : List Told) (id token : ℕ) (message : List ℕ) (frames : List Frame) (rest : List ℕ) (lane : Lane) →
         GoesTelling x octets before (told.Asked id token message) → ChannelStands x octets frames rest → RepliesGo (limits_of x) (channel_of x) (received frames) lane →
         (a : Agreement) × (agreed_by before ≡ Some a) × (lane ≡ lane_of (channel_of x) token a) }
 {}
 
-/// What is told first is what the client and the server agree to, and nothing later is.
+/// The first event is the agreement of the client and the server, and no later event is.
 pub fn server_agrees_first()
     ensures first { (x : ServerChannel) (octets : List ℕ) (before : List Told) (e : Told) → GoesTelling x octets before e → agreed_by before ≡ None → (a : Agreement) × (e ≡ told.Agreed a) }
     ensures once { (x : ServerChannel) (octets : List ℕ) (before : List Told) (e : Told) → GoesTelling x octets before e → (a b : Agreement) → agreed_by before ≡ Some a → e ≡ told.Agreed b → ⊥ }
 {}
 
-/// No channel is open before the first OPN, and once the channel ended; one that was asked a message
+/// No channel is open before the first OPN, or after the channel ended; one that reported a message
 /// is open.
 pub fn server_is_open()
     ensures stands { (x : ServerChannel) (octets : List ℕ) (frames : List Frame) (rest : List ℕ) →
@@ -73,17 +75,17 @@ pub fn server_is_open()
         GoesTelling x octets before (told.Asked id token message) → IsWithoutToken x → ⊥ }
 {}
 
-/// The messages of which frames tell a server, whole or given up, are those that their chunks
+/// The messages that frames report to a server, complete or aborted, are those that their chunks
 /// deliver, in that order.
 pub fn server_tells_delivered()
     ensures { (limits : Limits) (channel : ℕ) (frames : List Frame) →
         messages_in (events (server_rules limits channel) frames) ≡ map message_of (delivered (received frames).messages) }
 {}
 
-/// The frames that a server takes, one after the other, are just those of a conversation in plain
-/// words, or of the beginning of one. So octets have no wrong frame exactly where their frames are a
-/// conversation, and what stands behind them is less than a frame with nothing wrong in its header,
-/// or they end with a CLO.
+/// The frames that a server accepts, one after the other, are exactly those of a conversation in
+/// plain words, or of the beginning of one. So a byte sequence has no invalid frame exactly where
+/// its frames are a conversation, and the bytes after them are less than a frame with no error in
+/// its header, or they end with a CLO.
 pub fn server_converses()
     ensures frames { (limits : Limits) (channel : ℕ) (frames : List Frame) → AllAfter (Fits (server_rules limits channel)) frames ↔ ServerConversation limits channel frames }
     ensures going { (limits : Limits) (channel : ℕ) (octets : List ℕ) (frames : List Frame) (rest : List ℕ) →

@@ -1,14 +1,14 @@
-//! Laws of the two ends of a secure channel (OPC 10000-6, 6.7 and 7.1), over the contracts of
+//! Laws of the two ends of a SecureChannel (OPC 10000-6, 6.7 and 7.1), over the contracts of
 //! `ua_channel`.
 //!
-//! Each function does nothing; its contract is the law, and who calls it may rely on that. Those of
-//! [`laws`] and [`client_laws`] are of one end: octets have one reading, whatever the pieces in which they
-//! come. Those of [`both_ends`] are of what one end writes and the other reads, a message at a time, those
-//! of [`group_laws`] of lists of messages, and those of [`merge_laws`] of messages whose chunks come
-//! merged. [`asking_laws`] are of a client that asks on in the middle of octets.
+//! Each function has no effect; its contract is the law, and a caller of the function may rely on
+//! it. [`laws`] and [`client_laws`] are about one end: a byte sequence has one reading, however it
+//! is fragmented. [`both_ends`] is about what one end writes and the other reads, one message at a
+//! time, [`group_laws`] about lists of messages, and [`merge_laws`] about messages whose chunks are
+//! interleaved. [`asking_laws`] is about a client that sends while it receives.
 //!
 //! ```
-//! client_goes_on(); // a channel that told something goes on with it told
+//! client_goes_on(); // a channel that reported an event continues with it reported
 //! loop {
 //!     let (size, event) = channel.take(piece, moment)?;
 //!     // ..

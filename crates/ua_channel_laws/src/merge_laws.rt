@@ -1,10 +1,10 @@
-//! Laws of messages whose chunks come merged on an open channel, with renewals of its token anywhere
-//! among them, in the middle of a message too (OPC 10000-6, 6.7.2.4).
+//! Laws of messages whose chunks are interleaved on an open channel, with renewals of its token
+//! anywhere among them, even inside a message (OPC 10000-6, 6.7.2.4).
 //!
-//! Each function does nothing; its contract is the law. They go on from where an end stands, as the laws
-//! of `both_ends` do, and say where it then stands. So `both_ends::server_follows` and `client_follows`
-//! say of a running channel what it was told behind any beginning of such octets, and `asking_laws` where
-//! a client asks on in the middle of them.
+//! Each function has no effect; its contract is the law. The laws start from a state of an end, as
+//! those of `both_ends` do, and give its state afterwards. So `both_ends::server_follows` and
+//! `client_follows` say what a running channel has reported after any prefix of such bytes, and
+//! `asking_laws` where a client sends while it receives them.
 
 ghost use Rattle.std.specs.Prelude.{◌≡◌, ◌↔◌, ◌<◌, ◌+◌, ◌++◌, ◌∷◌, [], ℕ, List, length, map};
 ghost use Rattle.std.specs.List.{AllByRecursion, filter, range_with_len};
@@ -32,15 +32,16 @@ ghost use Rattle.ua_channel.specs.ServerRules.{server_rules};
 ghost use Rattle.ua_channel.specs.ServerTold.{Told};
 
 /// Chunks of which none is refused for its message are those whose messages fit, in plain words; so
-/// merged messages fit.
+/// interleaved messages fit.
 pub fn messages_fit()
     ensures taken { (limits : Limits) (cs : List Chunk) → TakesMessages limits.max_message_size limits.max_chunk_count [] cs ↔ FitMessages limits cs }
     ensures merged { (limits : Limits) (ms : List Sent) (cs : List Chunk) → AreMerged limits ms cs → FitMessages limits cs }
 {}
 
-/// The chunks of bodies that senders cut within the limits of a receiver, under request ids of their own,
-/// each in a lane with any room and with any numbers, merged in any way with at most 4 unfinished after
-/// each, are merged messages: those that the laws below read. The chunks of one body are so alone.
+/// The chunks of bodies that senders split within the limits of a receiver, under distinct
+/// RequestIds, each in a lane with any maximum body size and with any SequenceNumbers, interleaved
+/// in any way with at most 4 messages unfinished after each chunk, are the interleaved messages
+/// that the laws below read. The chunks of a single body are so as well.
 pub fn cut_bodies_merge()
     ensures merged { (limits : Limits) (ms : List Sent) (cs : List Chunk) → AllByRecursion (IsCutBody limits) ms → HaveOwnIds ms → Merges (map parts_of ms) (map part_of cs) → FewOpen [] cs →
         AreMerged limits ms cs }
@@ -50,13 +51,14 @@ pub fn cut_bodies_merge()
         (m : Sent) × (m.request ≡ id) × IsCutBody limits m × AreMerged limits (m ∷ []) (chunks_of lane body number id) }
 {}
 
-/// From where a server stands, with its channel open, it reads requests under request ids of their own,
-/// cut in any way within its limits and each ending in an F or given up by an A that reads, whose chunks
-/// come merged in any way with at most 4 unfinished after each, and OPNs that renew the token anywhere
-/// among them, from any number on that may come next. It refuses none. It stands behind them with a token
-/// more for each renewal, the last token that a chunk used, and the number that is next. So merges are
-/// chained with what comes before and behind: `server_follows` follows them all. It is told each message
-/// at its last chunk, once under its request id, and each renewal with the next token.
+/// From its state, with its channel open, a server reads requests under distinct RequestIds, split
+/// in any way within its limits, each ending in an F or aborted by a decodable A, whose chunks are
+/// interleaved in any way with at most 4 messages unfinished after each chunk, and OPNs that renew
+/// the token anywhere among them, from any SequenceNumber on that may come next. It refuses none.
+/// Its state afterwards has one more token for each renewal, the last token that a chunk used, and
+/// the next SequenceNumber. So interleavings are chained with what comes before and after, and
+/// `server_follows` follows them all. The server reports each message at its last chunk, once under
+/// its RequestId, and each renewal with the next token.
 pub fn server_reads_merged()
     ensures reads { (limits : Limits) (channel : ℕ) (octets : List ℕ) (told : List Told) (at : AtServer) (first : ℕ) (ms : List Sent) (more : List Frame) (next : ℕ) →
         ServerReads limits channel octets told at → MayComeNext (server_rules limits channel) octets first → ServerMerge limits channel (record at { next = first }) ms more next →
@@ -70,15 +72,15 @@ pub fn server_reads_merged()
     ensures tokens { (limits : Limits) (channel : ℕ) (octets : List ℕ) (told : List Told) (at : AtServer) (first : ℕ) (ms : List Sent) (more : List Frame) (next : ℕ) →
         ServerReads limits channel octets told at → MayComeNext (server_rules limits channel) octets first → ServerMerge limits channel (record at { next = first }) ms more next →
         tokens_told (told_of_merge ms at.issued more) ≡ range_with_len (at.issued + 1) (length (openings more)) }
-    // The number that is next where it stands is one that may come first.
+    // The next SequenceNumber of its state is one that may come first.
     ensures first { (limits : Limits) (channel : ℕ) (octets : List ℕ) (told : List Told) (at : AtServer) → ServerReads limits channel octets told at →
         MayComeNext (server_rules limits channel) octets at.next }
 {}
 
-/// The same of a client and merged replies, with the answers to renewals among them, where the client asks
-/// on in the middle of them, calls and renewals, each under the next request id. It stands behind them with
-/// the calls and renewals that were not answered, and is told each reply at its last chunk, once under the
-/// request id of its call, and each token.
+/// The same of a client and interleaved replies, with the responses to renewals among them, where
+/// the client sends calls and renewals while it receives them, each under the next RequestId. Its
+/// state afterwards has the calls and renewals that were not answered. It reports each reply at its
+/// last chunk, once under the RequestId of its call, and each token.
 pub fn client_reads_merged()
     ensures reads { (limits : Limits) (asks later : List Placed) (octets : List ℕ) (told : List ClientTold) (at : AtClient) (first : ℕ) (ms : List Sent) (more : List Frame) (next : ℕ) →
         ClientReads limits asks octets told at → MayComeNext (client_rules limits asks) octets first → ClientMerge limits (record at { next = first }) (asked_in asks) later ms more next →

@@ -1,4 +1,4 @@
-//! The bodies of aborts.
+//! The bodies of abort chunks.
 
 ghost use Rattle.std.specs.Prelude.{◌≡◌, IfOk};
 ghost use Rattle.ua_frame.specs.Frames.{frame_octets};
@@ -13,14 +13,14 @@ use ua_builtin::{StatusCode, UaString, Wire};
 use ua_frame::{HEADER_LEN, Kind, header_octets};
 use ua_wire::{NULL_COUNT, is_text, split_counted, split_number};
 
-/// The status code and the reason that the body of an abort holds, if it is just these.
+/// The StatusCode and the reason that the body of an abort chunk holds, if it holds exactly these.
 pub fn read(alloc: Global, body: &[u8]) -> Result<Option<(StatusCode, UaString)>, AllocError>
     ensures { IfOk result (λ abort. abort ≡ abort_of body.now) }
 {
     <(StatusCode, UaString)>::read_whole(alloc, body)
 }
 
-/// Whether the body of an abort reads, found without memory.
+/// Whether the body of an abort chunk can be decoded, found without an allocation.
 pub fn is_readable(body: &[u8]) -> bool
     ensures { result ≡ is_readable_abort body.now }
 {
@@ -33,8 +33,8 @@ pub fn is_readable(body: &[u8]) -> bool
     rest.is_empty() && is_text(reason)
 }
 
-/// The octets of an A chunk, the whole frame: it gives up the message of a request id with a status
-/// code and a null reason.
+/// The bytes of an abort chunk, the complete frame: it gives up the message of a RequestId with a
+/// StatusCode and a null reason.
 pub fn abort_octets(lane: &Lane, sequence: u32, request: u32, code: StatusCode) -> [u8; 32]
     ensures { result ≡ frame_octets (frame_of (abort_chunk lane.now sequence request code)) }
 {

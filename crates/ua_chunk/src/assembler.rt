@@ -1,4 +1,4 @@
-//! Assembles messages from chunks.
+//! Reassembles messages from chunks.
 
 ghost use Rattle.std.specs.Prelude.{◌≡◌, ◌+◌};
 ghost use Rattle.ua_chunk.specs.Refusal.{passes};
@@ -12,17 +12,17 @@ use crate::flag::Flag;
 use crate::pending::{Pending, PendingMessages};
 use std::alloc::{AllocError, Global};
 
-/// The most messages that may be unfinished.
+/// The maximum number of unfinished messages.
 pub const MOST_OPEN: usize = 4;
 
-/// Behind the numbers above this one the count may start again.
+/// After a SequenceNumber above this one the numbers may restart.
 const LAST_BEFORE_RESTART: u32 = 4294966271;
 
-/// The numbers at which it may start again are below this one.
+/// They may restart at any number below this one.
 const RESTART_LIMIT: u32 = 1024;
 
-/// Assembles messages from the chunks of one direction of a secure channel, of which those of several
-/// messages may come interleaved.
+/// Reassembles messages from the chunks of one direction of a SecureChannel. Chunks of several
+/// messages may be interleaved.
 #[derive(Drop)]
 pub struct Assembler {
     alloc: Global,
@@ -33,7 +33,7 @@ pub struct Assembler {
     pending: PendingMessages,
 }
 
-/// Whether a number may come after the last one.
+/// Whether a SequenceNumber may come after the last one.
 fn follows(last: Option<u32>, sequence: u32) -> bool
     ensures { result ≡ may_follow last sequence }
 {
@@ -46,7 +46,7 @@ fn follows(last: Option<u32>, sequence: u32) -> bool
     }
 }
 
-/// Whether the sum passes a limit, of which 0 is none.
+/// Whether the sum exceeds a limit; 0 means no limit.
 #[inline]
 fn sum_passes(limit: u32, a: usize, b: usize) -> bool
     ensures { result ≡ passes limit (a + b) }
@@ -64,8 +64,8 @@ impl Assembler {
     ghost use Rattle.ua_chunk.specs.Gathered.{filled, bodies, gathered};
     ghost use Rattle.ua_chunk.specs.View.{items_of, HasParts};
 
-    /// An assembler for messages of at most so many octets and chunks, each 0 for any number, behind
-    /// the last sequence number, if there was one.
+    /// An assembler for messages of at most `octets` bytes and `chunks` chunks, 0 meaning no limit,
+    /// that continues after the SequenceNumber `last`, if there was one.
     pub fn new(alloc: Global, octets: u32, chunks: u32, last: Option<u32>) -> Assembler
         ensures stands { Stands result [] }
         ensures last { last_number result ≡ last }
@@ -82,7 +82,7 @@ impl Assembler {
         }
     }
 
-    /// Why a chunk whose message was taken out is refused, but for memory.
+    /// Why a chunk is refused whose message was taken out; allocations are not considered.
     #[inline(always)]
     fn refusal(&self, pending: &Pending, chunk: &Chunk) -> Option<AssembleFault>
         ensures { result ≡ refusal_kept self.now pending.now chunk.now }
@@ -106,7 +106,7 @@ impl Assembler {
         None
     }
 
-    /// Adds a chunk to its message, which was taken out.
+    /// Appends a chunk to its message, which was taken out.
     #[inline(always)]
     fn add(&mut self, mut pending: Pending, chunk: Chunk) -> Result<Option<Delivered>, AllocError>
         ensures given { IfOk result (λ d. items_of d ≡ given_kept pending chunk) }
@@ -134,21 +134,23 @@ impl Assembler {
         }
     }
 
-    /// Takes the next chunk, and hands out the message that it ends, if it does. After a fault the
-    /// assembler takes nothing more.
+    /// Takes the next chunk, and returns the message that it ends, if it ends one. After a fault
+    /// the assembler takes nothing more.
     #[inline(always)]
     pub fn accept(&mut self, chunk: Chunk) -> Result<Option<Delivered>, AssembleFault>
-        // What is handed out is what the chunks deliver with this one, and did not without it.
+        // What is returned is what the chunks deliver with this one, and did not deliver without
+        // it.
         ensures given { (cs : List Chunk) → Stands self.old cs →
             IfOk result (λ d. delivered (cs ++ chunk ∷ []) ≡ delivered cs ++ items_of d) }
         ensures items { (cs : List Chunk) → Stands self.old cs → IfOk result (λ d. given cs chunk ≡ items_of d) }
-        // Nothing is joined: the parts are the bodies of the chunks that are not empty, in order.
+        // The bodies are not joined: the parts are the non-empty bodies of the chunks, in order.
         ensures parts { (cs : List Chunk) → Stands self.old cs → IfOk result (λ d. HasParts d (bodies (gathered cs chunk))) }
         ensures stands { (cs : List Chunk) → Stands self.old cs → OnOk result (Stands self.new (cs ++ chunk ∷ [])) }
         ensures last { OnOk result (last_number self.new ≡ Some chunk.sequence) }
         ensures limits { SameLimits self.old self.new }
 
-        // A fault is the first reason that holds. After one nothing is taken, and nothing changes.
+        // A fault is the first reason that applies. After a fault nothing is taken, and nothing
+        // changes.
         ensures faults { (cs : List Chunk) → Stands self.old cs →
             let reason = refusal (octet_limit self.old) (chunk_limit self.old) (last_number self.old) cs chunk in
             MatchResult result (λ _. reason ≡ None) (IsFor reason) }
@@ -174,7 +176,7 @@ impl Assembler {
         }
     }
 
-    /// Takes the sequence number of a frame that is no part of a message: an OPN or a CLO.
+    /// Takes the SequenceNumber of a frame that is not part of a message: an OPN or a CLO.
     pub fn step(&mut self, sequence: u32) -> Result<(), AssembleFault>
         ensures stands { (cs : List Chunk) → Stands self.old cs → OnOk result (Stands self.new cs) }
         ensures last { OnOk result (last_number self.new ≡ Some sequence) }
@@ -205,7 +207,7 @@ impl Assembler {
         self.pending.clear();
     }
 
-    /// How many octets are held of the unfinished messages.
+    /// The number of bytes held of unfinished messages.
     #[inline]
     pub fn held(&self) -> usize
         ensures held { (cs : List Chunk) → Stands self.now cs → result ≡ open_octets cs }
@@ -215,7 +217,7 @@ impl Assembler {
         self.pending.held()
     }
 
-    /// How many messages are unfinished.
+    /// The number of unfinished messages.
     #[inline]
     pub fn open_count(&self) -> usize
         ensures count { (cs : List Chunk) → Stands self.now cs → result ≡ length (open_ids cs) }

@@ -10,26 +10,26 @@ use bytes::Bytes;
 use ua_frame::Frame;
 use ua_wire::front_number;
 
-/// The octets of a chunk's headers, behind the header of its frame.
+/// The length in bytes of the SecureChannelId, the security header and the sequence header.
 const HEADERS: usize = 16;
 
-/// A chunk of a message: a MSG or a CLO frame under the security policy None (OPC 10000-6, 6.7.2).
+/// A MessageChunk: a MSG or a CLO frame under the SecurityPolicy None (OPC 10000-6, 6.7.2).
 #[derive(Drop)]
 pub struct Chunk {
-    /// The secure channel's id.
+    /// The SecureChannelId.
     pub channel: u32,
-    /// The security token's id.
+    /// The TokenId.
     pub token: u32,
     pub flag: Flag,
-    /// The sequence number.
+    /// The SequenceNumber.
     pub sequence: u32,
-    /// The request id, which all chunks of a message share.
+    /// The RequestId, which all chunks of a message share.
     pub request: u32,
-    /// What follows the sequence header.
+    /// The bytes after the sequence header.
     pub body: Bytes,
 }
 
-/// The chunk of a MSG or CLO frame. It takes no memory, and moves no octet.
+/// The chunk of a MSG or CLO frame. The function allocates nothing, and copies no body.
 #[inline(always)]
 pub fn read_chunk(frame: Frame) -> Chunk
     requires flag { IsTrue (has_flag Msg frame.flag) }

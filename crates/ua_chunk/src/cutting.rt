@@ -1,4 +1,4 @@
-//! Cuts bodies into chunks.
+//! Splits bodies into chunks.
 
 ghost use Rattle.std.specs.Prelude.{◌≡◌, ◌≤◌, ◌<◌, ◌+◌, ◌^◌, ◌++◌, length, OnOk, OnErr, IfOk, MatchResult, None};
 ghost use Rattle.ua_wire.specs.Format.{Extends};
@@ -15,14 +15,14 @@ use byteorder::{ByteOrder, LittleEndian};
 use std::alloc::AllocError;
 use ua_frame::{HEADER_LEN, Kind, header_octets};
 
-/// The octets of a chunk in front of its body: the headers of its frame, of its token and of its
-/// sequence (OPC 10000-6, 6.7.2).
+/// The length in bytes of the headers before the body of a chunk: the message header, the security
+/// header with the TokenId, and the sequence header (OPC 10000-6, 6.7.2).
 pub const CHUNK_HEADERS: usize = 24;
 
-/// The greatest sequence number that senders use. The number 1 follows it.
+/// The greatest SequenceNumber that senders use. The number 1 follows it.
 const LAST_NUMBER: u32 = 4294966272;
 
-/// The sequence number behind one that senders use: they are 1, 2, 3, .. up to 4294966272, and then 1
+/// The SequenceNumber after one that senders use: they use 1, 2, 3, .. up to 4294966272, and then 1
 /// again (OPC 10000-6, 6.7.2.4).
 pub fn next_number(sequence: u32) -> u32
     requires { sequence ≤ 4294966272 }
@@ -36,7 +36,7 @@ pub fn next_number(sequence: u32) -> u32
     }
 }
 
-/// The octets of a body's chunks, if so many can be counted.
+/// The number of bytes of a body's chunks, if it can be counted.
 fn octets_of_chunks(room: u32, len: usize) -> Option<usize>
     requires { 0 < room }
 {
@@ -44,7 +44,7 @@ fn octets_of_chunks(room: u32, len: usize) -> Option<usize>
     chunks.checked_mul(CHUNK_HEADERS)?.checked_add(len)
 }
 
-/// What stands in front of the body of a chunk.
+/// The headers before the body of a chunk.
 #[inline(always)]
 fn headers(lane: &Lane, flag: Flag, size: u32, sequence: u32, request: u32) -> [u8; CHUNK_HEADERS]
     ensures { result ≡ front_octets lane.now flag size sequence request }
@@ -56,7 +56,7 @@ fn headers(lane: &Lane, flag: Flag, size: u32, sequence: u32, request: u32) -> [
     octets
 }
 
-/// Adds the frame of a chunk. After an error some of it may stand there.
+/// Appends the frame of a chunk. After an error a part of it may have been appended.
 fn append_chunk(
     lane: &Lane,
     flag: Flag,
@@ -75,8 +75,8 @@ fn append_chunk(
     Ok(())
 }
 
-/// Adds the chunks of a body, and answers the number after them. After an error some of them may
-/// stand there.
+/// Appends the chunks of a body, and returns the SequenceNumber after them. After an error some of
+/// them may have been appended.
 fn append_chunks(
     lane: &Lane,
     body: &[u8],
@@ -105,8 +105,8 @@ fn append_chunks(
     Ok(next_number(number))
 }
 
-/// Adds the chunks of a body at the end, whole frames numbered from `sequence`, and answers the
-/// sequence number after them. A fault leaves what was there.
+/// Splits a body into chunks and appends them to `out`, complete frames numbered from `sequence`.
+/// Returns the SequenceNumber after them. A fault leaves `out` as it was.
 pub fn cut(
     lane: &Lane,
     body: &[u8],

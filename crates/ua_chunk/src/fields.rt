@@ -1,11 +1,11 @@
-//! Fields at the front of octets, taken off without memory.
+//! Fields at the start of a byte sequence, split off without an allocation.
 
 ghost use Rattle.std.specs.Prelude.{◌≡◌, Some, None, MatchOption};
 ghost use Rattle.ua_chunk.specs.Layout.{sequence_header};
 
 use ua_wire::split_number;
 
-/// A sequence number and a request id, and the octets behind them.
+/// A SequenceNumber and a RequestId, and the bytes after them.
 #[inline]
 pub fn split_sequence(octets: &[u8]) -> Option<(u32, u32, &[u8])>
     ensures { MatchOption result (sequence_header.decode octets.now ≡ None)

@@ -1,13 +1,13 @@
-//! Flags of chunks.
+//! The IsFinal flags of chunks.
 
-/// Where a chunk stands in its message (OPC 10000-6, 6.7.2.2).
+/// The IsFinal flag: the position of a chunk in its message (OPC 10000-6, 6.7.2.2).
 #[derive(Clone, Copy, PartialEq, Eq, Debug)]
 pub enum Flag {
     /// The last chunk of its message.
     F,
-    /// A chunk that more chunks of its message follow.
+    /// A chunk after which more chunks of its message follow.
     C,
-    /// The end of a message that its sender gives up.
+    /// The end of a message that its sender aborts.
     A,
 }
 
@@ -17,7 +17,7 @@ impl Flag {
     ghost use Rattle.ua_frame.specs.declared.kind.Kind.TheVariants.{Msg};
     ghost use Rattle.ua_chunk.specs.Flag.{is_more_flag, is_abort_flag, flag_octet};
 
-    /// The flag of this octet.
+    /// The flag of this byte.
     #[inline]
     pub(crate) fn from_octet(octet: u8) -> Flag
         requires { IsTrue (has_flag Msg octet) }
@@ -30,7 +30,7 @@ impl Flag {
         }
     }
 
-    /// The octet of the flag.
+    /// The byte of the flag.
     #[inline]
     pub fn octet(self) -> u8
         ensures { result ≡ flag_octet self }
@@ -42,7 +42,7 @@ impl Flag {
         }
     }
 
-    /// Whether more chunks of the message are to come.
+    /// Whether more chunks of the message follow.
     #[inline]
     pub fn is_more(self) -> bool
         ensures { result ≡ is_more_flag self }
@@ -53,7 +53,7 @@ impl Flag {
         }
     }
 
-    /// Whether the message is given up.
+    /// Whether the message is aborted.
     #[inline]
     pub fn is_abort(self) -> bool
         ensures { result ≡ is_abort_flag self }

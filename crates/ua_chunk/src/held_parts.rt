@@ -7,7 +7,7 @@ use bytes::Bytes;
 use std::alloc::{AllocError, Global};
 use std::{mem, slice};
 
-/// Parts that follow one another. One alone stands in the value itself, and takes no memory.
+/// Parts that follow one another. A single one is kept in the value itself, without an allocation.
 #[derive(Drop)]
 pub(crate) enum HeldParts {
     None,
@@ -28,7 +28,7 @@ impl HeldParts {
         }
     }
 
-    /// Adds a part behind them. An error changes nothing.
+    /// Appends a part. An error changes nothing.
     #[inline(always)]
     pub(crate) fn push(&mut self, alloc: Global, part: Bytes) -> Result<(), AllocError>
         ensures ok { OnOk result (held_parts self.new ≡ held_parts self.old ++ part ∷ []) }

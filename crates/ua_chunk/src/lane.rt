@@ -1,4 +1,4 @@
-//! Where the chunks of a message go.
+//! The direction of a SecureChannel in which chunks go.
 
 ghost use Rattle.std.specs.Prelude.{◌≡◌, ◌<◌, ℕ, List, length};
 ghost use Rattle.ua_chunk.specs.Cutting.{least, limit_of, pieces};
@@ -6,18 +6,18 @@ ghost use Rattle.ua_chunk.specs.Refusal.{passes};
 
 use crate::fault::CutFault;
 
-/// A direction of a secure channel, with the limits of the messages that go there.
+/// One direction of a SecureChannel, with the limits of the messages that are sent there.
 #[derive(Clone, Copy, PartialEq, Eq, Debug)]
 pub struct Lane {
-    /// The secure channel's id.
+    /// The SecureChannelId.
     pub channel: u32,
-    /// The security token's id.
+    /// The TokenId.
     pub token: u32,
-    /// How many octets of a body a chunk has room for.
+    /// The maximum size of a chunk's body, in bytes.
     pub room: u32,
-    /// The most octets of a body, 0 for any number.
+    /// The maximum size of a message body in bytes; 0 means no limit.
     pub octets: u32,
-    /// The most chunks of a body, 0 for any number.
+    /// The maximum number of chunks of a message body; 0 means no limit.
     pub chunks: u32,
 }
 
@@ -25,8 +25,8 @@ impl Lane {
     ghost use Rattle.std.specs.Prelude.{◌≡◌, ◌<◌, ◌↔◌, ℕ, List, None, length};
     ghost use Rattle.ua_chunk.specs.Cutting.{cut_refusal, most_octets, IsAtMost};
 
-    /// Why a body of so many octets is not cut here: the first reason that holds, and never want of
-    /// memory.
+    /// Why a body of `len` bytes is not split into chunks here: the first reason that applies, and
+    /// never `OutOfMemory`.
     #[inline]
     pub fn refusal(&self, len: usize) -> Option<CutFault>
         requires { 0 < self.now.room }
@@ -41,11 +41,12 @@ impl Lane {
         None
     }
 
-    /// The most octets that a body may have to be cut here; none where there is no such limit. The
-    /// chunks are a limit, too: each of them has room for so many octets.
+    /// The maximum size, in bytes, of a body that can be split into chunks here; `None` where there
+    /// is no limit. The maximum number of chunks counts as a limit of bytes, too, by the maximum
+    /// size of their bodies.
     pub fn most_octets(&self) -> Option<usize>
         ensures most { result ≡ most_octets self.now }
-        // A body is cut exactly where it has at most so many.
+        // A body can be split exactly where it has at most so many bytes.
         ensures cut { (body : List ℕ) → 0 < self.now.room → (cut_refusal self.now body ≡ None) ↔ IsAtMost (length body) result }
     {
         let octets = limit_of(self.octets, 1);
@@ -54,7 +55,8 @@ impl Lane {
     }
 }
 
-/// Whether a body of so many octets has more pieces of this size than a limit, of which 0 is none.
+/// Whether a body of `len` bytes needs more fragments of `room` bytes than a limit; 0 means no
+/// limit.
 fn has_more_pieces(limit: u32, room: u32, len: usize) -> bool
     requires { 0 < room }
     ensures { (body : List ℕ) → length body ≡ len → result ≡ passes limit (length (pieces room body)) }
@@ -62,7 +64,7 @@ fn has_more_pieces(limit: u32, room: u32, len: usize) -> bool
     limit != 0 && len as u128 > u128::from(limit) * u128::from(room)
 }
 
-/// So many pieces of this size, as octets; none where the limit is 0.
+/// So many fragments of this size, in bytes; `None` where the limit is 0.
 #[tactic(auto, using(crate::proofs::MostOctets::product_fits))]
 fn limit_of(limit: u32, size: u32) -> Option<usize>
     ensures { result ≡ limit_of limit size }

@@ -1,6 +1,6 @@
-//! What holds of lists of chunks: laws about the definitions, for readers and for proofs above.
+//! Laws about lists of chunks, for readers and for the proofs of the crates above.
 //!
-//! Each function does nothing; its contract is the law.
+//! Each function has no effect; its contract is the law.
 
 ghost use Rattle.std.specs.Prelude.{◌≡◌, ◌<◌, ◌≤◌, ◌*◌, ◌^◌, ◌==◌, ◌++◌, ◌∷◌, ◌↔◌, [], ℕ, List, Option, Some, None, IsTrue, IsFalse, is_some, is_none, nat_eq, length, map};
 ghost use Rattle.std.specs.List.{filter, flat_map, list_any, IsDistinct};
@@ -23,8 +23,8 @@ ghost use Rattle.ua_chunk.specs.declared.chunk.Chunk.{Chunk};
 ghost use Rattle.ua_chunk.specs.declared.open_chunk.OpenChunk.{OpenChunk};
 ghost use Rattle.ua_chunk.specs.declared.lane.Lane.{Lane};
 
-/// Where nothing is left unfinished, an assembler stands as a new one, and further chunks deliver
-/// what they deliver alone, and are refused as they are alone.
+/// Where no message is unfinished, an assembler is as a new one: further chunks deliver what they
+/// deliver alone, and are refused as they are alone.
 pub fn fresh()
     ensures stands { (assembler : Assembler) (cs : List Chunk) → Stands assembler cs → open_ids cs ≡ [] → Stands assembler [] }
     ensures delivered { (cs ds : List Chunk) → open_ids cs ≡ [] → delivered (cs ++ ds) ≡ delivered cs ++ delivered ds }
@@ -34,8 +34,8 @@ pub fn fresh()
         message_refusal octets chunks (cs ++ ds) c ≡ message_refusal octets chunks ds c }
 {}
 
-/// A chunk is refused for its number or for its message, and not otherwise; numbers that go on and
-/// messages that are taken are chunks that are taken.
+/// A chunk is refused for its SequenceNumber or for its message, and for nothing else. Chunks whose
+/// numbers continue and whose messages are accepted are accepted.
 pub fn numbers_apart()
     ensures one { (octets chunks : ℕ) (last : Option ℕ) (cs : List Chunk) (c : Chunk) →
         (refusal octets chunks last cs c ≡ None) ↔ (IsTrue (may_follow last c.sequence) × (message_refusal octets chunks cs c ≡ None)) }
@@ -43,28 +43,29 @@ pub fn numbers_apart()
         IsTrue (ordered last cs) → TakesMessages octets chunks before cs → TakesAll octets chunks last before cs }
 {}
 
-/// Chunks within a limit of octets leave at most 4 times so many octets unfinished.
+/// Chunks within a limit of message bytes leave at most 4 times that many bytes of unfinished
+/// messages.
 pub fn held_is_bounded()
     ensures { (octets chunks : ℕ) (cs : List Chunk) → 0 < octets → TakesMessages octets chunks [] cs → open_octets cs ≤ 4 * octets }
 {}
 
-/// Of chunks that are taken each that ends a message delivers one item, under its request id, and no
+/// Of accepted chunks, each one that ends a message delivers one item, under its RequestId, and no
 /// other chunk delivers any.
 pub fn delivered_at_ends()
     ensures { (octets chunks : ℕ) (cs : List Chunk) → TakesMessages octets chunks [] cs →
         map id_of (delivered cs) ≡ map (λ c. c.request) (filter ends cs) }
 {}
 
-/// A merge of messages under request ids of their own has, under each id, just the chunks of the
-/// message of that id, in order.
+/// An interleaving of messages with distinct RequestIds has, under each RequestId, exactly the
+/// chunks of that message, in order.
 pub fn merge_by_request()
     ensures { (ms : List Sent) (cs : List Chunk) → HaveOwnIds ms → Merges (map parts_of ms) (map part_of cs) → IsMerge ms cs }
 {}
 
-/// Messages under request ids of their own, each within the limits and ending in an F or a readable
-/// A, whose chunks come merged in any way, with few messages unfinished at a time: none of the chunks
-/// is refused for its message, whatever stands between them, and none at all where they are numbered
-/// on. Each message is delivered at its last chunk, whole and once.
+/// Messages with distinct RequestIds, each within the limits and ending in an F or a decodable A,
+/// have their chunks interleaved in any way, with few messages unfinished at a time. Then no chunk
+/// is refused for its message, whatever is between them, and none at all where their
+/// SequenceNumbers continue. Each message is delivered at its last chunk, complete and once.
 pub fn merged()
     ensures taken { (octets chunks : ℕ) (last : Option ℕ) (ms : List Sent) (cs : List Chunk) →
         HaveOwnIds ms → AllWithin octets chunks ms → Merges (map parts_of ms) (map part_of cs) →
@@ -79,9 +80,9 @@ pub fn merged()
         filter (is_item_of id) (delivered cs) ≡ outcome_under (sent_under id ms) }
 {}
 
-/// What is cut, taken by an assembler without unfinished messages whose limits it keeps within and
-/// whose last number its first one follows: no chunk is refused, and they deliver just the body,
-/// whole and once.
+/// The chunks of a split body go to an assembler without unfinished messages, within its limits and
+/// with a first SequenceNumber that follows its last one. Then no chunk is refused, and they
+/// deliver exactly the body, complete and once.
 pub fn cut_is_delivered()
     ensures taken { (octets chunks : ℕ) (last : Option ℕ) (lane : Lane) (body : List ℕ) (sequence request : ℕ) →
         0 < lane.room → 0 < length body → IsTrue (may_follow last sequence) →
@@ -95,19 +96,20 @@ pub fn cut_is_delivered()
         delivered (chunks_of lane body sequence request) ≡ Whole request body ∷ [] }
 {}
 
-/// The pieces of a body, joined, are the body, and each but the last fills its room.
+/// The fragments of a body, joined, are the body, and each one but the last has the maximum size.
 pub fn pieces_are_full()
     ensures joined { (room : ℕ) (body : List ℕ) → 0 < room → 0 < length body → flat_map (λ piece. piece) (pieces room body) ≡ body }
     ensures full { (room : ℕ) (body : List ℕ) → 0 < room → 0 < length body → AreFull room (pieces room body) }
 {}
 
-/// The open request ids are those with a C behind their last F or A, each named once.
+/// The RequestIds of unfinished messages are those with a C after their last F or A, each listed
+/// once.
 pub fn open_is_unfinished()
     ensures unfinished { (id : ℕ) (cs : List Chunk) → IsFalse (list_any (λ j. j == id) (open_ids cs)) ↔ (unfinished id cs ≡ []) }
     ensures once { (cs : List Chunk) → IsDistinct nat_eq (open_ids cs) }
 {}
 
-/// A frame carries one chunk, and the frame that is written for a chunk carries it.
+/// A frame carries at most one chunk, and the frame that is written for a chunk carries it.
 pub fn one_chunk()
     ensures one { (frame : Frame) (c d : Chunk) → IsChunkOf frame c → IsChunkOf frame d → c ≡ d }
     ensures written { (c : Chunk) → c.channel < 2 ^ 32 → c.token < 2 ^ 32 → c.sequence < 2 ^ 32 → c.request < 2 ^ 32 →
@@ -115,15 +117,15 @@ pub fn one_chunk()
     ensures found { (frame : Frame) (c : Chunk) → (chunk_in frame ≡ Some c) ↔ IsChunkOf frame c }
 {}
 
-/// An OPN frame carries one chunk, and it carries one exactly where nothing refuses it.
+/// An OPN frame carries at most one chunk, and it carries one exactly where nothing refuses it.
 pub fn one_opening()
     ensures one { (frame : Frame) (c d : OpenChunk) → IsOpenChunkOf frame c → IsOpenChunkOf frame d → c ≡ d }
     ensures found { (frame : Frame) (c : OpenChunk) → (opening_in frame ≡ Some c) ↔ IsOpenChunkOf frame c }
     ensures refused { (frame : Frame) → is_some (opening_in frame) ≡ is_none (open_refusal frame.body) }
 {}
 
-/// An abort's code and reason are those that its body encodes, and a body that is written holds its
-/// code and a null reason.
+/// An abort's StatusCode and reason are those that its body encodes, and a body that is written
+/// holds its StatusCode and a null reason.
 pub fn abort_is_encoded()
     ensures encoded { (body : List ℕ) (abort : StatusCode × Option (List ℕ)) →
         (abort_of body ≡ Some abort) ↔ abort_body.encodes abort body }

@@ -1,15 +1,16 @@
-//! Chunks of messages (OPC 10000-6, 6.7): their layouts, cutting a body into them, and the assembler
-//! that gathers the chunks of messages which come interleaved, without a copy of their bodies.
+//! Chunks of messages (OPC 10000-6, 6.7): their layouts, the splitting of a body into chunks, and
+//! an assembler that reassembles messages from interleaved chunks without a copy of their bodies.
 //!
-//! Its contract is that of [`Assembler`]: whatever chunks came, what is handed out is what their list
-//! delivers, each message at its last chunk, whole and once, and a refusal is the first reason that holds.
+//! The main contract is that of [`Assembler`]: whatever chunks arrived, it has returned what their
+//! list delivers, each message at its last chunk, complete and once; a refusal is the first reason
+//! that applies.
 //!
 //! ```
 //! let mut assembler = Assembler::new(alloc, most_octets, most_chunks, last_number);
 //! match assembler.accept(read_chunk(frame))? {
 //!     Some(Delivered::Whole(request, message)) => read(request, &mut message.source()),
 //!     Some(Delivered::Aborted(request, code, reason)) => give_up(request, code, reason),
-//!     None => {} // more chunks of the message are to come
+//!     None => {} // more chunks of the message follow
 //! }
 //! let next = cut(&lane, &body, number, request, &mut out)?; // the number after its chunks
 //! ```

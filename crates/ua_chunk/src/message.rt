@@ -6,15 +6,16 @@ use std::alloc::{AllocError, Global};
 use std::marker::Model;
 use ua_wire::Parts;
 
-/// A message: the bodies of its chunks that are not empty, in order and as they came. Its octets
-/// are these, joined.
+/// A message: the non-empty bodies of its chunks, in order and as they arrived. Its bytes are those
+/// of the joined bodies.
 pub struct Message {
     parts: HeldParts,
-    /// How many octets they have together.
+    /// The length of all bodies together, in bytes.
     len: usize,
 }
 
-// By hand, so that a crate that lets a message go calls this, and proves nothing of what lies in it.
+// Written by hand, so that a crate that drops a message calls this, and proves nothing of its
+// contents.
 impl Drop for Message {
     fn drop(self) {
         let Message { parts, len: _ } = self;
@@ -40,7 +41,7 @@ impl Message {
     ghost use Rattle.std.specs.Prelude.{◌≡◌, ◌↔◌, ◌∷◌, ◌++◌, [], length, IsTrue, OnOk};
     ghost use Rattle.ua_chunk.specs.Gathered.{filled};
 
-    /// A message of which nothing has come.
+    /// A message of which nothing has arrived.
     #[inline]
     pub(crate) fn new() -> Message
         ensures { result ≡ [] }
@@ -51,7 +52,7 @@ impl Message {
         }
     }
 
-    /// The number of octets.
+    /// The number of bytes.
     #[inline]
     pub fn len(&self) -> usize
         ensures { result ≡ length (concat self.now) }
@@ -59,7 +60,7 @@ impl Message {
         self.len
     }
 
-    /// Whether there are no octets.
+    /// Whether there are no bytes.
     #[inline]
     pub fn is_empty(&self) -> bool
         ensures { IsTrue result ↔ (concat self.now ≡ []) }
@@ -67,7 +68,7 @@ impl Message {
         self.len == 0
     }
 
-    /// The bodies of its chunks that are not empty, in order.
+    /// The non-empty bodies of its chunks, in order.
     #[inline]
     pub fn parts(&self) -> &[Bytes]
         ensures { result.now ≡ self.now }
@@ -75,7 +76,7 @@ impl Message {
         self.parts.as_slice()
     }
 
-    /// A source of the octets, from the first on.
+    /// A source of the bytes, from the first one.
     #[inline]
     pub fn source(&self) -> Parts<'_>
         ensures { result ≡ concat self.now }
@@ -84,7 +85,7 @@ impl Message {
         Parts::new(self.parts.as_slice())
     }
 
-    /// Adds the body of one more chunk, as it is.
+    /// Appends the body of one more chunk, as it is.
     #[inline(always)]
     pub(crate) fn add(&mut self, alloc: Global, body: Bytes) -> Result<(), AllocError>
         ensures { OnOk result (self.new ≡ self.old ++ filled (body ∷ [])) }

@@ -9,23 +9,23 @@ use bytes::Bytes;
 use ua_frame::Frame;
 use ua_wire::{split_counted, split_number};
 
-/// The URI of the security policy None.
+/// The URI of the SecurityPolicy None.
 pub const NONE_POLICY: &str = "http://opcfoundation.org/UA/SecurityPolicy#None";
 
-/// The chunk of an OPN frame under the security policy None (OPC 10000-6, 6.7.2).
+/// The chunk of an OPN frame under the SecurityPolicy None (OPC 10000-6, 6.7.2).
 #[derive(Drop)]
 pub struct OpenChunk {
-    /// The secure channel's id.
+    /// The SecureChannelId.
     pub channel: u32,
-    /// The sequence number.
+    /// The SequenceNumber.
     pub sequence: u32,
-    /// The request id.
+    /// The RequestId.
     pub request: u32,
-    /// What follows the sequence header.
+    /// The bytes after the sequence header.
     pub body: Bytes,
 }
 
-/// What stands in front of the sequence header of an OPN frame.
+/// The fields before the sequence header of an OPN frame.
 #[derive(Clone, Copy)]
 struct PolicyHeader<'a> {
     channel: u32,
@@ -34,7 +34,7 @@ struct PolicyHeader<'a> {
     thumbprint: Option<&'a [u8]>,
 }
 
-/// The policy header, and the octets behind it.
+/// The policy header, and the bytes after it.
 fn split_policy(octets: &[u8]) -> Option<(PolicyHeader<'_>, &[u8])>
     ensures { MatchOption result (policy_header.decode octets.now ≡ None)
         (λ r. policy_header.decode octets.now ≡ Some ((r.0.channel, (option_map (λ o. o.now) r.0.policy, (option_map (λ o. o.now) r.0.certificate, option_map (λ o. o.now) r.0.thumbprint))), r.1.now)) }
@@ -54,7 +54,7 @@ fn split_policy(octets: &[u8]) -> Option<(PolicyHeader<'_>, &[u8])>
     ))
 }
 
-/// Whether a policy is None.
+/// Whether a SecurityPolicy is None.
 fn is_none(policy: Option<&[u8]>) -> bool
     ensures { result ≡ is_none_policy (option_map (λ o. o.now) policy.entry) }
 {
@@ -64,7 +64,7 @@ fn is_none(policy: Option<&[u8]>) -> bool
     }
 }
 
-/// The numbers in the headers of an OPN frame, and how many octets the headers have.
+/// The numbers in the headers of an OPN frame, and the length of the headers in bytes.
 #[derive(Clone, Copy)]
 struct Headers {
     channel: u32,
@@ -73,7 +73,7 @@ struct Headers {
     len: usize,
 }
 
-/// The headers in front of a body.
+/// The headers before a body.
 fn read_headers(octets: &[u8]) -> Result<Headers, OpenFault>
     ensures { MatchResult result (λ h. HeadersAt octets.now h.channel h.sequence h.request h.len)
         (λ fault. open_refusal octets.now ≡ Some fault) }
@@ -95,8 +95,8 @@ fn read_headers(octets: &[u8]) -> Result<Headers, OpenFault>
     })
 }
 
-/// The chunk of an OPN frame. The certificate and the thumbprint are passed over. It takes no memory,
-/// and moves no octet.
+/// Reads the chunk of an OPN frame. The certificate and the thumbprint are ignored. The function
+/// allocates nothing, and copies no body.
 #[tactic(auto, using(crate::proofs::Carried::opening_none))]
 pub fn read_open(frame: Frame) -> Result<OpenChunk, OpenFault>
     ensures chunk { IfOk result (IsOpenChunkOf frame) }

@@ -5,11 +5,11 @@ use bytes::Bytes;
 use std::alloc::{AllocError, Global};
 use std::marker::Model;
 
-/// What has come of a message.
+/// The part of a message that has arrived.
 #[derive(Drop)]
 pub struct Pending {
     pub request: u32,
-    /// How many chunks have come. It stops at its greatest number.
+    /// The number of chunks that have arrived. It stops at its greatest value.
     pub chunks: u32,
     pub message: Message,
 }
@@ -18,7 +18,7 @@ impl Pending {
     ghost use Rattle.std.specs.Prelude.{◌≡◌, ◌+◌, ◌∷◌, ◌++◌, [], min, OnOk};
     ghost use Rattle.ua_chunk.specs.Gathered.{filled};
 
-    /// Adds the body of one more chunk.
+    /// Appends the body of one more chunk.
     #[inline(always)]
     pub fn add(&mut self, alloc: Global, body: Bytes) -> Result<(), AllocError>
         ensures { OnOk result (self.new ≡ record {
@@ -76,7 +76,7 @@ impl PendingMessages {
         self.messages.len()
     }
 
-    /// How many octets have come of all of them.
+    /// The number of bytes that have arrived of all messages.
     #[inline]
     pub fn held(&self) -> usize
         ensures { result ≡ octets_in self.now }
@@ -98,7 +98,7 @@ impl PendingMessages {
         self.messages.iter().position(|m| m.request == request)
     }
 
-    /// Takes out what has come under a request id.
+    /// Takes out the message that has partly arrived under a RequestId.
     #[inline(always)]
     pub fn take_out(&mut self, request: u32) -> Pending
         ensures taken { result ≡ message_of request self.old }

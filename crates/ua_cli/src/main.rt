@@ -1,5 +1,5 @@
-//! The program `ua`: OPC UA Binary on the command line. `main` hands its words and streams to
-//! [`ua_program::run`], which the rows of `test_program` call with writers over memory.
+//! The program `ua`: OPC UA Binary on the command line. `main` gives its words and streams to
+//! [`ua_program::run`], which the test vectors of `test_program` call with writers over memory.
 #![tactic(auto)]
 
 use std::process::ExitCode;

@@ -1,4 +1,4 @@
-//! Groups of calls over a line.
+//! Groups of calls over a transport.
 
 ghost use Rattle.std.specs.Prelude.{◌≡◌, ◌+◌, ◌-◌, ◌<◌, ◌≤◌, length, None, IfErr, OnOk, OnErr};
 ghost use Rattle.ua_channel.specs.Client.{phase_of};
@@ -37,8 +37,8 @@ fn group_end(start: usize, count: usize) -> usize
 }
 
 impl Connection {
-    /// Asks a group of calls of these bodies, against which there is nothing, writes its frames, and waits
-    /// for its replies. Those that came are added, up to the first that is missing.
+    /// Sends a group of calls with these bodies, none of which is refused, writes its frames, and
+    /// waits for its replies. Appends those that arrived, up to the first that is missing.
     fn call_bodies<L: Line>(
         &mut self,
         alloc: Global,
@@ -72,7 +72,8 @@ impl Connection {
         waited
     }
 
-    /// Judges a group of calls whole, writes its frames, waits for its replies and adds them.
+    /// Checks a group of calls as a whole, writes its frames, waits for its replies and appends
+    /// them.
     pub fn call_group<L: Line>(
         &mut self,
         alloc: Global,

@@ -1,4 +1,4 @@
-//! A client over a line.
+//! A client over a transport.
 
 ghost use Rattle.std.specs.Prelude.{◌≡◌, false};
 ghost use Rattle.ua_client.specs.Renewing.{StandsSettled};
@@ -15,20 +15,20 @@ use ua_channel::Line;
 use ua_frame::Limits;
 use ua_services::Request;
 
-/// The PolicyId of the token policy by which a session is begun where no other is given.
+/// The PolicyId of the token policy of a session for which no other is given.
 const ANONYMOUS: &str = "anonymous";
 
-/// The first number that is the request id of no call and of no renewal; the CLO may have it.
+/// The first number that is the RequestId of no call and of no renewal; the CLO may have it.
 const NO_ID: u32 = u32::MAX;
 
-/// A client whose channel is open.
+/// A client whose channel is open, until the client fails or is closed.
 #[derive(Drop)]
 pub struct Client {
     alloc: Global,
     connection: Connection,
-    /// It failed or was closed.
+    /// Whether the client failed or was closed.
     is_done: bool,
-    /// Unless it is done, its channel is open, and all that it asked is answered.
+    /// Unless the client is done, its channel is open, and all calls and renewals are answered.
     pub ghost settled: { is_done ≡ false → StandsSettled connection.channel },
 }
 
@@ -48,8 +48,8 @@ impl Client {
     ghost use Rattle.ua_client.specs.ClientPlace.{ClientPlace, StandsAt, id_at, usable_id};
     ghost use Rattle.ua_client.specs.declared.fault.ClientFault.TheVariants.{Closed};
 
-    /// Opens a connection over a line, and a channel on it, to the server of this URL: the HEL is
-    /// written, behind the ACK the OPN.
+    /// Opens a connection over a transport, and a SecureChannel on it, to the server of this URL:
+    /// writes the HEL, and the OPN after the ACK.
     pub fn open<L: Line>(
         alloc: Global,
         line: &mut L,
@@ -99,17 +99,19 @@ impl Client {
         }
     }
 
-    /// Begins a session of the client `urn:ua:client` at the server, and answers its AuthenticationToken,
-    /// which the requests of the session carry in their headers: asks CreateSession and, behind a good
-    /// response, ActivateSession for a user without a name by the token policy with this PolicyId, as the
-    /// server's endpoints name it, each as [`Client::call`] asks it, with the request id as RequestHandle
-    /// (OPC 10000-4, 5.7.2 and 5.7.3).
+    /// Begins a session of the client `urn:ua:client` at the server, and returns its
+    /// AuthenticationToken, which the requests of the session carry in their headers. It calls
+    /// CreateSession and, after a good response, ActivateSession for an anonymous user by the token
+    /// policy with this PolicyId, as the server's endpoints name it, each as [`Client::call`] does,
+    /// with the RequestId as RequestHandle (OPC 10000-4, 5.7.2 and 5.7.3).
     ///
-    /// It answers `Service` with the code of a ServiceFault, of an answer that the server gave up, or of a
-    /// bad ServiceResult. After `Service`, `TooLarge`, `NotWritable` and `Exhausted` the client may be
-    /// called again: what was asked was answered. After any other fault it is done.
+    /// It returns `Service` with the StatusCode of a ServiceFault, of a reply that the server
+    /// aborted, or of a bad ServiceResult. After `Service`, `TooLarge`, `NotWritable` and
+    /// `Exhausted` the client may be called again: all that it sent was answered. After any other
+    /// fault it is done.
     ///
-    /// A session that was created by then stays at the server: [`Client::try_begin_session`] names it.
+    /// A session that was created by then stays at the server: [`Client::try_begin_session`]
+    /// returns its token.
     pub fn begin_session_as<L: Line>(
         &mut self,
         line: &mut L,
@@ -127,9 +129,10 @@ impl Client {
         }
     }
 
-    /// Begins a session, as [`Client::begin_session_as`] does. Where CreateSession brought a token and
-    /// ActivateSession failed, the fault has that token: the session stays at the server, and a client that
-    /// may be called again can close it by a CloseSession under the token (OPC 10000-4, 5.7.4).
+    /// Begins a session, as [`Client::begin_session_as`] does. Where CreateSession brought a token
+    /// and ActivateSession failed, the fault has that token: the session stays at the server, and a
+    /// client that may be called again can close it by a CloseSession under the token (OPC 10000-4,
+    /// 5.7.4).
     pub fn try_begin_session<L: Line>(
         &mut self,
         line: &mut L,
@@ -159,7 +162,7 @@ impl Client {
         }
     }
 
-    /// The reply to a request: [`Client::call_all`] of one.
+    /// Calls one request and returns its reply, as [`Client::call_all`] does.
     pub fn call<L: Line>(
         &mut self,
         line: &mut L,
@@ -177,13 +180,14 @@ impl Client {
         }
     }
 
-    /// The replies to requests, in their order. The requests are asked in groups of 64, the last of which
-    /// may have fewer: each is judged whole, written and then answered. After `TooLarge`, `NotWritable`
-    /// and `Exhausted` the client is as behind the groups before, and nothing of the group was written;
-    /// after any other fault it is done.
+    /// Calls requests and returns the replies in the order of the requests. The requests are sent
+    /// in groups of 64, the last of which may have fewer: each group is checked as a whole, written
+    /// and then answered. After `TooLarge`, `NotWritable` and `Exhausted` the client is in its
+    /// state after the groups before, and nothing of the group was written; after any other fault
+    /// it is done.
     ///
-    /// At a fault the replies that had come are forgotten: [`Client::call_into`] keeps them, and names the
-    /// request that was not answered.
+    /// At a fault the replies that arrived are dropped: [`Client::call_into`] keeps them, and names
+    /// the request that was not answered.
     pub fn call_all<L: Line>(
         &mut self,
         line: &mut L,
@@ -206,15 +210,16 @@ impl Client {
         }
     }
 
-    /// Adds the replies to requests to a vector, in their order, behind what stands there: asks as
-    /// [`Client::call_all`] does, and keeps what was answered where not all is.
+    /// Appends the replies to requests to a vector, in the order of the requests. It calls as
+    /// [`Client::call_all`] does, and keeps the replies where not all requests are answered.
     ///
-    /// At a fault the replies to the groups before are there, and of the group that failed those that had
-    /// come up to the first that is missing: one that came out of order behind a missing one is let go.
-    /// After `TooLarge`, `NotWritable` and `Exhausted` the fault names the first request of its group
-    /// against which there is a reason, after any other fault the first that has no reply in the vector.
-    /// Room for the replies of a group is made before it is asked, so that none is lost that came; where
-    /// there is no memory for that, the group is not asked.
+    /// At a fault the vector has the replies to the groups before, and of the group that failed
+    /// those that arrived up to the first that is missing; a reply that arrived out of order after
+    /// a missing one is dropped. After `TooLarge`, `NotWritable` and `Exhausted` the fault names
+    /// the first request of its group to which a reason applies, after any other fault the first
+    /// one that has no reply in the vector. Memory for the replies of a group is reserved before
+    /// the group is sent, so that no reply that arrives is lost; where that allocation fails, the
+    /// group is not sent.
     pub fn call_into<L: Line>(
         &mut self,
         line: &mut L,
@@ -247,8 +252,8 @@ impl Client {
         }
     }
 
-    /// How many octets are held of what is not whole yet: of a frame, and of unfinished messages. What was
-    /// read and is not taken is beside that, at most 4096 octets.
+    /// The number of bytes held that are incomplete: of a frame, and of unfinished messages. Bytes
+    /// that were read and are not yet taken are not counted; they are at most 4096.
     pub fn held(&self) -> usize
         ensures held { (asks : List Placed) (octets : List ℕ) (frames : List Frame) (rest : List ℕ) → ClientStands (client_channel self.now) asks octets frames rest
             → result ≡ held_octets frames rest }
@@ -259,8 +264,8 @@ impl Client {
         self.connection.channel.held()
     }
 
-    /// The most octets that may be held: the largest frame that the server sends, and 4 times the largest
-    /// message that the client takes.
+    /// The maximum number of bytes that may be held: the largest frame that the server sends, and 4
+    /// times the largest message that the client accepts.
     pub fn bound(&self) -> usize
         ensures stands { (asks : List Placed) (octets : List ℕ) (frames : List Frame) (rest : List ℕ) → ClientStands (client_channel self.now) asks octets frames rest
             → result ≡ client_bound_behind (client_limits (client_channel self.now)) (received frames).ack }
@@ -269,7 +274,7 @@ impl Client {
         self.connection.channel.bound()
     }
 
-    /// The request id of the next call; none where all were used, or the client is done.
+    /// The RequestId of the next call; `None` where all were used, or the client is done.
     pub fn next_id(&self) -> Option<u32>
         ensures ready { IsReady self.now → (s : ClientPlace) → StandsAt (client_channel self.now) s → result ≡ usable_id (id_at s) }
         ensures done { IsDone self.now → result ≡ None }
@@ -284,11 +289,11 @@ impl Client {
         Some(id)
     }
 
-    /// Renews the token of the channel: asks for a further one by the OPN (OPC 10000-4, 5.6.2), and waits
-    /// until it came. Calls go out under it from then on.
+    /// Renews the token of the channel: sends an OPN request (OPC 10000-4, 5.6.2), and waits for
+    /// the response. Calls are sent under the new token from then on.
     ///
-    /// After `TooManyTokens` and `Exhausted` nothing has changed; after any other fault the client is
-    /// done.
+    /// After `TooManyTokens` and `Exhausted` nothing has changed; after any other fault the client
+    /// is done.
     pub fn renew<L: Line>(&mut self, line: &mut L, moment: DateTime) -> Result<(), ClientFault>
         ensures renews { IsReady self.old → Renews moment (connection_of self.old) (connection_of self.new) (L.traffic line.old) (L.traffic line.new) result }
         ensures left { IsReady self.old → IsLeft result self.new }

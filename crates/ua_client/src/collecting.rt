@@ -18,8 +18,8 @@ use ua_channel::Line;
 use ua_channel_laws::client_laws::client_goes_on;
 use ua_services::Request;
 
-// What holds a reply is dropped by a call here and in `reply.rt`: dropped in place, each kind of reply
-// would be a case of each function that drops one.
+// A value that holds a reply is dropped by a call here and in `reply.rt`: dropped in place, each
+// kind of reply would be a case of each function that drops one.
 
 /// Adds a slot without a reply.
 fn add_slot(slots: &mut Vec<Option<Reply>>) -> Result<(), ClientFault>
@@ -53,7 +53,7 @@ pub fn empty_slots(alloc: Global, requests: &[Request]) -> Result<Vec<Option<Rep
     ensures err { IfErr result (λ fault. fault ≡ OutOfMemory) }
 {
     let mut slots = Vec::new(alloc);
-    // without it memory is taken as it is needed
+    // without the reservation, memory is allocated as it is needed
     let _has_room = slots.reserve_exact(requests.len()).is_ok();
     match make_slots(&mut slots, requests) {
         Ok(()) => Ok(slots),
@@ -71,7 +71,7 @@ fn is_waiting(slots: &[Option<Reply>]) -> bool
     slots.iter().any(|slot| slot.is_none())
 }
 
-/// No replies, with room for so many where there is memory for that.
+/// No replies, with memory reserved for so many unless the allocation fails.
 pub fn no_replies(alloc: Global, count: usize) -> Vec<Reply>
     ensures { result.items ≡ [] }
 {
@@ -80,7 +80,7 @@ pub fn no_replies(alloc: Global, count: usize) -> Vec<Reply>
     replies
 }
 
-/// Makes room for so many replies more.
+/// Reserves memory for so many more replies.
 pub fn make_room(replies: &mut Vec<Reply>, count: usize) -> Result<(), ClientFault>
     ensures same { replies.new.items ≡ replies.old.items }
     ensures room { OnOk result (vec_len replies.new + count ≤ vec_capacity replies.new) }
@@ -92,7 +92,7 @@ pub fn make_room(replies: &mut Vec<Reply>, count: usize) -> Result<(), ClientFau
     }
 }
 
-/// Adds a reply where there is room for it.
+/// Appends a reply where memory is reserved for it.
 fn add_reply(replies: &mut Vec<Reply>, reply: Reply)
     requires { vec_len replies.old < vec_capacity replies.old }
     ensures items { replies.new.items ≡ replies.old.items ++ reply ∷ [] }
@@ -105,8 +105,8 @@ fn add_reply(replies: &mut Vec<Reply>, reply: Reply)
     }
 }
 
-/// Adds the replies before the first that is missing, in order, where there is room for as many as there
-/// are slots. Those behind it are let go.
+/// Appends the replies before the first that is missing, in order, where memory is reserved for as
+/// many as there are slots. Drops those after it.
 pub fn append_front(slots: Vec<Option<Reply>>, replies: &mut Vec<Reply>)
     requires { vec_len replies.old + length slots.items ≤ vec_capacity replies.old }
     ensures { replies.new.items ≡ replies.old.items ++ front_of slots.items }
@@ -120,7 +120,8 @@ pub fn append_front(slots: Vec<Option<Reply>>, replies: &mut Vec<Reply>)
 }
 
 impl Connection {
-    /// Waits until each of these requests is answered, whose calls have request ids from the first on.
+    /// Waits until each of these requests is answered, whose calls have RequestIds counted from the
+    /// first.
     pub fn collect<L: Line>(
         &mut self,
         alloc: Global,

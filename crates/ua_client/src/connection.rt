@@ -1,4 +1,4 @@
-//! A client's end of a connection over a line.
+//! A client's end of a connection over a transport.
 
 ghost use Rattle.std.specs.Prelude.{◌≡◌};
 ghost use Rattle.ua_client.specs.Hearing.{Listens, Fills, Hears, failures_behind, failure_of, of_take_fault};
@@ -8,7 +8,7 @@ use crate::piece::Piece;
 use ua_builtin::{DateTime, StatusCode};
 use ua_channel::{ClientChannel, ClientEvent, ClientTakeFault, Line};
 
-/// A channel, and what was read from its line and is not taken yet.
+/// A channel, and the bytes that were read from its transport and are not yet taken.
 #[derive(Drop)]
 pub struct Connection {
     pub channel: ClientChannel,
@@ -16,7 +16,7 @@ pub struct Connection {
 }
 
 impl Connection {
-    /// What was read is taken up to the first event, all of it where none comes.
+    /// Takes the bytes that were read up to the first event, or all of them where there is none.
     fn listen(&mut self, moment: DateTime) -> Result<Option<ClientEvent>, ClientFault>
         ensures listens { Listens self.old self.new moment result }
     {
@@ -41,7 +41,7 @@ impl Connection {
         }
     }
 
-    /// Where all is taken, reads the next piece.
+    /// Reads the next bytes where all are taken.
     fn fill<L: Line>(&mut self, line: &mut L, reads: &mut u64) -> Result<(), ClientFault>
         ensures fills { Fills self.old self.new (L.traffic line.old) (L.traffic line.new) reads.old reads.new result }
         ensures failed { L.failures line.new ≡ failures_behind (L.failures line.old) result }
@@ -60,8 +60,8 @@ impl Connection {
         }
     }
 
-    /// Goes on to the next event: what was read is taken, and where that tells nothing, the next piece
-    /// is read.
+    /// Goes on to the next event: takes the bytes that were read, and reads further ones where
+    /// these have none.
     pub fn hear<L: Line>(
         &mut self,
         line: &mut L,
@@ -80,7 +80,7 @@ impl Connection {
     }
 }
 
-/// What a fault of a channel comes to.
+/// The fault of a channel, as a fault of the client.
 fn of_take(fault: ClientTakeFault) -> ClientFault
     ensures { result ≡ of_take_fault fault }
 {

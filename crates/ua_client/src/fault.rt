@@ -1,55 +1,55 @@
-//! Why a client does not answer.
+//! Faults of a client.
 
 use std::alloc::AllocError;
 use thiserror::Error;
 use ua_builtin::{NodeId, StatusCode};
 
-/// Why a call of a client did not do what it is for. After all of these but `Service`, `TooLarge`,
-/// `NotWritable`, `Exhausted` and `TooManyTokens` the client is done, and answers `Closed`.
+/// Why a call of a client failed. After all of these but `Service`, `TooLarge`, `NotWritable`,
+/// `Exhausted` and `TooManyTokens` the client is done, and returns `Closed`.
 #[derive(Clone, Copy, PartialEq, Eq, Debug, Error)]
 pub enum ClientFault {
-    /// A read of the line failed.
+    /// A read of the transport failed.
     #[error("a read of the line failed")]
     Read,
-    /// A write of the line failed.
+    /// A write of the transport failed.
     #[error("a write of the line failed")]
     Write,
-    /// The line's input ended before all that was waited for had come.
+    /// The transport's input ended before all that was waited for had arrived.
     #[error("the input ended")]
     Ended,
-    /// The server said by an ERR frame that it refused the connection, and why.
+    /// The server refused the connection by an ERR message with this StatusCode.
     #[error("the server refused the connection")]
     Peer(StatusCode),
-    /// This end refused what the server sent, and why.
+    /// This end refused what the server sent, for the reason of this StatusCode.
     #[error("what the server sent was refused")]
     Refused(StatusCode),
     /// A reply is no response, or neither of its request's own kind nor a ServiceFault.
     #[error("the response is unknown")]
     UnknownResponse,
-    /// The server did not begin a session, and why: the code of a ServiceFault, of an answer that it
-    /// gave up, or of a bad ServiceResult.
+    /// The server did not begin a session: the StatusCode of a ServiceFault, of a reply that it
+    /// aborted, or of a bad ServiceResult.
     #[error("the service failed")]
     Service(StatusCode),
-    /// The server does not take a request of so many octets or chunks.
+    /// The server does not accept a request of so many bytes or chunks.
     #[error("the request is too large")]
     TooLarge,
     /// A request cannot be encoded.
     #[error("the request cannot be encoded")]
     NotWritable,
-    /// All request ids were used.
+    /// All RequestIds were used.
     #[error("the request ids are exhausted")]
     Exhausted,
     /// The client failed or was closed.
     #[error("closed")]
     Closed,
-    /// Memory was refused.
+    /// An allocation failed.
     #[error("out of memory")]
     OutOfMemory,
-    /// As many reads were made as a call may make, 18446744073709551615; the line handed out at least as
-    /// many octets.
+    /// A call made the maximum number of reads, 18446744073709551615; the transport delivered at
+    /// least as many bytes.
     #[error("too many reads")]
     TooLong,
-    /// 16 tokens are held, from the last one that the server used to the newest.
+    /// The client holds 16 tokens, from the last one that the server used to the newest.
     #[error("too many tokens are held")]
     TooManyTokens,
 }
@@ -58,8 +58,8 @@ impl ClientFault {
     ghost use Rattle.std.specs.Prelude.{◌≡◌};
     ghost use Rattle.ua_client.specs.Client.{ends};
 
-    /// Whether a client is done after this: after all but what is judged before anything is asked, and
-    /// a service that failed.
+    /// Whether a client is done after this fault: after all but those found before anything is
+    /// sent, and a service that failed.
     pub(crate) fn ends(self) -> bool
         ensures { result ≡ ends self }
     {
@@ -76,12 +76,12 @@ impl ClientFault {
 
 /// Which of several requests was not answered, and why.
 ///
-/// After `TooLarge`, `NotWritable` and `Exhausted` it is the first against which there is a reason, after
-/// any other fault the first that has no reply.
+/// After `TooLarge`, `NotWritable` and `Exhausted` it is the first request to which a reason
+/// applies, after any other fault the first that has no reply.
 #[derive(Clone, Copy, PartialEq, Eq, Debug, Error)]
 #[error("request {request}: {fault}")]
 pub struct CallsFault {
-    /// The place of the request among all, from 0.
+    /// The index of the request among all, from 0.
     pub request: usize,
     /// Why it was not answered.
     pub fault: ClientFault,
@@ -90,7 +90,7 @@ pub struct CallsFault {
 impl CallsFault {
     ghost use Rattle.std.specs.Prelude.{◌≡◌, ◌+◌, ◌<◌, ◌^◌};
 
-    /// The same fault, where so many requests stand before those among which it has its place.
+    /// The same fault, where so many requests come before those among which it has its index.
     pub(crate) fn behind(self, before: usize) -> CallsFault
         requires { before + self.request < 2 ^ 64 }
         ensures request { result.request ≡ before + self.request }
@@ -107,8 +107,8 @@ impl CallsFault {
 #[derive(Debug, Drop, Error)]
 #[error("{fault}")]
 pub struct SessionFault {
-    /// The AuthenticationToken that CreateSession brought: its session stays at the server until it is
-    /// closed under this token, or its time is over. None where CreateSession brought none.
+    /// The AuthenticationToken that CreateSession brought. Its session stays at the server until it
+    /// is closed under this token, or times out. `None` where CreateSession brought none.
     pub token: Option<NodeId>,
     /// Why the session was not begun.
     pub fault: ClientFault,

@@ -1,4 +1,4 @@
-//! Groups of calls: judged whole, and then asked.
+//! Groups of calls: checked as a whole, and then sent.
 
 ghost use Rattle.std.specs.Prelude.{◌≡◌, ◌<◌, ◌++◌, ◌↔◌, ℕ, List, Some, None, length, map, IfOk, IfErr, OnOk, IsTrue, IsFalse, IsErrOf};
 ghost use Rattle.ua_wire.specs.declared.fault.WriteFault.TheVariants.{NotWritable};
@@ -48,7 +48,7 @@ impl Body {
         }
     }
 
-    /// Its octets.
+    /// Its bytes.
     fn octets(&self) -> &[u8]
         ensures value { result.now ≡ self.now }
         ensures some { 0 < length self.now }
@@ -58,7 +58,7 @@ impl Body {
     }
 }
 
-/// A refusal to ask, as a fault of the client.
+/// The refusal of a call, as a fault of the client.
 fn of_ask(fault: AskFault) -> ClientFault
     ensures { Some result ≡ of_ask (Some fault) }
 {
@@ -73,7 +73,7 @@ fn of_ask(fault: AskFault) -> ClientFault
     }
 }
 
-/// Whether a channel would ask a call of a body behind so many others.
+/// Whether a channel would send a call with a body after so many others.
 fn judge_body(channel: &ClientChannel, before: usize, body: &Body) -> Result<(), ClientFault>
     ensures { AnswersBy (of_ask (ask_refusal (phase_of channel.now) before body.now)) result }
 {
@@ -83,7 +83,7 @@ fn judge_body(channel: &ClientChannel, before: usize, body: &Body) -> Result<(),
     }
 }
 
-/// The body of a request, where a channel would ask it behind so many others.
+/// The body of a request, where a channel would send it after so many others.
 fn judge_request(
     alloc: Global,
     channel: &ClientChannel,
@@ -104,8 +104,8 @@ fn judge_request(
     }
 }
 
-/// The fault of a group in which the request at this place was judged: want of memory is that of the
-/// whole group, and names its first.
+/// The fault of a group in which the request at this index was checked: a failed allocation is a
+/// fault of the whole group, and names its first request.
 fn fault_at(place: usize, fault: ClientFault) -> CallsFault
     ensures fault { result.fault ≡ fault }
     ensures request { result.request ≡ place_by fault place }
@@ -119,8 +119,8 @@ fn fault_at(place: usize, fault: ClientFault) -> CallsFault
     }
 }
 
-/// The bodies of a group of requests, where a channel would ask all of them; else the first of them that
-/// it would not ask.
+/// The bodies of a group of requests, where a channel would send all of them; else the first of
+/// them that it would not send.
 pub fn judge_group(
     alloc: Global,
     channel: &ClientChannel,
@@ -145,7 +145,7 @@ pub fn judge_group(
     Ok(bodies)
 }
 
-/// A call of each body, in order, and the request id of the first.
+/// A call of each body, in order, and the RequestId of the first.
 pub fn ask_group(
     alloc: Global,
     channel: &mut ClientChannel,

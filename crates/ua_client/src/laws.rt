@@ -1,7 +1,7 @@
-//! Laws of what a client hears of its calls, of settled places, where the channel is open and all that was
-//! asked is answered, and of a client whose peer keeps to the protocol.
+//! Laws of the events of a client's calls, of settled states, where the channel is open and all
+//! calls and renewals are answered, and of a client whose peer keeps to the protocol.
 //!
-//! Each function does nothing; its contract is the law.
+//! Each function has no effect; its contract is the law.
 
 ghost use Rattle.std.specs.Prelude.{◌≡◌, ◌≤◌, ◌+◌, ◌++◌, ℕ, List, [], Some, length};
 ghost use Rattle.std.specs.List.{AllByRecursion};
@@ -27,7 +27,7 @@ ghost use Rattle.ua_client.specs.declared.reply.Reply.{Reply};
 use ua_channel_laws::asking_laws::client_follows_asking;
 use ua_channel_laws::client_laws::{client_goes_on, client_pairs, client_tells_delivered};
 
-/// What is told of a call is the first that is told of it.
+/// The event of a call is the first event that is reported of it.
 pub fn calls_are_told_once()
     ensures { (x : ClientChannel) (asks : List Placed) (octets : List ℕ) (told : List ClientTold) (t : ClientTold) → ClientGoesTelling x asks octets told t → IsFirstOf told t }
 {
@@ -36,7 +36,7 @@ pub fn calls_are_told_once()
     client_tells_delivered();
 }
 
-/// Nothing is told of a call before it is asked.
+/// No event of a call is reported before the call is sent.
 pub fn calls_are_told_behind()
     ensures { (x : ClientChannel) (asks : List Placed) (octets : List ℕ) (told : List ClientTold) (n : ℕ) → ClientGoes x asks octets told → told_of (next_id (asked_in asks) + n) told ≡ [] }
 {
@@ -44,10 +44,10 @@ pub fn calls_are_told_behind()
     client_tells_delivered();
 }
 
-/// Behind its opening a client has asked nothing and its place is settled; and so it is behind calls that
-/// are answered, and with more told where nothing more was asked. Where a place is settled no call is
-/// pending, and there is a lane for the next ones. A channel that stands at a settled place is idle
-/// wherever it stands.
+/// After its opening a client has sent no call and its state is settled; so it is after calls that
+/// are answered, and with more events reported where nothing more was sent. In a settled state no
+/// call is pending, and there is a lane for the next ones. A channel whose state is a settled one
+/// is idle in every description of that state.
 pub fn clients_are_settled()
     ensures opened { (x : ClientChannel) (octets : List ℕ) → IsOpened x octets → (s : ClientPlace) × (s.octets ≡ octets) × (s.asks ≡ []) × StandsAt x s × IsSettled s }
     ensures answered { (requests : List Request) (s t : ClientPlace) (taken : List ℕ) (replies : List Reply) → IsSettled s → Answered requests s t taken replies → IsSettled t }
@@ -60,11 +60,12 @@ pub fn clients_are_settled()
     client_tells_delivered();
 }
 
-/// A client whose peer keeps to the protocol, while it asks on in the middle of what that says: where a
-/// client stands, its octets are a beginning of octets that a client reads, merged or not, and what it asks
-/// on is placed at their end or behind it, it was told a beginning of what they all tell, and the replies to
-/// a group of calls that is answered are those that they all tell. A group does not break off behind such a
-/// beginning for a refusal, of the peer or its own.
+/// A client whose peer keeps to the protocol, while it sends in the middle of what the peer sends.
+/// In any state of the client, let its received bytes be a prefix of bytes that a client reads,
+/// interleaved or not, and let its further operations be placed at the end of the prefix or after
+/// it. Then it has reported a prefix of the events of all the bytes, and the replies to an answered
+/// group of calls are those of all the bytes. After such a prefix a group does not end for a
+/// refusal, of the peer or of the client.
 pub fn clients_follow_asking()
     ensures told { (x : ClientChannel) (s : ClientPlace) (later : List Placed) (more : List ℕ) (all : List ClientTold) (at : AtClient) → StandsAt x s →
         AllByRecursion (λ (a : Placed). length s.octets ≤ a.0) later → ClientReads (client_limits x) (s.asks ++ later) (s.octets ++ more) all at →

@@ -1,16 +1,16 @@
-//! A client of OPC UA Binary over a line, under the security policy None (OPC 10000-4, 5.5 and 5.6;
-//! OPC 10000-6, 6.7 and 7.1).
+//! A client of OPC UA Binary over a transport, under the SecurityPolicy None (OPC 10000-4, 5.5 and
+//! 5.6; OPC 10000-6, 6.7 and 7.1).
 //!
-//! Its contracts are those of [`Client::open`], [`Client::begin_session_as`], [`Client::call_all`],
-//! [`Client::call_into`], [`Client::renew`] and [`Client::close`]: what they write, and from which octets
-//! they answer.
+//! The main contracts are those of [`Client::open`], [`Client::begin_session_as`],
+//! [`Client::call_all`], [`Client::call_into`], [`Client::renew`] and [`Client::close`]: the bytes
+//! that they write, and the received bytes from which they return.
 //!
 //! ```
 //! let mut client = Client::open(alloc, &mut line, limits, url, moment)?;
 //! let token = client.begin_session(&mut line, moment)?; // for the requests' headers
 //! let reply = client.call(&mut line, &request, moment)?;
 //! let replies = client.call_all(&mut line, &requests, moment)?;
-//! client.call_into(&mut line, &requests, moment, &mut kept)?; // keeps what was answered at a fault
+//! client.call_into(&mut line, &requests, moment, &mut kept)?; // keeps the replies at a fault
 //! client.close(&mut line, moment)?;
 //! ```
 #![tactic(auto)]

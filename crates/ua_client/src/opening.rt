@@ -1,4 +1,4 @@
-//! The beginning and the end of a connection over a line.
+//! The beginning and the end of a connection over a transport.
 
 ghost use Rattle.std.specs.Prelude.{◌≡◌, [], IsTrue, IfOk, OnErr, Err};
 ghost use Rattle.ua_wire.specs.Counted.{text};
@@ -19,7 +19,7 @@ use ua_channel_laws::client_laws::client_goes_on;
 use ua_frame::Limits;
 
 impl Connection {
-    /// A connection of which nothing was sent and nothing came.
+    /// A connection that has sent and received nothing.
     pub fn new(alloc: Global, limits: Limits, url: UaString) -> Result<Connection, ClientFault>
         requires { IsTrue (text.encodable url) }
         ensures stands { IfOk result (λ x. ClientStands (channel_of x) [] [] [] []) }
@@ -74,7 +74,7 @@ impl Connection {
         }
     }
 
-    /// Sends the HEL, behind the ACK the OPN, and waits until the channel is open.
+    /// Sends the HEL, and the OPN after the ACK, and waits until the channel is open.
     pub fn open<L: Line>(&mut self, line: &mut L, moment: DateTime) -> Result<(), ClientFault>
         ensures opens { Opens moment self.old self.new (L.traffic line.old) (L.traffic line.new) result }
         ensures failed { L.failures line.new ≡ failures_behind (L.failures line.old) result }

@@ -1,4 +1,4 @@
-//! What was read from a line and is not taken yet.
+//! Bytes that were read from a transport and are not yet taken.
 
 ghost use Rattle.std.specs.Prelude.{◌≡◌, ◌≤◌, ◌-◌, ◌↔◌, ℕ, List, [], length, take, drop, IsTrue, OnOk, OnErr, Ok, Err};
 ghost use Rattle.ua_channel.specs.Line.{IfTrafficKnown, failures_after};
@@ -8,10 +8,10 @@ use std::alloc::{AllocError, Global};
 use std::marker::Model;
 use ua_channel::{Line, LineFault};
 
-/// The most octets of a piece.
+/// The maximum number of bytes of one read.
 const MOST_OCTETS: usize = 4096;
 
-/// A piece of a line's input: what of it is not taken yet.
+/// The bytes of one read of a transport that are not yet taken.
 #[derive(Drop)]
 pub struct Piece {
     octets: Vec<u8>,
@@ -28,7 +28,7 @@ impl Model for Piece {
 }
 
 impl Piece {
-    /// A piece of nothing.
+    /// No bytes.
     pub fn new(alloc: Global) -> Result<Piece, AllocError>
         ensures { OnOk result (Ok [] ≡ result) }
     {
@@ -40,7 +40,7 @@ impl Piece {
         })
     }
 
-    /// What is not taken yet.
+    /// The bytes that are not yet taken.
     pub fn untaken(&self) -> &[u8]
         ensures value { result.now ≡ self.now }
         ensures few { length self.now ≤ 4096 }
@@ -48,14 +48,14 @@ impl Piece {
         &self.octets[self.start..self.end]
     }
 
-    /// Whether all is taken.
+    /// Whether all bytes are taken.
     pub fn is_empty(&self) -> bool
         ensures { IsTrue result ↔ (self.now ≡ []) }
     {
         self.start == self.end
     }
 
-    /// Takes so many octets.
+    /// Takes so many bytes.
     pub fn skip(&mut self, count: usize)
         requires { count ≤ length self.old }
         ensures { self.new ≡ drop count self.old }
@@ -63,15 +63,15 @@ impl Piece {
         self.start += count;
     }
 
-    /// Takes all.
+    /// Takes all bytes.
     pub fn clear(&mut self)
         ensures { self.new ≡ [] }
     {
         self.start = self.end;
     }
 
-    /// Reads the next piece of a line, of at most 4096 octets, in place of this one. Nothing is the end
-    /// of the input.
+    /// Reads the next bytes of a transport, at most 4096, in place of these. 0 bytes is the end of
+    /// the input.
     pub fn read<L: Line>(&mut self, line: &mut L) -> Result<(), LineFault>
         ensures read { OnOk result (IfTrafficKnown (Carries self.new []) (L.traffic line.old) (L.traffic line.new)) }
         ensures end { OnOk result (self.new ≡ [] → IsAtEnd (L.traffic line.new)) }

@@ -1,4 +1,4 @@
-//! The renewal of the token of a channel over a line.
+//! The renewal of a channel's token over a transport.
 
 ghost use Rattle.std.specs.Prelude.{◌≡◌};
 ghost use Rattle.ua_client.specs.Hearing.{channel_of, failures_behind};
@@ -13,7 +13,7 @@ use ua_builtin::DateTime;
 use ua_channel::{AskFault, ClientEvent, Line};
 use ua_channel_laws::client_laws::client_goes_on;
 
-/// What a refusal to ask a renewal comes to.
+/// The refusal of a renewal, as a fault of the client.
 fn of_ask(fault: AskFault) -> ClientFault
     ensures { result ≡ of_renew_fault fault }
 {
@@ -29,7 +29,7 @@ fn of_ask(fault: AskFault) -> ClientFault
 }
 
 impl Connection {
-    /// Waits until a further token came.
+    /// Waits until the new token arrives.
     fn wait_until_renewed<L: Line>(
         &mut self,
         line: &mut L,
@@ -47,7 +47,7 @@ impl Connection {
         }
     }
 
-    /// Asks for a further token by the OPN, and waits until it came.
+    /// Sends the OPN that renews the token, and waits until the new one arrives.
     pub fn renew<L: Line>(&mut self, line: &mut L, moment: DateTime) -> Result<(), ClientFault>
         requires settled { StandsSettled (channel_of self.old) }
         ensures renews { Renews moment self.old self.new (L.traffic line.old) (L.traffic line.new) result }

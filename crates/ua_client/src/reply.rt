@@ -23,9 +23,9 @@ use ua_services::{Request, RequestKind, Response, ResponseFault, read_response};
 /// The reply to a request.
 #[derive(Drop)]
 pub enum Reply {
-    /// The server answered: by a response of the request's own kind, or by a ServiceFault.
+    /// The server answered by a response of the request's own kind, or by a ServiceFault.
     Response(Response),
-    /// The server gave up its answer, and why.
+    /// The server aborted its reply, with this StatusCode.
     Aborted(StatusCode),
 }
 
@@ -57,7 +57,7 @@ fn read_answer(alloc: Global, kind: RequestKind, message: &Message) -> Result<Re
     }
 }
 
-/// The place of a request id among so many that are counted from the first.
+/// The index of a RequestId among so many that are counted from the first.
 fn place_of(first: u32, id: u32, count: usize) -> Option<usize>
     ensures { IsPlace first id count result }
 {
@@ -71,8 +71,8 @@ fn place_of(first: u32, id: u32, count: usize) -> Option<usize>
     Some(place)
 }
 
-/// The reply that a message under a request id is to one of these requests, whose calls have request
-/// ids from the first on, and the place of that request.
+/// The reply to one of these requests that a message under a RequestId is, and the index of the
+/// request; the calls have RequestIds counted from the first.
 fn answer_by(
     alloc: Global,
     requests: &[Request],
@@ -93,8 +93,8 @@ fn answer_by(
     }
 }
 
-/// The reply that an event brings to one of these requests, whose calls have request ids from the first
-/// on, and the place of that request.
+/// The reply to one of these requests that an event brings, and the index of the request; the calls
+/// have RequestIds counted from the first.
 fn reply_by(
     alloc: Global,
     requests: &[Request],
@@ -115,7 +115,7 @@ fn reply_by(
     }
 }
 
-/// Puts a reply at a place.
+/// Puts a reply at an index.
 fn set_reply(slots: &mut Vec<Option<Reply>>, place: usize, reply: Reply)
     requires { place < length slots.old.items }
     ensures { slots.new.items ≡ slice_set slots.old.items place (Some reply) }
@@ -123,7 +123,7 @@ fn set_reply(slots: &mut Vec<Option<Reply>>, place: usize, reply: Reply)
     drop(mem::replace(&mut slots[place], Some(reply)));
 }
 
-/// Puts the reply that an event brings at the place of its request.
+/// Puts the reply that an event brings at the index of its request.
 pub fn place_reply(
     alloc: Global,
     requests: &[Request],

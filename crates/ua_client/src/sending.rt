@@ -1,4 +1,4 @@
-//! Octets that go to a line whole.
+//! Complete writes to a transport.
 
 ghost use Rattle.std.specs.Prelude.{◌≡◌, ◌<◌, ◌≤◌, length, OnErr};
 ghost use Rattle.ua_channel.specs.Line.{IfTrafficKnown, failures_after};
@@ -7,7 +7,7 @@ ghost use Rattle.ua_client.specs.Sent.{asked_octets};
 
 use ua_channel::{AskedCall, Line, LineFault, write_whole};
 
-/// Writes octets whole, or a beginning of them where the line fails.
+/// Writes all the bytes, or the first of them where the transport fails.
 pub fn send_whole<L: Line>(line: &mut L, octets: &[u8]) -> Result<(), LineFault>
     ensures written { IfTrafficKnown (Writes result octets.now) (L.traffic line.old) (L.traffic line.new) }
     ensures some { OnErr result (0 < length octets.now) }
@@ -19,8 +19,8 @@ pub fn send_whole<L: Line>(line: &mut L, octets: &[u8]) -> Result<(), LineFault>
     }
 }
 
-/// Where the frame ends that begins at a place of so many octets: it has `frame_len`, or those that are
-/// left.
+/// The end of the frame that begins at a place among so many bytes: the frame has `frame_len`
+/// bytes, or those that are left.
 fn frame_end(at: usize, frame_len: usize, len: usize) -> usize
     requires some { 0 < frame_len }
     requires left { at < len }
@@ -33,8 +33,8 @@ fn frame_end(at: usize, frame_len: usize, len: usize) -> usize
     at + frame_len
 }
 
-/// Writes frames whole, each by one write where the line takes it so. Each but the last has `frame_len`
-/// octets.
+/// Writes frames completely, each by one write where the transport takes it so. Each but the last
+/// has `frame_len` bytes.
 fn write_frames<L: Line>(line: &mut L, octets: &[u8], frame_len: usize) -> Result<(), LineFault>
     requires { 0 < frame_len }
     ensures written { IfTrafficKnown (Writes result octets.now) (L.traffic line.old) (L.traffic line.new) }
@@ -52,7 +52,7 @@ fn write_frames<L: Line>(line: &mut L, octets: &[u8], frame_len: usize) -> Resul
     Ok(())
 }
 
-/// Writes the frames of calls whole, each by one write where the line takes it so.
+/// Writes the frames of calls completely, each by one write where the transport takes it so.
 pub fn write_calls<L: Line>(line: &mut L, calls: &[AskedCall]) -> Result<(), LineFault>
     ensures written { IfTrafficKnown (Writes result (asked_octets calls.now)) (L.traffic line.old) (L.traffic line.new) }
     ensures some { OnErr result (0 < length (asked_octets calls.now)) }

@@ -1,4 +1,4 @@
-//! The beginning of a session over a line.
+//! The beginning of a session over a transport.
 
 ghost use Rattle.std.specs.Prelude.{◌≡◌, None, IfOk, IfErr};
 ghost use Rattle.ua_channel.specs.Client.{url_of};
@@ -109,7 +109,7 @@ impl Connection {
         }
     }
 
-    /// The CreateSession that would be asked next.
+    /// The CreateSession that would be sent next.
     fn creating(&self, alloc: Global, moment: DateTime) -> Result<Request, AllocError>
         ensures { (s : ClientPlace) → StandsAt (channel_of self.now) s → IfOk result (λ r. r ≡ creating_at (url_of (channel_of self.now)) moment s) }
     {
@@ -117,7 +117,7 @@ impl Connection {
         create_session_request(alloc, url, moment, self.channel.next_id())
     }
 
-    /// The ActivateSession under a token, by the token policy with an id, that would be asked next.
+    /// The ActivateSession under a token, by the token policy with an id, that would be sent next.
     fn activating(
         &self,
         alloc: Global,
@@ -138,7 +138,7 @@ impl Connection {
         }
     }
 
-    /// Asks CreateSession, and answers the token of the session.
+    /// Calls CreateSession, and returns the token of the session.
     fn create_session<L: Line>(
         &mut self,
         alloc: Global,
@@ -158,7 +158,7 @@ impl Connection {
         }
     }
 
-    /// Asks ActivateSession under the token of a session, by the token policy with an id.
+    /// Calls ActivateSession under the token of a session, by the token policy with an id.
     fn activate_session<L: Line>(
         &mut self,
         alloc: Global,
@@ -184,8 +184,8 @@ impl Connection {
         }
     }
 
-    /// Begins a session: CreateSession, and behind a good response ActivateSession under its token, by
-    /// the token policy with an id.
+    /// Begins a session: CreateSession and, after a good response, ActivateSession under its token,
+    /// by the token policy with an id.
     pub fn begin_session<L: Line>(
         &mut self,
         alloc: Global,

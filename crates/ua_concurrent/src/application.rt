@@ -8,11 +8,11 @@ use ua_server::{Services, Step};
 
 /// What an application does around each step of a connection.
 pub trait Application {
-    /// Sets the nodes as it likes, right before octets of a client are looked at, and gives the time at
-    /// which they are answered.
+    /// Sets nodes as the application likes, right before bytes of a client are looked at, and gives
+    /// the timestamp of the answer.
     fn before_step(&mut self, services: &mut Services) -> DateTime
         ensures { services.new ≡ with_nodes services.old services.new.nodes };
 
-    /// A step of the connection of this number was taken. What it answers is written next.
+    /// The connection of this number has taken a step. Its answer is not written yet.
     fn after_step(&mut self, number: u32, services: &Services, step: &Step);
 }

@@ -20,8 +20,8 @@ use thiserror::Error;
 use ua_frame::Limits;
 use ua_server::Services;
 
-/// At most so many connections at a time over one table, each at a place. They are numbered from 1, in
-/// the order in which they are opened, and no number comes again.
+/// At most so many connections at a time over one node table, each at a place. They are numbered
+/// from 1, in the order in which they are opened, and no number is used again.
 #[derive(Drop)]
 pub struct Connections<S> {
     alloc: Global,
@@ -40,7 +40,7 @@ pub enum OpenFault {
     /// 4294967295 connections were opened.
     #[error("too many connections")]
     TooMany,
-    /// Memory was refused.
+    /// An allocation failed.
     #[error("out of memory")]
     OutOfMemory,
 }
@@ -64,7 +64,7 @@ impl<S: Socket> Connections<S> {
         })
     }
 
-    /// How many were opened so far.
+    /// How many connections were opened so far.
     pub fn opened(&self) -> u32
         ensures { result ≡ last_of self.now }
     {
@@ -96,7 +96,8 @@ impl<S: Socket> Connections<S> {
         }
     }
 
-    /// Opens a connection to the peer at the other end of a socket, at a free place.
+    /// Opens a connection to the peer at the other end of a socket, at a free place, and gives its
+    /// number.
     pub fn open(&mut self, place: usize, socket: S) -> Result<u32, OpenFault>
         ensures number { IfOk result (λ number. (number ≡ last_of self.old + 1) × (last_of self.new ≡ number)) }
         ensures opens { IfOk result (λ number. IsFree (places_of self.old) place × Opens number socket place (places_of self.old) (places_of self.new)) }
@@ -122,7 +123,7 @@ impl<S: Socket> Connections<S> {
         }
     }
 
-    /// Tells what the system says of the socket at a place.
+    /// Passes on what the system reports about the socket at a place.
     pub fn wake(&mut self, place: usize, readiness: Readiness)
         ensures last { last_of self.new ≡ last_of self.old }
         ensures stand { (es : List SharedEvent) (first now : State) → StandTogether S.heard es first now (last_of self.old) (places_of self.old)
@@ -142,7 +143,7 @@ impl<S: Socket> Connections<S> {
         self.places.iter().any(|place| is_place_ready(place))
     }
 
-    /// One turn of the connection at each place, in the order of places.
+    /// Gives the connection at each place one turn, in the order of places.
     pub fn go_round<A: Application>(&mut self, services: &mut Services, application: &mut A)
         ensures last { last_of self.new ≡ last_of self.old }
         ensures round { HadRound S.heard S.readable S.writable (places_of self.old) (places_of self.new) }
@@ -154,7 +155,7 @@ impl<S: Socket> Connections<S> {
         }
     }
 
-    /// One turn of the connection at a place.
+    /// Gives the connection at a place one turn.
     fn turn<A: Application>(&mut self, place: usize, services: &mut Services, application: &mut A)
         requires { place < length (places_of self.old) }
         ensures last { last_of self.new ≡ last_of self.old }
@@ -179,7 +180,7 @@ impl<S: Socket> Connections<S> {
         }
     }
 
-    /// Frees a place whose connection is over.
+    /// Frees a place whose connection is over; `None` where there is no such connection.
     pub fn release(&mut self, place: usize) -> Option<Released<S>>
         ensures released { result ≡ released_at (places_of self.old) place }
         ensures free { IfSome result (λ _. places_of self.new ≡ slice_set (places_of self.old) place None) }

@@ -1,4 +1,4 @@
-//! One client's conversation.
+//! The conversation of one client.
 
 ghost use Rattle.std.specs.Prelude.{◌≡◌, ◌≢◌, ◌⊎◌, ◌<◌, ◌≤◌, ◌↔◌, ℕ, Bool, true, false, is_some, List, [], length, drop, take, IfOk, IfSome, OnOk, IsTrue, Some, None};
 ghost use Rattle.ua_server.specs.Sharing.{SharedEvent, opened, shared_over, told_by};
@@ -18,14 +18,14 @@ use ua_frame::Limits;
 use ua_server::laws::{events_are_answered_in_parts, one_of_several_connections_stands_by_itself};
 use ua_server::{Connection, End, Services, Step};
 
-/// The most octets that are read at once.
+/// The most bytes that are read at once.
 const PIECE: usize = 4096;
 
-/// No further step is taken once so many octets wait to be written.
+/// No further step is taken once so many bytes wait to be written.
 const MOST_GATHERED: usize = 16384;
 
-/// A client's connection, its socket, and what is kept between two turns: octets that were read and are
-/// not stepped yet, and answers that are not written yet.
+/// A client's connection, its socket, and what is buffered between two turns: bytes that were read
+/// and not stepped yet, and answers that are not written yet.
 #[derive(Drop)]
 pub struct Conversation<S> {
     alloc: Global,
@@ -34,11 +34,11 @@ pub struct Conversation<S> {
     connection: Connection,
     phase: Phase,
     outcome: Option<Result<End, Failure>>,
-    /// What was read last: so many octets of the piece, of which so many are stepped.
+    /// What was read last: so many bytes of the fragment, of which so many are stepped.
     piece: Vec<u8>,
     filled: usize,
     stepped: usize,
-    /// What was answered and is not written whole, of which so many octets are written.
+    /// What was answered and is not written whole, of which so many bytes are written.
     out: Vec<u8>,
     sent: usize,
 }
@@ -55,7 +55,7 @@ impl<S> Model for Conversation<S> {
 }
 
 impl<S: Socket> Conversation<S> {
-    /// Before the first octet. The connection's channel has its number as its id.
+    /// Before the first byte. The SecureChannelId is the connection's number.
     pub fn new(
         alloc: Global,
         limits: Limits,
@@ -112,14 +112,14 @@ impl<S: Socket> Conversation<S> {
         }
     }
 
-    /// What became of the connection, once it is over.
+    /// How the connection ended, once it is over.
     pub fn outcome(&self) -> Option<Result<End, Failure>>
         ensures { result ≡ self.now.outcome }
     {
         self.outcome
     }
 
-    /// Tells what the system says of the socket.
+    /// Passes on what the system reports about the socket.
     pub fn wake(&mut self, readiness: Readiness)
         ensures same { self.new ≡ record self.old { socket = self.new.socket } }
         ensures heard { S.heard self.new.socket ≡ S.heard self.old.socket }
@@ -127,7 +127,7 @@ impl<S: Socket> Conversation<S> {
         self.socket.wake(readiness);
     }
 
-    /// What became of the connection, and its socket, once it is over.
+    /// How the connection ended, and its socket, once it is over.
     pub fn release(self) -> Option<Released<S>>
         ensures { result ≡ released self }
     {
@@ -147,8 +147,8 @@ impl<S: Socket> Conversation<S> {
         }
     }
 
-    /// One turn: writes what waits. Where nothing waits, it reads, unless octets are still to be stepped,
-    /// steps them, and writes what is answered. While an answer waits nothing is read.
+    /// One turn: writes what waits. Where nothing waits, it reads, unless bytes are still to be
+    /// stepped, steps them, and writes the answers. While an answer waits, nothing is read.
     pub fn turn<A: Application>(&mut self, services: &mut Services, application: &mut A)
         ensures turn { HadTurn S.heard S.readable S.writable self.old self.new }
         ensures went { (es : List SharedEvent) (first : State) → (shared_over own_id (opened first) es).state ≡ services.old → Stands S.heard es first services.old self.old
@@ -169,7 +169,7 @@ impl<S: Socket> Conversation<S> {
         }
     }
 
-    /// Steps what is unread and writes what is answered, or reads first where all is stepped.
+    /// Steps what is unread and writes the answers, or reads first where all is stepped.
     fn go_on<A: Application>(&mut self, services: &mut Services, application: &mut A)
         requires going { self.old.phase ≡ phase.Going }
         requires still { self.old.outcome ≡ None }
@@ -185,7 +185,7 @@ impl<S: Socket> Conversation<S> {
         }
     }
 
-    /// Reads, steps what was read, and writes what is answered.
+    /// Reads, steps what was read, and writes the answers.
     fn read_and_answer<A: Application>(&mut self, services: &mut Services, application: &mut A)
         requires going { self.old.phase ≡ phase.Going }
         requires still { self.old.outcome ≡ None }
@@ -200,7 +200,7 @@ impl<S: Socket> Conversation<S> {
         }
     }
 
-    /// Steps what is unread, and writes what is answered.
+    /// Steps what is unread, and writes the answers.
     fn answer<A: Application>(&mut self, services: &mut Services, application: &mut A)
         requires going { self.old.phase ≡ phase.Going }
         requires still { self.old.outcome ≡ None }
@@ -227,7 +227,7 @@ impl<S: Socket> Conversation<S> {
         }
     }
 
-    /// So many of the waiting octets are written. Once all are, their memory is given back.
+    /// So many of the waiting bytes are written. Once all are, their memory is freed.
     fn wrote(&mut self, count: usize)
         requires { count ≤ length self.old.waiting }
         ensures { self.new ≡ record self.old { waiting = drop count self.old.waiting } }
@@ -239,7 +239,7 @@ impl<S: Socket> Conversation<S> {
         }
     }
 
-    /// Reads a piece, where all octets before it are stepped.
+    /// Reads a fragment, where all bytes before it are stepped.
     fn read_on(&mut self)
         requires { self.old.unread ≡ [] }
         ensures reads { Reads S.heard S.readable self.old self.new }
@@ -254,7 +254,7 @@ impl<S: Socket> Conversation<S> {
         }
     }
 
-    /// How a connection ends whose input does.
+    /// How a connection ends whose input ends.
     fn finish(&self) -> End
         ensures { Finishes result self.now }
     {
@@ -310,7 +310,7 @@ impl<S: Socket> Conversation<S> {
         }
     }
 
-    /// Keeps what a step came to: what it answered waits behind what waits already.
+    /// Keeps the result of a step: its answer waits after those that wait already.
     fn keep(&mut self, step: Step)
         requires { step.taken ≤ length self.old.unread }
         ensures { Keeps step self.old self.new }

@@ -1,6 +1,6 @@
-//! Many connections at a time over one table of nodes, in one thread: whose turn it is, when its socket is
-//! read, what is stepped, and what is kept until it is written. The sockets stand behind a trait, and
-//! nothing here waits.
+//! Many connections at a time over one node table, in one thread: whose turn it is, when its socket
+//! is read, what is stepped, and what is buffered until it is written. The sockets are behind a
+//! trait, and nothing here waits.
 //!
 //! ```
 //! let mut connections = Connections::new(alloc, limits, places)?;

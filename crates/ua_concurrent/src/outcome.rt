@@ -1,4 +1,4 @@
-//! How far a conversation is, and what becomes of it.
+//! The phase of a conversation, and its outcome.
 
 ghost use Rattle.std.specs.Prelude.{◌≡◌};
 ghost use Rattle.ua_concurrent.specs.Talk.{is_going};
@@ -8,21 +8,23 @@ use thiserror::Error;
 use ua_builtin::StatusCode;
 use ua_server::End;
 
-/// How far the octets of a client have come.
+/// How far the server has come with a client's bytes.
 #[derive(Clone, Copy, PartialEq, Eq, Debug)]
 pub enum Phase {
     /// The connection goes on.
     Going,
-    /// A CLO came. Only what waits is still to be written.
+    /// A CLO came. Only buffered answers are still to be written.
     Closed,
-    /// They were refused with this code. Only what waits, with the ERR frame, is still to be written.
+    /// The bytes were refused with this code. Only buffered answers and the ERR frame are still to
+    /// be written.
     Refused(StatusCode),
-    /// Memory was refused at a step. Only what waits is still to be written.
+    /// An allocation failed in a step, or for its answer. Only buffered answers are still to be
+    /// written.
     Starved,
 }
 
 impl Phase {
-    /// Whether the octets of the client go on.
+    /// Whether the client's bytes are still processed.
     pub fn is_going(self) -> bool
         ensures { result ≡ is_going self }
     {
@@ -34,7 +36,8 @@ impl Phase {
         }
     }
 
-    /// How far a connection is by how its step ended. No step ends where the input does.
+    /// The phase after a step that ended the connection so, or not. No step ends where the input
+    /// does.
     pub(crate) fn behind(end: Option<End>) -> Phase
         ensures { result ≡ phase_of end }
     {
@@ -46,7 +49,7 @@ impl Phase {
     }
 }
 
-/// Why a connection is served no further, though it did not end.
+/// Why the server stops serving a connection before it ended.
 #[derive(Clone, Copy, PartialEq, Eq, Debug, Error)]
 pub enum Failure {
     /// The socket could not be read.
@@ -55,7 +58,7 @@ pub enum Failure {
     /// The socket could not be written.
     #[error("the socket cannot be written")]
     Write,
-    /// Memory was refused.
+    /// An allocation failed.
     #[error("out of memory")]
     OutOfMemory,
 }
@@ -65,7 +68,7 @@ pub enum Failure {
 pub struct Released<S> {
     /// Its number.
     pub number: u32,
-    /// What became of it.
+    /// How it ended, or why the server stopped serving it.
     pub outcome: Result<End, Failure>,
     /// Its socket.
     pub socket: S,

@@ -14,7 +14,7 @@ pub enum Stop {
     Failed,
 }
 
-/// What a system says of a socket: it says so once, as it comes to be.
+/// What a system reports about a socket. It reports each change once, when it happens.
 #[derive(Clone, Copy, PartialEq, Eq, Debug)]
 pub struct Readiness {
     /// A read may find something.
@@ -25,39 +25,41 @@ pub struct Readiness {
     pub ended: bool,
 }
 
-/// A byte stream to a peer that never waits: a call moves what it can at once.
+/// A nonblocking byte stream to a peer: a call moves what it can at once.
 ///
-/// What a socket says of its octets holds where it tells them; those of a system do not.
+/// The clauses on its bytes hold where the socket tells them in `heard`; system sockets do not.
 pub trait Socket: Drop {
     /// What was read and written so far, where the socket tells it.
     ghost heard: { Self → Option Carried };
 
-    /// Whether a read may find something: octets, the end, or a failure.
+    /// Whether a read may find something: bytes, the end, or a failure.
     ghost readable: { Self → Bool };
 
     /// Whether a write may be taken, or fail.
     ghost writable: { Self → Bool };
 
-    /// Whether a read may find something. After `Blocked` it does not, until [`wake`](Socket::wake) says so.
+    /// Whether a read may find something. After `Blocked` it does not, until [`wake`](Socket::wake)
+    /// reports so.
     fn is_readable(&self) -> bool
         ensures { result ≡ readable self.now };
 
-    /// Whether a write may be taken. After `Blocked` it is not, until [`wake`](Socket::wake) says so.
+    /// Whether a write may be taken. After `Blocked` it is not, until [`wake`](Socket::wake)
+    /// reports so.
     fn is_writable(&self) -> bool
         ensures { result ≡ writable self.now };
 
-    /// Tells what the system says of the socket.
+    /// Passes on what the system reports about the socket.
     fn wake(&mut self, readiness: Readiness)
         ensures heard { heard self.new ≡ heard self.old };
 
-    /// Reads the next octets, as many as there are up to the length of the buffer. None into a buffer
-    /// with room is the end.
+    /// Reads the next bytes, as many as there are up to the length of the buffer. Zero bytes into a
+    /// buffer that is not empty is the end.
     fn read(&mut self, buffer: &mut [u8]) -> Result<usize, Stop>
         ensures within { IfOk result (λ n. n ≤ length buffer.new) }
         ensures blocked { IsErrOf result Blocked → readable self.new ≡ false }
         ensures heard { MatchResult result (λ n. heard self.new ≡ option_map (with_read (take n buffer.new)) (heard self.old)) (λ _. heard self.new ≡ heard self.old) };
 
-    /// Writes the first of these octets, at least one where there is one.
+    /// Writes the first of these bytes, at least one where there is one.
     fn write(&mut self, octets: &[u8]) -> Result<usize, Stop>
         ensures some { 0 < length octets.now → IfOk result (λ n. 0 < n) }
         ensures within { IfOk result (λ n. n ≤ length octets.now) }

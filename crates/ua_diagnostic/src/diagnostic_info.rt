@@ -1,4 +1,4 @@
-//! DiagnosticInfo as a value: its parts, its levels, and copies of it.
+//! DiagnosticInfo as a value: its fields, its nesting depth, and copies of it.
 
 ghost use Rattle.std.specs.Prelude.{◌≡◌, ◌≤◌, ◌↔◌, None, min, option_map, IfOk, IsTrue};
 ghost use Rattle.ua_diagnostic.specs.Diagnostic.{innermost, no_fields, diagnostic_depth, diagnostic_count, diagnostic_fields_count, diagnostic_encodable, diagnostic_fits, diagnostic_fields_encodable};
@@ -11,8 +11,8 @@ use ua_builtin::flags::is_flagged_encodable;
 use ua_builtin::{StatusCode, UaString, Wire};
 use ua_wire::MOST_LEVELS;
 
-/// A DiagnosticInfo: what a vendor says about a StatusCode (OPC 10000-6, 5.2.2.12). The ids are
-/// places in the string table of the response header.
+/// A DiagnosticInfo: vendor-specific details of a StatusCode (OPC 10000-6, 5.2.2.12). The ids are
+/// indexes into the StringTable of the response header.
 #[cycle(diagnostics)]
 #[derive(Drop)]
 pub struct DiagnosticInfo {
@@ -20,20 +20,20 @@ pub struct DiagnosticInfo {
     pub namespace_uri: Option<i32>,
     pub locale: Option<i32>,
     pub localized_text: Option<i32>,
-    /// Null where there is none.
+    /// Null if it is absent.
     pub additional_info: UaString,
     pub inner_status_code: Option<StatusCode>,
     pub inner: Option<BoxedDiagnostic>,
 }
 
-/// A DiagnosticInfo within another value, on the heap; one without any field takes no memory.
+/// A DiagnosticInfo inside another value, on the heap; one without any field is not allocated.
 #[cycle(diagnostics)]
 pub struct BoxedDiagnostic {
     inner: Option<Box<DiagnosticInfo>>,
 }
 
-// By hand, so that a crate that lets a DiagnosticInfo go calls this, and proves nothing of what lies
-// deeper.
+// By hand, so that a crate that lets a DiagnosticInfo go calls this, and proves nothing of what
+// lies deeper.
 impl Drop for BoxedDiagnostic {
     #[cycle(letting_go)]
     fn drop(self) {
@@ -66,7 +66,7 @@ impl Model for BoxedDiagnostic {
 }
 
 impl BoxedDiagnostic {
-    /// This value, on the heap, but for one without any field.
+    /// Moves this value to the heap, unless it has no field.
     #[inline]
     pub fn new(alloc: Global, value: DiagnosticInfo) -> Result<BoxedDiagnostic, AllocError>
         ensures { IfOk result (λ b. b ≡ diagnostic_of value) }
@@ -91,7 +91,7 @@ impl BoxedDiagnostic {
         }
     }
 
-    /// How many levels the value has, or the greatest number.
+    /// The nesting depth of the value, saturated at `u32::MAX`.
     pub fn depth(&self) -> u32
         ensures { result ≡ min (diagnostic_depth self.now) u32.MAX }
     {
@@ -101,7 +101,7 @@ impl BoxedDiagnostic {
         }
     }
 
-    /// How many values are in it, or the greatest number.
+    /// The number of values in it, saturated at `u64::MAX`.
     pub fn count(&self) -> u64
         ensures { result ≡ min (diagnostic_count self.now) u64.MAX }
     {
@@ -111,7 +111,7 @@ impl BoxedDiagnostic {
         }
     }
 
-    /// Whether the fields can be written, whatever its levels.
+    /// Whether each field can be encoded, whatever the nesting depth.
     #[tactic(auto, using(crate::proofs::Empty::empty_fits))]
     pub fn fits(&self) -> bool
         ensures { result ≡ diagnostic_fits self.now }
@@ -122,7 +122,7 @@ impl BoxedDiagnostic {
         }
     }
 
-    /// A value of its own, equal to this one.
+    /// Returns an owned copy, equal to this value.
     pub fn try_clone(&self, alloc: Global) -> Result<BoxedDiagnostic, AllocError>
         ensures { IfOk result (λ b. b ≡ self.now) }
     {
@@ -133,7 +133,7 @@ impl BoxedDiagnostic {
         BoxedDiagnostic::new(alloc, copied)
     }
 
-    /// Hands the value over.
+    /// Returns the value, consuming its holder.
     #[inline]
     pub fn into_inner(self) -> DiagnosticInfo
         ensures { diagnostic_of result ≡ self }
@@ -147,7 +147,7 @@ impl BoxedDiagnostic {
 }
 
 impl DiagnosticInfo {
-    /// Nothing is said: no field is there. Takes no memory.
+    /// A DiagnosticInfo without any field. Allocates nothing.
     #[inline]
     pub fn empty() -> DiagnosticInfo
         ensures { result ≡ no_diagnostics }
@@ -163,7 +163,7 @@ impl DiagnosticInfo {
         }
     }
 
-    /// Whether nothing is said.
+    /// Whether no field is present.
     #[inline]
     pub fn is_empty(&self) -> bool
         ensures { IsTrue result ↔ (self.now ≡ no_diagnostics) }
@@ -177,35 +177,36 @@ impl DiagnosticInfo {
             && self.inner.is_none()
     }
 
-    /// How many levels the value has, or the greatest number.
+    /// The nesting depth of the value, saturated at `u32::MAX`.
     pub fn depth(&self) -> u32
         ensures { result ≡ min (diagnostic_depth (diagnostic_of self.now)) u32.MAX }
     {
         levels(self)
     }
 
-    /// How many values are in it, or the greatest number.
+    /// The number of values in it, saturated at `u64::MAX`.
     pub fn count(&self) -> u64
         ensures { result ≡ min (diagnostic_count (diagnostic_of self.now)) u64.MAX }
     {
         count(self)
     }
 
-    /// Whether the value can be written: it has at most 100 levels, and each field can be.
+    /// Whether the value can be encoded: its nesting depth is at most 100, and each field can be
+    /// encoded.
     pub fn writable(&self) -> bool
         ensures { result ≡ diagnostic_encodable (diagnostic_of self.now) }
     {
         self.depth() <= MOST_LEVELS && diagnostic_fits_in(self)
     }
 
-    /// Whether the fields can be written, whatever its levels.
+    /// Whether each field can be encoded, whatever the nesting depth.
     pub fn fits(&self) -> bool
         ensures { result ≡ diagnostic_fits (diagnostic_of self.now) }
     {
         diagnostic_fits_in(self)
     }
 
-    /// A value of its own, equal to this one.
+    /// Returns an owned copy, equal to this value.
     pub fn try_clone(&self, alloc: Global) -> Result<DiagnosticInfo, AllocError>
         ensures { IfOk result (λ d. d ≡ self.now) }
     {

@@ -1,4 +1,4 @@
-//! How octets encode a DiagnosticInfo (OPC 10000-6, 5.2.2.12).
+//! The binary encoding of DiagnosticInfo (OPC 10000-6, 5.2.2.12).
 
 ghost use Rattle.std.specs.Prelude.{◌≡◌, ◌≤◌, ◌++◌, true, IsTrue, OnOk, OnErr, is_some};
 ghost use Rattle.std.specs.Int.{w32};
@@ -64,7 +64,7 @@ impl Wire for DiagnosticInfo {
     }
 }
 
-/// Reads a DiagnosticInfo of at most so many levels.
+/// Decodes a DiagnosticInfo of at most this nesting depth.
 #[cycle(diagnostics)]
 pub fn read_diagnostic<S: Source>(
     alloc: Global,
@@ -81,7 +81,7 @@ pub fn read_diagnostic<S: Source>(
     read_level(alloc, src, depth - 1)
 }
 
-/// Reads a DiagnosticInfo, with so many levels left within.
+/// Reads a DiagnosticInfo, whose inner values may have that nesting depth.
 #[cycle(diagnostics)]
 #[tactic(auto, unfolding(crate::specs::Diagnostic::diagnostic_step, crate::specs::Diagnostic::diagnostic_fields))]
 fn read_level<S: Source>(
@@ -141,7 +141,7 @@ impl Skip for DiagnosticInfo {
     }
 }
 
-/// Passes over a DiagnosticInfo of at most so many levels.
+/// Skips a DiagnosticInfo of at most this nesting depth.
 #[cycle(skipped_diagnostics)]
 pub fn skip_diagnostic<S: Source>(alloc: Global, src: &mut S, depth: u32) -> Result<(), ReadFault>
     requires levels { depth ≤ most_levels }
@@ -154,8 +154,8 @@ pub fn skip_diagnostic<S: Source>(alloc: Global, src: &mut S, depth: u32) -> Res
     skip_level(alloc, src, depth - 1)
 }
 
-/// Passes over a DiagnosticInfo, with so many levels left within. Each field is let go before the next
-/// one is read.
+/// Skips a DiagnosticInfo, whose inner values may have that nesting depth. Each field is let go
+/// before the next one is read.
 #[cycle(skipped_diagnostics)]
 #[tactic(auto, unfolding(crate::specs::Diagnostic::diagnostic_step))]
 fn skip_level<S: Source>(alloc: Global, src: &mut S, depth: u32) -> Result<(), ReadFault>
@@ -171,7 +171,7 @@ fn skip_level<S: Source>(alloc: Global, src: &mut S, depth: u32) -> Result<(), R
     skip_inner(alloc, src, depth, mask & INNER != 0)
 }
 
-/// Passes over the fields that the mask announces, but the inner info.
+/// Skips the fields that the mask announces, but the inner info.
 #[tactic(auto, unfolding(crate::specs::Diagnostic::diagnostic_fields))]
 fn skip_fields<S: Source>(alloc: Global, src: &mut S, mask: u8) -> Result<(), ReadFault>
     ensures exact { Gives (skipped (diagnostic_fields mask).decode) (S.octets src.old) (S.octets src.new) result }
@@ -186,7 +186,7 @@ fn skip_fields<S: Source>(alloc: Global, src: &mut S, mask: u8) -> Result<(), Re
     Ok(())
 }
 
-/// Passes over an inner info where it is announced.
+/// Skips an inner info where it is announced.
 #[cycle(skipped_diagnostics)]
 fn skip_inner<S: Source>(alloc: Global, src: &mut S, depth: u32, set: bool) -> Result<(), ReadFault>
     requires levels { depth ≤ most_levels }
@@ -213,7 +213,7 @@ fn mask_of(value: &DiagnosticInfo) -> u8
         + flag_of(INNER_STATUS_CODE, value.inner_status_code.is_some())
 }
 
-/// Adds the fields that are there, but the inner info.
+/// Appends the fields that are there, but the inner info.
 #[tactic(auto, unfolding(crate::specs::Diagnostic::diagnostic_fields_canonical))]
 fn append_fields(value: &DiagnosticInfo, out: &mut Vec<u8>) -> Result<(), AllocError>
     requires { diagnostic_fields_encodable (diagnostic_fields_of value.now) ≡ true }
@@ -229,7 +229,7 @@ fn append_fields(value: &DiagnosticInfo, out: &mut Vec<u8>) -> Result<(), AllocE
     )
 }
 
-/// Adds the last three of these fields, where they are there.
+/// Appends the last three of these fields, where they are there.
 fn append_texts(
     localized_text: &Option<i32>,
     additional_info: &UaString,
@@ -247,7 +247,7 @@ fn append_texts(
     append_field(inner_status_code, out)
 }
 
-/// Adds the canonical encoding of a DiagnosticInfo whose fields can be written.
+/// Appends the canonical encoding of a DiagnosticInfo whose fields can be encoded.
 pub fn append_diagnostic(value: &DiagnosticInfo, out: &mut Vec<u8>) -> Result<(), AllocError>
     requires { diagnostic_fits (diagnostic_of value.now) ≡ true }
     ensures ok { OnOk result (out.new.items ≡ out.old.items ++ diagnostic_canonical (diagnostic_of value.now)) }
@@ -264,7 +264,8 @@ pub fn append_diagnostic(value: &DiagnosticInfo, out: &mut Vec<u8>) -> Result<()
     }
 }
 
-/// Adds the canonical encoding of a DiagnosticInfo among other values whose fields can be written.
+/// Appends the canonical encoding of a DiagnosticInfo inside another value whose fields can be
+/// encoded.
 pub fn append_boxed_diagnostic(value: &BoxedDiagnostic, out: &mut Vec<u8>) -> Result<(), AllocError>
     requires { diagnostic_fits value.now ≡ true }
     ensures ok { OnOk result (out.new.items ≡ out.old.items ++ diagnostic_canonical value.now) }
@@ -276,7 +277,7 @@ pub fn append_boxed_diagnostic(value: &BoxedDiagnostic, out: &mut Vec<u8>) -> Re
     }
 }
 
-/// Adds the canonical encoding of a DiagnosticInfo without any field.
+/// Appends the canonical encoding of a DiagnosticInfo without any field.
 #[tactic(auto, using(crate::proofs::Empty::empty_canonical))]
 fn append_empty(out: &mut Vec<u8>) -> Result<(), AllocError>
     ensures ok { OnOk result (out.new.items ≡ out.old.items ++ diagnostic_canonical (innermost no_fields)) }

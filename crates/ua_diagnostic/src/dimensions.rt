@@ -12,7 +12,7 @@ use std::marker::Model;
 use ua_builtin::{ReadFault, Source, Wire};
 use ua_wire::FIRST_NEGATIVE;
 
-/// The dimensions of an array; none where it has one dimension alone.
+/// The ArrayDimensions of an array; empty if the array has a single dimension.
 #[derive(Drop)]
 pub struct Dimensions {
     items: Vec<i32>,
@@ -28,7 +28,7 @@ impl Model for Dimensions {
 }
 
 impl Dimensions {
-    /// These dimensions.
+    /// Dimensions with these lengths.
     #[inline]
     pub fn new(items: Vec<i32>) -> Dimensions
         ensures { result ≡ items.items }
@@ -36,7 +36,7 @@ impl Dimensions {
         Dimensions { items }
     }
 
-    /// No dimensions. Takes no memory.
+    /// No dimensions. Allocates nothing.
     #[inline]
     pub fn none(alloc: Global) -> Dimensions
         ensures { result ≡ [] }
@@ -46,7 +46,7 @@ impl Dimensions {
         }
     }
 
-    /// The dimensions, the outermost first.
+    /// The length of each dimension, the outermost first.
     #[inline]
     pub fn as_slice(&self) -> &[i32]
         ensures { result.now ≡ self.now }
@@ -54,7 +54,7 @@ impl Dimensions {
         &self.items
     }
 
-    /// Hands the dimensions over.
+    /// Returns the dimensions by value.
     #[inline]
     pub fn into_vec(self) -> Vec<i32>
         ensures { result.items ≡ self }
@@ -62,7 +62,7 @@ impl Dimensions {
         self.items
     }
 
-    /// A value of its own, equal to this one.
+    /// Returns an owned copy, equal to this value.
     pub fn try_clone(&self, alloc: Global) -> Result<Dimensions, AllocError>
         ensures { IfOk result (λ d. d ≡ self.now) }
     {
@@ -70,7 +70,7 @@ impl Dimensions {
     }
 }
 
-/// Whether a number is an Int32 as a count.
+/// Whether a number can be encoded as an Int32 count.
 #[inline]
 pub fn is_counted(n: usize) -> bool
     ensures { result ≡ is_count n }
@@ -78,7 +78,8 @@ pub fn is_counted(n: usize) -> bool
     n <= i32::MAX as usize
 }
 
-/// Whether these are the dimensions of an array of n elements: none, or their product is n.
+/// Whether these are the dimensions of an array of n elements: none, or of non-negative lengths
+/// with the product n.
 pub fn dims_fit(dims: &Dimensions, n: usize) -> bool
     requires { n < first_negative }
     ensures { result ≡ dims_encodable dims.now n }
@@ -113,7 +114,7 @@ fn product_of(dims: &[i32]) -> u64
     all
 }
 
-/// Reads the dimensions of an array of so many elements, where they are announced.
+/// Decodes the dimensions of an array of so many elements, if they are announced.
 #[tactic(auto, unfolding(crate::specs::Dimensions::dims_at))]
 pub fn read_dims<S: Source>(
     alloc: Global,
@@ -140,7 +141,7 @@ pub fn read_dims<S: Source>(
     Ok(Dimensions::new(sizes))
 }
 
-/// Reads the dimensions of a null array, where they are announced: a count of at most 0.
+/// Decodes the dimensions of a null array, if they are announced: a count of at most 0.
 #[tactic(auto, unfolding(crate::specs::Dimensions::no_dims_at))]
 pub fn read_no_dims<S: Source>(
     alloc: Global,
@@ -160,7 +161,7 @@ pub fn read_no_dims<S: Source>(
     Err(ReadFault::NoValue)
 }
 
-/// Reads so many dimensions; no memory is asked for where fewer octets are left.
+/// Reads so many dimensions; nothing is allocated where fewer bytes are left.
 fn read_sizes<S: Source>(alloc: Global, src: &mut S, count: u32) -> Result<Vec<i32>, ReadFault>
     ensures exact { GivesBy (λ v. v.items) (sizes_at count) (S.octets src.old) (S.octets src.new) result }
     ensures behind { StaysBehind (S.octets src.old) (S.octets src.new) }
@@ -177,7 +178,7 @@ fn read_sizes<S: Source>(alloc: Global, src: &mut S, count: u32) -> Result<Vec<i
     Ok(sizes)
 }
 
-/// Passes over the dimensions of an array of so many elements, where they are announced.
+/// Skips the dimensions of an array of so many elements, if they are announced.
 #[tactic(auto, unfolding(crate::specs::Dimensions::dims_at))]
 pub fn skip_dims<S: Source>(
     alloc: Global,
@@ -202,7 +203,7 @@ pub fn skip_dims<S: Source>(
     Ok(())
 }
 
-/// Passes over so many dimensions, and tells their product, or the greatest number.
+/// Skips so many dimensions, and tells their product, or the greatest number.
 fn skip_sizes<S: Source>(alloc: Global, src: &mut S, count: u32) -> Result<u64, ReadFault>
     ensures exact { Gives (image_read (λ sizes. min (product sizes) u64.MAX) (sizes_at count)) (S.octets src.old) (S.octets src.new) result }
     ensures behind { StaysBehind (S.octets src.old) (S.octets src.new) }
@@ -228,7 +229,7 @@ fn read_size<S: Source>(alloc: Global, src: &mut S) -> Result<i32, ReadFault>
     Ok(size.cast_signed())
 }
 
-/// Adds the dimensions of an array of n elements; nothing where there are none.
+/// Appends the encoding of the dimensions of an array of n elements; nothing if it has none.
 pub fn append_dims(dims: &Dimensions, n: usize, out: &mut Vec<u8>) -> Result<(), AllocError>
     requires { dims_encodable dims.now n ≡ true }
     ensures ok { OnOk result (out.new.items ≡ out.old.items ++ dims_canonical dims.now) }
@@ -243,7 +244,7 @@ pub fn append_dims(dims: &Dimensions, n: usize, out: &mut Vec<u8>) -> Result<(),
     Ok(())
 }
 
-/// Adds the dimensions without their count.
+/// Appends the dimensions without their count.
 fn append_sizes(dims: &[i32], out: &mut Vec<u8>) -> Result<(), AllocError>
     requires { are_sizes dims.now ≡ true }
     ensures ok { OnOk result (out.new.items ≡ out.old.items ++ sizes_canonical dims.now) }

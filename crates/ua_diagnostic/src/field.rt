@@ -1,4 +1,4 @@
-//! Fields that a mask announces: a value is there where its flag is set.
+//! Fields that an encoding mask announces: a field is present if its bit is set.
 
 ghost use Rattle.std.specs.Prelude.{◌≡◌, ◌≤◌, ◌++◌, IsTrue, OnOk, OnErr};
 ghost use Rattle.ua_builtin.specs.Format.{most_levels, Gives, StaysBehind, Extends};
@@ -7,7 +7,7 @@ ghost use Rattle.ua_diagnostic.specs.Parts.{there, optional_read, optional_fits,
 use std::alloc::{AllocError, Global};
 use ua_builtin::{ReadFault, Source, UaString, Wire};
 
-/// 1 for a field that is there, else 0.
+/// 1 if the field is present, else 0.
 #[inline]
 pub fn count_of<T>(field: &Option<T>) -> u64
     ensures value { result ≡ there field.now }
@@ -19,7 +19,7 @@ pub fn count_of<T>(field: &Option<T>) -> u64
     }
 }
 
-/// 1 for a text that is not null, else 0.
+/// 1 if the String is not null, else 0.
 #[inline]
 pub fn count_of_text(text: &UaString) -> u64
     ensures value { result ≡ there text.now }
@@ -28,7 +28,7 @@ pub fn count_of_text(text: &UaString) -> u64
     if text.is_some() { 1 } else { 0 }
 }
 
-/// Whether a field can be written, where it is there.
+/// Whether a field can be encoded, if it is present.
 #[inline]
 pub fn field_fits<T: Wire>(field: &Option<T>) -> bool
     ensures { result ≡ optional_fits T.format.encodable field.now }
@@ -39,7 +39,7 @@ pub fn field_fits<T: Wire>(field: &Option<T>) -> bool
     }
 }
 
-/// Reads a field where it is announced.
+/// Decodes a field if it is announced.
 #[inline(always)]
 pub fn read_field<T: Wire + Drop, S: Source>(
     alloc: Global,
@@ -58,7 +58,7 @@ pub fn read_field<T: Wire + Drop, S: Source>(
     Ok(Some(value))
 }
 
-/// Adds a field, where it is there.
+/// Appends the encoding of a field, if it is present.
 #[inline]
 pub fn append_field<T: Wire>(field: &Option<T>, out: &mut Vec<u8>) -> Result<(), AllocError>
     requires { IsTrue (optional_fits T.format.encodable field.now) }
@@ -71,7 +71,7 @@ pub fn append_field<T: Wire>(field: &Option<T>, out: &mut Vec<u8>) -> Result<(),
     }
 }
 
-/// Adds two fields, where they are there.
+/// Appends the encodings of two fields, each if it is present.
 pub fn append_two<A: Wire, B: Wire>(
     first: &Option<A>,
     second: &Option<B>,
@@ -86,7 +86,7 @@ pub fn append_two<A: Wire, B: Wire>(
     append_field(second, out)
 }
 
-/// Adds three fields, where they are there.
+/// Appends the encodings of three fields, each if it is present.
 #[inline(always)]
 pub fn append_three<A: Wire, B: Wire, C: Wire>(
     first: &Option<A>,

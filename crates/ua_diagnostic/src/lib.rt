@@ -1,18 +1,18 @@
-//! The parts that values which hold values are made of, both ways: fields that a mask announces,
-//! the dimensions of arrays, and DiagnosticInfo (OPC 10000-6, 5.2.2.12).
+//! The parts of values that hold values, decoded and encoded: fields that an encoding mask
+//! announces, the dimensions of arrays, and DiagnosticInfo (OPC 10000-6, 5.2.2.12).
 //!
-//! Its contract is that of `Wire` and of `Skip` for DiagnosticInfo, over the relation
-//! `EncodesDiagnostic`, with exact `depth`, `count`, `writable` and `try_clone`; `Dimensions` and the
-//! functions of `field` are for the crate above, which reads and writes Variants and DataValues with
-//! them.
+//! The contract is that of `Wire` and of `Skip` for DiagnosticInfo, over the relation
+//! `EncodesDiagnostic`, with exact `depth`, `count`, `writable` and `try_clone`; `Dimensions` and
+//! the functions of `field` are for the crate above, which uses them to decode and encode Variants
+//! and DataValues.
 //!
 //! ```
 //! let mut src = Octets::new(&octets);
 //! let info = DiagnosticInfo::read(alloc, &mut src, MOST_LEVELS)?;
-//! let levels = info.depth(); // one more than those of the info within
+//! let levels = info.depth(); // one more than that of the inner DiagnosticInfo
 //! let copy = info.try_clone(alloc)?;
 //! if copy.writable() {
-//!     copy.write(&mut out)?; // a mask, and the fields that are there
+//!     copy.write(&mut out)?; // the encoding mask, and the fields that are present
 //! }
 //! let sizes = Dimensions::none(alloc); // of an array without dimensions
 //! ```

@@ -1,5 +1,5 @@
-//! The renewals that are not asked, since too many tokens count as held: as if the requests right in front
-//! of a renewal were not answered yet.
+//! Renewals that are not asked, since too many tokens count as held: as if the requests right
+//! before a renewal were not answered yet.
 
 ghost use Rattle.std.specs.Prelude.{◌≡◌, ◌+◌, ◌≤◌, ◌<◌, ◌^◌, ◌∷◌, ◌++◌, [], List, IfSome};
 ghost use Rattle.ua_exchange.specs.Accepted.{is_crowded};
@@ -11,10 +11,10 @@ use crate::turn::Turn;
 /// The most tokens that are held: where so many count as held, no further one is asked for.
 const MOST_TOKENS: usize = 16;
 
-/// The most requests in front of a renewal that count as not answered yet.
+/// The most requests before a renewal that count as not answered yet.
 const MOST_CALLS: usize = 64;
 
-/// The turns that stand last: so many requests, and in front of these so many renewals.
+/// The last operations: so many requests, and before these so many renewals.
 #[derive(Clone, Copy)]
 struct Last {
     renewals: usize,
@@ -22,7 +22,8 @@ struct Last {
 }
 
 impl Last {
-    /// Whether a turn behind these is a renewal that is refused since too many tokens count as held.
+    /// Whether an operation after these is a renewal that is refused since too many tokens count as
+    /// held.
     fn is_crowded(self, turn: &Turn) -> bool
         ensures { (before : List Turn) → CountsLast before self.renewals self.calls → result ≡ is_crowded before turn.now }
     {
@@ -32,7 +33,7 @@ impl Last {
         }
     }
 
-    /// The same with one turn more.
+    /// The same with one operation more.
     fn with(self, turn: &Turn) -> Last
         requires { self.renewals + self.calls < 2 ^ 63 }
         ensures counts { (before : List Turn) → CountsLast before self.renewals self.calls → CountsLast (before ++ turn.now ∷ []) result.renewals result.calls }

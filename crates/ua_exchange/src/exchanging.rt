@@ -1,4 +1,4 @@
-//! A client and a server that run through turns.
+//! A client and a server that run through operations.
 
 ghost use Rattle.std.specs.Prelude.{◌≡◌, IfOk, IfErr, map, Some};
 ghost use Rattle.ua_channel_laws.specs.ServerReads.{ServerCloses};
@@ -24,7 +24,7 @@ use ua_loopback::{Stage, Transcript as Conversed, converse};
 use ua_nodes::NodeTable;
 use ua_server::Services;
 
-/// The id of the channel.
+/// The SecureChannelId.
 const CHANNEL_ID: u32 = 1;
 
 /// The same lengths in a vector.
@@ -34,7 +34,7 @@ fn copied(alloc: Global, lengths: &[usize]) -> Result<Vec<usize>, AllocError> {
     Ok(copy)
 }
 
-/// The turns in front of a renewal for which too many tokens count as held, or all of them.
+/// The operations before a renewal for which too many tokens count as held, or all of them.
 fn front(turns: &[Turn], crowded: Option<usize>) -> &[Turn]
     requires { FindsCrowded turns.now crowded }
     ensures { result.now ≡ front_of crowded turns.now }
@@ -45,7 +45,8 @@ fn front(turns: &[Turn], crowded: Option<usize>) -> &[Turn]
     }
 }
 
-/// Lets a client take these turns at a server over these nodes, both with the limits of the program.
+/// Runs a client through these operations at a server over these nodes, both with the limits of the
+/// program.
 fn conversed(
     alloc: Global,
     table: NodeTable,
@@ -75,19 +76,21 @@ fn conversed(
     ))
 }
 
-/// Lets a client ask these turns, from the HEL to the CLO, of a server over these nodes, and gives
-/// what went over the line each way, the replies, how the server saw the connection end, and the
-/// services as they are left. No clause mentions the cuts: all of it is the same for all of them.
+/// Runs a client through these operations, from the HEL to the CLO, at a server over these nodes.
+/// It gives the bytes each way, the replies, how the server saw the connection end, and the
+/// services afterwards. No clause mentions the fragment lengths: the result is the same for all of
+/// them.
 ///
 /// The client is a [`ua_client::Client`], the server a [`ua_server::Server`], and between them is a
-/// [`ua_loopback::ServedLine`]. Both are those of the program `ua`: channel 1, the port 4840, frames of
-/// 65535 octets, messages of 1048576 octets and 256 chunks. The server takes what the client writes, and
-/// the client what the server says, in pieces of at most these lengths, in turn and again from the first;
-/// 0 counts as 1, and none sets no limit. The client writes a frame at a time, and reads at most 4096
-/// octets at once, so that no piece is longer. Each turn is answered before the next is asked; but a
-/// renewal is judged as the last turn of a group of at most 64 requests in front of it, as if none of
-/// these were answered yet. The moment is that of each answer, of each OPN and of the CLO, in units of 100
-/// nanoseconds since 1601-01-01 00:00 UTC.
+/// [`ua_loopback::ServedLine`]. Both are those of the program `ua`: SecureChannelId 1, port 4840,
+/// frames of 65535 bytes, messages of 1048576 bytes and 256 chunks. The server takes the client's
+/// bytes, and the client the server's, in fragments of at most these lengths, in turn and again
+/// from the first; 0 counts as 1, and an empty list sets no limit. The client writes one frame at a
+/// time, and reads at most 4096 bytes at once, so that no fragment is longer. Each operation is
+/// answered before the next begins; but a renewal is judged as the last operation of a group,
+/// behind at most 64 requests before it, as if none of these were answered yet. `moment` is the
+/// timestamp of each answer, of each OPN and of the CLO, in units of 100 nanoseconds since
+/// 1601-01-01 00:00 UTC.
 pub fn exchange(
     alloc: Global,
     table: NodeTable,
@@ -101,7 +104,7 @@ pub fn exchange(
     ensures refused { IfErr result (λ fault. IsRefusedFor turns.now fault) }
     ensures up { IfOk result (λ t. t.up.items ≡ up_octets moment turns.now) }
 
-    // The services are handed just these requests, in their order, each under its own request id.
+    // The server's services get just these requests, in their order, each under its own RequestId.
     ensures handed { IfOk result (λ t. ServerCloses program_limits channel t.up.items (all_told turns.now)) }
     ensures down { IfOk result (λ t. t.down.items ≡ down_octets table moment turns.now) }
     ensures replies { IfOk result (λ t. map Some t.replies.items ≡ turns_replies (begun_over table) moment turns.now) }

@@ -5,17 +5,17 @@ use thiserror::Error;
 use ua_channel::AskFault;
 use ua_client::ClientFault;
 
-/// Why there is no transcript. A turn is named by its place, counted from 0: it is the first one that
-/// is not accepted.
+/// Why there is no transcript. An operation is named by its place, counted from 0: it is the first
+/// one that is not accepted.
 #[derive(Clone, Copy, PartialEq, Eq, Debug, Error)]
 pub enum PairFault {
-    /// This turn is not asked, for this reason.
+    /// This operation is not asked, for this reason.
     #[error("turn {0} is refused: {1}")]
     Request(usize, AskFault),
-    /// The request of this turn has no encoding.
+    /// The request of this operation has no encoding.
     #[error("the request of turn {0} can't be encoded")]
     NotWritable(usize),
-    /// Memory was refused, to the client or to its server.
+    /// An allocation failed, of the client or of its server.
     #[error("out of memory")]
     OutOfMemory,
 }
@@ -26,8 +26,9 @@ impl PairFault {
     ghost use Rattle.ua_loopback.specs.declared.stage.Stage.{Stage};
     ghost use Rattle.ua_exchange.specs.Accepted.{fault_at};
 
-    /// Why a client does not take the turn at this place. A line to a server in the same process fails
-    /// where the server lacks memory, and nothing else of it fails a client but its own want of memory.
+    /// Why a client does not perform the operation at this place. A transport to a server in the
+    /// same process fails where an allocation of the server fails; apart from that only the
+    /// client's own failed allocations fail it.
     pub(crate) fn of_client(place: usize, fault: ClientFault) -> PairFault
         requires { (stage : Stage) × FailsAt stage fault }
         ensures { result ≡ fault_at place fault }

@@ -1,5 +1,5 @@
-//! Laws of what two ends say to each other, and of what each holds meanwhile. Each is the contract of
-//! a function that does nothing, or only looks.
+//! Laws of what two ends send to each other, and of what each holds meanwhile. Each is the contract
+//! of a function that does nothing, or only looks.
 
 ghost use Rattle.std.specs.Prelude.{ℕ, ◌≤◌, IsTrue, List};
 ghost use Rattle.std.specs.List.{AllByRecursion};
@@ -24,26 +24,26 @@ ghost use Rattle.ua_exchange.specs.declared.turn.Turn.{Turn};
 use ua_channel::ClientChannel;
 use ua_server::Server;
 
-/// A server reads what a client says of turns that are accepted: no frame of it is refused, and it is
-/// told of just these turns, in their order.
+/// A server reads what a client sends of operations that are accepted: it refuses no frame of it,
+/// and its events are just these operations, in their order.
 pub fn turns_reach_the_server()
     ensures { (limits : Limits) (moment : DateTime) (turns : List Turn) → AreOurs limits → IsTrue (date_time.encodable moment) → AreAccepted turns
         → ServerCloses limits channel (up_octets moment turns) (all_told turns) }
 {}
 
-/// A client that asks turns which are accepted, in any groups of which a renewal is the last turn, each
-/// group where the answers to the turns before it end, reads what a server says of them: no frame of it
-/// is refused, and it is told the reply to each request under its own request id, or that it was given
-/// up, and the token that each renewal brings, in their order.
+/// A client asks operations that are accepted, in any groups in which a renewal comes last, each
+/// group where the answers to the operations before it end. It reads what a server sends for them:
+/// it refuses no frame of it, and its events are, in order, the reply to each request under its own
+/// RequestId, or that the server gave it up, and the token that each renewal brings.
 pub fn answers_reach_the_client()
     ensures { (limits : Limits) (first : State) (moment : DateTime) (groups : List (List Turn)) → AreOurs limits → IsTrue (date_time.encodable moment)
         → AllByRecursion EndsAtRenewal groups → AreAccepted (in_order groups)
         → TellsClient limits (asks_of first moment groups) (all_said first moment (in_order groups)) (all_heard first moment (in_order groups)) }
 {}
 
-/// A server never holds more than was agreed, whatever came and in whatever pieces, so at each front
-/// of what a client says of its turns; with the limits of the program that is at most 4259839 octets.
-/// Once its connection ended it holds nothing, as [`Server::held`] says.
+/// A server never holds more than was agreed, whatever came and however it was fragmented, and so
+/// after each prefix of what a client sends. With the limits of the program that is at most 4259839
+/// bytes. Once its connection ended it holds nothing, as [`Server::held`] says.
 pub fn server_holds_at_most(server: &Server)
     ensures agreed { (octets : List ℕ) (frames : List Frame) (rest : List ℕ) → ServerStands (channel_in server.now) octets frames rest
         → held_after (received frames) rest ≤ bound_after (server_limits (channel_in server.now)) (received frames) }
@@ -53,7 +53,7 @@ pub fn server_holds_at_most(server: &Server)
     let _held = server.held();
 }
 
-/// The same of a client, at each front of what a server says to it, and whatever else came.
+/// The same for a client, after each prefix of what a server sends it, and whatever else came.
 pub fn client_holds_at_most(client: &ClientChannel)
     ensures agreed { (asks : List Placed) (octets : List ℕ) (frames : List Frame) (rest : List ℕ) → ClientStands client.now asks octets frames rest
         → held_octets frames rest ≤ client_bound_behind (client_limits client.now) (received frames).ack }

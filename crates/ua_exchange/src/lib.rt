@@ -1,11 +1,10 @@
-//! Both ends of a connection over memory: what a client of the program `ua` asks, and what comes of
-//! it.
+//! Both ends of a connection over memory: what a client of the program `ua` asks, and the result.
 //!
-//! Its contract is that of `exchange`: what went over the line each way, the reply to each request and
-//! the end, or the first turn that is not accepted. And that of the `laws`: what a client says of turns
-//! that are accepted is read by a server, which is told of just these turns, in their order; what the
-//! server says of them is read by the client, each reply under its own request id; and neither end ever
-//! holds more than was agreed.
+//! The contract of `exchange` gives the bytes each way, the reply to each request and the end, or
+//! the first client operation that is not accepted. The `laws` state for operations that are
+//! accepted: a server reads what a client sends of them, and its events are just these operations,
+//! in their order; the client reads what the server sends, each reply under its own RequestId; and
+//! neither end ever holds more than was agreed.
 #![tactic(auto)]
 
 mod crowded;

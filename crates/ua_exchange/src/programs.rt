@@ -1,4 +1,4 @@
-//! What the two ends are: those of the program `ua`.
+//! The two ends: those of the program `ua`.
 
 ghost use Rattle.std.specs.Prelude.{◌≡◌, Some, IfOk};
 ghost use Rattle.ua_exchange.specs.Programs.{AreOurs, url as server_url, endpoint as server_endpoint};
@@ -8,20 +8,20 @@ use ua_builtin::UaString;
 use ua_frame::Limits;
 use ua_server::Endpoint;
 
-/// The most octets of a frame, each way.
+/// The most bytes of a frame, each way.
 const FRAME_SIZE: u32 = 65535;
 
-/// The most octets of a message of the program.
+/// The most bytes of a message of the program.
 pub const MESSAGE_SIZE: u32 = 1_048_576;
 
 /// The most chunks of a message.
 const CHUNK_COUNT: u32 = 256;
 
-/// Where the server is found.
+/// The URL of the server.
 const URL: &str = "opc.tcp://localhost:4840";
 
-/// The limits of the program, at either end: frames of 65535 octets each way, messages of 1048576
-/// octets and 256 chunks.
+/// The limits of the program, at either end: frames of 65535 bytes each way, messages of 1048576
+/// bytes and 256 chunks.
 pub fn limits() -> Limits
     ensures { AreOurs result }
 {
@@ -35,7 +35,7 @@ pub fn url(alloc: Global) -> Result<UaString, AllocError>
     UaString::from_str(alloc, URL)
 }
 
-/// What the server says of itself.
+/// What the server tells about itself.
 pub fn endpoint(alloc: Global) -> Result<Endpoint, AllocError>
     ensures { IfOk result (λ e. e ≡ server_endpoint) }
 {

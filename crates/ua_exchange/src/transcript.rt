@@ -1,14 +1,14 @@
-//! What a connection came to.
+//! The result of a connection.
 
 use ua_client::Reply;
 use ua_server::{End, Services};
 
-/// What went over a connection, from the HEL to the CLO.
+/// The bytes that went over a connection, from the HEL to the CLO, and its result.
 #[derive(Drop)]
 pub struct Transcript {
-    /// The octets that the client wrote.
+    /// The client-to-server bytes.
     pub up: Vec<u8>,
-    /// The octets that the server wrote.
+    /// The server-to-client bytes.
     pub down: Vec<u8>,
     /// The replies to the requests, in the order of these.
     pub replies: Vec<Reply>,

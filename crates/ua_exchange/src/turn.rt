@@ -4,12 +4,12 @@ use std::slice;
 use ua_loopback::AsTurn;
 use ua_services::Request;
 
-/// What a client does next on an open channel.
+/// An operation of a client on an open channel.
 #[derive(Drop)]
 pub enum Turn {
-    /// It asks a request.
+    /// Asks a request.
     Ask(Request),
-    /// It renews the token of its channel (OPC 10000-4, 5.6.2).
+    /// Renews the token of the channel (OPC 10000-4, 5.6.2).
     Renew,
 }
 

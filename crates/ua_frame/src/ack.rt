@@ -10,8 +10,8 @@ use byteorder::{ByteOrder, LittleEndian};
 use std::alloc::{AllocError, Global};
 use ua_builtin::{ReadFault, Source, Wire};
 
-/// Acknowledge, the body of an ACK frame: what a server agrees to (OPC 10000-6, 7.1.2.4). Sizes
-/// are in octets; a limit of 0 is none.
+/// Acknowledge, the body of an ACK message: what a server agrees to (OPC 10000-6, 7.1.2.4). Sizes
+/// are in bytes; 0 means no limit.
 #[derive(Clone, Copy, PartialEq, Eq, Debug)]
 pub struct Ack {
     pub protocol_version: u32,
@@ -21,7 +21,7 @@ pub struct Ack {
     pub max_chunk_count: u32,
 }
 
-/// Over the body of a frame. Octets behind the last number are for the caller to refuse.
+/// Reads and writes the body. The caller refuses bytes after the last number.
 impl Wire for Ack {
     ghost use Rattle.ua_builtin.specs.Format.{flat};
     ghost use Rattle.ua_frame.specs.Messages.{ack};
@@ -70,7 +70,7 @@ impl Wire for Ack {
     }
 }
 
-/// The octets of an ACK frame, the whole of it.
+/// The bytes of a complete ACK message, with its header.
 pub fn ack_octets(ack: &Ack) -> [u8; 28]
     ensures { result ≡ frame_octets (ack_frame ack.now) }
 {

@@ -8,11 +8,12 @@ use crate::hello::Hello;
 use crate::limits::{LEAST_BUFFER_SIZE, Limits};
 use ua_builtin::StatusCode;
 
-/// The least number of octets of a URL that is too long.
+/// The least length, in bytes, of an endpoint URL that is too long.
 const LONG_URL: usize = 4096;
 
-/// What a server with these limits agrees to, or the code by which it refuses. Any version of the
-/// client is accepted (OPC 10000-6, 7.1.2.3 and 7.1.2.4). It takes no memory.
+/// Returns the Acknowledge of a server with these limits, or the StatusCode with which it refuses
+/// the Hello. Every protocol version of the client is accepted (OPC 10000-6, 7.1.2.3 and 7.1.2.4).
+/// The function allocates nothing.
 pub fn agree(hello: &Hello, limits: &Limits) -> Result<Ack, StatusCode>
     ensures { result ≡ agreed hello.now limits.now }
 {

@@ -9,15 +9,15 @@ use crate::kind::Kind;
 use std::alloc::{AllocError, Global};
 use ua_builtin::{ReadFault, Source, StatusCode, UaString, Wire};
 
-/// Error, the body of an ERR frame and of an abort: why one end gives up (OPC 10000-6, 7.1.2.5
-/// and 6.7.3).
+/// Error, the body of an ERR message and of an abort chunk: the StatusCode and the reason with
+/// which one end gives up (OPC 10000-6, 7.1.2.5 and 6.7.3).
 #[derive(PartialEq, Eq, Debug, Drop)]
 pub struct ErrorFrame {
     pub error: StatusCode,
     pub reason: UaString,
 }
 
-/// Over the body of a frame or of an abort. Octets behind the reason are for the caller to refuse.
+/// Reads and writes the body. The caller refuses bytes after the reason.
 impl Wire for ErrorFrame {
     ghost use Rattle.ua_builtin.specs.Format.{flat};
     ghost use Rattle.ua_frame.specs.Messages.{error};
@@ -52,7 +52,7 @@ impl Wire for ErrorFrame {
     }
 }
 
-/// The octets of an ERR frame with this code and a null reason.
+/// The bytes of a complete ERR message with this StatusCode and a null reason.
 pub fn error_frame(code: StatusCode) -> [u8; 16]
     ensures { result ≡ frame_octets (err_frame code) }
 {

@@ -1,27 +1,27 @@
-//! Why frames are not read.
+//! Faults of reading frames.
 
 ghost use Rattle.std.specs.Prelude.{◌≡◌};
 
 use thiserror::Error;
 use ua_builtin::StatusCode;
 
-/// Why no frame was read. The first four are judged, in this order, as soon as the eight header
-/// octets are there.
+/// Why no frame was read. The first four faults are checked, in this order, as soon as the eight
+/// header bytes have arrived.
 #[derive(Clone, Copy, PartialEq, Eq, Debug, Error)]
 pub enum FrameFault {
-    /// The octets name no kind of frame, or the flag is none of the kind's.
+    /// The MessageType is unknown, or the fourth byte is not valid for it.
     #[error("unknown type of frame")]
     UnknownType,
-    /// The kind is not taken here.
+    /// The frame filter does not accept this kind of frame.
     #[error("frame out of place")]
     OutOfPlace,
-    /// The size is above the largest that is taken here.
+    /// The MessageSize is above the maximum of the frame filter.
     #[error("frame too large")]
     TooLarge,
-    /// The size is below the least of the kind.
+    /// The MessageSize is below the minimum for this kind of frame.
     #[error("frame too small")]
     TooSmall,
-    /// Memory was refused.
+    /// An allocation failed.
     #[error("out of memory")]
     OutOfMemory,
     /// An earlier call failed.
@@ -33,7 +33,7 @@ impl FrameFault {
     ghost use Rattle.std.specs.Prelude.{option_map};
     ghost use Rattle.ua_frame.specs.Frames.{header_code};
 
-    /// The status code of what is wrong with a header; none for the last two faults.
+    /// The StatusCode of a header fault; `None` for the last two faults.
     pub fn code(self) -> Option<StatusCode>
         ensures { option_map (λ status. status.code) result ≡ header_code self }
     {

@@ -3,8 +3,9 @@
 use crate::kind::Kind;
 use bytes::Bytes;
 
-/// A frame: its kind, the octet behind the kind, and what follows its eight header octets. The
-/// body may be cut and kept without a copy; what is kept holds the memory of this frame alone.
+/// A frame, that is a UA TCP message: its kind, the fourth byte of its header, and the bytes that
+/// follow the eight header bytes. `body` can be sliced and kept without a copy; a slice keeps the
+/// memory of this frame alone.
 #[derive(Debug, Drop)]
 pub struct Frame {
     pub kind: Kind,

@@ -1,10 +1,10 @@
-//! Which frames are taken.
+//! A filter of frames.
 
 ghost use Rattle.std.specs.Prelude.{◌≡◌};
 
 use crate::kind::Kind;
 
-/// The kinds of frames that are taken at some place, and the largest size of a frame, in octets
+/// A frame filter: the kinds of frames that are accepted, and the maximum size of a frame, in bytes
 /// with its header.
 #[derive(Clone, Copy, PartialEq, Eq, Debug)]
 pub struct Gate {
@@ -20,7 +20,7 @@ pub struct Gate {
 impl Gate {
     ghost use Rattle.ua_frame.specs.Kinds.{closed_gate, gate_with, lets_in};
 
-    /// The gate that takes no kind, with the largest size for those that are added.
+    /// A filter that accepts no kind, with the maximum size for those that are added.
     pub fn new(largest: u32) -> Gate
         ensures { result ≡ closed_gate largest }
     {
@@ -35,7 +35,7 @@ impl Gate {
         }
     }
 
-    /// This gate with one kind more.
+    /// This filter, with one more kind accepted.
     #[must_use]
     pub fn taking(self, kind: Kind) -> Gate
         ensures { result ≡ gate_with self kind }
@@ -50,7 +50,7 @@ impl Gate {
         }
     }
 
-    /// Whether a kind is taken.
+    /// Whether the filter accepts a kind.
     #[inline]
     pub fn takes(&self, kind: Kind) -> bool
         ensures { result ≡ lets_in self.now kind }

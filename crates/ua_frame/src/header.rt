@@ -1,4 +1,4 @@
-//! The eight octets that a frame begins with.
+//! The eight header bytes of a frame.
 
 ghost use Rattle.std.specs.Prelude.{◌≡◌, ◌≤◌, ◌+◌, ◌∷◌, ◌++◌, IsSome, length};
 ghost use Rattle.ua_builtin.specs.Number.{number_octets};
@@ -12,10 +12,11 @@ use crate::kind::Kind;
 use bytes::Bytes;
 use ua_wire::front_number;
 
-/// The number of octets of a header.
+/// The length of a header in bytes.
 pub const HEADER_LEN: usize = 8;
 
-/// The octets of a header: a kind, a flag, and the size of the whole frame.
+/// The bytes of a header: a MessageType, the fourth byte, and the MessageSize of the complete
+/// frame.
 #[inline]
 pub fn header_octets(kind: Kind, flag: u8, size: u32) -> [u8; HEADER_LEN]
     ensures { result ≡ kind_octets kind ++ flag ∷ number_octets 4 size }
@@ -27,7 +28,7 @@ pub fn header_octets(kind: Kind, flag: u8, size: u32) -> [u8; HEADER_LEN]
     ]
 }
 
-/// The kind that a header names.
+/// The kind that a header gives.
 #[inline]
 #[tactic(auto, unfolding(crate::specs::Frames::kind_of))]
 fn read_kind(header: &[u8]) -> Option<Kind>
@@ -45,7 +46,7 @@ fn read_kind(header: &[u8]) -> Option<Kind>
     }
 }
 
-/// The size that a header names.
+/// The MessageSize that a header gives.
 #[inline]
 #[tactic(auto, unfolding(crate::specs::Frames::size_of))]
 pub fn read_size(header: &[u8]) -> u32
@@ -56,7 +57,7 @@ pub fn read_size(header: &[u8]) -> u32
     size
 }
 
-/// What is wrong with a header where this gate stands.
+/// The fault of a header under this filter.
 #[tactic(auto, unfolding(crate::specs::Frames::header_fault))]
 #[inline(always)]
 pub fn judge(gate: &Gate, header: &[u8]) -> Option<FrameFault>
@@ -82,7 +83,7 @@ pub fn judge(gate: &Gate, header: &[u8]) -> Option<FrameFault>
     None
 }
 
-/// The frame of a header and all that follows it.
+/// The frame of a header and of all bytes after it.
 #[tactic(auto, using(crate::proofs::Fronts::header_frame))]
 #[inline(always)]
 pub fn make_frame(header: &[u8], body: Bytes) -> Frame

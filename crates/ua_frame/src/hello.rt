@@ -3,8 +3,8 @@
 use std::alloc::{AllocError, Global};
 use ua_builtin::{ReadFault, Source, UaString, Wire};
 
-/// Hello, the body of a HEL frame: what a client allows, and the endpoint that it asks for
-/// (OPC 10000-6, 7.1.2.3). Sizes are in octets; a limit of 0 is none.
+/// Hello, the body of a HEL message: the limits of a client, and the endpoint that it asks for (OPC
+/// 10000-6, 7.1.2.3). Sizes are in bytes; 0 means no limit.
 #[derive(PartialEq, Eq, Debug, Drop)]
 pub struct Hello {
     pub protocol_version: u32,
@@ -15,7 +15,7 @@ pub struct Hello {
     pub endpoint_url: UaString,
 }
 
-/// Over the body of a frame. Octets behind the URL are for the caller to refuse.
+/// Reads and writes the body. The caller refuses bytes after the URL.
 impl Wire for Hello {
     ghost use Rattle.ua_builtin.specs.Format.{flat};
     ghost use Rattle.ua_frame.specs.Messages.{hello};

@@ -2,7 +2,7 @@
 
 ghost use Rattle.std.specs.Prelude.{◌≡◌};
 
-/// What kind of message or chunk a frame is (OPC 10000-6, 7.1.2.2 and 6.7.2.2).
+/// The MessageType of a frame (OPC 10000-6, 7.1.2.2 and 6.7.2.2).
 #[derive(Clone, Copy, PartialEq, Eq, Debug)]
 pub enum Kind {
     /// Hello: a client asks for a connection.
@@ -11,18 +11,18 @@ pub enum Kind {
     Ack,
     /// Error: a server ends a connection.
     Err,
-    /// A chunk of a message.
+    /// A chunk of a message on a SecureChannel.
     Msg,
-    /// Opens a secure channel.
+    /// Opens a SecureChannel, or renews its token.
     Opn,
-    /// Closes a secure channel.
+    /// Closes a SecureChannel.
     Clo,
 }
 
 impl Kind {
     ghost use Rattle.ua_frame.specs.Kinds.{has_flag, kind_octets, least_size};
 
-    /// The three octets that name this kind, in ASCII.
+    /// The three ASCII bytes of this MessageType.
     #[inline]
     pub fn octets(self) -> [u8; 3]
         ensures { result ≡ kind_octets self }
@@ -37,7 +37,7 @@ impl Kind {
         }
     }
 
-    /// The least size of a frame of this kind, in octets with its header.
+    /// The minimum size of a frame of this kind, in bytes with its header.
     #[inline]
     pub fn least_size(self) -> u32
         ensures { result ≡ least_size self }
@@ -50,7 +50,8 @@ impl Kind {
         }
     }
 
-    /// Whether a frame of this kind may have this flag (OPC 10000-6, 6.7.2.2).
+    /// Whether a frame of this kind may have this fourth byte, in a MessageChunk its IsFinal (OPC
+    /// 10000-6, 6.7.2.2).
     #[inline]
     pub fn has_flag(self, flag: u8) -> bool
         ensures { result ≡ has_flag self flag }

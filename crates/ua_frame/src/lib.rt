@@ -1,18 +1,18 @@
-//! The frames of UA TCP (OPC 10000-6, 7.1): a reader of frames in whatever pieces their octets come,
-//! the HEL, ACK and ERR messages, and what a server answers to a HEL.
+//! UA TCP messages (OPC 10000-6, 7.1), called frames here: a reader of frames from a byte stream,
+//! however it is fragmented, the HEL, ACK and ERR messages, and the answer of a server to a HEL.
 //!
-//! Its contract is that of [`FrameReader::take`]: the frames of the octets so far, each once and in
-//! order, or the first thing wrong with a header, as soon as its eight octets are there.
+//! The main contract is that of [`FrameReader::take`]: it returns the frames of the bytes so far,
+//! each once and in order, or the first fault of a header, as soon as its eight bytes have arrived.
 //!
 //! ```
 //! let gate = Gate::new(65535).taking(Kind::Msg).taking(Kind::Clo);
 //! let mut reader = FrameReader::new(alloc, gate);
 //! let mut rest = piece;
 //! while !rest.is_empty() {
-//!     let (size, frame) = reader.take(rest)?; // after a fault it answers `Closed`
+//!     let (size, frame) = reader.take(rest)?; // after a fault it returns `Closed`
 //!     rest = &rest[size..];
 //!     if let Some(frame) = frame {
-//!         frames.push(frame)?; // whole, and of a size that the gate takes
+//!         frames.push(frame)?; // complete, and of a size that the filter accepts
 //!     }
 //! }
 //! ```

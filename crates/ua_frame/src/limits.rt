@@ -1,9 +1,9 @@
-//! What one end allows.
+//! The limits of one end.
 
 ghost use Rattle.std.specs.Prelude.{◌≤◌};
 
-/// What one end of a connection allows: sizes of frames in octets, and for messages the octets of
-/// the joined bodies and the number of chunks.
+/// The limits of one end of a connection: buffer sizes in bytes, the maximum size of a message in
+/// bytes, which counts the joined bodies of its chunks, and its maximum number of chunks.
 #[derive(Clone, Copy, PartialEq, Eq, Debug)]
 pub struct Limits {
     pub receive_buffer_size: u32,
@@ -16,15 +16,15 @@ pub struct Limits {
     ghost takes_chunks: { 1 ≤ max_chunk_count },
 }
 
-/// The least size of a buffer, in octets.
+/// The minimum size of a buffer, in bytes.
 pub const LEAST_BUFFER_SIZE: u32 = 8192;
 
 impl Limits {
     ghost use Rattle.std.specs.Prelude.{◌≡◌, ◌↔◌, IsSome, IfSome};
     ghost use Rattle.ua_frame.specs.Limits.{AreAllowed, HasSizes};
 
-    /// These limits. None unless both sizes of frames are at least 8192, and messages may have an
-    /// octet and a chunk.
+    /// Makes limits of these numbers. `None` unless both buffer sizes are at least 8192 bytes, and
+    /// a message may have a byte and a chunk.
     pub fn new(receive: u32, send: u32, message: u32, chunks: u32) -> Option<Limits>
         ensures allowed { IsSome result ↔ AreAllowed receive send message chunks }
         ensures sizes { IfSome result (λ limits. HasSizes limits receive send message chunks) }

@@ -11,7 +11,7 @@ use crate::unfinished::Unfinished;
 use std::alloc::Global;
 use std::marker::Model;
 
-/// Reads frames from octets that come in any pieces.
+/// Reads frames from a byte stream, however it is fragmented.
 #[derive(Drop)]
 pub struct FrameReader {
     alloc: Global,
@@ -32,7 +32,7 @@ impl Model for FrameReader {
 }
 
 impl FrameReader {
-    /// A reader that has no octet yet.
+    /// A reader that has taken no bytes.
     pub fn new(alloc: Global, gate: Gate) -> FrameReader
         ensures { result ≡ open_reader gate [] }
     {
@@ -43,7 +43,7 @@ impl FrameReader {
         }
     }
 
-    /// Sets the gate for the frames to come, between two frames.
+    /// Sets the filter for the next frames. The reader has to be between two frames.
     pub fn set_gate(&mut self, gate: Gate)
         requires { self.old.held ≡ [] }
         ensures { self.new ≡ record self.old { gate = gate } }
@@ -51,8 +51,8 @@ impl FrameReader {
         self.unfinished.gate = gate;
     }
 
-    /// How many octets of a frame that is not whole yet are held: less than a header, or less than
-    /// the largest frame.
+    /// The number of bytes held of an incomplete frame: fewer than a header has, or fewer than the
+    /// maximum size of a frame.
     #[inline]
     pub fn held(&self) -> usize
         ensures count { result ≡ length self.now.held }
@@ -61,7 +61,7 @@ impl FrameReader {
         self.unfinished.len()
     }
 
-    /// Lets go of what is held, and takes nothing from now on.
+    /// Drops the held bytes and closes the reader, which then takes no bytes.
     pub fn close(&mut self)
         ensures { self.new ≡ failed_reader self.old.gate }
     {
@@ -69,7 +69,7 @@ impl FrameReader {
         self.failed = true;
     }
 
-    /// Takes octets, by what is held and the piece alone.
+    /// Takes bytes: what it does depends on the held bytes and the piece alone.
     #[inline(always)]
     fn advance(&mut self, piece: &[u8]) -> Result<(usize, Option<Frame>), FrameFault>
         ensures { Takes self.old piece.now result self.new }
@@ -82,9 +82,9 @@ impl FrameReader {
         taken
     }
 
-    /// Takes octets up to the end of the first whole frame, else the whole piece. What is wrong
-    /// with a header is answered as soon as its eight octets are there. After a fault the reader
-    /// is closed.
+    /// Takes bytes up to the end of the first complete frame, or else the whole piece, and returns
+    /// how many it took. A fault of a header is returned as soon as its eight bytes have arrived.
+    /// After a fault the reader is closed.
     #[inline(always)]
     pub fn take(&mut self, piece: &[u8]) -> Result<(usize, Option<Frame>), FrameFault>
         ensures takes { Takes self.old piece.now result self.new }

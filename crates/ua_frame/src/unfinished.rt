@@ -1,4 +1,4 @@
-//! A frame that is not whole yet.
+//! An incomplete frame.
 
 ghost use Rattle.std.specs.Prelude.{◌≡◌, ◌≤◌, ◌<◌, ◌+◌, ◌-◌, ◌++◌, [], IfOk, length, min, take};
 ghost use Rattle.ua_frame.specs.Unfinished.{octets_of, IsKept, Makes};
@@ -12,8 +12,8 @@ use bytes::Bytes;
 use std::alloc::{AllocError, Global};
 use std::mem;
 
-/// The octets of a frame that is not whole yet. Its header stands apart from its body, so that it
-/// is judged before any memory is taken, and the body is handed over as it is, in memory of its own.
+/// The bytes of an incomplete frame. The header is kept apart from the body, so that it is checked
+/// before anything is allocated, and the body is handed over as it is, in memory of its own.
 #[derive(Drop)]
 pub struct Unfinished {
     pub gate: Gate,
@@ -22,7 +22,7 @@ pub struct Unfinished {
     body: Vec<u8>,
 }
 
-/// Puts the front of a piece where the header goes on.
+/// Copies the first bytes of a piece to where the header continues.
 #[inline(always)]
 fn fill(header: &mut [u8], have: usize, piece: &[u8]) -> usize
     requires { have ≤ length header.old }
@@ -34,8 +34,8 @@ fn fill(header: &mut [u8], have: usize, piece: &[u8]) -> usize
     n
 }
 
-/// Adds the front of a piece to a body, up to the length that it is to have. Room is made for at most
-/// twice the octets that have come, and never for more than that length.
+/// Appends the first bytes of a piece to a body, up to the length that the body will have. Reserves
+/// at most twice the bytes that have arrived, and never more than that length.
 #[inline(always)]
 fn extend(body: &mut Vec<u8>, len: usize, piece: &[u8]) -> Result<usize, AllocError>
     requires { length body.old.items ≤ len }
@@ -66,7 +66,7 @@ impl Unfinished {
         }
     }
 
-    /// The number of octets that are there.
+    /// The number of bytes that have arrived.
     #[inline]
     pub fn len(&self) -> usize
         requires { IsKept self.now }
@@ -75,7 +75,7 @@ impl Unfinished {
         self.have + self.body.len()
     }
 
-    /// Takes octets behind a whole header.
+    /// Takes bytes after a complete header.
     #[inline(always)]
     fn go_on(&mut self, alloc: Global, piece: &[u8]) -> Result<(usize, Option<Frame>), FrameFault>
         requires kept { IsKept self.old }
@@ -100,7 +100,7 @@ impl Unfinished {
         Ok((n, Some(header::make_frame(&self.header, body))))
     }
 
-    /// Takes octets of a header that is not whole, and those behind it.
+    /// Takes bytes of an incomplete header, and those after it.
     #[inline(always)]
     fn begin(&mut self, alloc: Global, piece: &[u8]) -> Result<(usize, Option<Frame>), FrameFault>
         requires kept { IsKept self.old }
@@ -122,7 +122,7 @@ impl Unfinished {
         Ok((n + m, frame))
     }
 
-    /// Takes octets up to the end of the frame, else the whole piece. A fault leaves nothing.
+    /// Takes bytes up to the end of the frame, or else the whole piece. A fault leaves nothing.
     #[inline(always)]
     pub fn take(
         &mut self,

@@ -1,4 +1,5 @@
-//! The headline. Its function only looks; its contract is the law, and who calls it may rely on it.
+//! The headline. The contract of its function, which only looks, is the law: a caller may rely on
+//! it.
 
 ghost use Rattle.std.specs.Prelude.{◌≡◌, ◌↔◌, ◌≤◌, ℕ, List, map, Option};
 ghost use Rattle.ua_frame.specs.declared.frame.Frame.{Frame};
@@ -21,23 +22,24 @@ use ua_channel_laws::asking_laws::client_asks_earlier;
 use ua_channel_laws::group_laws::{ends_connect, rounds_reach_both_ends};
 use ua_server::Server;
 
-/// A client sent turns so far, calls and renewals, and a server took a prefix of that, in whatever
-/// fragments; what the client got is a prefix of what the server wrote. Then the server was told just the
-/// calls and renewals that were sent whole, each once, in order, under its own RequestId; it refused
-/// nothing, and its services are as these leave them. What the client was told of its calls are the
-/// server's answers to them, each under the RequestId of its own call; the client refused nothing. Neither
-/// end holds more than its bound, whatever came.
+/// A client sent operations so far, calls and renewals, and a server took a prefix of their bytes,
+/// in whatever fragments; the bytes that the client got are a prefix of those that the server
+/// wrote. Then the server's events are just the calls and renewals that were sent whole, each once,
+/// in order, under its own RequestId; it refused nothing, and its services are as these leave them.
+/// The client's events for its calls are the server's answers to them, each under the RequestId of
+/// its own call; the client refused nothing. Neither end holds more than its bound, whatever came.
 pub fn the_headline(server: &Server, client: &ClientChannel)
-    // What the server was told is a prefix of the turns: each call whole, once, in order, under its own RequestId.
+    // The server's events are a prefix of the client's operations: each call whole, once, in order,
+    // under its own RequestId.
     ensures told { (e : Ends) (turns : List (List Outgoing)) (took : List ℕ) (told : List Told) →
         TookOf e turns (channel_in server.now) took →
         Goes (channel_in server.now) took told → IsPrefix told (told_in e turns) }
-    // It was told of the first of them exactly where all octets of these came.
+    // The events of the first operations are among them exactly where all bytes of these came.
     ensures whole { (e : Ends) (turns first : List (List Outgoing)) (took : List ℕ) (told : List Told) →
         TookOf e turns (channel_in server.now) took →
         Goes (channel_in server.now) took told → AreFirstOf first turns →
         IsPrefix (sent_in e first) took ↔ IsPrefix (told_in e first) told }
-    // Its services are as those leave them of which it was told.
+    // Its services are as its events leave them.
     ensures state { (e : Ends) (turns first : List (List Outgoing)) (took : List ℕ) (told : List Told) (now : State) →
         TookOf e turns (channel_in server.now) took →
         ServerStands (channel_in server.now) took told e.first e.times now → AreFirstOf first turns →
@@ -49,16 +51,17 @@ pub fn the_headline(server: &Server, client: &ClientChannel)
     ensures not_closed { (e : Ends) (turns : List (List Outgoing)) (took : List ℕ) (told : List Told) →
         TookOf e turns (channel_in server.now) took →
         ClosedAt (channel_in server.now) took told → ⊥ }
-    // What the client was told is a prefix of the server's answers, each under the RequestId of its own call.
+    // The client's events are a prefix of the server's answers, each under the RequestId of its own
+    // call.
     ensures answered { (e : Ends) (turns : List (List Outgoing)) (asks : List Placed) (got : List ℕ)
         (heard : List ClientTold) → GotOf e turns (channel_in server.now) client.now asks got →
         ClientGoes client.now asks got heard → IsPrefix heard (heard_in e turns) }
-    // And of no call of which the server was not told.
+    // And none answers a call that is not among the server's events.
     ensures no_other { (e : Ends) (turns first : List (List Outgoing)) (asks : List Placed) (got : List ℕ)
         (heard : List ClientTold) (k : GotOf e turns (channel_in server.now) client.now asks got) →
         ClientGoes client.now asks got heard → AreFirstOf first turns → k.told ≡ told_in e first →
         IsPrefix heard (heard_in e first) }
-    // The client refused nothing of them, and the server told it no error.
+    // The client refused none of them, and the server sent it no ERR.
     ensures not_failed { (e : Ends) (turns : List (List Outgoing)) (asks : List Placed) (got : List ℕ)
         (heard : List ClientTold) (why : Why) → GotOf e turns (channel_in server.now) client.now asks got →
         ClientEnded client.now asks got heard why → ⊥ }
@@ -77,15 +80,15 @@ pub fn the_headline(server: &Server, client: &ClientChannel)
     let _holds = client.held();
 }
 
-/// A client of `ua_client` is such a client: what it did so far, over an honest transport, are turns, the
-/// last of which it may be in the middle of. It opened its channel, called requests or renewed its token,
-/// each time where the calls before it were answered, and it may have sent a part of a further call, and
-/// have a part of the answers.
+/// A client of `ua_client` is such a client: what it did so far, over an honest transport, is a
+/// sequence of operations, and it may be in the middle of the last. It opened its channel, called
+/// requests or renewed its token, each time where the calls before it were answered, and it may
+/// have sent a part of a further call, and have a part of the answers.
 pub fn clients_do_turns(server: &Server, client: &ClientChannel)
     ensures turns { (e : Ends) (deeds : List Deed) (now : Option Deed) (asks : List Placed) (got : List ℕ) →
         IsLinked e deeds now (channel_in server.now) asks got → client_limits client.now ≡ e.client →
         GotOf e (turns_of deeds now) (channel_in server.now) client.now asks got }
-    // Behind those of them that are answered it was told just the server's answers.
+    // After those of them that are answered, its events are just the server's answers.
     ensures told { (e : Ends) (deeds : List Deed) (now : Option Deed) (asks : List Placed) (got : List ℕ)
         (k : IsLinked e deeds now (channel_in server.now) asks got) →
         k.did.last.told ≡ heard_in e (map turn_of deeds) }
@@ -93,8 +96,8 @@ pub fn clients_do_turns(server: &Server, client: &ClientChannel)
     ends_connect();
 }
 
-/// There are such conversations: with the least limits, two calls with a renewal between them, sent at
-/// once, and a call behind the answers to these, which goes under the new token.
+/// There are such conversations: with the least limits, two calls with a renewal between them, sent
+/// at once, and a call after the answers to these, which goes under the new token.
 pub fn there_are_conversations()
     ensures opens { CanOpen example_ends }
     ensures accepted { AreAccepted example_ends (both_opened example_ends) (rounds_in example_ends example_turns) }

@@ -1,8 +1,8 @@
-//! The headline: a server is told just what a client sent whole, and a client has just the answers to
-//! that, wherever both are in their conversation.
+//! The headline: a server gets just what a client sent whole, and a client gets just the answers to
+//! that, at any point of their conversation.
 //!
-//! Its contract is that of [`laws::the_headline`], a function that only looks. Its words stand in
-//! `specs/Talk.antt`, above those of the layers.
+//! The law is the contract of [`laws::the_headline`], a function that only looks. `specs/Talk.antt`
+//! defines its terms, on top of those of the layers.
 #![tactic(auto)]
 
 pub mod laws;

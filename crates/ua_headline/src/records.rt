@@ -1,4 +1,4 @@
-//! The headline, of what both ends kept of their connection.
+//! The headline, applied to what both ends kept of their connection.
 
 ghost use Rattle.std.specs.Prelude.{◌≡◌, IsTrue, ℕ, List};
 ghost use Rattle.ua_channel.specs.Asks.{Placed};
@@ -17,9 +17,10 @@ use ua_channel::ClientChannel;
 use ua_server::Server;
 use ua_tcp::RecordedLine;
 
-/// Whether what each end of a connection read is a prefix of what the other wrote, as both lines kept it:
-/// `here` the client's, `there` the server's. Where it is, the headline holds of these octets, over a
-/// socket too. What a line keeps its own calls say: that an end took and wrote just that is a premise.
+/// Whether the bytes that each end of a connection read are a prefix of those that the other wrote,
+/// as both transports kept them: `here` the client's, `there` the server's. Where they are, the
+/// headline holds of these bytes, over a socket too. A transport keeps the bytes of its own calls:
+/// that an end took and wrote just these is a premise.
 pub fn is_honest<K, L>(
     server: &Server,
     client: &ClientChannel,
@@ -27,11 +28,12 @@ pub fn is_honest<K, L>(
     there: &RecordedLine<L>,
 ) -> bool
     ensures honest { IsTrue result → IsHonest here.now there.now }
-    // What the server was told is a prefix of the turns.
+    // The server's events are a prefix of the client's operations.
     ensures told { (e : Ends) (turns : List (List Outgoing)) (told : List Told) → IsTrue result →
         AreSent e turns (channel_in server.now) (octets_written here.now) →
         Goes (channel_in server.now) (octets_read there.now) told → IsPrefix told (told_in e turns) }
-    // What the client was told is a prefix of the server's answers, each under the RequestId of its own call.
+    // The client's events are a prefix of the server's answers, each under the RequestId of its own
+    // call.
     ensures answered { (e : Ends) (turns : List (List Outgoing)) (told : List Told) (asks : List Placed)
         (heard : List ClientTold) → IsTrue result →
         AreSent e turns (channel_in server.now) (octets_written here.now) →
@@ -45,7 +47,7 @@ pub fn is_honest<K, L>(
     up && down
 }
 
-/// Whether octets begin with others.
+/// Whether bytes begin with a prefix.
 fn begins(octets: &[u8], prefix: &[u8]) -> bool
     ensures { IsTrue result → IsPrefix prefix.now octets.now }
 {

@@ -1,4 +1,4 @@
-//! A client and a server that talk to each other.
+//! A client and a server that converse.
 
 ghost use Rattle.std.specs.Prelude.{◌≡◌, ◌<◌, ◌≤◌, ◌∷◌, ◌++◌, [], ℕ, List, Option, Some, IsTrue, IfErr, IfOk, OnOk, length, map};
 ghost use Rattle.ua_wire.specs.Counted.{text};
@@ -38,22 +38,22 @@ use ua_frame::Limits;
 use ua_server::Services;
 use ua_server::laws::services_are_sound;
 
-/// What went over a connection, and what is left behind it.
+/// The bytes that went over a connection, and the state afterwards.
 #[derive(Drop)]
 pub struct Transcript {
-    /// The octets that the client wrote.
+    /// The client-to-server bytes.
     pub up: Vec<u8>,
-    /// The octets that the server wrote.
+    /// The server-to-client bytes.
     pub down: Vec<u8>,
-    /// How many of its turns the client took.
+    /// How many of its operations the client completed.
     pub taken: usize,
     /// The replies to the requests, in their order, as far as they came.
     pub replies: Vec<Reply>,
-    /// Why the client did not do all that it was to do, if it did not.
+    /// Why the client did not complete all operations, if it did not.
     pub outcome: Result<(), ClientFault>,
-    /// How far the connection is at the server.
+    /// The state of the connection at the server.
     pub stage: Stage,
-    /// The services, as they stand.
+    /// The services, as they are now.
     pub services: Services,
 }
 
@@ -80,7 +80,7 @@ fn begin<L: Line>(
     }
 }
 
-/// Takes a turn, and adds the replies.
+/// Performs an operation, and adds the replies.
 fn take_turn<T: AsTurn, L: Line>(
     client: &mut Client,
     line: &mut L,
@@ -115,7 +115,7 @@ fn take_turn<T: AsTurn, L: Line>(
     }
 }
 
-/// Takes all turns, adds the replies, and counts the turns.
+/// Performs all operations, adds the replies, and counts the operations.
 fn take_turns<T: AsTurn, L: Line>(
     client: &mut Client,
     line: &mut L,
@@ -149,7 +149,8 @@ fn take_turns<T: AsTurn, L: Line>(
     Ok(())
 }
 
-/// Opens a client, takes all turns and closes it; adds the replies, and counts the turns.
+/// Opens a client, performs all operations and closes it; adds the replies, and counts the
+/// operations.
 fn talk<T: AsTurn, L: Line>(
     alloc: Global,
     line: &mut L,
@@ -185,15 +186,15 @@ fn talk<T: AsTurn, L: Line>(
     }
 }
 
-/// No slice has as many octets as a call may make reads.
+/// No slice has as many bytes as a call may make reads.
 fn fewer_than_reads(octets: &[u8])
     ensures { length octets.now < most_reads }
 {
     let _len = octets.len();
 }
 
-/// What is told of a fault over a line whose connection is so far: of a reason against a turn over a broken
-/// line, that memory was refused.
+/// The fault that is reported over a transport whose connection is at this stage: where the
+/// transport is broken, an error of the client's operation becomes a failed allocation.
 fn fault_at(stage: Stage, fault: ClientFault) -> ClientFault
     ensures { result ≡ fault_at stage fault }
 {
@@ -209,7 +210,7 @@ fn fault_at(stage: Stage, fault: ClientFault) -> ClientFault
     }
 }
 
-/// The same of what a client came to.
+/// The same for an outcome of the client.
 fn outcome_at(stage: Stage, outcome: Result<(), ClientFault>) -> Result<(), ClientFault>
     ensures { result ≡ outcome_at stage outcome }
 {
@@ -219,7 +220,7 @@ fn outcome_at(stage: Stage, outcome: Result<(), ClientFault>) -> Result<(), Clie
     }
 }
 
-/// Lets a client talk to a server over these services, of the beginning that the parameter names.
+/// Runs a client against a server over these services, of the beginning that the parameter names.
 fn converse_with<T: AsTurn, W: Began>(
     alloc: Global,
     services: Services,
@@ -280,12 +281,14 @@ fn converse_with<T: AsTurn, W: Began>(
     }
 }
 
-/// Lets a client take these turns, from the HEL to the CLO, over a line to a server over these services,
-/// both with these limits, and gives what went over the line each way, the replies, and the services as
-/// they then stand. No clause mentions the lengths of the pieces: what comes of them is the same for all.
+/// Runs a client through these operations, from the HEL to the CLO, over a transport to a server
+/// over these services, both with these limits. It gives the bytes each way, the replies, and the
+/// services afterwards. No clause mentions the fragment lengths: the result is the same for all of
+/// them.
 ///
-/// The moment is that of each answer, of each OPN and of the CLO. Where the client did not do all, the
-/// outcome says why, and what was said and left by then stands in the transcript.
+/// `moment` is the timestamp of each answer, of each OPN and of the CLO. Where the client did not
+/// complete all operations, the outcome gives the reason, and the transcript has the bytes and the
+/// state up to then.
 pub fn converse<T: AsTurn>(
     alloc: Global,
     services: Services,
@@ -299,35 +302,41 @@ pub fn converse<T: AsTurn>(
 ) -> Transcript
     requires { IsTrue (text.encodable url) }
 
-    // What the server said is what is said of what the client wrote, and the services are what that leaves.
+    // The server's bytes are its output for the client's bytes, and the services are as these leave
+    // them.
     ensures down { result.down.items ≡ server_output (record { limits = limits; channel = channel_id; first = services; moment = moment }) result.up.items }
-    // How far the connection is says how it ends there.
+    // The stage tells how the connection ends there.
     ensures services { LeavesAt result.stage (record { limits = limits; channel = channel_id; first = services; moment = moment }) result.up.items result.services }
     ensures ends { EndsAt result.stage (record { limits = limits; channel = channel_id; first = services; moment = moment }) result.up.items }
 
-    // The client sent just its turns and took all that the server said, and each request has its own reply.
+    // The client sent just its operations and took all of the server's output, and each request has
+    // its own reply.
     ensures converses { OnOk result.outcome (Converses limits url moment (map T.turn turns.now) result.up.items result.down.items result.replies.items) }
 
-    // The server refused none of it, and was told just these turns: each request once, in order, under its own request id; and the
-    // next token at each renewal. The CLO closed the channel, and the services are what all of that leaves.
+    // The server refused none of it. Its events are just these operations: each request once, in
+    // order, under its own RequestId, and the next token at each renewal. The CLO closed the
+    // channel, and the services are as all of that leaves them.
     ensures heard { OnOk result.outcome (ServerCloses limits channel_id result.up.items (conversation_told limits limits url (map T.turn turns.now))) }
     ensures closed { OnOk result.outcome (result.stage ≡ Ended Closed) }
     ensures left { OnOk result.outcome (result.services ≡ services_after (record { limits = limits; channel = channel_id; first = services; moment = moment }) result.up.items) }
 
-    // What the client wrote, the replies and the services are functions of the turns.
+    // The client's bytes, the replies and the services are functions of the operations.
     ensures sent { OnOk result.outcome (result.up.items ≡ conversation_octets limits limits url channel_id moment (map T.turn turns.now)) }
     ensures replied { OnOk result.outcome (map Some result.replies.items ≡ turns_replies (record { limits = limits; channel = channel_id; first = services; moment = moment }) limits url services 1 (map T.turn turns.now)) }
     ensures state { OnOk result.outcome (result.services ≡ turns_state services moment (map T.turn turns.now)) }
 
-    // Each turn was accepted; or the client did not take the first that is not, and its fault is the first reason against it.
+    // Each operation was accepted; or the client stopped before the first that is not, and its
+    // fault is the first error against it.
     ensures accepted { OnOk result.outcome (AreAccepted (acknowledged limits limits url) (map T.turn turns.now)) }
     ensures taken { OnOk result.outcome (result.taken ≡ length turns.now) }
     ensures refused { IfErr result.outcome (λ fault. IsTurnFault fault → FirstRefused (acknowledged limits limits url) (map T.turn turns.now) result.taken fault) }
-    // Then what was sent, the replies and the state that was left are those of what stands before it, and of no more.
+    // Then the bytes sent, the replies and the state are those of the requests and renewals before
+    // it, and of no more.
     ensures before { IfErr result.outcome (λ fault. IsTurnFault fault → BehindRefused (record { limits = limits; channel = channel_id; first = services; moment = moment }) limits url moment (map T.turn turns.now) result.taken result.up.items result.replies.items) }
 
-    // The client fails for a reason against a turn, behind which the connection goes on, or for want of memory: its own, or the
-    // server's, whose line is then broken. The server takes a URL of at most 4095 octets (OPC 10000-6, 7.1.2.3).
+    // The client fails for an error against an operation, after which the connection goes on, or
+    // for a failed allocation: its own, or the server's, whose transport is then broken. The server
+    // takes a URL of at most 4095 bytes (OPC 10000-6, 7.1.2.3).
     ensures fails { IfErr result.outcome (λ fault. url_length url ≤ 4095 → FailsAt result.stage fault) }
 {
     converse_with::<T, Brand>(

@@ -1,9 +1,9 @@
-//! The pieces in which octets move.
+//! The fragments in which bytes move.
 
 ghost use Rattle.std.specs.Prelude.{◌<◌, ◌≤◌};
 
-/// The most octets that each call moves, in turn and again from the first; 0 counts as 1, and none
-/// sets no limit.
+/// The most bytes that each call moves, in turn and again from the first; 0 counts as 1, and an
+/// empty list sets no limit.
 #[derive(Drop)]
 pub struct Cuts {
     lengths: Vec<usize>,
@@ -17,8 +17,8 @@ impl Cuts {
         Cuts { lengths, next: 0 }
     }
 
-    /// How many of so many octets the next call moves: all, or fewer, but at least one where there is
-    /// one.
+    /// How many of so many bytes the next call moves: all, or fewer, but at least one where there
+    /// is one.
     pub fn front(&mut self, count: usize) -> usize
         ensures within { result ≤ count }
         ensures some { 0 < count → 0 < result }

@@ -1,8 +1,9 @@
-//! Laws of what a client over a line sends, and what a server reads of it. Each is the contract of a
-//! function that does nothing.
+//! Laws of what a client sends over a transport, and of what a server reads of it. Each is the
+//! contract of a function that does nothing.
 //!
-//! They say it of octets alone, one turn after the other. Where both ends are, and what a server's
-//! answers bring the client, the laws of `ua_channel_laws::both_ends` say.
+//! They concern bytes alone, one client operation after the other. The laws of
+//! `ua_channel_laws::both_ends` state where both ends are, and what a server's answers bring the
+//! client.
 
 ghost use Rattle.std.specs.Prelude.{◌≡◌, ◌<◌, ◌≤◌, ◌+◌, ◌^◌, ◌∷◌, ◌++◌, [], ℕ, List, Option, None, IsTrue, length};
 ghost use Rattle.ua_wire.specs.Format.{Extends};
@@ -37,23 +38,25 @@ ghost use Rattle.ua_loopback.specs.Turns.{calls_told, conversation_told};
 
 use ua_client::laws::clients_are_settled;
 
-/// What a client sends to open its connection a server reads: it agrees, and issues the first token.
+/// A server reads what a client sends to open its connection: it agrees on limits, and issues the
+/// first token.
 pub fn openings_reach_the_server()
     ensures { (limits : Limits) (channel : ℕ) (client : Limits) (url : Option (List ℕ)) (moment : DateTime) →
         IsTrue (hello.encodable (hello_to client url)) → url_length url ≤ 4095 → IsTrue (date_time.encodable moment) →
         ServerReads limits channel (opening_octets client url moment) (Agreed (agreement_of limits (hello_to client url)) ∷ (Opened 1 0 1 3600000 ∷ [])) (with_token (greeted_at (hello_to client url))) }
 {}
 
-/// All that a client says whose turns are accepted, from the HEL to the CLO, a server reads: it refuses
-/// none of it, and is told of just these turns, in their order. The CLO closes the channel.
+/// A server reads all that a client sends whose operations are accepted, from the HEL to the CLO.
+/// It refuses none of it, and its events are just these operations, in their order. The CLO closes
+/// the channel.
 pub fn conversations_reach_the_server()
     ensures { (limits client : Limits) (url : Option (List ℕ)) (channel : ℕ) (moment : DateTime) (turns : List (Option (List Request))) →
         IsTrue (hello.encodable (hello_to client url)) → url_length url ≤ 4095 → channel < 2 ^ 32 → IsTrue (date_time.encodable moment) → AreAccepted (acknowledged limits client url) turns →
         ServerCloses limits channel (conversation_octets limits client url channel moment turns) (conversation_told limits client url turns) }
 {}
 
-/// What a server says of the opening, in one process: its ACK, and the OPN response with the first
-/// token. A client that stands where it took just that, and asked nothing, and its server are in step.
+/// The server's output for the opening, in one process: its ACK, and the OPN response with the
+/// first token. A client that took just that, and sent no request yet, is in step with its server.
 pub fn ends_begin_together()
     ensures said { (b : Beginning) (client : Limits) (url : Option (List ℕ)) (moment : DateTime) →
         IsTrue (hello.encodable (hello_to client url)) → url_length url ≤ 4095 → IsTrue (date_time.encodable moment) →
@@ -66,8 +69,8 @@ pub fn ends_begin_together()
         (opened_at (ack_to (hello_to (client_limits x) url) b.limits) b.channel 1 (next_number 1)) }
 {}
 
-/// What a client then sends of requests that are answered the server reads as just these: in their
-/// order, each whole, once and under its own request id. And each reply is that of its own request.
+/// The server reads what the client then sends of answered requests as just these: in their order,
+/// each whole, once and under its own RequestId. Each reply is that of its own request.
 pub fn requests_reach_the_server()
     ensures { (limits : Limits) (url : Option (List ℕ)) (channel : ℕ) (octets : List ℕ) (told : List Told) (s : AtServer) (x : ClientChannel) (site behind : ClientPlace) (c : AtClient) (requests : List Request) (taken : List ℕ) (replies : List Reply) →
         channel < 2 ^ 32 → AreTogether limits url channel octets told s x site c → Answered requests site behind taken replies →
@@ -76,9 +79,9 @@ pub fn requests_reach_the_server()
         × AreReplies requests (id_at site) behind.told replies }
 {}
 
-/// A client that was answered took all that the server says of what was sent, where it stood at a settled
-/// place and took a front of that. Then both are in step again, and the client's calls go under the token
-/// that they went under.
+/// A client with no request outstanding sends requests, and they are answered. Where the bytes that
+/// it took are a prefix of the server's output for all bytes sent, it took all of that output. Then
+/// both are in step again, and the client's calls go under the same token as before.
 pub fn ends_stay_together()
     ensures took { (b : Beginning) (url : Option (List ℕ)) (octets : List ℕ) (told : List Told) (s : AtServer) (x y : ClientChannel) (site behind : ClientPlace) (c : AtClient) (requests : List Request) (taken : List ℕ) (replies : List Reply) →
         b.channel < 2 ^ 32 → AreServing b url octets told s x site c → IsSettled site → 0 < length requests → Answered requests site behind taken replies →
@@ -91,17 +94,18 @@ pub fn ends_stay_together()
     clients_are_settled();
 }
 
-/// What it sends of a renewal that is not refused the server reads, and issues the next token, where it
-/// has one left.
+/// The server reads what the client sends for a renewal that is not refused, and issues the next
+/// token, where it has one left.
 pub fn renewals_reach_the_server()
     ensures { (limits : Limits) (url : Option (List ℕ)) (channel : ℕ) (octets : List ℕ) (told : List Told) (s : AtServer) (x : ClientChannel) (site : ClientPlace) (c : AtClient) (moment : DateTime) →
         channel < 2 ^ 32 → AreTogether limits url channel octets told s x site c → renewal_refusal site ≡ None → s.issued < 4294967295 → IsTrue (date_time.encodable moment) →
         ServerReads limits channel (octets ++ renewal_at site moment) (told ++ Opened (id_at site) 0 (s.issued + 1) 3600000 ∷ []) (with_token s) }
 {}
 
-/// What the server says of that: its OPN response, which brings the next token. Where octets begin with
-/// that and with what a client took that stood at a settled place and whose renewal is answered, the
-/// client took just that. Both are then in step again, and the client's calls go under that token.
+/// For that the server sends its OPN response, which brings the next token. Let a client with no
+/// request outstanding renew, and the renewal be answered. Where the bytes that it took, and the
+/// server's output for all bytes sent, are prefixes of the same bytes, it took just that output.
+/// Then both are in step again, and the client's calls go under the new token.
 pub fn renewals_stay_together()
     ensures said { (b : Beginning) (url : Option (List ℕ)) (octets : List ℕ) (told : List Told) (s : AtServer) (x : ClientChannel) (site : ClientPlace) (c : AtClient) (moment : DateTime) →
         b.channel < 2 ^ 32 → AreServing b url octets told s x site c → renewal_refusal site ≡ None → IsTrue (date_time.encodable moment) →
@@ -116,7 +120,7 @@ pub fn renewals_stay_together()
         (d : AtClient) × AreServing b url (octets ++ renewal_at site moment) (told ++ Opened (id_at site) 0 (s.issued + 1) 3600000 ∷ []) (with_token s) y behind d × (d.newest ≡ s.issued + 1) }
 {}
 
-/// What it sends to close its channel the server reads, and the channel is closed.
+/// The server reads what the client sends to close its channel, and the channel is closed.
 pub fn closings_reach_the_server()
     ensures { (limits : Limits) (url : Option (List ℕ)) (channel : ℕ) (octets : List ℕ) (told : List Told) (s : AtServer) (x : ClientChannel) (site : ClientPlace) (c : AtClient) (moment : DateTime) →
         channel < 2 ^ 32 → AreTogether limits url channel octets told s x site c → id_at site < 2 ^ 32 →

@@ -1,9 +1,9 @@
-//! A client and a server in one process, over a line whose other end is the server.
+//! A client and a server in one process, over a transport whose other end is the server.
 //!
-//! Its contracts are those of [`ServedLine`]: what is written to it is taken by the server, and what
-//! is read from it is what the server says of all that was written; and of [`converse`], which runs a
-//! client over such a line: what went each way, the replies, and the services as they are left. Those of
-//! [`talking`] say of a client over any line to a server what each of its calls comes to.
+//! Its contracts are those of [`ServedLine`]: the server takes what is written to it, and what is
+//! read from it is the server's output for all bytes written; and of [`converse`], which runs a
+//! client over such a transport: the bytes each way, the replies, and the services afterwards.
+//! Those of [`talking`] give the result of each call of a client, over any transport to a server.
 #![tactic(auto)]
 
 mod conversation;

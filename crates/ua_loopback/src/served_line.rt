@@ -1,4 +1,4 @@
-//! A line to a server in the same process.
+//! A transport to a server in the same process.
 
 ghost use Rattle.std.specs.Prelude.{◌≡◌, ◌++◌, ◌<◌, ◌≤◌, [], None, Some, IfOk, IfSome, OnErr, length, take};
 ghost use Rattle.ua_channel.specs.Line.{HandsOut, WriteTakes, failures_after};
@@ -16,10 +16,11 @@ use ua_channel::{Line, LineFault};
 use ua_frame::Limits;
 use ua_server::{Server, Services};
 
-/// How the server of a line began. A function over a line to a server takes it as a parameter, so that
-/// each line of that type is known to be one to that server, also behind calls of a client over it.
+/// The beginning of the server behind a transport. A function over a transport to a server takes it
+/// as a parameter, so that each transport of that type is known to lead to that server, also after
+/// calls of a client over it.
 pub trait Began {
-    /// Its limits, the id of its channel, its services, and the moment of its answers.
+    /// The server's limits, its SecureChannelId, its services, and the timestamp of its answers.
     ghost beginning: { Beginning };
 }
 
@@ -27,7 +28,7 @@ impl Began for Brand {
     ghost beginning = { no_server };
 }
 
-/// Adds octets to the one and to the other, or to neither.
+/// Adds bytes to both vectors, or to neither.
 fn add_both(
     up: &mut Vec<u8>,
     more_up: &[u8],
@@ -50,12 +51,12 @@ fn add_both(
     }
 }
 
-/// A line whose other end is a server over its services. What is written to it the server takes, in
-/// pieces of at most the lengths that the line is told, and what the server says is read from it, in
-/// pieces too. Each answer of the server has the same moment.
+/// A transport whose other end is a server over its services. The server takes what is written to
+/// it, in fragments of at most the lengths given, and what is read from it is the server's output,
+/// in fragments too. Each answer of the server has the same timestamp.
 ///
-/// A write fails once the connection ended at the server; where one fails before that, the line is broken
-/// from then on.
+/// A write fails once the connection ended at the server. Where a write fails before that, the
+/// transport is broken from then on.
 #[derive(Drop)]
 pub struct ServedLine<W: Began> {
     server: Server,
@@ -87,9 +88,9 @@ impl<W: Began> Model for ServedLine<W> {
 }
 
 impl<W: Began> ServedLine<W> {
-    /// A line to a server over these services that waits for a client. `writes` and `reads` are the most
-    /// octets that each call takes and gives, in turn and again from the first; 0 counts as 1, and none
-    /// sets no limit.
+    /// A transport to a server over these services that waits for a client. `writes` and `reads`
+    /// are the most bytes that each call takes and gives, in turn and again from the first; 0
+    /// counts as 1, and an empty list sets no limit.
     pub fn new(
         alloc: Global,
         limits: Limits,
@@ -117,14 +118,14 @@ impl<W: Began> ServedLine<W> {
         }
     }
 
-    /// What was written so far.
+    /// The bytes written so far.
     pub fn up(&self) -> &[u8]
         ensures { result.now ≡ self.now.up }
     {
         &self.up
     }
 
-    /// What the server said so far, read or not.
+    /// The server's output so far, read or not.
     pub fn down(&self) -> &[u8]
         ensures value { result.now ≡ self.now.down }
         ensures said { result.now ≡ server_output W.beginning self.now.up }
@@ -132,16 +133,16 @@ impl<W: Began> ServedLine<W> {
         &self.down
     }
 
-    /// How far the connection is.
+    /// The state of the connection.
     pub fn stage(&self) -> Stage
         ensures is { result ≡ self.now.stage }
-        // Where a call failed the connection is over.
+        // After a failed call the connection is over.
         ensures over { 0 < self.now.failures → IsOver result }
     {
         self.stage
     }
 
-    /// What was written, what the server said, and its services.
+    /// The bytes written, the server's output, and its services.
     pub fn into_parts(self) -> (Vec<u8>, Vec<u8>, Services)
         ensures up { result.0.items ≡ self.up }
         ensures down { result.1.items ≡ server_output W.beginning self.up }
@@ -157,8 +158,8 @@ impl<W: Began> ServedLine<W> {
         (up, down, services)
     }
 
-    /// Lets the server take octets up to the end of the first frame that is answered, else all of them,
-    /// and keeps what it says. Says how many it took; none where it takes nothing more.
+    /// Lets the server take bytes up to the end of the first frame that is answered, else all of
+    /// them, and keeps its output. Returns how many it took; `None` where it takes nothing more.
     fn take(&mut self, piece: &[u8]) -> Option<usize>
         ensures within { IfSome result (λ n. n ≤ length piece.now) }
         ensures some { 0 < length piece.now → IfSome result (λ n. 0 < n) }
@@ -195,7 +196,7 @@ impl<W: Began> Line for ServedLine<W> {
 
     ghost failures = { λ l. l.failures };
 
-    /// It never fails.
+    /// Never fails.
     fn read(&mut self, buffer: &mut [u8]) -> Result<usize, LineFault>
         ensures within { IfOk result (λ n. n ≤ length buffer.new) }
         ensures failed { self.new.failures ≡ failures_after self.old.failures result }
@@ -210,8 +211,8 @@ impl<W: Began> Line for ServedLine<W> {
         Ok(n)
     }
 
-    /// It fails only where the connection was over before, which it then stays, or where this write breaks
-    /// the line.
+    /// Fails only where the connection was over before, which it then stays, or where this write
+    /// breaks the transport.
     fn write(&mut self, octets: &[u8]) -> Result<usize, LineFault>
         ensures within { IfOk result (λ n. n ≤ length octets.now) }
         ensures some { 0 < length octets.now → IfOk result (λ n. 0 < n) }

@@ -1,11 +1,13 @@
-//! Calls of a client over any line whose octets down are what a server says of its octets up.
+//! Calls of a client over any transport whose server-to-client bytes are a server's output for its
+//! client-to-server bytes.
 //!
-//! Each function is the call of [`Client`] of its name, with what that comes to over such a line, at a
-//! server whose answers all have one moment, call by call, whatever the limits of both ends. Where it
-//! succeeds, behind a talk so far the server reads just what the call asks, each request whole, once, in
-//! order and under its own request id; each reply is that of its own request in the state that those before
-//! it left; and behind the call the client is behind the talk with this turn more, so that the next call
-//! says the same again. Where it fails, that is not for what the server says. [`open`] begins a talk.
+//! Each function is the [`Client`] call of its name, with its result over such a transport, at a
+//! server whose answers all have one timestamp, call by call, whatever the limits of both ends.
+//! Where it succeeds after a talk so far, the server reads just what the call asks, each request
+//! whole, once, in order and under its own RequestId; each reply is that of its own request in the
+//! state that those before it left; and the talk goes on with this operation more, so that the
+//! contract applies to the next call again. Where it fails, the server's output is not the cause.
+//! [`open`] begins a talk.
 
 ghost use Rattle.std.specs.Prelude.{◌≡◌, ◌⊎◌, ◌+◌, ◌<◌, ◌≤◌, ◌∷◌, ◌++◌, [], length, map, Err, None, Some, IfErr, IfOk, IsTrue, OnOk};
 ghost use Rattle.ua_wire.specs.Counted.{text};
@@ -50,11 +52,12 @@ pub fn open<L: Line>(
     ensures opens { OpensNothing (L.traffic line.old) (L.traffic line.new) result ⊎ OpensClient limits url moment (L.traffic line.old) (L.traffic line.new) result }
     ensures failed { L.failures line.new ≡ failures_behind (L.failures line.old) result }
 
-    // Over a line to a server its talk begins: the server agreed, and issued the first token.
+    // Over a transport to a server its talk begins: the server agreed, and issued the first token.
     ensures begins { IfOk result (λ client. (b : Beginning) → CanBegin b → IsLineTo b [] [] (L.traffic line.old) → IsTalking (opening b limits url moment) client (L.traffic line.new)) }
-    // It does not fail for what the server says, which takes a URL of at most 4095 octets (OPC 10000-6, 7.1.2.3).
+    // The server's output does not make it fail; the server takes a URL of at most 4095 bytes
+    // (OPC 10000-6, 7.1.2.3).
     ensures fails { IfErr result (λ fault. (b : Beginning) → CanBegin b → IsLineTo b [] [] (L.traffic line.old) → url_length url ≤ 4095 → IsOutside fault) }
-    // Where the line failed the server refused nothing of what was sent, and waits for more.
+    // Where the transport failed, the server refused nothing of what was sent, and waits for more.
     ensures stops { IfErr result (λ fault. (b : Beginning) → CanBegin b → IsLineTo b [] [] (L.traffic line.old) → url_length url ≤ 4095 → StopsOver fault b [] (L.traffic line.old) (L.traffic line.new)) }
 {
     clients_are_settled();
@@ -76,14 +79,16 @@ pub fn begin_session_as<L: Line>(
     ensures closed { IsDone client.old → (result ≡ Err Closed) × (client.new ≡ client.old) × (line.new ≡ line.old) }
     ensures failed { L.failures line.new ≡ failures_behind (L.failures line.old) result }
 
-    // Behind a talk, it goes on with a turn of two requests: CreateSession, and ActivateSession with the token that the server gave.
+    // After a talk, it goes on with an operation of two requests: CreateSession, and
+    // ActivateSession with the token that the server gave.
     ensures stays { IfOk result (λ token. (t : SoFar) → IsTalking t client.old (L.traffic line.old) → IsTalking (with_turn t moment (Some (session_requests t policy_id token moment))) client.new (L.traffic line.new)) }
-    // Just their octets are sent.
+    // Just their bytes are sent.
     ensures sends { IfOk result (λ token. (t : SoFar) → IsTalking t client.old (L.traffic line.old) → IsSentOver (octets_of t moment (Some (session_requests t policy_id token moment))) (L.traffic line.old) (L.traffic line.new)) }
     // The server reads just these, and its services are as they leave them.
     ensures reaches { IfOk result (λ token. (t : SoFar) → IsTalking t client.old (L.traffic line.old) → Reads t.server (with_turn t moment (Some (session_requests t policy_id token moment))).octets (told_in t ++ calls_told (newest_in t) (id_in t) (bodies_of (session_requests t policy_id token moment)))) }
     ensures state { IfOk result (λ token. (t : SoFar) → IsTalking t client.old (L.traffic line.old) → services_after t.server (with_turn t moment (Some (session_requests t policy_id token moment))).octets ≡ state_behind (state_in t) t.server.moment (session_requests t policy_id token moment)) }
-    // It does not fail for what the server says but where that says so: Service comes only where its reply to one of the two is that the service failed, with this code.
+    // The server's output makes it fail in one way only: with Service, where the reply to one of
+    // the two is that the service failed, with this code.
     ensures fails { IfErr result (λ fault. (t : SoFar) → IsTalking t client.old (L.traffic line.old) → FailsSession t policy_id moment fault) }
     ensures answered { IfErr result (λ fault. (t : SoFar) → IsTalking t client.old (L.traffic line.old) → IsSoundState t.server.first → fault ≡ UnknownResponse → ⊥) }
 {
@@ -108,23 +113,27 @@ pub fn call_all<L: Line>(
     ensures closed { IsDone client.old → (result ≡ Err Closed) × (client.new ≡ client.old) × (line.new ≡ line.old) }
     ensures failed { L.failures line.new ≡ failures_behind (L.failures line.old) result }
 
-    // Behind a talk, just the octets of these requests are sent.
+    // After a talk, just the bytes of these requests are sent.
     ensures sends { OnOk result ((t : SoFar) → IsTalking t client.old (L.traffic line.old) → IsSentOver (octets_of t moment (Some requests.now)) (L.traffic line.old) (L.traffic line.new)) }
-    // The server reads just these requests more: each whole, once, in order, under its own request id and the newest token.
+    // The server reads just these requests more: each whole, once, in order, under its own
+    // RequestId and the newest token.
     ensures reaches { OnOk result ((t : SoFar) → IsTalking t client.old (L.traffic line.old) → Reads t.server (with_turn t moment (Some requests.now)).octets (told_in t ++ calls_told (newest_in t) (id_in t) (bodies_of requests.now))) }
-    // Each reply is that of its own request in the state that those before it left, and all of them leave this state.
+    // Each reply is that of its own request in the state that those before it left, and all of them
+    // leave this state.
     ensures replied { IfOk result (λ replies. (t : SoFar) → IsTalking t client.old (L.traffic line.old) → map Some replies.items ≡ requests_replies (lane_back t.server t.limits t.url (newest_in t)) (state_in t) t.server.moment requests.now) }
     ensures state { OnOk result ((t : SoFar) → IsTalking t client.old (L.traffic line.old) → services_after t.server (with_turn t moment (Some requests.now)).octets ≡ state_behind (state_in t) t.server.moment requests.now) }
-    // The talk goes on with this turn more.
+    // The talk goes on with this operation more.
     ensures stays { OnOk result ((t : SoFar) → IsTalking t client.old (L.traffic line.old) → IsTalking (with_turn t moment (Some requests.now)) client.new (L.traffic line.new)) }
-    // A fault that is a reason against a request is the first against them, and the talk goes on with the first of these requests, which were asked.
+    // A fault that is an error of a request is the first error among them, and the talk goes on
+    // with the first of these requests, which were asked.
     ensures refused { IfErr result (λ fault. IsTurnFault fault → (t : SoFar) → IsTalking t client.old (L.traffic line.old) → turn_refusal (acked_in t) t.turns (Some requests.now) ≡ Some fault) }
     ensures before { IfErr result (λ fault. IsTurnFault fault → (t : SoFar) → IsTalking t client.old (L.traffic line.old) → IsBehindFirst t moment requests.now client.new (L.traffic line.new)) }
-    // It does not fail for what the server says, whose replies come and are read: UnknownResponse comes only where the server answered no response,
-    // so that it never comes where its services are sound, as those of each server are.
+    // The server's output does not make it fail: the replies come and are read. UnknownResponse
+    // comes only where the server's answer is no response, so never where its services are sound,
+    // as those of each server are.
     ensures fails { IfErr result (λ fault. (t : SoFar) → IsTalking t client.old (L.traffic line.old) → FailsBehind (HaveMisanswer (state_in t) t.server.moment requests.now) fault) }
     ensures answered { IfErr result (λ fault. (t : SoFar) → IsTalking t client.old (L.traffic line.old) → IsSoundState t.server.first → fault ≡ UnknownResponse → ⊥) }
-    // Where the line failed the server refused nothing of what was sent, and waits for more.
+    // Where the transport failed, the server refused nothing of what was sent, and waits for more.
     ensures stops { IfErr result (λ fault. (t : SoFar) → IsTalking t client.old (L.traffic line.old) → StopsOver fault t.server t.octets (L.traffic line.old) (L.traffic line.new)) }
 {
     clients_are_settled();
@@ -150,7 +159,7 @@ pub fn call_into<L: Line>(
     ensures closed { IsDone client.old → (result ≡ Err (closed_at 0)) × (client.new ≡ client.old) × (line.new ≡ line.old) × (replies.new ≡ replies.old) }
     ensures failed { L.failures line.new ≡ failures_behind (L.failures line.old) (fault_alone result) }
 
-    // The same as of `call_all`.
+    // The same as for `call_all`.
     ensures sends { OnOk result ((t : SoFar) → IsTalking t client.old (L.traffic line.old) → IsSentOver (octets_of t moment (Some requests.now)) (L.traffic line.old) (L.traffic line.new)) }
     ensures reaches { OnOk result ((t : SoFar) → IsTalking t client.old (L.traffic line.old) → Reads t.server (with_turn t moment (Some requests.now)).octets (told_in t ++ calls_told (newest_in t) (id_in t) (bodies_of requests.now))) }
     ensures replied { OnOk result ((t : SoFar) → IsTalking t client.old (L.traffic line.old) → map Some replies.new.items ≡ map Some replies.old.items ++ requests_replies (lane_back t.server t.limits t.url (newest_in t)) (state_in t) t.server.moment requests.now) }
@@ -182,17 +191,18 @@ pub fn renew<L: Line>(
     ensures closed { IsDone client.old → (result ≡ Err Closed) × (client.new ≡ client.old) × (line.new ≡ line.old) }
     ensures failed { L.failures line.new ≡ failures_behind (L.failures line.old) result }
 
-    // Behind a talk, just the octets of an OPN are sent.
+    // After a talk, just the bytes of an OPN are sent.
     ensures sends { OnOk result ((t : SoFar) → IsTalking t client.old (L.traffic line.old) → IsSentOver (octets_of t moment None) (L.traffic line.old) (L.traffic line.new)) }
-    // The server reads just this OPN more, and issues the next token, for an hour (OPC 10000-4, 5.6.2).
+    // The server reads just this OPN more, and issues the next token, for an hour (OPC 10000-4,
+    // 5.6.2).
     ensures reaches { OnOk result ((t : SoFar) → IsTalking t client.old (L.traffic line.old) → Reads t.server (with_turn t moment None).octets (told_in t ++ Opened (id_in t) 0 (newest_in t + 1) 3600000 ∷ [])) }
     // It leaves the services as they were.
     ensures state { OnOk result ((t : SoFar) → IsTalking t client.old (L.traffic line.old) → services_after t.server (with_turn t moment None).octets ≡ state_in t) }
-    // The talk goes on with this turn more: calls go out under the next token.
+    // The talk goes on with this operation more: calls go out under the next token.
     ensures stays { OnOk result ((t : SoFar) → IsTalking t client.old (L.traffic line.old) → IsTalking (with_turn t moment None) client.new (L.traffic line.new)) }
-    // A fault that is a reason against a renewal is the first against it.
+    // A fault that is an error of a renewal is the first error against it.
     ensures refused { IfErr result (λ fault. IsTurnFault fault → (t : SoFar) → IsTalking t client.old (L.traffic line.old) → turn_refusal (acked_in t) t.turns None ≡ Some fault) }
-    // It does not fail for what the server says.
+    // The server's output does not make it fail.
     ensures fails { IfErr result (λ fault. (t : SoFar) → IsTalking t client.old (L.traffic line.old) → FailsBehind ⊥ fault) }
     ensures stops { IfErr result (λ fault. (t : SoFar) → IsTalking t client.old (L.traffic line.old) → StopsOver fault t.server t.octets (L.traffic line.old) (L.traffic line.new)) }
 {
@@ -213,11 +223,12 @@ pub fn close<L: Line>(
     ensures closed { IsDone client.old → (result ≡ Err Closed) × (client.new ≡ client.old) × (line.new ≡ line.old) }
     ensures failed { L.failures line.new ≡ failures_behind (L.failures line.old) result }
 
-    // Behind a talk, just the octets of a CLO are sent.
+    // After a talk, just the bytes of a CLO are sent.
     ensures sends { OnOk result ((t : SoFar) → IsTalking t client.old (L.traffic line.old) → IsSentOver (closing_behind (acked_in t) t.server.channel moment t.turns) (L.traffic line.old) (L.traffic line.new)) }
     // The server reads just this CLO more, which closes its channel.
     ensures reaches { OnOk result ((t : SoFar) → IsTalking t client.old (L.traffic line.old) → ServerCloses t.server.limits t.server.channel (closed_octets t moment) (told_in t ++ ToldClosed ∷ [])) }
-    // It says nothing of that, so that the client took all that it said; and its services are as the talk left them.
+    // The server answers nothing to that, so that the client took all of its output; and its
+    // services are as the talk left them.
     ensures silent { OnOk result ((t : SoFar) → IsTalking t client.old (L.traffic line.old) → server_output t.server (closed_octets t moment) ≡ server_output t.server t.octets) }
     ensures state { OnOk result ((t : SoFar) → IsTalking t client.old (L.traffic line.old) → services_after t.server (closed_octets t moment) ≡ state_in t) }
     ensures fails { IfErr result (λ fault. (t : SoFar) → IsTalking t client.old (L.traffic line.old) → IsOutside fault) }

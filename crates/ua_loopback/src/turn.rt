@@ -2,27 +2,28 @@
 
 use ua_services::Request;
 
-/// A type whose values are turns of a client: what it does next on an open channel.
+/// A type whose values are operations of a client on an open channel: requests, or a renewal.
 pub trait AsTurn {
     ghost use Rattle.std.specs.Prelude.{◌≡◌, List, None, Option, Some, IfSome};
     ghost use Rattle.ua_services.specs.declared.request.Request.{Request};
 
-    /// The requests that it asks; none where it renews the token of its channel.
+    /// The requests that it asks; `None` where it renews the token of its channel.
     ghost turn: { Self → Option (List Request) };
 
-    /// The requests that it asks, in groups of 64, of which the last may have fewer, and waits for their
-    /// replies; or `None`, where it renews the token of its channel (OPC 10000-4, 5.6.2).
+    /// The requests to ask, in groups of 64, of which the last may have fewer, each group answered
+    /// before the next; or `None` to renew the token of the channel (OPC 10000-4, 5.6.2).
     fn requests(&self) -> Option<&[Request]>
         ensures asks { IfSome result (λ requests. turn self.now ≡ Some requests.now) }
         ensures renews { result ≡ None → turn self.now ≡ None };
 }
 
-/// What a client does next on an open channel.
+/// An operation of a client on an open channel.
 #[derive(Drop)]
 pub enum Turn {
-    /// It asks requests, in groups of 64, of which the last may have fewer, and waits for their replies.
+    /// Asks requests, in groups of 64, of which the last may have fewer, and waits for their
+    /// replies.
     Ask(Vec<Request>),
-    /// It renews the token of its channel (OPC 10000-4, 5.6.2).
+    /// Renews the token of the channel (OPC 10000-4, 5.6.2).
     Renew,
 }
 

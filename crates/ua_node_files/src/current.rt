@@ -1,4 +1,4 @@
-//! The server's time, as its node CurrentTime tells it (OPC 10000-5, 6.3.3).
+//! The server's time, as its node CurrentTime has it (OPC 10000-5, 6.3.3).
 
 ghost use Rattle.std.specs.Prelude.{◌≡◌};
 ghost use Rattle.ua_node_files.specs.CurrentTime.{current_time as reading_at, current_time_id as id};
@@ -11,15 +11,15 @@ use ua_variant::{Scalar, Variant};
 /// The number of CurrentTime in namespace 0.
 const NUMBER: u32 = 2258;
 
-/// The NodeId of CurrentTime: `i=2258`. Takes no memory.
+/// The NodeId of CurrentTime: `i=2258`. Allocates nothing.
 pub fn current_time_id() -> NodeId
     ensures { result ≡ id }
 {
     NodeId::new(0, Identifier::Numeric(NUMBER))
 }
 
-/// What CurrentTime reads at a moment: that moment, which is its source time too, and no status. Takes no
-/// memory.
+/// The reading of CurrentTime at a given time: that time, also as its SourceTimestamp, and no
+/// status. Allocates nothing.
 pub fn current_time(moment: DateTime) -> Reading
     ensures { result ≡ reading_at moment }
 {
@@ -31,7 +31,7 @@ pub fn current_time(moment: DateTime) -> Reading
     }
 }
 
-/// Whether the nodes have no CurrentTime.
+/// Whether the table has no node CurrentTime.
 pub fn lacks_current_time(nodes: &NodeTable) -> bool
     ensures { result ≡ lacks_node nodes.now 2258 }
 {

@@ -1,10 +1,10 @@
-//! Node files as a server has them whose clients come from elsewhere: the namespaces that a file names, and
-//! the nodes of namespace 0 that clients ask first. Texts from texts, with no IO.
+//! Node files of a server for third-party clients: the namespaces that a file names, and the nodes
+//! of namespace 0 that such clients read first. Texts are made from texts, without I/O.
 //!
 //! ```
 //! let uris = namespaces(alloc, &text)?; // of lines such as `# namespace 2 urn:plant`
 //! let nodes = NodeTable::load(alloc, &text)?;
-//! let whole = with_standard(alloc, &text, &nodes, &uris)?; // behind the file's lines, those that it lacks
+//! let whole = with_standard(alloc, &text, &nodes, &uris)?; // the file, then the lines it lacks
 //! ```
 #![tactic(auto)]
 

@@ -8,13 +8,14 @@ use std::alloc::{AllocError, AllocFailed, Global};
 use thiserror::Error;
 use ua_nodes::without_return;
 
-/// Why the namespaces of a file are not known.
+/// The reason why the namespaces of a file were not read.
 #[derive(Clone, Copy, PartialEq, Eq, Debug, Error)]
 pub enum NamespaceFault {
-    /// The line of this number, counted from 1, begins with `# namespace`, and does not name the next one.
+    /// The line of this number, counted from 1, begins with `# namespace`, but does not name the
+    /// next namespace.
     #[error("line {0}: Fields")]
     Line(usize),
-    /// Memory was refused.
+    /// An allocation failed.
     #[error("out of memory")]
     OutOfMemory,
 }
@@ -44,9 +45,9 @@ impl<T: Drop> From<AllocFailed<T>> for NamespaceFault {
 /// The index of the first namespace that a file names: 0 is the standard's, and 1 the server's own.
 const FIRST_INDEX: usize = 2;
 
-/// The URIs of the namespaces from index 2 on, which a file names in order by lines such as
-/// `# namespace 2 urn:plant`. A URI has no comma and no byte below 0x21. A line that begins with
-/// `# namespace` and does not name the next index so is refused.
+/// The URIs of the namespaces from index 2 on, which a file names in order by lines such as `#
+/// namespace 2 urn:plant`. A URI has no comma and no byte below 0x21. A line that begins with `#
+/// namespace` but does not name the next index in this form is an error.
 pub fn namespaces<'a>(alloc: Global, text: &'a str) -> Result<Vec<&'a str>, NamespaceFault>
     ensures named { IfOk result (λ uris. AreNamed (namespace_lines text.now) (map (λ uri. uri.now) uris.items)) }
     ensures fault { IfErr result (λ fault. RefusesNamespaces (namespace_lines text.now) fault) }
@@ -81,7 +82,7 @@ fn uri_at<'a>(alloc: Global, line: &'a str, index: usize) -> Result<Option<&'a s
     Ok(uri_behind(line, &front))
 }
 
-/// The URI that a line names behind a front, if it names one.
+/// The URI that a line names after a front, if it names one.
 fn uri_behind<'a>(line: &'a str, front: &str) -> Option<&'a str>
     ensures { MatchOption result ((uri : List ℕ) → ¬ (NamesBehind front.now line.now uri)) (λ uri. NamesBehind front.now line.now uri.now) }
 {
@@ -96,7 +97,7 @@ fn is_uri(text: &str) -> bool
     !text.is_empty() && are_of_uri(text.as_bytes())
 }
 
-/// Whether each octet is one of a URI: no comma and no byte below 0x21.
+/// Whether each byte is one of a URI: no comma and no byte below 0x21.
 fn are_of_uri(octets: &[u8]) -> bool
     ensures { result ≡ list_all is_of_uri octets.now }
 {

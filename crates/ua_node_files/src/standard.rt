@@ -1,4 +1,4 @@
-//! The nodes of namespace 0 that clients ask first.
+//! The nodes of namespace 0 that clients read first.
 
 ghost use Rattle.std.specs.Prelude.{◌≡◌, ◌++◌, IfOk, OnOk, codes, map, string_bytes};
 ghost use Rattle.std.specs.List.{flat_map};
@@ -12,9 +12,10 @@ use ua_nodes::NodeTable;
 const NAMESPACE_ARRAY: &str =
     "i=2255\tr\tNamespaceArray\tString[]\thttp://opcfoundation.org/UA/,urn:ua:server";
 
-/// The text of a node file that writes these nodes, and behind it the line of each standard node that they
-/// lack (OPC 10000-5, 6.3): the server's array of servers, that of namespaces, which ends with these URIs, its
-/// time and state, its service level, and the most nodes of a Read and of a Write.
+/// The text of a node file that writes these nodes, followed by a line for each standard node that
+/// they lack (OPC 10000-5, 6.3): the ServerArray, the NamespaceArray, which ends with these URIs,
+/// the server's time and state, its ServiceLevel, and the maximum number of nodes in a Read and in
+/// a Write.
 pub fn with_standard(
     alloc: Global,
     text: &str,
@@ -29,7 +30,7 @@ pub fn with_standard(
     Ok(whole)
 }
 
-/// Adds the lines that say what the server is and how it is, where their nodes are lacking.
+/// Appends the lines that say what the server is and how it is, where their nodes are lacking.
 fn push_server(out: &mut String, nodes: &NodeTable, uris: &[&str]) -> Result<(), AllocError>
     ensures { OnOk result (string_bytes out.new ≡ string_bytes out.old ++ flat_map (added_line nodes.now) (server_lines (map (λ uri. uri.now) uris.now))) }
 {
@@ -45,7 +46,7 @@ fn push_server(out: &mut String, nodes: &NodeTable, uris: &[&str]) -> Result<(),
     push_line(out, nodes, 2267, "i=2267\tr\tServiceLevel\tByte\t255")
 }
 
-/// Adds the lines that say what the server takes at once, where their nodes are lacking.
+/// Appends the lines that say what the server takes at once, where their nodes are lacking.
 fn push_limits(out: &mut String, nodes: &NodeTable) -> Result<(), AllocError>
     ensures { OnOk result (string_bytes out.new ≡ string_bytes out.old ++ flat_map (added_line nodes.now) limit_lines) }
 {
@@ -63,7 +64,7 @@ fn push_limits(out: &mut String, nodes: &NodeTable) -> Result<(), AllocError>
     )
 }
 
-/// Adds the line of a node of namespace 0, where the nodes have none of this number.
+/// Appends the line of a node of namespace 0, where the nodes have none of this number.
 fn push_line(out: &mut String, nodes: &NodeTable, number: u32, line: &str) -> Result<(), AllocError>
     ensures { OnOk result (string_bytes out.new ≡ string_bytes out.old ++ added_line nodes.now (line_of number line.now)) }
 {
@@ -74,7 +75,7 @@ fn push_line(out: &mut String, nodes: &NodeTable, number: u32, line: &str) -> Re
     out.push_str(line)
 }
 
-/// Adds the line of the NamespaceArray, which ends with these URIs, where its node is lacking.
+/// Appends the line of the NamespaceArray, which ends with these URIs, where its node is lacking.
 fn push_namespace_array(
     out: &mut String,
     nodes: &NodeTable,
@@ -90,7 +91,7 @@ fn push_namespace_array(
     push_uris(out, uris)
 }
 
-/// Adds URIs, each behind a comma.
+/// Appends URIs, each after a comma.
 fn push_uris(out: &mut String, uris: &[&str]) -> Result<(), AllocError>
     ensures { OnOk result (string_bytes out.new ≡ string_bytes out.old ++ more_uris (map (λ uri. uri.now) uris.now)) }
 {
@@ -100,7 +101,7 @@ fn push_uris(out: &mut String, uris: &[&str]) -> Result<(), AllocError>
     Ok(())
 }
 
-/// Adds a URI behind a comma.
+/// Appends a URI after a comma.
 fn push_uri(out: &mut String, uri: &str) -> Result<(), AllocError>
     ensures { OnOk result (string_bytes out.new ≡ string_bytes out.old ++ codes "," ++ uri.now) }
 {

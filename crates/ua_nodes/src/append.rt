@@ -1,4 +1,4 @@
-//! The answers to items of Read, written from where their values stand.
+//! The results of Read items, encoded without moving the values.
 
 ghost use Rattle.std.specs.Prelude.{◌≡◌, ◌<◌, ◌↔◌, ◌++◌, true, IsTrue, OnOk, OnErr};
 ghost use Rattle.ua_builtin.specs.Format.{Extends};
@@ -22,11 +22,11 @@ use ua_structures::ReadValueId;
 use ua_variant::Variant;
 
 impl NodeTable {
-    /// Adds the answers to items of a Read at the end, one behind the other, as they are encoded: those
-    /// that [`read_item`](NodeTable::read_item) makes. The Value of a node is written from where it
-    /// stands; a part of an array and the other attributes are made first, one at a time. Once there are
-    /// more octets than `most`, those that stood there among them, no further answer is added. An error
-    /// leaves what was there, and perhaps octets behind it.
+    /// Appends the encoded results of Read items, one after the other: those that
+    /// [`read_item`](NodeTable::read_item) makes. The Value of a node is encoded without a copy; a
+    /// part of an array and the other attributes are made first, one at a time. Once there are more
+    /// bytes than `most`, the earlier contents among them, no further result is appended. On an
+    /// error the earlier contents stay, perhaps followed by more bytes.
     pub fn append_items(
         &self,
         alloc: Global,
@@ -49,7 +49,7 @@ impl NodeTable {
         Ok(())
     }
 
-    /// Adds the answer to an item at the end.
+    /// Appends the encoded result of an item.
     #[tactic(auto, unfolding(ua_variant::specs::Formats::data_value_format))]
     fn append_item(
         &self,
@@ -75,7 +75,7 @@ impl NodeTable {
 }
 
 impl Variable {
-    /// Adds a DataValue of the Value of this node, with its status and times.
+    /// Appends the DataValue of this node's Value, with its status and timestamps.
     fn append_value(
         &self,
         stamps: Stamps,
@@ -91,7 +91,7 @@ impl Variable {
     }
 }
 
-/// Whether so many octets are more than the most, if there is such a limit.
+/// Whether so many bytes are more than the most, if there is such a limit.
 fn passes(most: Option<usize>, len: usize) -> bool
     ensures { IsTrue result ↔ Passes most len }
 {

@@ -1,4 +1,4 @@
-//! Why texts are refused.
+//! The reasons why texts and readings are rejected.
 
 ghost use Rattle.std.specs.Prelude.{◌≡◌};
 
@@ -6,13 +6,13 @@ use std::alloc::{AllocError, AllocFailed};
 use thiserror::Error;
 use ua_builtin::TextFault;
 
-/// Why a text gave no value.
+/// The reason why a text gave no value.
 #[derive(Clone, Copy, PartialEq, Eq, Debug, Error)]
 pub enum ValueFault {
     /// The text denotes no value of the type.
     #[error("the text is no value of the type")]
     NotValue,
-    /// Memory was refused.
+    /// An allocation failed.
     #[error("out of memory")]
     OutOfMemory,
 }
@@ -37,13 +37,13 @@ impl<T: Drop> From<AllocFailed<T>> for ValueFault {
     }
 }
 
-/// Why a node was not inserted. The table is as it was.
+/// The reason why a node was not inserted. The table is unchanged.
 #[derive(Clone, Copy, PartialEq, Eq, Debug, Error)]
 pub enum InsertFault {
-    /// There is a node of that NodeId.
+    /// The table has a node with this NodeId.
     #[error("there is a node of that id")]
     Duplicate,
-    /// Memory was refused.
+    /// An allocation failed.
     #[error("out of memory")]
     OutOfMemory,
 }
@@ -58,28 +58,28 @@ impl<T: Drop> From<AllocFailed<T>> for InsertFault {
     }
 }
 
-/// Why a reading was not taken. The table is as it was.
+/// The reason why a reading was not set. The table is unchanged.
 #[derive(Clone, Copy, PartialEq, Eq, Debug, Error)]
 pub enum SetFault {
-    /// There is no node of that NodeId.
+    /// The table has no node with this NodeId.
     #[error("there is no node of that id")]
     Unknown,
-    /// The value is none of the node's type, or an array with dimensions.
+    /// The value is not of the node's type, or is an array with dimensions.
     #[error("the value is none of the node's type")]
     Mismatch,
-    /// The value cannot be written within a DataValue: it has too many levels, or a part of it cannot
-    /// be written.
+    /// The value cannot be encoded in a DataValue: its nesting depth is too great, or a part of it
+    /// cannot be encoded.
     #[error("the value cannot be written")]
     NotWritable,
 }
 
-/// Why a line of a node file is no node. A line is refused for the first of these that holds.
+/// The reason why a line of a node file is no node: the first of these that holds.
 #[derive(Clone, Copy, PartialEq, Eq, Debug, Error)]
 pub enum LineReason {
-    /// There are not just five fields.
+    /// The line has not exactly five fields.
     #[error("Fields")]
     Fields,
-    /// The first field names no NodeId.
+    /// The first field is no NodeId.
     #[error("Node")]
     Node,
     /// The second field is none of `r`, `w`, `rw` and `-`.
@@ -88,24 +88,24 @@ pub enum LineReason {
     /// The third field is empty.
     #[error("Name")]
     Name,
-    /// The fourth field names no type.
+    /// The fourth field is no type.
     #[error("Kind")]
     Kind,
     /// The fifth field denotes no value of the type.
     #[error("Value")]
     Value,
-    /// There is a node of that NodeId on a line before.
+    /// An earlier line has a node with this NodeId.
     #[error("Duplicate")]
     Duplicate,
 }
 
-/// Why a node file was not loaded.
+/// The reason why a node file was not loaded.
 #[derive(Clone, Copy, PartialEq, Eq, Debug, Error)]
 pub enum LoadFault {
-    /// The first bad line, counted from 1, and the first reason against it.
+    /// The first bad line, counted from 1, and the first reason why it is bad.
     #[error("line {line}: {reason}")]
     Line { line: usize, reason: LineReason },
-    /// Memory was refused.
+    /// An allocation failed.
     #[error("out of memory")]
     OutOfMemory,
 }

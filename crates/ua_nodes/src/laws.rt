@@ -25,30 +25,30 @@ ghost use Rattle.ua_structures.specs.declared.attribute.WriteValue.{WriteValue};
 
 use crate::table::NodeTable;
 
-/// The lines of a file write one table at most.
+/// The lines of a file give at most one table.
 pub fn a_file_loads_in_one_way()
     ensures { (lines : List FileLine) (a b : Nodes) → WriteNodes lines a → WriteNodes lines b → a ≡ b }
 {}
 
-/// A file whose lines write a table has no bad line.
+/// A file whose lines give a table has no bad line.
 pub fn a_file_that_loads_has_no_bad_line()
     ensures { (lines : List FileLine) (nodes : Nodes) (number : ℕ) (reason : LineReason) → WriteNodes lines nodes → ¬ (IsFirstBad lines number reason) }
 {}
 
-/// One line is the first bad one, and one reason the first against it.
+/// A file has at most one first bad line, with one first reason.
 pub fn a_file_has_one_first_bad_line()
     ensures { (lines : List FileLine) (m n : ℕ) (p q : LineReason) → IsFirstBad lines m p → IsFirstBad lines n q → (m ≡ n) × (p ≡ q) }
 {}
 
-/// After a Write the node of a NodeId has the value, status and source time of the last good item
-/// that names it, else those from before.
+/// After a Write, a node has the value, status and source timestamp of the last good item for its
+/// NodeId (the time of the Write if the item has no source timestamp), otherwise those from before.
 pub fn a_node_keeps_the_last_good_item()
     ensures { (items : List WriteValue) (moment : DateTime) (nodes : Nodes) (id : NodeId) → node_at (after_write items moment nodes) id ≡ option_map (λ v. written_by v (last_good (id, v) items) moment) (node_at nodes id) }
 {}
 
-/// A Write of what is kept of items, where each node takes the values of its own type, gives the same
-/// answers and leaves the same nodes as a Write of the items themselves (OPC 10000-4, 5.11.4). Takes no
-/// memory.
+/// A Write of the items without the values that their nodes could not take, where each node takes
+/// the values of its own type, gives the same results and the same nodes as a Write of the items
+/// themselves (OPC 10000-4, 5.11.4). Allocates nothing.
 pub fn values_that_their_nodes_cannot_take_change_no_write(table: &NodeTable)
     ensures answers { (items : List WriteValue) → write_answers table.now (map (thinned (nodes_take table.now)) items) ≡ write_answers table.now items }
     ensures nodes { (items : List WriteValue) (moment : DateTime) → after_write (map (thinned (nodes_take table.now)) items) moment table.now ≡ after_write items moment table.now }
@@ -57,17 +57,17 @@ pub fn values_that_their_nodes_cannot_take_change_no_write(table: &NodeTable)
     let _count = table.nodes.len();
 }
 
-/// A node is sound exactly where it passes the test.
+/// A node is sound exactly if the test `is_sound` says so.
 pub fn a_node_is_sound_where_it_passes()
     ensures { (id : NodeId) (variable : Variable) → (IsTrue (is_sound_node id variable) ↔ IsSoundNode id variable) }
 {}
 
-/// A table that a file writes is sound.
+/// A table that a file gives is sound.
 pub fn a_loaded_table_is_sound()
     ensures { (text : List ℕ) (nodes : Nodes) → IsUtf8 text → WriteNodes (node_lines text) nodes → IsSound nodes }
 {}
 
-/// A sound table stays sound with a sound node more.
+/// A sound table stays sound if a sound node is inserted.
 pub fn a_table_stays_sound_with_a_sound_node()
     ensures { (nodes : Nodes) (id : NodeId) (variable : Variable) → IsSound nodes → IsSoundNode id variable → IsSound (nodes ++ (id, variable) ∷ []) }
 {}
@@ -77,14 +77,14 @@ pub fn a_table_stays_sound_after_a_write()
     ensures { (items : List WriteValue) (moment : DateTime) (nodes : Nodes) → IsTrue (date_time.encodable moment) → IsSound nodes → IsSound (after_write items moment nodes) }
 {}
 
-/// What a Read of a sound table answers can be written.
+/// The result of a Read of a sound table can be encoded.
 pub fn a_sound_table_answers_what_can_be_written()
     ensures { (nodes : Nodes) (item : ReadValueId) (stamps : Stamps) (moment : DateTime) → IsTrue (date_time.encodable moment) → IsSound nodes → IsTrue (data_value_encodable (read_answer (node_at nodes item.node_id) item stamps moment)) }
 {}
 
-/// What the application sets changes one node: each other one holds what it held, and this one has the
-/// value, status and source time of the reading, or what it had where that is refused. What a client may
-/// do with the node is no reason.
+/// Setting a reading changes one node at most: the others are unchanged, and this one has the
+/// value, status and source timestamp of the reading, or is unchanged if the reading is rejected.
+/// The access level of the node, which limits clients, has no effect on this.
 pub fn what_is_set_changes_one_node()
     ensures others { (id other : NodeId) (reading : Reading) (nodes : Nodes) → same_id other id ≡ false → node_at (after_set id reading nodes) other ≡ node_at nodes other }
     ensures own { (id : NodeId) (reading : Reading) (nodes : Nodes) (variable : Variable) → node_at nodes id ≡ Some variable → node_at (after_set id reading nodes) id ≡ Some (set_node variable reading) }

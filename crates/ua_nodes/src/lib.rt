@@ -5,10 +5,10 @@
 //! let mut table = NodeTable::load(alloc, "ns=1;s=Pump\trw\tPump\tInt32\t5\n")?;
 //! let node = NodeId::parse_text(alloc, "ns=1;s=Pump")?;
 //! let item = ReadValueId::of_value(node);
-//! let answer = table.read_item(alloc, &item, Stamps::Both, moment)?; // good or refused
-//! table.append_items(alloc, &items, Stamps::Both, moment, None, &mut out)?; // the answers, as octets
-//! let mut statuses = Vec::with_capacity(alloc, items.len())?; // room is the caller's
-//! table.write_items(items, moment, &mut statuses); // takes no memory, cannot fail
+//! let answer = table.read_item(alloc, &item, Stamps::Both, moment)?; // a value, or a bad status
+//! table.append_items(alloc, &items, Stamps::Both, moment, None, &mut out)?; // encoded
+//! let mut statuses = Vec::with_capacity(alloc, items.len())?; // the caller allocates
+//! table.write_items(items, moment, &mut statuses); // allocates nothing, cannot fail
 //! ```
 #![tactic(auto)]
 

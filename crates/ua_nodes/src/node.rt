@@ -5,7 +5,7 @@ use std::marker::Model;
 use ua_builtin::{DateTime, NodeId, StatusCode, UaString};
 use ua_variant::{Scalar, Variant};
 
-/// What may be done with the value of a node (OPC 10000-3, 8.57).
+/// The access to the Value of a node (OPC 10000-3, 8.57).
 #[derive(Clone, Copy, PartialEq, Eq, Debug)]
 pub struct Access {
     pub readable: bool,
@@ -16,7 +16,7 @@ impl Access {
     ghost use Rattle.std.specs.Prelude.{◌≡◌};
     ghost use Rattle.ua_nodes.specs.Attribute.{access_level};
 
-    /// The AccessLevel: bit 0 is set where the value may be read, bit 1 where it may be written.
+    /// The AccessLevel: bit 0 is set if the Value is readable, bit 1 if it is writable.
     #[inline]
     pub fn level(self) -> u8
         ensures { result ≡ access_level self }
@@ -30,7 +30,7 @@ impl Access {
     }
 }
 
-/// A node of the class Variable, with its value (OPC 10000-3, 5.6.2).
+/// A node of the NodeClass Variable, with its Value (OPC 10000-3, 5.6.2).
 #[derive(Drop)]
 pub struct Node {
     pub id: NodeId,
@@ -42,9 +42,9 @@ pub struct Node {
     pub access: Access,
     pub value: Variant,
     pub status: Option<StatusCode>,
-    /// When the value came about.
+    /// The SourceTimestamp of the value.
     pub source_time: Option<DateTime>,
-    /// What is to be added to the source time, in units of 10 picoseconds.
+    /// The addition to the SourceTimestamp, in units of 10 picoseconds.
     pub source_picoseconds: Option<u16>,
 }
 
@@ -52,7 +52,7 @@ impl Node {
     ghost use Rattle.std.specs.Prelude.{◌≡◌};
     ghost use Rattle.ua_nodes.specs.Table.{variable_of};
 
-    /// The NodeId, and what it names.
+    /// The NodeId, and the node without it.
     #[inline]
     pub fn into_parts(self) -> (NodeId, Variable)
         ensures { result ≡ (self.id, variable_of self) }
@@ -71,7 +71,7 @@ impl Node {
     }
 }
 
-/// A node in a table, which knows it by its NodeId.
+/// A node in a table, which has its NodeId as the key.
 #[derive(Drop)]
 pub struct Variable {
     pub name: UaString,
@@ -82,9 +82,9 @@ pub struct Variable {
     pub access: Access,
     pub value: NodeValue,
     pub status: Option<StatusCode>,
-    /// When the value came about.
+    /// The SourceTimestamp of the value.
     pub source_time: Option<DateTime>,
-    /// What is to be added to the source time, in units of 10 picoseconds.
+    /// The addition to the SourceTimestamp, in units of 10 picoseconds.
     pub source_picoseconds: Option<u16>,
 }
 
@@ -112,7 +112,7 @@ impl NodeValue {
     ghost use Rattle.std.specs.Prelude.{◌≡◌, IfOk};
     ghost use Rattle.ua_variant.specs.View.{variant_of};
 
-    /// This value.
+    /// Makes a node value of this value.
     #[inline]
     pub fn new(value: Variant) -> NodeValue
         ensures { result ≡ variant_of value }
@@ -127,7 +127,8 @@ impl NodeValue {
         &self.inner
     }
 
-    /// A value of its own, equal to this one. Numbers, times and codes are copied where they stand.
+    /// Returns an owned copy, equal to this value. Numbers, times and StatusCodes are copied
+    /// directly.
     #[inline(always)]
     pub fn try_clone(&self, alloc: Global) -> Result<Variant, AllocError>
         ensures { IfOk result (λ v. variant_of v ≡ self.now) }

@@ -14,10 +14,10 @@ use std::alloc::Global;
 use ua_builtin::{NodeId, UaString};
 
 impl NodeTable {
-    /// The nodes of a file. Its lines end at LF, the last one at the end; one CR at the end of a
-    /// line is dropped. Lines that are empty or begin with `#` are skipped, and counted. Each other
-    /// line is five fields with one tab between: the NodeId's text, `r`, `w`, `rw` or `-`, a name,
-    /// a type and a value.
+    /// Loads the nodes of a node file. Its lines end at LF, the last one at the end of the text;
+    /// one CR at the end of a line is dropped. Lines that are empty or begin with `#` are skipped,
+    /// but counted. Each other line has five fields with one tab between them: a NodeId in its text
+    /// form, `r`, `w`, `rw` or `-`, a name, a type and a value.
     pub fn load(alloc: Global, text: &str) -> Result<NodeTable, LoadFault>
         ensures nodes { IfOk result (λ t. WriteNodes (node_lines text.now) t) }
         ensures fault { IfErr result (λ e. Refuses (node_lines text.now) e) }
@@ -35,7 +35,7 @@ impl NodeTable {
         Ok(table)
     }
 
-    /// Adds the node of a line, unless the line is skipped.
+    /// Appends the node of a line, unless the line is skipped.
     fn add_line(&mut self, alloc: Global, line: &str) -> Result<(), LineFault>
         ensures adds { OnOk result (Adds line.now self.old self.new) }
         ensures refuses { IfErr result (λ e. RefusesLine line.now self.old e) }
@@ -48,10 +48,10 @@ impl NodeTable {
     }
 }
 
-/// The octets of the shortest line that writes a node, with its LF.
+/// The bytes of the shortest line that writes a node, with its LF.
 const LEAST_OCTETS: usize = 14;
 
-/// How many nodes a file may write, at most: no more than its octets have room for.
+/// How many nodes a file may write, at most: no more than its bytes have room for.
 fn most_nodes(text: &str) -> usize
     ensures { 14 * result ≤ length text.now + 14 }
 {
@@ -66,7 +66,7 @@ pub fn is_read(line: &str) -> bool
     !line.is_empty() && !line.starts_with('#')
 }
 
-/// A line of a file without one CR at its end.
+/// A line of a file without the CR at its end, if it has one.
 pub fn without_return(line: &str) -> &str
     ensures { result.now ≡ strip_carriage_return line.now }
 {

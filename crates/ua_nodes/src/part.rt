@@ -36,7 +36,7 @@ impl NodeValue {
     }
 }
 
-/// How many elements there are; a null array has none.
+/// The number of elements; a null array has none.
 fn count_in(items: &Option<Scalars>) -> usize
     ensures { result ≡ length (list_in items.now) }
 {

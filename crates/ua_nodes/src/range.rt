@@ -29,7 +29,7 @@ impl IndexRange {
         IndexRange::parse(text.as_str()?)
     }
 
-    /// `n` names the place n, and `n:m` the places from n to m.
+    /// Parses `n` as the position n, and `n:m` as the positions from n to m.
     fn parse(text: &str) -> Option<IndexRange>
         ensures { result ≡ range text.now }
     {
@@ -62,7 +62,7 @@ impl IndexRange {
     }
 }
 
-/// Whether a text names an index range, as the items of Read and Write are judged: `n` or `n:m`
+/// Whether a text is a NumericRange as the items of Read and Write may have: `n` or `n:m`
 /// (OPC 10000-4, 7.27).
 pub fn is_range(text: &str) -> bool
     ensures { result ≡ is_some (range text.now) }

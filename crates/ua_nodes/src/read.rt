@@ -29,8 +29,8 @@ use ua_variant::{Boxed, DataValue, HeldVariant, Scalar, Variant};
 const VARIABLE: i32 = 2;
 
 impl NodeTable {
-    /// The answer to an item of a Read, at a moment: the value of the attribute with the times that
-    /// are asked for, or a status alone (OPC 10000-4, 5.11.2).
+    /// The result of a Read item at a given time: the value of the attribute with the requested
+    /// timestamps, or only a StatusCode (OPC 10000-4, 5.11.2).
     pub fn read_item(
         &self,
         alloc: Global,
@@ -95,7 +95,8 @@ impl Variable {
         )))
     }
 
-    /// The attribute and the range that an item for this node asks for, or why the item is refused.
+    /// The attribute and the range that an item for this node asks for, or the StatusCode of its
+    /// error.
     fn judge_read(&self, item: &ReadValueId) -> Result<(Attribute, Option<IndexRange>), StatusCode>
         ensures { result ≡ judged (first_reason (read_item_reasons self.now item.now)) (attribute_of item.now.attribute_id) (asked_range item.now.index_range) }
     {

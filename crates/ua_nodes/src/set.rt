@@ -1,4 +1,4 @@
-//! Readings that a program sets.
+//! Readings that an application sets.
 
 ghost use Rattle.std.specs.Prelude.{◌≡◌, MatchResult, OnErr, IsSome, Some, None};
 ghost use Rattle.ua_builtin.specs.Reasons.{first_reason};
@@ -13,18 +13,18 @@ use crate::write::is_value_of;
 use ua_builtin::{DateTime, NodeId, StatusCode};
 use ua_variant::{DataValue, HeldVariant, Variant};
 
-/// A value with its status, and when it came about.
+/// A value with its status and its SourceTimestamp.
 #[derive(Drop)]
 pub struct Reading {
     pub value: Variant,
     pub status: Option<StatusCode>,
     pub source_time: DateTime,
-    /// What is to be added to the source time, in units of 10 picoseconds.
+    /// The addition to the SourceTimestamp, in units of 10 picoseconds.
     pub source_picoseconds: Option<u16>,
 }
 
 impl Reading {
-    /// The reading as a DataValue. Takes no memory.
+    /// The reading as a DataValue. Allocates nothing.
     fn into_data(self) -> DataValue
         ensures { result ≡ given_by self }
     {
@@ -40,8 +40,8 @@ impl Reading {
 }
 
 impl NodeTable {
-    /// Sets what the node of a NodeId holds, whatever may be done with its value: that is said to
-    /// clients. Takes no memory.
+    /// Sets the value, status and SourceTimestamp of the node with a NodeId, whatever its access
+    /// level: that limits clients only. Allocates nothing.
     pub fn set(&mut self, id: &NodeId, reading: Reading) -> Result<(), SetFault>
         ensures nodes { self.new ≡ after_set id.now reading self.old }
         ensures answer { MatchResult result (λ _. set_refusal (node_at self.old id.now) reading ≡ None) (λ fault. set_refusal (node_at self.old id.now) reading ≡ Some fault) }
@@ -59,7 +59,7 @@ impl NodeTable {
 }
 
 impl Variable {
-    /// Takes a reading, unless it is refused.
+    /// Sets a reading, unless it is rejected.
     fn set(&mut self, reading: Reading) -> Result<(), SetFault>
         ensures node { self.new ≡ set_node self.old reading }
         ensures answer { MatchResult result (λ _. first_reason (set_reasons self.old (given_by reading)) ≡ None) (λ fault. first_reason (set_reasons self.old (given_by reading)) ≡ Some fault) }
@@ -74,7 +74,7 @@ impl Variable {
         Ok(())
     }
 
-    /// Why this is refused for this node.
+    /// The reason why the reading is rejected for this node.
     fn set_refusal(&self, given: &DataValue) -> Option<SetFault>
         requires { IsSome given.now.value }
         ensures { result ≡ first_reason (set_reasons self.now given.now) }

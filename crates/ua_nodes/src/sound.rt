@@ -14,9 +14,9 @@ use ua_diagnostic::field::field_fits;
 use ua_variant::Variant;
 
 impl Node {
-    /// Whether the node is sound: its NodeId and name can be written, its value is one of its type,
-    /// or an array of it without dimensions, and can be written within a DataValue. All that is read
-    /// of a table of such nodes can be written.
+    /// Whether the node is sound: its NodeId and name can be encoded, and its value is of its type,
+    /// or an array of it without dimensions, and can be encoded in a DataValue. All results of
+    /// Reads of a table of such nodes can be encoded.
     pub fn is_sound(&self) -> bool
         ensures { result ≡ is_sound_node self.now.id (variable_of self.now) }
     {
@@ -32,7 +32,7 @@ impl Node {
 }
 
 impl Variable {
-    /// Whether the node is sound that a table knows by this NodeId, as [`Node::is_sound`].
+    /// Whether the node with this NodeId in a table is sound, as [`Node::is_sound`].
     pub fn is_sound(&self, id: &NodeId) -> bool
         ensures { result ≡ is_sound_node id.now self.now }
     {

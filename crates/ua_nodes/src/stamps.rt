@@ -1,6 +1,6 @@
-//! Which times a Read asks for.
+//! The timestamps that a Read asks for.
 
-/// The times that go with the values of a Read (OPC 10000-4, 7.40).
+/// The timestamps that the results of a Read have (OPC 10000-4, 7.40).
 #[derive(Clone, Copy, PartialEq, Eq, Debug)]
 pub enum Stamps {
     Source,
@@ -13,8 +13,8 @@ impl Stamps {
     ghost use Rattle.std.specs.Prelude.{◌≡◌};
     ghost use Rattle.ua_nodes.specs.Read.{gives_source, gives_server, stamps_numbered};
 
-    /// The times of a number in a Read request: 0 for Source, 1 for Server, 2 for Both and 3 for
-    /// Neither.
+    /// The TimestampsToReturn of this number in a Read request: 0 for Source, 1 for Server, 2 for
+    /// Both and 3 for Neither.
     #[inline]
     pub fn of_number(number: i32) -> Option<Stamps>
         ensures { result ≡ stamps_numbered number }

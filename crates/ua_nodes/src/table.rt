@@ -18,7 +18,7 @@ use std::marker::Model;
 use ua_builtin::NodeId;
 use ua_structures::{TakesTypes, ValueType};
 
-/// Nodes by their NodeIds, in the order in which they came.
+/// Nodes with their NodeIds as keys, in the order of their insertion.
 #[derive(Drop)]
 pub struct NodeTable {
     pub(crate) nodes: IndexMap<NodeId, Variable>,
@@ -39,7 +39,7 @@ impl Model for NodeTable {
 }
 
 impl NodeTable {
-    /// A table without nodes. Takes no memory.
+    /// A table without nodes. Allocates nothing.
     pub fn new(alloc: Global) -> NodeTable
         ensures { result ≡ [] }
     {
@@ -48,28 +48,28 @@ impl NodeTable {
         }
     }
 
-    /// How many nodes there are.
+    /// The number of nodes.
     pub fn len(&self) -> usize
         ensures { result ≡ length self.now }
     {
         self.nodes.len()
     }
 
-    /// Whether there are no nodes.
+    /// Whether the table has no nodes.
     pub fn is_empty(&self) -> bool
         ensures { IsTrue result ↔ self.now ≡ [] }
     {
         self.nodes.is_empty()
     }
 
-    /// The node at a place in the order in which they came, with its NodeId.
+    /// The node at a position in the order of insertion, with its NodeId.
     pub fn get_index(&self, index: usize) -> Option<(&NodeId, &Variable)>
         ensures { option_map deref_pair result ≡ slice_get self.now index }
     {
         self.nodes.get_index(index)
     }
 
-    /// The nodes with their NodeIds, in the order in which they came.
+    /// The nodes with their NodeIds, in the order of insertion.
     pub fn iter(&self) -> Iter<'_, NodeId, Variable>
         ensures rest { result ≡ self.now }
         ensures runs { ShowsInOrder (deref_pair {K = NodeId} {X = Variable}) }
@@ -77,7 +77,7 @@ impl NodeTable {
         self.nodes.iter()
     }
 
-    /// The node that a NodeId names.
+    /// The node with this NodeId.
     pub fn get(&self, id: &NodeId) -> Option<&Variable>
         ensures { option_copied result ≡ node_at self.now id.now }
     {
@@ -91,7 +91,7 @@ impl NodeTable {
         let _room = self.nodes.reserve(nodes);
     }
 
-    /// Adds a node at the end.
+    /// Inserts a node at the end.
     pub fn insert(&mut self, node: Node) -> Result<(), InsertFault>
         ensures ok { OnOk result (self.new ≡ self.old ++ (node.id, variable_of node) ∷ []) }
         ensures err { OnErr result (self.new ≡ self.old) }

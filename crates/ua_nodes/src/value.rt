@@ -1,4 +1,4 @@
-//! Values in texts.
+//! Values in their text form.
 
 ghost use Rattle.std.specs.Prelude.{◌≡◌, IfOk, IsErrOf, Some, None, map};
 ghost use Rattle.ua_nodes.specs.ValueText.{octets_denoted, leaf_denoted, leaves_denoted, elements, scalar_denoted, array_denoted, has_text_form, value_denoted, Denotes};
@@ -15,15 +15,15 @@ use std::alloc::Global;
 use ua_builtin::{DateTime, DoubleBits, FloatBits, Guid, StatusCode, UaBytes, UaString};
 use ua_variant::{Dimensions, Scalar, Scalars, Variant};
 
-/// The longest text of a field, in octets.
+/// The greatest length of a field's text, in bytes.
 pub const MOST_OCTETS: usize = 1_073_741_824;
 
-/// The value that a text denotes at the type of an id, or at an array of it: `true` or `false`;
-/// decimal digits, with `-` in front below zero; `0x` and 8 or 16 hexadecimal digits for Float,
-/// Double and StatusCode; a String as it stands; a Guid with its hyphens; a ByteString in padded
-/// base64. Commas part the elements of an array.
+/// Parses the text form of a value of a type id, or of an array of it: `true` or `false`; decimal
+/// digits, with a leading `-` below zero; `0x` and 8 or 16 hexadecimal digits for Float, Double and
+/// StatusCode; a String as it is; a Guid with its hyphens; a ByteString in padded base64. Commas
+/// separate the elements of an array.
 ///
-/// `NotValue` where the text denotes none; `OutOfMemory` where memory is refused.
+/// The error is `NotValue` if the text is none of these, and `OutOfMemory` if an allocation fails.
 #[tactic(auto, unfolding(crate::specs::ValueText::value_denoted))]
 pub fn parse_value(alloc: Global, kind: u8, array: bool, text: &str) -> Result<Variant, ValueFault>
     ensures value { IfOk result (λ v. value_denoted kind array text.now ≡ Some (variant_of v)) }
@@ -171,7 +171,7 @@ fn one<T: Textual>(text: &str) -> Result<Scalar, ValueFault>
     Ok(denoted::<T>(text)?.into_scalar())
 }
 
-/// The octets that a text denotes in base64.
+/// The bytes that a text denotes in base64.
 #[tactic(auto, unfolding(crate::specs::ValueText::octets_denoted))]
 fn octets(alloc: Global, text: &str) -> Result<Vec<u8>, ValueFault>
     ensures { Denotes (λ v. v.items) (octets_denoted text.now) result }

@@ -17,7 +17,8 @@ use ua_structures::{VALUE_ATTRIBUTE, WriteValue};
 use ua_variant::{DataValue, Variant};
 
 impl NodeTable {
-    /// Writes items in order, at a moment, and adds the answer to each. Takes no memory.
+    /// Writes items in order, at a given time, and pushes the StatusCode of each. Allocates
+    /// nothing.
     pub fn write_items(
         &mut self,
         items: Vec<WriteValue>,
@@ -53,7 +54,7 @@ impl NodeTable {
 }
 
 impl Variable {
-    /// Takes the value of an item, unless it is refused.
+    /// Writes the value of an item, unless the item is rejected.
     fn write(&mut self, item: WriteValue, moment: DateTime) -> StatusCode
         ensures answer { result ≡ good_or (first_reason (write_item_reasons self.old item)) }
         ensures node { self.new ≡ written_by self.old (cond (is_none (first_reason (write_item_reasons self.old item))) (Some item) None) moment }
@@ -66,7 +67,7 @@ impl Variable {
         StatusCode::GOOD
     }
 
-    /// Why an item for this node is refused.
+    /// The StatusCode with which an item for this node is rejected.
     fn write_refusal(&self, item: &WriteValue) -> Option<StatusCode>
         ensures { result ≡ first_reason (write_item_reasons self.now item.now) }
     {

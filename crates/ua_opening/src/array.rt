@@ -12,12 +12,13 @@ use std::alloc::{AllocError, Global};
 use std::marker::Model;
 use ua_builtin::{FIRST_NEGATIVE, NULL_COUNT, ReadFault, Skip, Source, Wire};
 
-/// An array of values, or null, which differs from no values (OPC 10000-6, 5.2.5).
+/// An array of values, or null, which differs from an array of no values (OPC 10000-6, 5.2.5).
 pub struct UaArray<T> {
     items: Option<Vec<T>>,
 }
 
-// By hand, so that a function that lets an array go without a call calls this, and is not written out.
+// By hand, so that a function that lets an array go without a call calls this, and is not written
+// out.
 impl<T: Drop> Drop for UaArray<T> {
     fn drop(self) {
         let UaArray { items } = self;
@@ -36,7 +37,7 @@ impl<T> Model for UaArray<T> {
 impl<T> UaArray<T> {
     ghost use Rattle.std.specs.Prelude.{◌≡◌, option_map, None};
 
-    /// These values, or null for `None`.
+    /// Makes an array of these values, or the null one for `None`.
     #[inline]
     pub fn new(items: Option<Vec<T>>) -> UaArray<T>
         ensures { result ≡ option_map (λ v. v.items) items }
@@ -44,7 +45,7 @@ impl<T> UaArray<T> {
         UaArray { items }
     }
 
-    /// Null.
+    /// The null array.
     #[inline]
     pub fn null() -> UaArray<T>
         ensures { result ≡ None }
@@ -52,7 +53,7 @@ impl<T> UaArray<T> {
         UaArray { items: None }
     }
 
-    /// The values, or `None` for null.
+    /// The values, or `None` for a null array.
     #[inline]
     pub fn as_items(&self) -> Option<&[T]>
         ensures { option_map (λ i. i.now) result ≡ self.now }
@@ -63,7 +64,7 @@ impl<T> UaArray<T> {
         }
     }
 
-    /// Hands the values over.
+    /// Returns the values by value, or `None` for a null array.
     #[inline]
     pub fn into_items(self) -> Option<Vec<T>>
         ensures { option_map (λ v. v.items) result ≡ self }
@@ -92,7 +93,7 @@ fn read_items<T: Wire + Drop, S: Source>(
     Ok(items)
 }
 
-// Passes over that many values, and keeps none.
+// Skips that many values, and keeps none.
 fn skip_items<T: Skip, S: Source>(
     alloc: Global,
     src: &mut S,
@@ -121,7 +122,7 @@ fn are_encodable<T: Wire>(items: &[T]) -> bool
     true
 }
 
-// Adds the canonical encoding of each value at the end.
+// Appends the canonical encoding of each value at the end.
 fn append_items<T: Wire>(items: &[T], out: &mut Vec<u8>) -> Result<(), AllocError>
     requires { IsTrue (list_all T.format.encodable items.now) }
     ensures ok { OnOk result (out.new.items ≡ out.old.items ++ flat_map T.format.canonical items.now) }
@@ -157,7 +158,7 @@ impl<T: Wire + Drop> Wire for UaArray<T> {
         if count >= FIRST_NEGATIVE {
             return Ok(UaArray { items: None });
         }
-        // No encoding is empty: each value needs an octet at least.
+        // No encoding is empty: each value needs a byte at least.
         if src.left() < count as usize {
             return Err(ReadFault::NoValue);
         }
@@ -194,7 +195,7 @@ impl<T: Skip> Skip for UaArray<T> {
         if count >= FIRST_NEGATIVE {
             return Ok(());
         }
-        // No encoding is empty: each value needs an octet at least.
+        // No encoding is empty: each value needs a byte at least.
         if src.left() < count as usize {
             return Err(ReadFault::NoValue);
         }
@@ -202,9 +203,10 @@ impl<T: Skip> Skip for UaArray<T> {
     }
 }
 
-/// Reads the array that the source begins with, each value of at most `depth` levels, and takes
-/// just its octets; `None` is a null array. A count above the octets behind it is NoValue, and
-/// memory is asked only for values that were read. After a fault the source is to be given up.
+/// Decodes the array at the start of the source, each value of at most nesting depth `depth`, and
+/// consumes exactly its bytes; `None` is a null array. A count above the number of bytes after it
+/// is `NoValue`, and memory is allocated only for values that were decoded. After an error, discard
+/// the source.
 pub fn read_array<T: Wire + Drop, S: Source>(
     alloc: Global,
     src: &mut S,

@@ -1,5 +1,6 @@
-//! What structures do field by field, for their `impl Wire`, here and in the crates above: the caller
-//! imports the macro, [`ua_builtin::Wire`], and `append_two` and `append_three` of `ua_wire`.
+//! Macros that decode and encode structures field by field, for their `impl Wire`, here and in the
+//! crates above: the caller imports the macro, [`ua_builtin::Wire`], and `append_two` and
+//! `append_three` of `ua_wire`.
 
 /// Reads the fields of a structure in order: the first where it stands, the others as nested pairs.
 #[macro_export]
@@ -29,7 +30,7 @@ macro_rules! are_encodable {
     };
 }
 
-/// Adds the canonical encodings of the fields in order.
+/// Appends the canonical encodings of the fields in order.
 #[macro_export]
 macro_rules! append_fields {
     ($value:expr, $out:expr => $first:ident) => {

@@ -1,4 +1,4 @@
-//! Headers of requests and responses, and the fault.
+//! Headers of requests and responses, and the ServiceFault.
 
 ghost use Rattle.std.specs.Prelude.{◌≡◌, Some, None, IsTrue, MatchOption};
 ghost use Rattle.ua_builtin.specs.ExtensionObject.{null_object};
@@ -20,35 +20,35 @@ use ua_builtin::{
 use ua_diagnostic::DiagnosticInfo;
 use ua_wire::{append_three, append_two};
 
-/// What stands behind the ServiceResult of nearly each response, as a number, the least octet first: 00 of
-/// a DiagnosticInfo without fields (OPC 10000-6, 5.2.2.12), FF FF FF FF of a null array of texts (5.2.5),
-/// and 00 00 00 of the object that holds nothing (5.2.2.15).
+/// What follows the ServiceResult of nearly each response, as a number, the least byte first: 00 of
+/// a DiagnosticInfo without fields (OPC 10000-6, 5.2.2.12), FF FF FF FF of a null array of texts
+/// (5.2.5), and 00 00 00 of the object that holds nothing (5.2.2.15).
 const NOTHING_MORE: u64 = 0x0000_00FF_FFFF_FF00;
 
 /// The same with an array of no texts, whose count is 00 00 00 00.
 const NO_TEXTS: u64 = 0;
 
-/// What stands at the head of each request (OPC 10000-4, 7.33).
+/// The header of each request (OPC 10000-4, 7.33).
 #[derive(Drop)]
 pub struct RequestHeader {
-    /// The token that CreateSession gave; null where there is no session.
+    /// The AuthenticationToken from CreateSession; null without a session.
     pub authentication_token: NodeId,
-    /// When the client sent the request.
+    /// The time at which the client sent the request.
     pub timestamp: DateTime,
-    /// A number of the client's own, which comes back in the response.
+    /// A number chosen by the client, which the response repeats.
     pub request_handle: u32,
-    /// Which diagnostics the client asks for, as bits.
+    /// The diagnostics that the client asks for, as a bit mask.
     pub return_diagnostics: u32,
     pub audit_entry_id: UaString,
-    /// How long the client waits, in milliseconds; 0 is no limit.
+    /// How long the client waits for the response, in milliseconds; 0 is no limit.
     pub timeout_hint: u32,
     pub additional_header: ExtensionObject,
 }
 
 impl RequestHeader {
-    /// The header of a request under this token (that of CreateSession, null without a session),
-    /// sent at this moment, with this handle: it asks for no diagnostics, names no audit entry and
-    /// no timeout, and adds nothing.
+    /// The header of a request with this AuthenticationToken (null without a session), timestamp
+    /// and RequestHandle. It asks for no diagnostics, and has no AuditEntryId, no TimeoutHint and
+    /// no AdditionalHeader.
     #[tactic(auto, using(crate::proofs::PlainFits::request_header_fits))]
     pub fn new(
         authentication_token: NodeId,
@@ -76,16 +76,15 @@ impl RequestHeader {
     ghost use Rattle.ua_builtin.specs.Exact.{image_read};
     ghost use Rattle.ua_builtin.specs.Format.{most_levels, Gives, GivesBy};
 
-    /// A header whose fields are null or 0, to read one into. Takes no memory.
+    /// A header whose fields are null or 0, to decode one into. Allocates nothing.
     pub fn empty() -> RequestHeader
         ensures { result ≡ empty_request_header }
     {
         RequestHeader::new(NodeId::null(), DateTime { ticks: 0 }, 0)
     }
 
-    /// Reads the header that the source begins with in the place of this one, as reading a value does.
-    /// Where a header is handed over by value it is moved at each step. After a fault the source is to
-    /// be given up.
+    /// Decodes the header at the start of the source into this one, as `read_value` does; a header
+    /// returned by value would be moved at each step. After an error, discard the source.
     #[inline(never)]
     #[tactic(auto, unfolding(crate::specs::Header::request_header))]
     pub fn read_into<S: Source>(
@@ -111,7 +110,7 @@ impl RequestHeader {
         self.read_behind_diagnostics(alloc, src, depth)
     }
 
-    /// Reads what stands behind the ReturnDiagnostics in the place of what this header has of it.
+    /// Decodes the fields after ReturnDiagnostics into this header.
     #[inline(never)]
     fn read_behind_diagnostics<S: Source>(
         &mut self,
@@ -132,8 +131,8 @@ impl RequestHeader {
         Ok(())
     }
 
-    /// Passes over the header that the source begins with, and answers its RequestHandle. After a fault
-    /// the source is to be given up.
+    /// Skips the header at the start of the source, and returns its RequestHandle. After an error,
+    /// discard the source.
     #[tactic(auto, unfolding(crate::specs::Header::request_header))]
     pub fn skip_for_handle<S: Source>(
         alloc: Global,
@@ -158,8 +157,8 @@ impl RequestHeader {
     }
 }
 
-/// Takes what stands behind the ReturnDiagnostics of a request that names no audit entry and adds nothing,
-/// as nearly each one, and answers its TimeoutHint. With `None` nothing is taken.
+/// Takes what follows the ReturnDiagnostics of a request that names no audit entry and adds
+/// nothing, as nearly each one, and answers its TimeoutHint. With `None` nothing is taken.
 #[inline(always)]
 fn take_timeout_alone<S: Source>(alloc: Global, src: &mut S) -> Option<u32>
     ensures exact { MatchOption result (S.octets src.new ≡ S.octets src.old)
@@ -219,24 +218,24 @@ impl Wire for RequestHeader {
     }
 }
 
-/// What stands at the head of each response (OPC 10000-4, 7.34).
+/// The header of each response (OPC 10000-4, 7.34).
 #[derive(Drop)]
 pub struct ResponseHeader {
-    /// When the server sent the response.
+    /// The time at which the server sent the response.
     pub timestamp: DateTime,
-    /// The handle of the request.
+    /// The RequestHandle of the request.
     pub request_handle: u32,
-    /// The result of the whole service.
+    /// The result of the service call.
     pub service_result: StatusCode,
     pub service_diagnostics: DiagnosticInfo,
-    /// The texts that diagnostics name by their index.
+    /// The strings that diagnostics refer to by index.
     pub string_table: UaArray<UaString>,
     pub additional_header: ExtensionObject,
 }
 
 impl ResponseHeader {
-    /// The header of a response sent at this moment to the request with this handle, with this
-    /// result: without diagnostics and texts, it adds nothing.
+    /// The header of a response with this timestamp, the RequestHandle of its request and this
+    /// ServiceResult. It has no diagnostics, no strings and no AdditionalHeader.
     #[tactic(auto, using(crate::proofs::PlainFits::response_header_fits))]
     pub fn new(
         timestamp: DateTime,
@@ -263,16 +262,15 @@ impl ResponseHeader {
     ghost use Rattle.std.specs.Prelude.{◌≤◌};
     ghost use Rattle.ua_builtin.specs.Format.{most_levels, GivesBy};
 
-    /// A header whose fields are null or 0, to read one into. Takes no memory.
+    /// A header whose fields are null or 0, to decode one into. Allocates nothing.
     pub fn empty() -> ResponseHeader
         ensures { result ≡ empty_response_header }
     {
         ResponseHeader::new(DateTime { ticks: 0 }, 0, StatusCode::GOOD)
     }
 
-    /// Reads the header that the source begins with in the place of this one, as reading a value does.
-    /// Where a header is handed over by value it is moved at each step. After a fault the source is to
-    /// be given up.
+    /// Decodes the header at the start of the source into this one, as `read_value` does; a header
+    /// returned by value would be moved at each step. After an error, discard the source.
     #[inline(never)]
     #[tactic(auto, unfolding(crate::specs::Header::response_header))]
     pub fn read_into<S: Source>(
@@ -297,7 +295,7 @@ impl ResponseHeader {
         self.read_behind_result(alloc, src, depth)
     }
 
-    /// Reads what stands behind the ServiceResult in the place of what this header has of it.
+    /// Decodes the fields after the ServiceResult into this header.
     #[inline(never)]
     fn read_behind_result<S: Source>(
         &mut self,
@@ -319,8 +317,9 @@ impl ResponseHeader {
     }
 }
 
-/// Takes what stands behind the ServiceResult of a response without diagnostics and texts that adds nothing,
-/// as nearly each one, and answers its table of texts, null or empty. With `None` nothing is taken.
+/// Takes what follows the ServiceResult of a response without diagnostics and texts that adds
+/// nothing, as nearly each one, and answers its table of texts, null or empty. With `None` nothing
+/// is taken.
 #[inline(always)]
 #[tactic(auto, using(crate::proofs::HeaderRead::nothing_more, crate::proofs::HeaderRead::no_texts))]
 fn take_nothing_more<S: Source>(alloc: Global, src: &mut S, depth: u32) -> Option<UaArray<UaString>>
@@ -376,14 +375,14 @@ impl Wire for ResponseHeader {
     }
 }
 
-/// The answer to a request whose service failed (OPC 10000-4, 7.35).
+/// The response to a request whose service call failed (OPC 10000-4, 7.35).
 #[derive(Drop)]
 pub struct ServiceFault {
     pub response_header: ResponseHeader,
 }
 
 impl ServiceFault {
-    /// The fault with this code, sent at this moment to the request with this handle.
+    /// The ServiceFault with this StatusCode and timestamp, and the RequestHandle of its request.
     #[tactic(auto, unfolding(crate::specs::Header::service_fault))]
     pub fn new(timestamp: DateTime, request_handle: u32, code: StatusCode) -> ServiceFault
         ensures value { result ≡ service_fault_of timestamp request_handle code }

@@ -1,5 +1,5 @@
-//! Laws of values, and of the bodies that open and close a channel, each carried by a function without
-//! a body.
+//! Laws of values, and of the message bodies that open and close a SecureChannel, each carried by a
+//! function without a body.
 
 ghost use Rattle.std.specs.Prelude.{◌≡◌, ◌↔◌, ℕ, ℤ, List, length, Some};
 ghost use Rattle.ua_builtin.specs.ExtensionObject.{extension_object};
@@ -20,7 +20,7 @@ ghost use Rattle.ua_opening.specs.WrittenBack.{ReadIsWritable};
 ghost use Rattle.ua_opening.specs.declared.secure_channel.OpenRequest.{OpenRequest};
 ghost use Rattle.ua_diagnostic.specs.Formats.{diagnostic_format};
 
-/// Reading the canonical body of a message of the channel gives back that message.
+/// Decoding the canonical body of a SecureChannel message gives back that message.
 pub fn channel_messages_read_back()
     ensures request { BodyReadsBack (message 446 open_request) }
     ensures response { BodyReadsBack (message 449 open_response) }
@@ -28,7 +28,7 @@ pub fn channel_messages_read_back()
     ensures close { BodyReadsBack (message 452 close_request) }
 {}
 
-/// No body is that of two messages of the channel of one kind.
+/// No body encodes two SecureChannel messages of the same kind.
 pub fn bodies_of_channel_messages_differ()
     ensures request { OneMessage (message 446 open_request) }
     ensures response { OneMessage (message 449 open_response) }
@@ -36,28 +36,29 @@ pub fn bodies_of_channel_messages_differ()
     ensures close { OneMessage (message 452 close_request) }
 {}
 
-/// No body is that of two answers to an OpenSecureChannel request, of one kind or of two.
+/// No body encodes two responses to an OpenSecureChannel request, whether of one kind or of two.
 pub fn bodies_of_answers_differ()
     ensures { (a b : OpenAnswer) (octets : List ℕ) → IsAnswer a octets → IsAnswer b octets → a ≡ b }
 {}
 
-/// The bodies that open and close a channel have 53, 56 and 33 octets: a request and its good answer
-/// without a nonce, and a close, each under no token of a session.
+/// The canonical bodies of an OpenSecureChannel request, of its good response and of a
+/// CloseSecureChannel request have 53, 56 and 33 bytes, without nonces and with a null
+/// AuthenticationToken.
 pub fn bodies_of_the_channel_have_lengths()
     ensures request { (kind : ℤ) (time : DateTime) (handle lifetime : ℕ) → length ((message 446 open_request).canonical (open_request_of kind time handle lifetime)) ≡ 53 }
     ensures response { (time : DateTime) (handle channel token lifetime : ℕ) → length ((message 449 open_response).canonical (open_response_of time handle channel token lifetime)) ≡ 56 }
     ensures close { (time : DateTime) (handle : ℕ) → length ((message 452 close_request).canonical (close_request_of time handle)) ≡ 33 }
 {}
 
-/// Reading on lists finds an OpenSecureChannel request, or an answer to one, exactly where the
-/// octets are its body.
+/// Decoding on lists finds an OpenSecureChannel request, or a response to one, exactly if the bytes
+/// are its body.
 pub fn channel_messages_are_read()
     ensures request { (octets : List ℕ) (m : OpenRequest) → ((body_of (message 446 open_request) octets ≡ Some m) ↔ IsBody (message 446 open_request) m octets) }
     ensures answer { (octets : List ℕ) (a : OpenAnswer) → ((answer_read octets ≡ Some a) ↔ IsAnswer a octets) }
 {}
 
 /// A String, a ByteString, a NodeId, a QualifiedName, a LocalizedText, an ExtensionObject or a
-/// DiagnosticInfo that was read can be written.
+/// DiagnosticInfo that was decoded can be encoded.
 pub fn read_values_are_writable()
     ensures string { ReadIsWritable string }
     ensures byte_string { ReadIsWritable byte_string }

@@ -1,16 +1,16 @@
-//! What opens and closes a secure channel of OPC UA Binary: arrays, the headers of requests and
-//! responses, the ServiceFault, and the OpenSecureChannel and CloseSecureChannel messages
-//! (OPC 10000-6, 5.2.5, 5.2.6 and 5.2.9; OPC 10000-4, 5.6 and 7).
+//! The messages of OPC UA Binary that open and close a SecureChannel: arrays, the headers of
+//! requests and responses, the ServiceFault, and the OpenSecureChannel and CloseSecureChannel
+//! messages (OPC 10000-6, 5.2.5, 5.2.6 and 5.2.9; OPC 10000-4, 5.6 and 7).
 //!
-//! A structure is its fields in order, and its contract is that of [`ua_builtin::Wire`]. The contract
-//! of the readers of bodies: Ok only for a body that is the encoding of one message, of at most 100
-//! levels, with nothing behind it. Writers add the one canonical encoding, and `laws` says that reading
-//! gives back what was written.
+//! A structure is encoded as its fields in order, and has the contract of [`ua_builtin::Wire`]. The
+//! contract of the readers of bodies: Ok only for a body that is the encoding of one message, of at
+//! most nesting depth 100, with nothing after it. Writers append the one canonical encoding, and
+//! `laws` states that decoding gives back what was encoded.
 //!
 //! ```
-//! let request = OpenRequest::issue(moment, handle, lifetime); // asks for a channel, and its first token
+//! let request = OpenRequest::issue(moment, handle, lifetime); // asks for a channel and a token
 //! let mut body = empty_body(alloc);
-//! write_open_request(&request, &mut body)?; // an error leaves `body` as it was
+//! write_open_request(&request, &mut body)?; // on an error `body` is unchanged
 //! match read_open_response(alloc, &mut Octets::new(&answer))? {
 //!     OpenAnswer::Open(opened) => use_token(opened.channel_id, opened.token_id),
 //!     OpenAnswer::Fault(fault) => give_up(fault.response_header.service_result),

@@ -1,4 +1,4 @@
-//! Messages: a structure behind the NodeId of its encoding.
+//! Messages: a structure after the NodeId of its encoding.
 
 ghost use Rattle.std.specs.Prelude.{◌≡◌, ◌≤◌, ◌++◌, ◌<◌, ◌^◌, ◌↔◌, [], List, ℕ, IsTrue, IsFalse, IfOk, OnOk, OnErr, IsErrOf};
 ghost use Rattle.ua_builtin.specs.Exact.{image_read};
@@ -11,7 +11,7 @@ ghost use Rattle.ua_opening.specs.Message.{IsBody, IsNoBody, message, standard, 
 use std::alloc::{AllocError, Global};
 use ua_builtin::{Identifier, MOST_LEVELS, NodeId, ReadFault, Source, Wire, WriteFault};
 
-/// The number of a NodeId of the standard's namespace.
+/// The numeric identifier of a NodeId in namespace 0.
 pub fn standard_number(id: &NodeId) -> Option<u32>
     ensures { result ≡ number_of_id id.now }
 {
@@ -28,12 +28,12 @@ fn standard_id(number: u32) -> NodeId
     NodeId::new(0, Identifier::Numeric(number))
 }
 
-/// The octets that a body is given room for before it is written: most requests and responses of a
+/// The bytes that a body is given room for before it is written: most requests and responses of a
 /// few nodes take fewer, and are then written without being moved.
 const BODY_ROOM: usize = 256;
 
-/// A body without octets. It has room for a small message where there is memory for that; where there
-/// is none, the writer asks for what it needs.
+/// An empty vector for a body. It has capacity for a small message unless that allocation fails;
+/// then the writer allocates what it needs.
 pub fn empty_body(alloc: Global) -> Vec<u8>
     ensures { result.items ≡ [] }
 {
@@ -42,7 +42,7 @@ pub fn empty_body(alloc: Global) -> Vec<u8>
     body
 }
 
-/// Adds the canonical encoding of the NodeId of the standard's namespace with this number.
+/// Appends the canonical encoding of the NodeId of the standard's namespace with this number.
 #[inline]
 fn append_number(number: u32, out: &mut Vec<u8>) -> Result<(), AllocError>
     requires { IsTrue (node_id.encodable (standard number)) }
@@ -52,13 +52,13 @@ fn append_number(number: u32, out: &mut Vec<u8>) -> Result<(), AllocError>
     if number < 256 || number >= 65536 {
         return standard_id(number).append(out);
     }
-    // nearly always: the form of four octets, which names the namespace 0
+    // nearly always: the form of four bytes, which names the namespace 0
     let octets = [0x01, 0x00, (number % 256) as u8, (number / 256) as u8];
     out.extend_from_slice(&octets)?;
     Ok(())
 }
 
-/// Adds the canonical encoding of a structure behind the NodeId with this number.
+/// Appends the NodeId of this number in namespace 0, and the canonical encoding of a structure.
 pub fn append_message<T: Wire>(number: u32, value: &T, out: &mut Vec<u8>) -> Result<(), AllocError>
     requires known { IsTrue (node_id.encodable (standard number)) }
     requires value { IsTrue (T.format.encodable value.now) }
@@ -70,7 +70,7 @@ pub fn append_message<T: Wire>(number: u32, value: &T, out: &mut Vec<u8>) -> Res
     Ok(())
 }
 
-/// Reads the value that is the whole source, with nothing behind it.
+/// Decodes the value that is the whole source, with nothing after it.
 pub fn read_whole<T: Wire + Drop, S: Source>(alloc: Global, src: &mut S) -> Result<T, ReadFault>
     ensures found { IfOk result (λ m. IsBody T.format m (S.octets src.old)) }
     ensures none { IsErrOf result NoValue → IsNoBody T.format (S.octets src.old) }
@@ -83,7 +83,7 @@ pub fn read_whole<T: Wire + Drop, S: Source>(alloc: Global, src: &mut S) -> Resu
     Ok(value)
 }
 
-/// Reads the message with this number that is the whole source, with nothing behind it.
+/// Decodes the message, of this encoding's number, that is the whole source, with nothing after it.
 pub fn read_message<T: Wire + Drop, S: Source>(
     alloc: Global,
     src: &mut S,
@@ -103,8 +103,8 @@ pub fn read_message<T: Wire + Drop, S: Source>(
     read_whole(alloc, src)
 }
 
-/// Adds the canonical encoding of a structure behind the NodeId with this number. An error leaves
-/// what was there.
+/// Appends the NodeId of this number in namespace 0, and the canonical encoding of a structure. On
+/// an error the vector is unchanged.
 pub fn write_message<T: Wire>(number: u32, value: &T, out: &mut Vec<u8>) -> Result<(), WriteFault>
     requires known { IsTrue (node_id.encodable (standard number)) }
     ensures ok { OnOk result (out.new.items ≡ out.old.items ++ (node_id.canonical (standard number) ++ T.format.canonical value.now)) }

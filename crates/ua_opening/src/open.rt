@@ -1,4 +1,4 @@
-//! The messages of the secure channel.
+//! The messages of the SecureChannel services.
 
 ghost use Rattle.std.specs.Prelude.{◌≡◌, ◌++◌, ◌↔◌, ◌⊎◌, IfOk, IsErrOf, OnOk, OnErr, IsFalse};
 ghost use Rattle.ua_wire.specs.declared.fault.ReadFault.TheVariants.{NoValue};
@@ -13,15 +13,15 @@ use crate::secure_channel::{CloseRequest, OpenRequest, OpenResponse};
 use std::alloc::Global;
 use ua_builtin::{MOST_LEVELS, NodeId, ReadFault, Source, Wire, WriteFault};
 
-/// The answer to an OpenSecureChannel request.
+/// The response to an OpenSecureChannel request.
 #[derive(Drop)]
 pub enum OpenAnswer {
     Open(OpenResponse),
     Fault(ServiceFault),
 }
 
-/// Reads a body that is one OpenSecureChannel request and nothing behind it. After a fault the
-/// source is to be given up.
+/// Decodes a body that is one OpenSecureChannel request with nothing after it. After an error,
+/// discard the source.
 pub fn read_open_request<S: Source>(alloc: Global, src: &mut S) -> Result<OpenRequest, ReadFault>
     ensures read { (result ≡ found_or (body_of (message 446 open_request) (S.octets src.old)) NoValue) ⊎ (result ≡ Err ReadFault.OutOfMemory) }
     ensures found { IfOk result (λ m. IsBody (message 446 open_request) m (S.octets src.old)) }
@@ -30,8 +30,7 @@ pub fn read_open_request<S: Source>(alloc: Global, src: &mut S) -> Result<OpenRe
     read_message(alloc, src, 446)
 }
 
-/// Adds the canonical body of an OpenSecureChannel request at the end. An error leaves what was
-/// there.
+/// Appends the canonical body of an OpenSecureChannel request. On an error the vector is unchanged.
 #[tactic(auto, unfolding(ua_builtin::specs::NodeId::node_id))]
 pub fn write_open_request(request: &OpenRequest, out: &mut Vec<u8>) -> Result<(), WriteFault>
     ensures ok { OnOk result (out.new.items ≡ out.old.items ++ (message 446 open_request).canonical request.now) }
@@ -54,8 +53,8 @@ fn read_answer<S: Source>(alloc: Global, src: &mut S) -> Result<OpenAnswer, Read
     }
 }
 
-/// Reads a body that is one OpenSecureChannel response, or one ServiceFault, and nothing behind it.
-/// After a fault the source is to be given up.
+/// Decodes a body that is one OpenSecureChannel response, or one ServiceFault, with nothing after
+/// it. After an error, discard the source.
 pub fn read_open_response<S: Source>(alloc: Global, src: &mut S) -> Result<OpenAnswer, ReadFault>
     ensures read { (result ≡ found_or (answer_read (S.octets src.old)) NoValue) ⊎ (result ≡ Err ReadFault.OutOfMemory) }
     ensures found { IfOk result (λ answer. IsAnswer answer (S.octets src.old)) }
@@ -64,8 +63,8 @@ pub fn read_open_response<S: Source>(alloc: Global, src: &mut S) -> Result<OpenA
     read_answer(alloc, src)
 }
 
-/// Adds the canonical body of an OpenSecureChannel response at the end. An error leaves what was
-/// there.
+/// Appends the canonical body of an OpenSecureChannel response. On an error the vector is
+/// unchanged.
 #[tactic(auto, unfolding(ua_builtin::specs::NodeId::node_id))]
 pub fn write_open_response(response: &OpenResponse, out: &mut Vec<u8>) -> Result<(), WriteFault>
     ensures ok { OnOk result (out.new.items ≡ out.old.items ++ (message 449 open_response).canonical response.now) }
@@ -75,8 +74,7 @@ pub fn write_open_response(response: &OpenResponse, out: &mut Vec<u8>) -> Result
     write_message(449, response, out)
 }
 
-/// Adds the canonical body of a CloseSecureChannel request at the end. An error leaves what was
-/// there.
+/// Appends the canonical body of a CloseSecureChannel request. On an error the vector is unchanged.
 #[tactic(auto, unfolding(ua_builtin::specs::NodeId::node_id))]
 pub fn write_close_request(request: &CloseRequest, out: &mut Vec<u8>) -> Result<(), WriteFault>
     ensures ok { OnOk result (out.new.items ≡ out.old.items ++ (message 452 close_request).canonical request.now) }

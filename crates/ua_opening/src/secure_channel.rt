@@ -1,4 +1,4 @@
-//! The services of secure channels.
+//! The SecureChannel services.
 
 ghost use Rattle.std.specs.Prelude.{◌≡◌, pos, IsTrue};
 ghost use Rattle.ua_opening.specs.Plain.{open_request_of, open_response_of, close_request_of};
@@ -11,17 +11,18 @@ use ua_builtin::laws::moment_is_encodable;
 use ua_builtin::{DateTime, NodeId, ReadFault, Source, StatusCode, UaBytes, Wire};
 use ua_wire::{append_three, append_two};
 
-/// OpenSecureChannel: asks for a secure channel, or for a new token of one (OPC 10000-4, 5.6.2).
+/// The OpenSecureChannel request: asks for a SecureChannel, or for a new token of one (OPC 10000-4,
+/// 5.6.2).
 #[derive(Drop)]
 pub struct OpenRequest {
     pub request_header: RequestHeader,
     pub client_protocol_version: u32,
-    /// 0 to issue a token, 1 to renew it; every number is kept.
+    /// 0 to issue a token, 1 to renew it; any other number is preserved.
     pub request_type: i32,
-    /// 1 for None, 2 for Sign, 3 for SignAndEncrypt; every number is kept.
+    /// 1 for None, 2 for Sign, 3 for SignAndEncrypt; any other number is preserved.
     pub security_mode: i32,
     pub client_nonce: UaBytes,
-    /// How long the token is to live, in milliseconds.
+    /// The requested lifetime of the token, in milliseconds.
     pub requested_lifetime: u32,
 }
 
@@ -35,8 +36,8 @@ const RENEW: i32 = 1;
 const NO_SECURITY: i32 = 1;
 
 impl OpenRequest {
-    /// Asks for a channel and its first token, which is to live so many milliseconds: under no
-    /// token of a session, without security and without a nonce.
+    /// Asks for a SecureChannel and its first token, with this lifetime in milliseconds: with a
+    /// null AuthenticationToken, without security and without a nonce.
     #[tactic(auto, using(crate::proofs::PlainFits::issue_fits))]
     pub fn issue(timestamp: DateTime, request_handle: u32, requested_lifetime: u32) -> OpenRequest
         ensures value { result ≡ open_request_of (pos 0) timestamp request_handle requested_lifetime }
@@ -46,7 +47,7 @@ impl OpenRequest {
         OpenRequest::of_type(ISSUE, timestamp, request_handle, requested_lifetime)
     }
 
-    /// Asks for a new token of a channel, else as [`issue`](OpenRequest::issue) does.
+    /// Asks for a new token of a SecureChannel, otherwise as [`issue`](OpenRequest::issue) does.
     #[tactic(auto, using(crate::proofs::PlainFits::renew_fits))]
     pub fn renew(timestamp: DateTime, request_handle: u32, requested_lifetime: u32) -> OpenRequest
         ensures value { result ≡ open_request_of (pos 1) timestamp request_handle requested_lifetime }
@@ -106,25 +107,25 @@ impl Wire for OpenRequest {
     }
 }
 
-/// The answer to an [`OpenRequest`] (OPC 10000-4, 5.6.2).
+/// The response to an [`OpenRequest`] (OPC 10000-4, 5.6.2).
 #[derive(Drop)]
 pub struct OpenResponse {
     pub response_header: ResponseHeader,
     pub server_protocol_version: u32,
-    /// The secure channel.
+    /// The SecureChannelId.
     pub channel_id: u32,
-    /// The token that chunks are sent under.
+    /// The TokenId that chunks are sent with.
     pub token_id: u32,
-    /// When the token was made.
+    /// The time at which the token was created.
     pub created_at: DateTime,
-    /// How long the token lives, in milliseconds.
+    /// The lifetime of the token, in milliseconds.
     pub revised_lifetime: u32,
     pub server_nonce: UaBytes,
 }
 
 impl OpenResponse {
-    /// The good answer to the request with this handle: the channel, its token, made at this moment,
-    /// and how many milliseconds the token lives; without a nonce.
+    /// The good response to the request with this RequestHandle: the SecureChannelId, its TokenId,
+    /// created at this time, and the token's lifetime in milliseconds; without a nonce.
     #[tactic(auto, using(crate::proofs::PlainFits::open_response_fits))]
     pub fn new(
         created_at: DateTime,
@@ -180,14 +181,15 @@ impl Wire for OpenResponse {
     }
 }
 
-/// CloseSecureChannel: ends the secure channel. No answer is sent. (OPC 10000-4, 5.6.3).
+/// The CloseSecureChannel request: closes the SecureChannel. It has no response. (OPC 10000-4,
+/// 5.6.3).
 #[derive(Drop)]
 pub struct CloseRequest {
     pub request_header: RequestHeader,
 }
 
 impl CloseRequest {
-    /// Ends the channel, under no token of a session.
+    /// Closes the SecureChannel, with a null AuthenticationToken.
     #[tactic(auto, using(crate::proofs::PlainFits::close_request_fits))]
     pub fn new(timestamp: DateTime, request_handle: u32) -> CloseRequest
         ensures value { result ≡ close_request_of timestamp request_handle }

@@ -1,4 +1,4 @@
-//! The dissector of the octets that one side sent.
+//! The dissector of the bytes that one side sent.
 
 ghost use Rattle.std.specs.Prelude.{◌≡◌, ◌++◌, ◌≤◌, [], ℕ, List, true, IsErr, IsOk, OnOk, OnErr, IfOk, string_bytes};
 ghost use Rattle.ua_wire.specs.Format.{Extends};
@@ -17,34 +17,34 @@ use std::alloc::{AllocError, Global};
 use ua_builtin::StatusCode;
 use ua_frame::Frame;
 
-/// The most octets that a dissector holds: those of a frame, and of four messages as many each.
+/// The most bytes that a dissector holds: those of a frame, and of four messages as many each.
 const MOST_HELD: usize = 83886080;
 
-/// How far a dissector has come.
+/// The state of a dissector.
 #[derive(Clone, Copy)]
 pub enum State {
-    /// It goes on.
+    /// The dissector accepts bytes.
     Going,
-    /// A frame was refused with this code, and nothing behind it counts.
+    /// A UA TCP message was rejected with this StatusCode; the bytes after it are ignored.
     Refused(StatusCode),
-    /// Memory was refused.
+    /// An allocation failed.
     Closed,
 }
 
-/// Makes lines of the octets that one side of a connection sent, which come in any pieces. A frame,
-/// and a message with its last chunk, has its line as soon as it is whole.
+/// Prints the bytes that one side of a connection sent, in any fragments, as lines. A UA TCP
+/// message, and a message with its last chunk, is printed as soon as it is complete.
 #[derive(Drop)]
 pub struct Dissector {
     alloc: Global,
     state: State,
     reader: EveryReader,
     teller: Teller,
-    /// The place behind the frames that have lines.
+    /// The offset after the UA TCP messages that are printed.
     place: usize,
 }
 
 impl Dissector {
-    /// A dissector of what one side sends, from its first octet on.
+    /// A dissector of the bytes that one side sends, from the first byte on.
     pub fn new(alloc: Global, options: DissectOptions) -> Dissector
         ensures { StandsBehind result options [] [] }
     {
@@ -57,7 +57,7 @@ impl Dissector {
         }
     }
 
-    /// Whether octets to come count.
+    /// Whether further bytes are accepted.
     fn goes_on(&self) -> bool
         ensures { result ≡ is_going self.now.state }
     {
@@ -67,7 +67,7 @@ impl Dissector {
         }
     }
 
-    /// Whether it met a frame that is refused.
+    /// Whether a UA TCP message was rejected.
     fn is_refused(&self) -> bool
         ensures { result ≡ is_refused self.now.state }
     {
@@ -77,7 +77,7 @@ impl Dissector {
         }
     }
 
-    /// Goes no further, and lets go of what is held.
+    /// Stops, and drops what is buffered.
     fn stop(&mut self, state: State)
         ensures state { self.new.state ≡ state }
         ensures options { self.new.teller.options ≡ self.old.teller.options }
@@ -89,8 +89,8 @@ impl Dissector {
         self.teller = Teller::new(self.alloc, self.teller.options);
     }
 
-    /// Makes the lines of a frame that is whole, in the place of what stood in `lines`; where it is
-    /// refused, it has none, and the dissector goes no further.
+    /// Replaces the contents of `lines` by the lines of a complete UA TCP message; a rejected one
+    /// has none, and the dissector stops.
     fn tell(&mut self, frame: Frame, lines: &mut String) -> Result<(), AllocError>
         requires sized { IsSized frame }
         requires let_in { LetsIn open_gate frame }
@@ -116,9 +116,9 @@ impl Dissector {
         }
     }
 
-    /// Takes octets up to the end of the first frame, else all of them, and answers how many; none
-    /// where none are there, or none count. The lines of the frame take the place of what stood in
-    /// `lines`.
+    /// Consumes bytes up to the end of the first UA TCP message, or all of them, and returns how
+    /// many; `None` if there are none, or if none are accepted. The lines of the message replace
+    /// the contents of `lines`.
     fn take_next(&mut self, octets: &[u8], lines: &mut String) -> Result<Option<usize>, AllocError>
         ensures { IfOk result (λ taken. TakesNext self.old octets.now taken self.new (string_bytes lines.new)) }
     {
@@ -142,8 +142,8 @@ impl Dissector {
         }
     }
 
-    /// Adds the lines of what is whole with a piece, where memory was not refused before. After an error
-    /// some of them may stand there.
+    /// Appends the lines of what a fragment completes, unless an allocation failed before. After an
+    /// error, some of them may have been appended.
     fn take_all(&mut self, piece: &[u8], out: &mut String) -> Result<(), AllocError>
         ensures takes { OnOk result (TakesPiece self.old self.new piece.now (string_bytes out.old) (string_bytes out.new)) }
         ensures err { OnErr result (Extends (string_bytes out.old) (string_bytes out.new)) }
@@ -161,18 +161,20 @@ impl Dissector {
         Ok(())
     }
 
-    /// Takes the next octets, and adds the lines of the frames and messages that are whole by then; none
-    /// where a frame was refused before, which [`has_refused`](Dissector::has_refused) tells. After an
-    /// error, which is want of memory, the text is as it was, and the dissector takes nothing more. Places
-    /// go up to 18446744073709551615; beyond, there is an error, too.
+    /// Takes the next bytes, and appends the lines of the UA TCP messages and messages that are
+    /// then complete; none if a UA TCP message was rejected before, which
+    /// [`has_refused`](Dissector::has_refused) tells. On an error, which means that an allocation
+    /// failed, the text is unchanged, and the dissector takes nothing more. Byte offsets go up to
+    /// 18446744073709551615; beyond it, there is an error, too.
     pub fn take(&mut self, piece: &[u8], out: &mut String) -> Result<(), AllocError>
-        // What is told by then is told by the octets alone, however they were cut.
+        // The lines appended so far depend on the bytes alone, however they were fragmented.
         ensures told { (options : DissectOptions) (octets told : List ℕ) → StandsBehind self.old options octets told
             → OnOk result (TellsMore self.new options (octets ++ piece.now) told (string_bytes out.old) (string_bytes out.new)) }
         ensures err { OnErr result (string_bytes out.new ≡ string_bytes out.old) }
         ensures failed { OnErr result (IsClosed self.new) }
         ensures closed { IsClosed self.old → IsErr result }
-        // Behind a frame that is refused nothing more is said, whatever comes, and no memory is asked for.
+        // After a rejected UA TCP message nothing more is appended, whatever comes, and nothing is
+        // allocated.
         ensures rests { HasRefusedOne self.old → IsOk result × (string_bytes out.new ≡ string_bytes out.old) × HasRefusedOne self.new }
     {
         if self.is_refused() {
@@ -187,7 +189,7 @@ impl Dissector {
         taken
     }
 
-    /// Makes the last line, where no octets are to come.
+    /// Makes the last line, when no further bytes come.
     fn push_last(&self, line: &mut String) -> Result<(), AllocError>
         ensures last { (options : DissectOptions) (octets told : List ℕ) → StandsBehind self.now options octets told
             → OnOk result (EndsLines options octets told (string_bytes line.old) (string_bytes line.new)) }
@@ -205,9 +207,9 @@ impl Dissector {
         }
     }
 
-    /// Adds the last line, where no octets are to come: with what was added before, these are the
-    /// lines of all that were taken. After an error, which is want of memory, now or before, the text
-    /// is as it was.
+    /// Appends the last line, when no further bytes come: together with what was appended before,
+    /// these are the lines of all bytes taken. On an error, which means that an allocation failed
+    /// now or earlier, the text is unchanged.
     pub fn finish(&self, out: &mut String) -> Result<(), AllocError>
         ensures last { (options : DissectOptions) (octets told : List ℕ) → StandsBehind self.now options octets told
             → OnOk result (EndsLines options octets told (string_bytes out.old) (string_bytes out.new)) }
@@ -219,8 +221,8 @@ impl Dissector {
         out.push_str(&line)
     }
 
-    /// Whether a frame was refused among the octets that were taken. What comes behind it has no lines, so
-    /// the last line can be told at once.
+    /// Whether a UA TCP message was rejected among the bytes taken. What comes after it has no
+    /// lines, so the last line can be printed at once.
     pub fn has_refused(&self) -> bool
         ensures refused { (options : DissectOptions) (octets told : List ℕ) (s : StandsBehind self.now options octets told) → result ≡ is_stopped s.are.end }
         ensures stays { (options : DissectOptions) (octets told more : List ℕ) → result ≡ true → StandsBehind self.now options octets told → StandsBehind self.now options (octets ++ more) told }
@@ -229,8 +231,8 @@ impl Dissector {
         self.is_refused()
     }
 
-    /// How many octets are held: those of a frame that is not whole, and those of unfinished
-    /// messages. They are never more than [`bound`](Dissector::bound) says.
+    /// The number of buffered bytes: those of an incomplete UA TCP message and those of unfinished
+    /// messages. It never exceeds [`bound`](Dissector::bound).
     pub fn held(&self) -> usize
         ensures held { (options : DissectOptions) (octets told : List ℕ) → StandsBehind self.now options octets told → AreHeld options octets result }
         ensures bound { (options : DissectOptions) (octets told : List ℕ) → StandsBehind self.now options octets told → result ≤ most_held }
@@ -239,8 +241,8 @@ impl Dissector {
         self.reader.held().saturating_add(self.teller.held())
     }
 
-    /// The most octets that are held: those of a frame of the greatest size, and of four messages of
-    /// the greatest size.
+    /// The greatest number of buffered bytes: those of a UA TCP message of the greatest size, and
+    /// of four messages of the greatest size.
     pub fn bound() -> usize
         ensures { result ≡ most_held }
     {

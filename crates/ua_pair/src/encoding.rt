@@ -12,7 +12,8 @@ use std::alloc::{AllocError, Global};
 use ua_builtin::{MOST_LEVELS, NodeId, ReadFault, Source, Wire};
 use ua_opening::standard_number;
 
-/// The name of the message whose binary encoding has this number (OPC 10000-6, A.3), where the table has it.
+/// The name of the message whose binary encoding has this number (OPC 10000-6, A.3), where the
+/// table has it.
 fn encoding_name(number: u32) -> Option<&'static str>
     ensures { option_map (λ name. name.now) result ≡ name_in encodings number }
 {
@@ -43,7 +44,7 @@ fn name_of_id(id: &NodeId) -> Option<&'static str>
     encoding_name(standard_number(id)?)
 }
 
-/// Adds the id of an encoding, and its name where the standard has one, each behind a blank.
+/// Appends the id of an encoding, and its name where the standard has one, each after a blank.
 fn push_id(alloc: Global, out: &mut String, id: &NodeId) -> Result<(), AllocError>
     ensures { OnOk result (string_bytes out.new ≡ string_bytes out.old ++ encoding_text (Some id.now)) }
 {
@@ -58,8 +59,8 @@ fn push_id(alloc: Global, out: &mut String, id: &NodeId) -> Result<(), AllocErro
     }
 }
 
-/// Adds the id of the encoding that a body begins with, and its name, each behind a blank; nothing
-/// where it begins with none.
+/// Appends the NodeId of the encoding at the start of a body, and its name, each after a space;
+/// nothing if the body starts with none.
 pub fn push_encoding<S: Source>(
     alloc: Global,
     src: &mut S,

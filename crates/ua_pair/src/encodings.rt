@@ -1,7 +1,7 @@
 //! The names of the standard's requests and responses, by the numbers of their encodings.
 
-/// The table: the binary encodings of 79 requests and responses (OPC 10000-6, A.3), each with the name of
-/// its structure, in the order of the numbers.
+/// The table: the binary encodings of 79 requests and responses (OPC 10000-6, A.3), each with the
+/// name of its structure, in the order of the numbers.
 macro_rules! encodings {
     ($of:ident) => {
         $of!(

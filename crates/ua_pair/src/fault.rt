@@ -1,4 +1,4 @@
-//! Why a frame has no lines.
+//! The reasons why a UA TCP message has no lines.
 
 ghost use Rattle.std.specs.Prelude.{◌≡◌};
 ghost use Rattle.ua_pair.specs.Telling.{chunk_fault, opening_fault};
@@ -9,19 +9,19 @@ use thiserror::Error;
 use ua_builtin::StatusCode;
 use ua_chunk::{AssembleFault, OpenFault};
 
-/// Why a frame has no lines.
+/// The reason why a UA TCP message has no lines.
 #[derive(Clone, Copy, PartialEq, Eq, Debug, Error)]
 pub enum DissectFault {
-    /// The frame is refused with this code.
+    /// The UA TCP message is rejected with this StatusCode.
     #[error("refused")]
     Refused(StatusCode),
-    /// Memory was refused.
+    /// An allocation failed.
     #[error("out of memory")]
     OutOfMemory,
 }
 
 impl DissectFault {
-    /// What a fault of the assembler comes to on this side.
+    /// The error on this side that results from an error of the assembler.
     pub fn of_chunk(side: Side, fault: AssembleFault) -> DissectFault
         ensures { result ≡ chunk_fault side fault }
     {
@@ -40,7 +40,7 @@ impl DissectFault {
         DissectFault::Refused(code)
     }
 
-    /// What a fault in the headers of an OPN comes to.
+    /// The error that results from an error in the headers of an OPN.
     pub fn of_opening(fault: OpenFault) -> DissectFault
         ensures { result ≡ opening_fault fault }
     {

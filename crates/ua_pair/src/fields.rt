@@ -1,7 +1,7 @@
-//! The fields of messages, as lines of text: a line a field.
+//! The fields of messages as lines of text, one line for each field.
 //!
-//! A message is a tree of its fields, and its lines are those of the tree, which are defined once. A
-//! structure gives its fields by their names, in the standard's order.
+//! A message is a tree of its fields, and its lines are those of the tree, which are defined once.
+//! A structure gives its fields by their names, in the standard's order.
 
 mod array;
 mod attribute;

@@ -1,4 +1,4 @@
-//! Lines of frames and messages.
+//! Lines of UA TCP messages and of messages.
 
 ghost use Rattle.std.specs.Fmt.{decimal};
 ghost use Rattle.std.specs.Prelude.{◌≡◌, ◌++◌, codes, string_bytes, OnOk};
@@ -11,20 +11,20 @@ use ua_chunk::{Chunk, Flag, OpenChunk};
 use ua_frame::{Ack, ErrorFrame, Hello};
 use ua_texts::{push_code_as, push_string};
 
-/// A message that is printed as a line, where it is the body of a HEL, an ACK or an ERR frame.
+/// A message that is printed as a line: the body of a HEL, an ACK or an ERR.
 pub trait GreetingLine: Wire + Drop {
     ghost use Rattle.std.specs.Prelude.{◌≡◌, ◌++◌, ℕ, Bool, List, Option, string_bytes, OnOk};
     ghost use Rattle.ua_builtin.specs.Format.{Flat, IsWhole};
     ghost use Rattle.ua_frame.specs.Whole.{whole_of};
 
-    /// How octets encode the message.
+    /// The encoding of the message.
     ghost message: { Flat Self };
 
-    /// The line of the message in a frame at this place, of this size, with the names of codes or
-    /// without.
+    /// The line of the message in a UA TCP message at this offset, of this size, with or without
+    /// the names of StatusCodes.
     ghost line: { Bool → ℕ → ℕ → Self → List ℕ };
 
-    /// Adds the line of the message in a frame at this place, of this size.
+    /// Appends the line of the message in a UA TCP message at this offset, of this size.
     fn push_line(
         &self,
         lines: &mut String,
@@ -34,7 +34,7 @@ pub trait GreetingLine: Wire + Drop {
     ) -> Result<(), AllocError>
         ensures { OnOk result (string_bytes lines.new ≡ string_bytes lines.old ++ line names place size self.now) };
 
-    /// What is read of the whole of some octets is what they encode.
+    /// What is decoded from all of some bytes is what they encode.
     ghost reads: { (octets : List ℕ) (read : Option Self) → IsWhole Self.format octets read → whole_of message octets ≡ read };
 }
 
@@ -135,7 +135,7 @@ impl GreetingLine for ErrorFrame {
     }
 }
 
-/// Adds the numbers that a HEL and an ACK have.
+/// Appends the numbers that a HEL and an ACK have.
 fn push_numbers(
     lines: &mut String,
     version: u32,
@@ -153,7 +153,7 @@ fn push_numbers(
     push_number(lines, " chunks ", chunks as u64)
 }
 
-/// Adds a word and the decimal digits of a number.
+/// Appends a word and the decimal digits of a number.
 fn push_number(lines: &mut String, word: &str, number: u64) -> Result<(), AllocError>
     ensures { OnOk result (string_bytes lines.new ≡ string_bytes lines.old ++ (word.now ++ decimal number)) }
 {
@@ -161,7 +161,7 @@ fn push_number(lines: &mut String, word: &str, number: u64) -> Result<(), AllocE
     lines.push_str(Buffer::new().format(number))
 }
 
-/// Adds a word, the decimal digits of a number, and the end of the line.
+/// Appends a word, the decimal digits of a number, and the end of the line.
 fn push_ended(lines: &mut String, word: &str, number: u64) -> Result<(), AllocError>
     ensures { OnOk result (string_bytes lines.new ≡ string_bytes lines.old ++ (word.now ++ (decimal number ++ codes "\n"))) }
 {
@@ -186,7 +186,7 @@ fn flag_letter(flag: Flag) -> &'static str
     }
 }
 
-/// Adds the line of an OPN frame at this place, of this size.
+/// Appends the line of an OPN at this offset, of this size.
 pub fn push_opening_line(
     lines: &mut String,
     place: usize,
@@ -203,7 +203,7 @@ pub fn push_opening_line(
     push_newline(lines)
 }
 
-/// Adds the line of a MSG or a CLO frame, by its name, at this place, of this size.
+/// Appends the line of a MSG or a CLO, by its name, at this offset, of this size.
 pub fn push_chunk_line(
     lines: &mut String,
     name: &str,
@@ -221,7 +221,7 @@ pub fn push_chunk_line(
     push_newline(lines)
 }
 
-/// Adds the place, the name, the flag and the size of a MSG or a CLO frame.
+/// Appends the place, the name, the flag and the size of a MSG or a CLO frame.
 fn push_chunk_head(
     lines: &mut String,
     name: &str,
@@ -239,7 +239,7 @@ fn push_chunk_head(
     push_number(lines, " ", size as u64)
 }
 
-/// Adds the line of a message of so many octets, under its request id.
+/// Appends the line of a message of so many bytes, with its RequestId.
 pub fn push_message_line(
     lines: &mut String,
     request: u32,
@@ -255,7 +255,7 @@ pub fn push_message_line(
     push_newline(lines)
 }
 
-/// Adds the line of a message that its sender gave up.
+/// Appends the line of a message that its sender aborted.
 pub fn push_aborted_line(
     lines: &mut String,
     names: bool,
@@ -270,7 +270,7 @@ pub fn push_aborted_line(
     push_newline(lines)
 }
 
-/// Adds the last line, where frames end at this place and so many octets are left.
+/// Appends the last line, where UA TCP messages end at this offset and so many bytes are left.
 pub fn push_rest_line(lines: &mut String, place: usize, left: usize) -> Result<(), AllocError>
     ensures { OnOk result (string_bytes lines.new ≡ string_bytes lines.old ++ rest_line place left) }
 {
@@ -281,7 +281,7 @@ pub fn push_rest_line(lines: &mut String, place: usize, left: usize) -> Result<(
     }
 }
 
-/// Adds the last line, where the frame at this place is refused.
+/// Appends the last line, where the UA TCP message at this offset is rejected.
 pub fn push_refused_line(
     lines: &mut String,
     names: bool,

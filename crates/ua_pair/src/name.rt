@@ -67,8 +67,9 @@ fn message_name(
     }
 }
 
-/// What the line of a message that this side sent calls it, and whether it is of no known kind: its
-/// name, and where names are wanted and it is of no known kind, the id of its encoding and the name of that.
+/// The title of a message that this side sent in its line, and whether the message is of no known
+/// kind: its name, and, if names are wanted and it is of no known kind, the NodeId of its encoding
+/// and the name of that.
 pub fn message_title(
     alloc: Global,
     side: Side,

@@ -1,23 +1,23 @@
-//! What is told of octets.
+//! The options of the dissector.
 
 ghost use Rattle.std.specs.Prelude.{◌≡◌};
 ghost use Rattle.ua_pair.specs.Dissected.{plain as plain_options};
 
 use crate::side::Side;
 
-/// Whose octets are told, and what of them.
+/// The side whose bytes are printed, and what is printed of them.
 #[derive(Clone, Copy, PartialEq, Eq, Debug)]
 pub struct DissectOptions {
-    /// The side that sent the octets.
+    /// The side that sent the bytes.
     pub side: Side,
-    /// Whether the fields of a message stand behind its line.
+    /// Whether the fields of a message follow its line.
     pub fields: bool,
-    /// Whether a status code has its standard name behind it.
+    /// Whether the standard name of a StatusCode follows it.
     pub names: bool,
 }
 
 impl DissectOptions {
-    /// The octets of this side, without fields and names.
+    /// The bytes of this side, without fields and names.
     pub fn plain(side: Side) -> DissectOptions
         ensures { result ≡ plain_options side }
     {

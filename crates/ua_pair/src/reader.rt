@@ -1,4 +1,4 @@
-//! A reader that takes a frame of each kind.
+//! A reader that accepts UA TCP messages of every type.
 
 ghost use Rattle.std.specs.Prelude.{◌≡◌, ◌<◌, [], length, IfOk, IfSome};
 ghost use Rattle.ua_frame.specs.Frames.{LetsIn};
@@ -9,7 +9,7 @@ use std::alloc::Global;
 use std::marker::Model;
 use ua_frame::{Frame, FrameFault, FrameReader, Gate};
 
-/// The most octets of a frame.
+/// The most bytes of a frame.
 const LARGEST: u32 = 16777216;
 
 /// The gate that takes a frame of each kind.
@@ -27,7 +27,8 @@ fn every_frame() -> Gate
     }
 }
 
-/// A reader whose gate stays: it takes a frame of each kind, at any place.
+/// A reader with a constant frame filter: it accepts UA TCP messages of every type, at any
+/// position.
 #[derive(Drop)]
 pub struct EveryReader {
     reader: FrameReader,
@@ -46,7 +47,7 @@ impl Model for EveryReader {
 }
 
 impl EveryReader {
-    /// A reader that has no octet yet.
+    /// A reader without any byte yet.
     pub fn new(alloc: Global) -> EveryReader
         ensures { result ≡ open_reader open_gate [] }
     {
@@ -55,7 +56,7 @@ impl EveryReader {
         }
     }
 
-    /// How many octets of a frame that is not whole yet are held.
+    /// The number of buffered bytes of an incomplete UA TCP message.
     pub fn held(&self) -> usize
         ensures count { result ≡ length self.now.held }
         ensures bound { result < 16777216 }
@@ -63,7 +64,7 @@ impl EveryReader {
         self.reader.held()
     }
 
-    /// Takes octets up to the end of the first whole frame, else the whole piece.
+    /// Consumes bytes up to the end of the first complete UA TCP message, or the whole fragment.
     pub fn take(&mut self, piece: &[u8]) -> Result<(usize, Option<Frame>), FrameFault>
         ensures takes { Takes self.old piece.now result self.new }
         ensures let_in { IfOk result (λ taken. IfSome taken.1 (λ frame. LetsIn open_gate frame)) }

@@ -1,4 +1,4 @@
-//! The octets that one side sent, as lines.
+//! The bytes that one side sent, as lines.
 
 ghost use Rattle.std.specs.Prelude.{◌≡◌, OnOk, OnErr, string_bytes};
 ghost use Rattle.ua_wire.specs.Format.{Extends};
@@ -9,7 +9,8 @@ use crate::options::DissectOptions;
 use crate::side::Side;
 use std::alloc::{AllocError, Global};
 
-/// Adds the lines of octets, which are taken in one piece. After an error some of them may stand there.
+/// Appends the lines of bytes, which are taken in one piece. After an error some of them may stand
+/// there.
 fn push_lines(
     alloc: Global,
     octets: &[u8],
@@ -24,7 +25,8 @@ fn push_lines(
     dissector.finish(out)
 }
 
-/// Adds the lines of the octets that one side of a connection sent. An error leaves what was there.
+/// Appends the lines of the bytes that one side of a connection sent. On an error the text is
+/// unchanged.
 pub fn dissect(alloc: Global, octets: &[u8], side: Side, out: &mut String) -> Result<(), AllocError>
     ensures lines { OnOk result (AddsLines (plain side) octets.now (string_bytes out.old) (string_bytes out.new)) }
     ensures err { OnErr result (string_bytes out.new ≡ string_bytes out.old) }

@@ -1,4 +1,4 @@
-//! The lines of one side's frames.
+//! The lines of the UA TCP messages of one side.
 
 ghost use Rattle.std.specs.Prelude.{◌≡◌, ◌≤◌, ◌∷◌, ◌++◌, [], List, length, OnOk, string_bytes};
 ghost use Rattle.std.specs.List.{concat};
@@ -31,14 +31,14 @@ use ua_builtin::{Octets, Source, StatusCode};
 use ua_chunk::{Assembler, Delivered, Message, OpenChunk, read_chunk, read_open};
 use ua_frame::{Ack, ErrorFrame, Frame, HEADER_LEN, Hello, Kind};
 
-/// The most octets of a message.
+/// The most bytes of a message.
 const MOST_OCTETS: u32 = 16777216;
 
 /// The most chunks of a message.
 const MOST_CHUNKS: u32 = 4096;
 
-/// Makes lines of the frames that one side sent, one behind the other. Of the frames before it keeps
-/// the unfinished messages and the last sequence number. After a fault it is to be given up.
+/// Prints the UA TCP messages that one side sent, one after the other. It keeps the unfinished
+/// messages and the last SequenceNumber. After an error, discard it.
 #[derive(Drop)]
 pub struct Teller {
     alloc: Global,
@@ -46,7 +46,7 @@ pub struct Teller {
     assembler: Assembler,
 }
 
-/// The size of a frame in octets, with its header.
+/// The size of a UA TCP message in bytes, with its header.
 pub fn frame_size(frame: &Frame) -> usize
     requires { IsSized frame.now }
     ensures { result ≡ size_of_frame frame.now }
@@ -54,8 +54,8 @@ pub fn frame_size(frame: &Frame) -> usize
     HEADER_LEN + frame.body.len()
 }
 
-/// Adds the line of a HEL, an ACK or an ERR of this body, which stands in a frame at this place, of this
-/// size.
+/// Appends the line of a HEL, an ACK or an ERR of this body, which stands in a frame at this place,
+/// of this size.
 fn push_greeting<T: GreetingLine>(
     alloc: Global,
     body: &[u8],
@@ -93,7 +93,7 @@ fn opening_kind(side: Side) -> BodyKind
     }
 }
 
-/// Adds the lines of the fields of a body of this kind, where they are wanted.
+/// Appends the lines of the fields of a body of this kind, where they are wanted.
 fn push_fields<S: Source>(
     alloc: Global,
     options: &DissectOptions,
@@ -110,7 +110,7 @@ fn push_fields<S: Source>(
     }
 }
 
-/// Adds the lines of the header of a message of no known kind, where fields are wanted.
+/// Appends the lines of the header of a message of no known kind, where fields are wanted.
 fn push_header(
     alloc: Global,
     options: &DissectOptions,
@@ -128,7 +128,7 @@ fn push_header(
     }
 }
 
-/// Adds the line of a message, and those of its fields.
+/// Appends the line of a message, and those of its fields.
 fn push_message(
     alloc: Global,
     options: &DissectOptions,
@@ -145,7 +145,7 @@ fn push_message(
     push_header(alloc, options, unsupported, message, lines)
 }
 
-/// Adds the lines of what a chunk delivers.
+/// Appends the lines of what a chunk delivers.
 fn push_delivered(
     alloc: Global,
     options: &DissectOptions,
@@ -164,7 +164,7 @@ fn push_delivered(
     }
 }
 
-/// Adds the line of the body of an OPN, and those of its fields.
+/// Appends the line of the body of an OPN, and those of its fields.
 fn push_opened(
     alloc: Global,
     options: &DissectOptions,
@@ -181,7 +181,7 @@ fn push_opened(
 }
 
 impl Teller {
-    /// A teller of what one side sends, from its first frame on.
+    /// Prints what one side sends, from its first UA TCP message on.
     pub fn new(alloc: Global, options: DissectOptions) -> Teller
         ensures stands { TellerStands result [] }
         ensures options { result.options ≡ options }
@@ -193,7 +193,7 @@ impl Teller {
         }
     }
 
-    /// Adds the lines of an OPN at this place.
+    /// Appends the lines of an OPN at this offset.
     fn push_opening(
         &mut self,
         frame: Frame,
@@ -220,7 +220,7 @@ impl Teller {
         Ok(())
     }
 
-    /// Adds the lines of a MSG at this place.
+    /// Appends the lines of a MSG at this offset.
     fn push_message(
         &mut self,
         frame: Frame,
@@ -248,7 +248,7 @@ impl Teller {
         }
     }
 
-    /// Adds the line of a CLO at this place.
+    /// Appends the line of a CLO at this offset.
     fn push_close(
         &mut self,
         frame: Frame,
@@ -272,7 +272,7 @@ impl Teller {
         Ok(())
     }
 
-    /// Adds the lines of the next frame, which begins at this place.
+    /// Appends the lines of the next UA TCP message, which begins at this offset.
     #[tactic(auto, using(crate::proofs::Standings::stands_hello, crate::proofs::Standings::stands_ack, crate::proofs::Standings::stands_error))]
     pub fn push_frame(
         &mut self,
@@ -301,7 +301,7 @@ impl Teller {
         }
     }
 
-    /// How many octets are held of unfinished messages.
+    /// The number of buffered bytes of unfinished messages.
     pub fn held(&self) -> usize
         ensures held { (before : List Frame) → TellerStands self.now before → result ≡ open_octets (message_chunks before) }
         ensures bound { (before : List Frame) → TellerStands self.now before → result ≤ 67108864 }

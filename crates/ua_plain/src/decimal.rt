@@ -10,7 +10,7 @@ use ryu::{Buffer, Float};
 use std::num;
 use ua_builtin::{DoubleBits, FloatBits};
 
-/// The text of a number, of at most 25 octets.
+/// The text of a number, at most 25 bytes.
 pub type DecimalText = ArrayString<25>;
 
 /// The pattern of a Float that is no number, as the standard writes it (OPC 10000-6, 5.2.2.3).
@@ -19,8 +19,8 @@ const FLOAT_NAN: u32 = 0xffc0_0000;
 /// The pattern of a Double that is no number, as the standard writes it (OPC 10000-6, 5.2.2.3).
 const DOUBLE_NAN: u64 = 0xfff8_0000_0000_0000;
 
-/// The decimal of a Float, such as `21.5` and `1e-5`; `Infinity` with its sign; `NaN` for the pattern that
-/// the standard writes. `None` for any other pattern that is no number.
+/// Prints a Float as a decimal, such as `21.5` and `1e-5`, as `Infinity` with its sign, or as `NaN`
+/// for the NaN pattern that the standard encodes. Returns `None` for any other NaN pattern.
 #[tactic(auto, using(crate::proofs::Decimals::number_back, crate::proofs::Decimals::nan_back, crate::proofs::Decimals::number_word, crate::proofs::Decimals::has_quiet, crate::proofs::Decimals::has_number, crate::proofs::Decimals::has_none))]
 pub fn float_text(value: FloatBits) -> Option<DecimalText>
     ensures some { is_some result ≡ has_float_text value.bits }
@@ -38,8 +38,8 @@ pub fn float_text(value: FloatBits) -> Option<DecimalText>
     Some(number_text(number))
 }
 
-/// The decimal of a Double, such as `21.5` and `1e-5`; `Infinity` with its sign; `NaN` for the pattern that
-/// the standard writes. `None` for any other pattern that is no number.
+/// Prints a Double as a decimal, such as `21.5` and `1e-5`, as `Infinity` with its sign, or as
+/// `NaN` for the NaN pattern that the standard encodes. Returns `None` for any other NaN pattern.
 #[tactic(auto, using(crate::proofs::Decimals::number_back, crate::proofs::Decimals::nan_back, crate::proofs::Decimals::number_word, crate::proofs::Decimals::has_quiet, crate::proofs::Decimals::has_number, crate::proofs::Decimals::has_none))]
 pub fn double_text(value: DoubleBits) -> Option<DecimalText>
     ensures some { is_some result ≡ has_double_text value.bits }
@@ -70,7 +70,7 @@ fn number_text<F: Float>(number: F) -> DecimalText
     }
 }
 
-/// A text of at most 25 octets.
+/// A text of at most 25 bytes.
 fn text_of(text: &str) -> DecimalText
     requires { length text.now ≤ 25 }
     ensures { result.bytes ≡ text.now }
@@ -81,8 +81,8 @@ fn text_of(text: &str) -> DecimalText
     text
 }
 
-/// The Float nearest to the decimal that a text writes, of two as near the one whose pattern is even;
-/// `Infinity` with a sign or without; for `NaN` the pattern that the standard writes. `None` where the
+/// Parses a text as a Float: the nearest one to a decimal, ties to the even pattern; `Infinity`
+/// with a sign or without; for `NaN` the pattern that the standard encodes. Returns `None` if the
 /// text is none of these.
 #[tactic(auto, unfolding(crate::specs::Decimal::bits_denoted))]
 pub fn parse_float(text: &str) -> Option<FloatBits>
@@ -100,8 +100,8 @@ pub fn parse_float(text: &str) -> Option<FloatBits>
     })
 }
 
-/// The Double nearest to the decimal that a text writes, of two as near the one whose pattern is even;
-/// `Infinity` with a sign or without; for `NaN` the pattern that the standard writes. `None` where the
+/// Parses a text as a Double: the nearest one to a decimal, ties to the even pattern; `Infinity`
+/// with a sign or without; for `NaN` the pattern that the standard encodes. Returns `None` if the
 /// text is none of these.
 #[tactic(auto, unfolding(crate::specs::Decimal::bits_denoted))]
 pub fn parse_double(text: &str) -> Option<DoubleBits>

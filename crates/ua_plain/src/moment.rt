@@ -1,4 +1,4 @@
-//! Moments as times of RFC 3339 in UTC.
+//! DateTimes as RFC 3339 timestamps in UTC.
 
 ghost use Rattle.std.specs.Prelude.{◌≡◌, ◌↔◌, IfSome, IsSome, Some};
 ghost use Rattle.ua_plain.specs.Moment.{IsInCalendar, IsMomentText, moment_denoted};
@@ -9,7 +9,7 @@ use jiff_core::Timestamp;
 use jiff_fmt::temporal::{self, DateTimePrinter};
 use ua_builtin::DateTime;
 
-/// The text of a moment, of at most 33 octets.
+/// The text of a DateTime, at most 33 bytes.
 pub type MomentText = ArrayString<33>;
 
 /// The nanoseconds from 1601-01-01T00:00:00Z to 1970-01-01T00:00:00Z.
@@ -24,9 +24,9 @@ const FIRST: i64 = -505_227_456_000_000_000;
 /// 9999-12-30T22:00:00.9999999Z.
 const LAST: i64 = 2_650_466_808_009_999_999;
 
-/// The time of a moment in UTC, such as `2026-11-27T08:00:00.1234567Z`, with as many digits of the second as
-/// it needs. `None` for 0, which is no moment (OPC 10000-6, 5.2.2.5), and before the year 0 and behind
-/// 9999-12-30T22:00:00.9999999Z, where the calendar ends.
+/// Prints a DateTime as a timestamp in UTC, such as `2026-11-27T08:00:00.1234567Z`, with as many
+/// fractional digits as it needs. Returns `None` for 0, which is no time (OPC 10000-6, 5.2.2.5),
+/// and before the year 0 and after 9999-12-30T22:00:00.9999999Z, where the calendar ends.
 pub fn moment_text(moment: DateTime) -> Option<MomentText>
     ensures some { IsSome result ↔ IsInCalendar moment.ticks }
     ensures form { IfSome result (λ text. IsMomentText moment.ticks text.bytes) }
@@ -42,8 +42,8 @@ pub fn moment_text(moment: DateTime) -> Option<MomentText>
     }
 }
 
-/// The moment that a text writes as a time of RFC 3339, with `Z` or an offset behind it. `None` where the
-/// text is none, or its moment no whole number of units of 100 nanoseconds.
+/// Parses an RFC 3339 timestamp, with `Z` or an offset at its end. Returns `None` if the text is
+/// none, or if its time is no whole number of 100 ns units.
 #[tactic(auto, unfolding(crate::specs::Moment::moment_denoted))]
 pub fn parse_moment(text: &str) -> Option<DateTime>
     ensures { result ≡ moment_denoted text.now }

@@ -1,4 +1,4 @@
-//! Who is told of connections that are over, and of those that cannot be taken.
+//! The observer of connections that are over, and of those that cannot be accepted.
 
 ghost use Rattle.std.specs.Prelude.{◌≡◌};
 
@@ -9,35 +9,35 @@ use ua_server::End;
 /// Why a peer that came is not served.
 #[derive(Clone, Copy, Debug)]
 pub enum NotTaken {
-    /// The system hands no connection over, or does not watch it.
+    /// The system hands over no connection, or does not watch it.
     System(io::Error),
-    /// Memory was refused.
+    /// An allocation failed.
     OutOfMemory,
 }
 
-/// What is done behind a peer that is not served.
+/// What is done after a peer that is not served.
 #[derive(Clone, Copy, PartialEq, Eq, Debug)]
 pub enum Retry {
-    /// The next one is taken.
+    /// The next one is accepted at once.
     AtOnce,
-    /// The next one is taken, a second later; connections go on until then.
+    /// The next one is accepted a second later; connections go on until then.
     Later,
     /// No more is served.
     Never,
 }
 
-/// Who is told of connections that are over, and of peers that cannot be served.
+/// The observer of connections that are over, and of peers that cannot be served.
 pub trait Endings {
     ghost use Rattle.ua_poll.specs.News.{News, Over, Missed};
 
-    /// News leads from what was told before to what is told after.
+    /// Relates the observer's state before a piece of news to that after it.
     ghost notes: { Self → News → Self → Type 0 };
 
-    /// The connection of this number came to this. It says whether more is to be served.
+    /// The connection of this number ended so. Returns whether more is to be served.
     fn ended(&mut self, number: u32, outcome: Result<End, Failure>) -> bool
         ensures { notes self.old (Over number outcome) self.new };
 
-    /// A peer came, and is not served. It says what is done then.
+    /// A peer came, and is not served. Returns what is done then.
     fn not_taken(&mut self, why: NotTaken) -> Retry
         ensures { notes self.old (Missed why) self.new };
 }

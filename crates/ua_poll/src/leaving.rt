@@ -1,4 +1,4 @@
-//! Sockets whose connections are over, and whose peers may still read what was said last.
+//! Sockets whose connections are over, and whose peers may still read what was sent last.
 
 use mio::net::TcpStream;
 use mio::{Interest, Registry, Token};
@@ -6,24 +6,25 @@ use std::alloc::{AllocError, Global};
 use std::io::{ErrorKind, Read};
 use std::net::Shutdown;
 
-/// The most octets that are read at once.
+/// The most bytes that are read at once.
 const PIECE: usize = 4096;
 
-/// The most pieces that are read of a socket before it is let go.
+/// The most reads of a socket that find input before it is dropped.
 const MOST_PIECES: u32 = 1024;
 
 /// A socket that is read until its peer ends it.
 #[derive(Drop)]
 struct Leaver {
     stream: TcpStream,
-    /// How many pieces are still read.
+    /// How many fragments are still read.
     pieces: u32,
     readable: bool,
 }
 
-/// Sockets whose own side is closed. A socket that is let go while input is unread tells its peer a reset,
-/// and what was said last may be lost. So what a peer still sends is read and dropped, until it ends, or
-/// sent 4 MiB, or as many others left behind it.
+/// Sockets whose own side is closed. Dropping a socket with unread input sends its peer a reset,
+/// and what was sent last may be lost. So what a peer still sends is read and discarded, until it
+/// ends, or 1024 reads, of at most 4 MiB in all, found input, or as many others left after it as
+/// there are places.
 #[derive(Drop)]
 pub struct Leaving {
     leavers: Vec<Option<Leaver>>,
@@ -49,7 +50,8 @@ impl Leaving {
         })
     }
 
-    /// Takes a socket in, in place of the one that came so many before. What cannot be watched is let go.
+    /// Takes a socket in, in place of the one that came so many before. What cannot be watched is
+    /// dropped.
     pub fn add(&mut self, registry: &Registry, mut stream: TcpStream) {
         let place = self.next;
         let token = Token(self.first.saturating_add(place));
@@ -71,7 +73,7 @@ impl Leaving {
         };
     }
 
-    /// The system says something of the socket with this token.
+    /// The system reports something about the socket with this token.
     pub fn wake(&mut self, token: usize) {
         let place = token.saturating_sub(self.first);
         if let Some(Some(leaver)) = self.leavers.get_mut(place) {
@@ -87,7 +89,7 @@ impl Leaving {
         })
     }
 
-    /// Reads a piece of each that may be read, and lets go those that ended.
+    /// Reads a fragment of each that may be read, and drops those that ended.
     pub fn drain(&mut self) {
         for slot in &mut self.leavers {
             if let Some(leaver) = slot
@@ -101,7 +103,7 @@ impl Leaving {
 }
 
 impl Leaver {
-    /// Reads a piece, and says whether more is to be read.
+    /// Reads a fragment, and returns whether more is to be read.
     fn read_on(&mut self, buffer: &mut [u8]) -> bool {
         match self.stream.read(buffer) {
             Ok(0) => false,

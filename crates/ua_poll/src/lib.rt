@@ -1,5 +1,6 @@
-//! Many connections at a time over sockets: one loop in one thread, by the readiness that the system
-//! tells. What is read, stepped, kept and written of each connection is decided in `ua_concurrent`.
+//! Many connections at a time over sockets: one loop in one thread, driven by the readiness that
+//! the system reports. `ua_concurrent` decides what is read, stepped, buffered and written of each
+//! connection.
 //!
 //! ```
 //! let listener = TcpListener::bind(&rt, SocketAddr::from((Ipv4Addr::LOCALHOST, 4840)))?;

@@ -1,17 +1,19 @@
-//! Sockets that never wait.
+//! Nonblocking sockets.
 
 use mio::net::TcpStream;
 use std::io::{ErrorKind, Read, Write};
 use ua_concurrent::{Readiness, Socket, Stop};
 
-/// A socket with what the system said of it. The system says once that octets came, or that there is
-/// room, so that is kept until a call finds no more. It does not tell its octets.
+/// A socket with what the system reported about it. The system reports only once that bytes came,
+/// or that there is buffer space, so that is kept until a call finds no more. Its `heard`
+/// is `None`: its contract has nothing on its bytes.
 #[derive(Drop)]
 pub struct PolledSocket {
     stream: TcpStream,
     readable: bool,
     writable: bool,
-    /// The peer sends no more, or the socket failed: a read is worth while until it says so itself.
+    /// The peer sends no more, or the socket failed: reading is worthwhile until a read reports so
+    /// itself.
     ended: bool,
 }
 
@@ -60,7 +62,7 @@ impl Socket for PolledSocket {
         let room = buffer.len();
         match self.stream.read(buffer) {
             Ok(count) => {
-                // Fewer than there is room for are all that came, but for the end behind them.
+                // Fewer than there is room for are all that came, except for the end after them.
                 if count < room && !self.ended {
                     self.readable = false;
                 }
@@ -76,7 +78,7 @@ impl Socket for PolledSocket {
 
     fn write(&mut self, octets: &[u8]) -> Result<usize, Stop> {
         match self.stream.write(octets) {
-            // No octet was taken, and a further call need not take one.
+            // No byte was taken, and a further call need not take one.
             Ok(0) if !octets.is_empty() => Err(Stop::Failed),
             Ok(count) => Ok(count),
             Err(error) if error.kind() == ErrorKind::WouldBlock => {

@@ -25,16 +25,17 @@ use ua_concurrent::{Application, Connections, OpenFault, Readiness, Released};
 use ua_frame::Limits;
 use ua_server::{End, Services};
 
-/// The most events that the system tells at once.
+/// The most events that the system reports at once.
 const MOST_EVENTS: usize = 256;
 
-/// What is served: connections with these limits, at most so many at a time, up to the end of so many.
+/// What is served: connections with these limits, at most so many at a time, up to the end of so
+/// many.
 #[derive(Clone, Copy)]
 pub struct AtOnce {
     pub limits: Limits,
     /// How many connections are served at a time.
     pub places: usize,
-    /// How many are served in all.
+    /// How many connections are served in all.
     pub total: u32,
 }
 
@@ -44,10 +45,10 @@ pub enum PollFault {
     /// The system does not watch sockets.
     #[error("the system does not watch sockets")]
     Watch(io::Error),
-    /// Memory was refused before any peer was taken.
+    /// An allocation failed before any peer was accepted.
     #[error("out of memory")]
     OutOfMemory,
-    /// Who is told of connections wants no more.
+    /// The observer of connections wants no more.
     #[error("stopped")]
     Stopped,
     /// The system was asked 18446744073709551615 times.
@@ -75,10 +76,10 @@ struct Watched {
 }
 
 /// Serves the peers of a listener, as many at once as there are places, up to the end of so many
-/// connections. The listener never waits.
+/// connections. The listener does not block.
 ///
-/// Each round takes peers in while a place is free, asks the system what came, waiting for it only where
-/// no connection can go on, and has one turn of each connection.
+/// Each round accepts peers while a place is free, asks the system for events, waiting for them
+/// only where no connection can go on, and gives each connection one turn.
 pub fn serve_at_once<R: Net + Clock, A: Application, E: Endings>(
     rt: &R,
     alloc: Global,
@@ -149,8 +150,8 @@ impl Watched {
         })
     }
 
-    /// Takes peers in, asks the system what came, and has one turn of each connection; then frees the places
-    /// of those that are over.
+    /// Accepts peers, asks the system for events, and gives each connection one turn; then frees
+    /// the places of those that are over.
     fn round<R: Clock, A: Application, E: Endings>(
         &mut self,
         rt: &R,
@@ -183,7 +184,7 @@ impl Watched {
         }
     }
 
-    /// Takes peers in while one waits and a place is free. It says whether more is to be served.
+    /// Accepts peers while one waits and a place is free. Returns whether more is to be served.
     fn take_in<C: Clock, E: Endings>(
         &mut self,
         clock: &C,
@@ -207,8 +208,8 @@ impl Watched {
         true
     }
 
-    /// Opens a connection to the next peer, if one waits, or tells that it is not served. It says whether
-    /// more is to be served.
+    /// Opens a connection to the next peer, if one waits, or reports that it is not served. Gives
+    /// whether more is to be served.
     fn take_next<C: Clock, E: Endings>(
         &mut self,
         clock: &C,
@@ -227,7 +228,7 @@ impl Watched {
         }
     }
 
-    /// Tells of a peer that is not served. It says whether more is to be served.
+    /// Reports a peer that is not served. Returns whether more is to be served.
     fn pass_over<C: Clock, E: Endings>(&mut self, clock: &C, why: NotTaken, endings: &mut E) -> bool
         ensures told { E.notes endings.old (Missed why) endings.new }
         ensures same { (self.new.over ≡ self.old.over) × (self.new.total ≡ self.old.total) }
@@ -294,7 +295,7 @@ impl Watched {
         }
     }
 
-    /// How long the system is asked what came: not at all, where a connection or a peer can go on.
+    /// How long the system is asked for events: not at all, where a connection or a peer can go on.
     fn patience<C: Clock>(
         &self,
         clock: &C,
@@ -306,7 +307,7 @@ impl Watched {
         self.door.rest(clock)
     }
 
-    /// Asks the system what came, and waits for it where nothing can go on.
+    /// Asks the system for events, and waits for them where nothing can go on.
     fn wait<C: Clock>(
         &mut self,
         clock: &C,
@@ -329,7 +330,7 @@ impl Watched {
         Ok(())
     }
 
-    /// Tells a socket what the system says of it.
+    /// Passes on to a socket what the system reports about it.
     fn tell(&mut self, connections: &mut Connections<PolledSocket>, event: &Event)
         ensures stand { (es : List SharedEvent) (first now : State) → StandTogether silent es first now (last_of connections.old) (places_of connections.old)
             → StandTogether silent es first now (last_of connections.new) (places_of connections.new) }
@@ -346,8 +347,8 @@ impl Watched {
         }
     }
 
-    /// Frees the places of connections that are over, and tells of each. It says whether more is to be
-    /// served.
+    /// Frees the places of connections that are over, and reports each. Returns whether more is to
+    /// be served.
     fn release<E: Endings>(
         &mut self,
         connections: &mut Connections<PolledSocket>,
@@ -371,7 +372,8 @@ impl Watched {
         true
     }
 
-    /// Frees a place whose connection is over, and tells of it. It says whether more is to be served.
+    /// Frees a place whose connection is over, and reports it. Returns whether more is to be
+    /// served.
     fn release_at<E: Endings>(
         &mut self,
         connections: &mut Connections<PolledSocket>,
@@ -391,8 +393,8 @@ impl Watched {
         }
     }
 
-    /// Tells of a connection that is over, and has its peer read what was said last. It says whether more
-    /// is to be served.
+    /// Reports a connection that is over, and lets its peer read what was sent last. Returns
+    /// whether more is to be served.
     fn let_go<E: Endings>(&mut self, released: Released<PolledSocket>, endings: &mut E) -> bool
         requires { self.old.over < self.old.total }
         ensures told { E.notes endings.old (Over released.number released.outcome) endings.new }
@@ -412,7 +414,7 @@ impl Watched {
     }
 }
 
-/// What an event says of a socket.
+/// What an event reports about a socket.
 fn readiness(event: &Event) -> Readiness {
     Readiness {
         readable: event.is_readable(),

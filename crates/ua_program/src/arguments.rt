@@ -11,10 +11,10 @@ use std::convert::AsStr;
 use ua_pair::{DissectOptions, Side};
 use ua_texts::{AnswerStyle, EndpointStyle, LineStyle};
 
-/// What the words ask for.
+/// The task that the words ask for.
 #[derive(Drop)]
 pub enum Task<'a> {
-    /// Print the frames and messages of a file.
+    /// Print the UA TCP messages of a file, and the messages that their chunks carry.
     Dissect(Dissect<'a>),
     /// Serve connections, one after the other.
     Serve(Serve<'a>),
@@ -30,10 +30,10 @@ pub enum Task<'a> {
     Version,
 }
 
-/// A word that its place does not take; its text stands behind `ua: ` on standard error.
+/// A word that is not valid at its place; its text stands after `ua: ` on standard error.
 #[derive(Clone, Copy, PartialEq, Eq, Debug, thiserror::Error)]
 pub enum BadWord<'a> {
-    /// A port, a count or a cut.
+    /// A port, a count or a fragment size.
     #[error("a number is not from 1 to 65535")]
     Number(&'a str),
     /// The number of an attribute.
@@ -59,29 +59,30 @@ impl<'a> BadWord<'a> {
     }
 }
 
-/// What words ask for that parse.
+/// The content of words that parse.
 #[derive(Drop)]
 pub struct Parsed<'a> {
-    /// What is to be done, unless a word is none that its place takes.
+    /// The task, unless a word is not valid at its place.
     pub task: Result<Task<'a>, BadWord<'a>>,
-    /// Whether the reasons of faults are told.
+    /// Whether the reasons of faults are printed.
     pub why: bool,
 }
 
 /// The words of `ua dissect`.
 #[derive(Clone, Copy)]
 pub struct Dissect<'a> {
-    /// The file of octets, or of their digits.
+    /// The file of bytes, or of their hexadecimal digits.
     pub file: &'a str,
     /// Whether the file holds hexadecimal digits.
     pub hex: bool,
-    /// Which side sent the octets, and what is wanted of them.
+    /// Which side sent the bytes, and what is printed of them.
     pub options: DissectOptions,
     /// Whether a frame that is refused has a status of its own.
     pub strict: bool,
 }
 
-/// As many connections as have numbers of their own: a channel's id is its connection's number.
+/// The number of connections that have numbers of their own: a SecureChannelId is the number of its
+/// connection.
 pub const ALL_CONNECTIONS: u32 = u32::MAX;
 
 /// The words of `ua serve`.
@@ -89,18 +90,18 @@ pub const ALL_CONNECTIONS: u32 = u32::MAX;
 pub struct Serve<'a> {
     /// The node file.
     pub nodes: &'a str,
-    /// A port of this machine.
+    /// A TCP port of this machine.
     pub port: u16,
-    /// How many connections are served; [`ALL_CONNECTIONS`] where no end is set.
+    /// The number of connections that are served; [`ALL_CONNECTIONS`] where there is no limit.
     pub connections: u32,
-    /// Whether the server goes on where memory was refused at a connection, and where its listener has an
-    /// error.
+    /// Whether the server goes on after a failed allocation at a connection, and after an error of
+    /// its listener.
     pub goes_on: bool,
-    /// Whether each request has its line as it is answered.
+    /// Whether a line is printed of each request as it is answered.
     pub requests: bool,
     /// Whether the node file has decimals and times as people write them.
     pub plain: bool,
-    /// Whether the nodes of the standard that clients ask first are added, and CurrentTime is kept.
+    /// Whether the standard nodes that clients ask for first are added, and CurrentTime is kept.
     pub standard: bool,
 }
 
@@ -109,9 +110,9 @@ pub struct Serve<'a> {
 pub struct Address<'a> {
     /// Its port.
     pub port: u16,
-    /// By which URL it is asked, where not by `opc.tcp://localhost:` and its port.
+    /// The URL by which it is asked, where that is not `opc.tcp://localhost:` and its port.
     pub url: Option<&'a str>,
-    /// What stands behind that: nothing, or a path that begins with `/`.
+    /// The path after the URL: nothing, or a path that begins with `/`.
     pub path: &'a str,
 }
 
@@ -122,7 +123,7 @@ pub struct ListEndpoints<'a> {
     pub server: Address<'a>,
     /// How the endpoints are printed.
     pub style: EndpointStyle,
-    /// By which name the octets each way are kept, if they are.
+    /// The name of the files that keep the bytes in each direction, if they are kept.
     pub record: Option<&'a str>,
 }
 
@@ -135,15 +136,15 @@ pub struct ReadNodes<'a> {
     pub nodes: Vec<&'a str>,
     /// The number of the attribute that is read.
     pub attribute: u32,
-    /// The text of the index range of all nodes, if there is one.
+    /// The text of the index range for all nodes, if there is one.
     pub range: Option<&'a str>,
-    /// The id of a token policy, or `auto`.
+    /// The PolicyId of a token policy, or `auto`.
     pub policy: &'a str,
     /// How the answers are printed.
     pub style: AnswerStyle,
-    /// Whether a bad status code has a status of its own.
+    /// Whether a bad StatusCode has a status of its own.
     pub strict: bool,
-    /// By which name the octets each way are kept, if they are.
+    /// The name of the files that keep the bytes in each direction, if they are kept.
     pub record: Option<&'a str>,
 }
 
@@ -158,13 +159,13 @@ pub struct WriteNode<'a> {
     pub kind: &'a str,
     /// The text of a value of that type.
     pub value: &'a str,
-    /// The id of a token policy, or `auto`.
+    /// The PolicyId of a token policy, or `auto`.
     pub policy: &'a str,
     /// How the answer is printed.
     pub style: AnswerStyle,
-    /// Whether a bad status code has a status of its own.
+    /// Whether a bad StatusCode has a status of its own.
     pub strict: bool,
-    /// By which name the octets each way are kept, if they are.
+    /// The name of the files that keep the bytes in each direction, if they are kept.
     pub record: Option<&'a str>,
 }
 
@@ -175,15 +176,15 @@ pub struct Loop<'a> {
     pub nodes: &'a str,
     /// The script.
     pub script: &'a str,
-    /// The most octets that each end takes at once.
+    /// The maximum number of bytes that each end takes at once.
     pub cut: u16,
-    /// Whether the octets go over a connection, too.
+    /// Whether the bytes go over a TCP connection, too.
     pub tcp: bool,
-    /// Whether status codes are named.
+    /// Whether the names of StatusCodes are printed.
     pub names: bool,
-    /// Whether values are as people write them.
+    /// Whether values are written as people write them.
     pub plain: bool,
-    /// Whether a bad status code has a status of its own.
+    /// Whether a bad StatusCode has a status of its own.
     pub strict: bool,
 }
 
@@ -245,10 +246,10 @@ fn connections_of<'a>(matches: &ArgMatches<'a>) -> Result<u32, BadWord<'a>>
     Ok(u32::from(number_of(matches, "connections")?))
 }
 
-/// The most bytes of a URL (OPC 10000-6, 7.1.2.3).
+/// The maximum length of a URL in bytes (OPC 10000-6, 7.1.2.3).
 const MOST_URL: usize = 4095;
 
-/// As many bytes as `opc.tcp://localhost:` and a port have at most.
+/// The maximum length in bytes of `opc.tcp://localhost:` and a port.
 const LOCAL_URL: usize = 25;
 
 /// The server that is asked.
@@ -394,7 +395,7 @@ fn name_of(command: &str) -> Name {
     }
 }
 
-/// What the words of a command ask for. Those for nodes stand beside them.
+/// The task in the words of a command. Those for nodes are given beside them.
 fn task_of<'a>(
     command: Name,
     nodes: Vec<&'a str>,
@@ -413,7 +414,7 @@ fn task_of<'a>(
     }
 }
 
-/// What the command among the words asks for.
+/// The content of the command among the words.
 fn parsed_of<'a>(alloc: Global, matches: &ArgMatches<'a>) -> Result<Parsed<'a>, AllocError>
     ensures { IfOk result (λ parsed. IfOk parsed.task CountsFromOne) }
 {
@@ -436,12 +437,12 @@ fn matches_of<'a, S: AsStr>(alloc: Global, words: &'a [S]) -> Result<ArgMatches<
     commands::program(alloc)?.try_get_matches_from(words)
 }
 
-/// Whether `--version` is the one word behind the program's name.
+/// Whether `--version` is the one word after the program's name.
 fn asks_version<S: AsStr>(words: &[S]) -> bool {
     words.len() == 2 && words[1].as_str() == "--version"
 }
 
-/// What the words ask for, of which the first is the program's name.
+/// Parses the words, of which the first is the program's name.
 pub fn parse<'a, S: AsStr>(alloc: Global, words: &'a [S]) -> Result<Parsed<'a>, Error>
     ensures { IfOk result (λ parsed. IfOk parsed.task CountsFromOne) }
 {

@@ -1,4 +1,4 @@
-//! `ua endpoints`, `ua read` and `ua write`: what the server on a port of this machine is asked.
+//! `ua endpoints`, `ua read` and `ua write`: questions to the server on a port of this machine.
 
 ghost use Rattle.std.specs.Prelude.{◌≡◌, ◌⊎◌, true, false, option_map, IsTrue, OnOk, IfOk, IfErr};
 ghost use Rattle.ua_wire.specs.Counted.{text};
@@ -26,7 +26,7 @@ use ua_session::{Question, TokenPolicy, Verdict, WordFault, ask_over, endpoints_
 use ua_tcp::{ClockMoments, RecordedLine, TcpLine, without_delay};
 use ua_texts::AnswerStyle;
 
-/// A line to the server on a port of this machine.
+/// A transport to the server on a port of this machine.
 fn connect<'a, R: Net>(rt: &R, port: u16) -> Result<TcpLine<R::Stream>, Stop<'a>> {
     match TcpStream::connect(rt, (Ipv4Addr::LOCALHOST, port)) {
         Ok(stream) => Ok(TcpLine::new(without_delay(stream))),
@@ -44,7 +44,7 @@ fn base_url(alloc: Global, server: &Address<'_>) -> Result<UaString, AllocError>
     }
 }
 
-/// A URL with a path behind it.
+/// A URL with a path after it.
 fn with_path(alloc: Global, url: &UaString, path: &str) -> Result<UaString, AllocError>
     ensures { IfOk result (λ long. long ≡ with_path url.now path.now) }
 {
@@ -76,7 +76,7 @@ pub fn url_of<'a>(alloc: Global, server: &Address<'_>) -> Result<UaString, Stop<
     Err(Stop::Fault(Fault::NoMemory))
 }
 
-/// Prints the endpoints of the server over a line.
+/// Prints the endpoints of the server over a transport.
 fn endpoints_line<'a, R: Clock + AllocGlobal, L: Line, O: Write>(
     rt: &R,
     line: &mut L,
@@ -128,8 +128,8 @@ pub fn endpoints<'a, R: Files + Net + Clock + AllocGlobal, O: Write>(
     }
 }
 
-/// The token policy that a word names: with `auto` the one that the server offers, else the one of
-/// this id.
+/// The token policy that a word denotes: for `auto` the one that the server offers, else the one
+/// with this PolicyId.
 pub fn policy_of(alloc: Global, word: &str) -> Result<TokenPolicy, AllocError>
     ensures { IfOk result (λ policy. policy ≡ policy_named word.now) }
 {
@@ -144,17 +144,17 @@ pub fn policy_of(alloc: Global, word: &str) -> Result<TokenPolicy, AllocError>
 struct Asking<'a> {
     /// The server.
     server: Address<'a>,
-    /// The id of a token policy, or `auto`.
+    /// The PolicyId of a token policy, or `auto`.
     policy: &'a str,
     /// How the answers are printed.
     style: AnswerStyle,
-    /// Whether a bad status code counts.
+    /// Whether a bad StatusCode counts.
     strict: bool,
-    /// By which name the octets each way are kept, if they are.
+    /// The name of the files that keep the bytes in each direction, if they are kept.
     record: Option<&'a str>,
 }
 
-/// Asks a question of the server over a line, and prints the answers.
+/// Asks a question of the server over a transport, and prints the answers.
 fn ask_line<'a, R: Clock + AllocGlobal, L: Line, O: Write>(
     rt: &R,
     line: &mut L,
@@ -212,7 +212,7 @@ fn ask<'a, R: Files + Net + Clock + AllocGlobal, O: Write>(
     }
 }
 
-/// What counts of codes that are bad: they do only where `--strict` asks for it.
+/// Which bad StatusCodes count: they do only where `--strict` asks for it.
 pub fn counted(verdict: Verdict, strict: bool) -> Verdict
     ensures strict { result ≡ SomeBad → strict ≡ true }
     ensures same { strict ≡ true → result ≡ verdict }
@@ -221,14 +221,14 @@ pub fn counted(verdict: Verdict, strict: bool) -> Verdict
     if strict { verdict } else { Verdict::AllGood }
 }
 
-/// What the words of `ua read` ask.
+/// The question of the words of `ua read`.
 pub fn read_question(alloc: Global, asked: &ReadNodes<'_>) -> Result<Question, WordFault>
     ensures { GivesRead (λ text. text.now) asked.now.nodes.items asked.now.attribute (option_map (λ text. text.now) asked.now.range) result }
 {
     Question::parse_read(alloc, &asked.nodes, asked.attribute, asked.range)
 }
 
-/// What the words of `ua write` ask. With `--plain` the value may be a decimal or a time.
+/// The question of the words of `ua write`. With `--plain` the value may be a decimal or a time.
 pub fn write_question(alloc: Global, asked: &WriteNode<'_>) -> Result<Question, WordFault>
     ensures { GivesWrite asked.now.node.now asked.now.kind.now (value_given asked.now.style.plain asked.now.kind.now asked.now.value.now) result }
 {
@@ -239,7 +239,7 @@ pub fn write_question(alloc: Global, asked: &WriteNode<'_>) -> Result<Question, 
     }
 }
 
-/// Asks what words ask for, if they do, and says what counts of the answers.
+/// Asks the question of the words, if they have one, and returns what counts of the answers.
 fn ask_counted<'a, R: Files + Net + Clock + AllocGlobal, O: Write>(
     rt: &R,
     question: Result<Question, WordFault>,
@@ -277,7 +277,7 @@ pub fn read<'a, R: Files + Net + Clock + AllocGlobal, O: Write>(
     ask_counted(rt, read_question(rt.alloc(), asked), &how, out)
 }
 
-/// Sets the Value of a node of the server on a port of this machine, and prints what became of it.
+/// Sets the Value of a node of the server on a port of this machine, and prints the result.
 pub fn write<'a, R: Files + Net + Clock + AllocGlobal, O: Write>(
     rt: &R,
     asked: &WriteNode<'a>,

@@ -16,9 +16,9 @@ enum Kind {
     Flag,
     /// A text, as `--range 1:2`; the help names it so.
     Text(&'static str),
-    /// The same, and which text it is where nothing is said, as `--policy auto`.
+    /// The same, with this default, as `--policy auto`.
     TextOr(&'static str, &'static str),
-    /// A number that is this one where nothing is said, as `--cut 7`; the help names it N.
+    /// A number with this default, as `--cut 7`; the help names it N.
     NumberOr(&'static str),
 }
 

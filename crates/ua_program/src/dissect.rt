@@ -1,4 +1,4 @@
-//! The lines of what a source gives.
+//! The output of `ua dissect` for a source.
 
 ghost use Rattle.std.specs.Prelude.{◌≡◌, ◌++◌, ◌⊎◌, ◌<◌, [], ℕ, List, length, true, false, cond, string_bytes, IfOk, IfErr, OnOk};
 ghost use Rattle.std.specs.Io.KnownBytes.{Appends};
@@ -20,10 +20,10 @@ use std::io::{ErrorKind, Read, Write};
 use ua_pair::Dissector;
 use ua_session::Verdict;
 
-/// The most octets that are read at once.
+/// The maximum number of bytes of one read.
 const PIECE: usize = 65536;
 
-/// Adds the lines of what is whole with a piece of a file's content.
+/// Appends the lines of what is complete with one read of a file's content.
 fn push_piece<'a>(
     alloc: Global,
     asked: &Dissect<'a>,
@@ -46,7 +46,7 @@ fn push_piece<'a>(
     Ok(())
 }
 
-/// Adds the last line of a file whose content is there.
+/// Appends the last line of a file whose content is read.
 fn push_last<'a>(
     asked: &Dissect<'a>,
     digits: &HexPieces,
@@ -67,7 +67,7 @@ fn push_last<'a>(
     Ok(())
 }
 
-/// How many octets were read into a piece, none at the end; nothing where the call was interrupted.
+/// The number of bytes of one read, 0 at the end; nothing where the call was interrupted.
 fn read_piece<'a, I: Read>(
     file: &'a str,
     source: &mut I,
@@ -86,8 +86,8 @@ fn read_piece<'a, I: Read>(
     }
 }
 
-/// Prints a text and behind it the last line of a file whose content is there, or of one in which a frame
-/// is refused. Says whether one is.
+/// Prints a text and after it the last line of a file whose content is read, or of one in which a
+/// frame is refused. Returns whether one is.
 fn print_last<'a, O: Write>(
     asked: &Dissect<'a>,
     digits: &HexPieces,
@@ -107,7 +107,7 @@ fn print_last<'a, O: Write>(
     Ok(verdict_of(dissector.has_refused()))
 }
 
-/// What is said of octets: whether a frame among them is refused.
+/// The verdict on bytes: whether a frame among them is refused.
 fn verdict_of(has_refused: bool) -> Verdict
     ensures { result ≡ cond has_refused SomeBad AllGood }
 {
@@ -118,7 +118,7 @@ fn verdict_of(has_refused: bool) -> Verdict
     }
 }
 
-/// Whether a frame is refused in a file of octets as they are: whatever follows has no lines.
+/// Whether a frame is refused in a file of raw bytes: there is no output for the bytes that follow.
 fn is_told(asked: &Dissect<'_>, dissector: &Dissector) -> bool
     ensures plain { result ≡ true → asked.now.hex ≡ false }
     ensures stays { (options : DissectOptions) (octets told more : List ℕ) → result ≡ true → StandsBehind dissector.now options octets told → StandsBehind dissector.now options (octets ++ more) told }
@@ -126,8 +126,9 @@ fn is_told(asked: &Dissect<'_>, dissector: &Dissector) -> bool
     !asked.hex && dissector.has_refused()
 }
 
-/// Reads once more, and prints the lines of what is whole by then; at the end, or at a frame that is
-/// refused, the last line, and whether one is. Digits are read to their end.
+/// Reads once more, and prints the lines of what is complete by then; at the end, or at a frame
+/// that is refused, prints the last line and returns whether one is refused. Digits are read to
+/// their end.
 fn print_next<'a, I: Read, O: Write>(
     alloc: Global,
     asked: &Dissect<'a>,
@@ -161,10 +162,11 @@ fn print_next<'a, I: Read, O: Write>(
     Ok(None)
 }
 
-/// Prints the lines of all that a source gives, each as soon as what it tells is whole, and says whether a
-/// frame is refused. Behind such a frame it reads no further, but for the digits of a file, which are
-/// all judged. What stops it is told behind the lines of what was read before. A source that gives no
-/// end within 18446744073709551615 reads cannot be read.
+/// Prints the lines of all that a source contains, each as soon as what it describes is complete,
+/// and returns whether a frame is refused. After such a frame it reads no further, except for the
+/// digits of a file, which are all checked. A fault that stops it is returned after the lines of
+/// what was read before are printed. A source without an end within 18446744073709551615 reads
+/// cannot be read.
 pub fn dissect_source<'a, I: Read, O: Write>(
     alloc: Global,
     asked: &Dissect<'a>,

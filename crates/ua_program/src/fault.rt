@@ -5,31 +5,31 @@ use thiserror::Error;
 use ua_nodes::LineReason;
 use ua_session::{AskFault, LoopFault, WordFault};
 
-/// Why a command stopped; its text stands behind `ua: ` on standard error.
+/// Why a command stopped; its text stands after `ua: ` on standard error.
 #[derive(Clone, Copy, Debug, Error)]
 pub enum Fault<'a> {
     /// This file cannot be read, or is not UTF-8 where it has to be.
     #[error("cannot read {0}")]
     CannotRead(&'a str),
-    /// This file holds no hexadecimal digits of octets.
+    /// This file has something else than pairs of hexadecimal digits.
     #[error("{0} is not hexadecimal")]
     NotHexadecimal(&'a str),
-    /// The first bad line of a node file, and the first reason against it.
+    /// The first invalid line of a node file, and the first reason against it.
     #[error("line {line}: {reason}")]
     Line { line: usize, reason: LineReason },
-    /// A port cannot be listened on, or gives no connection.
+    /// The program cannot listen on a port, or the port gives no connection.
     #[error("cannot listen")]
     CannotListen,
-    /// A port takes no connection.
+    /// A port accepts no connection.
     #[error("cannot connect")]
     CannotConnect,
-    /// What is printed cannot be written.
+    /// The output cannot be written.
     #[error("cannot write")]
     CannotWrite,
-    /// The file of a record cannot be written that has the octets that were sent; this is the record's name.
+    /// The file of sent bytes of the record with this name cannot be written.
     #[error("cannot write {0}.up")]
     CannotWriteUp(&'a str),
-    /// The same of the octets that came.
+    /// The file of received bytes of the record with this name cannot be written.
     #[error("cannot write {0}.down")]
     CannotWriteDown(&'a str),
     /// Words ask for nothing, and why.
@@ -38,10 +38,10 @@ pub enum Fault<'a> {
     /// A server gave no answers, and why.
     #[error("{0}")]
     Asking(AskFault),
-    /// A script is not run, or not printed to its end, and why.
+    /// A script is not run, or its output is incomplete, and why.
     #[error("{0}")]
     Looping(LoopFault),
-    /// Memory was refused.
+    /// An allocation failed.
     #[error("no memory")]
     NoMemory,
 }

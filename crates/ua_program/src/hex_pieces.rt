@@ -1,4 +1,4 @@
-//! Octets that come as hexadecimal digits, in pieces.
+//! Bytes that arrive as hexadecimal digits, in fragments.
 
 ghost use Rattle.std.specs.Prelude.{Ok, ◌≡◌, ◌%◌, ◌++◌, ◌⊎◌, ℕ, List, length, is_none, IfOk, IfErr, option_to_list};
 ghost use Rattle.hex.specs.Hex.{decode_of};
@@ -9,14 +9,14 @@ use crate::fault::Fault;
 use hex::FromHexError;
 use std::alloc::{AllocError, Global};
 
-/// Hexadecimal digits that come in any pieces, among white space; two of them are an octet.
+/// Hexadecimal digits that arrive in any fragments, among white space; two of them are a byte.
 #[derive(Clone, Copy)]
 pub struct HexPieces {
-    /// A digit whose pair has not come.
+    /// A digit whose pair has not arrived.
     half: Option<u8>,
 }
 
-/// The octets without ASCII white space.
+/// The bytes without ASCII white space.
 fn without_white_space(alloc: Global, octets: &[u8]) -> Result<Vec<u8>, AllocError>
     ensures { IfOk result (λ digits. digits.items ≡ digits_in octets.now) }
 {
@@ -39,7 +39,7 @@ fn split_half(digits: &mut Vec<u8>) -> Option<u8>
     }
 }
 
-/// The octets that digits stand for, which are those of a file.
+/// The bytes that the digits of a file denote.
 fn decode_digits<'a>(alloc: Global, file: &'a str, digits: &[u8]) -> Result<Vec<u8>, Fault<'a>>
     ensures octets { IfOk result (λ octets. decode_of digits.now ≡ Ok octets.items) }
     ensures faults { IfErr result (λ fault. (fault ≡ NoMemory)
@@ -53,7 +53,7 @@ fn decode_digits<'a>(alloc: Global, file: &'a str, digits: &[u8]) -> Result<Vec<
 }
 
 impl HexPieces {
-    /// Nothing has come.
+    /// Nothing has arrived.
     pub fn new() -> HexPieces
         ensures { result.half ≡ None }
     {
@@ -67,7 +67,7 @@ impl HexPieces {
         self.half.is_none()
     }
 
-    /// The digit that is left, and behind it those of a piece.
+    /// The digit that is left, and after it those of a fragment.
     fn digits(&self, alloc: Global, piece: &[u8]) -> Result<Vec<u8>, AllocError>
         ensures { IfOk result (λ digits. digits.items ≡ option_to_list self.now.half ++ digits_in piece.now) }
     {
@@ -80,7 +80,7 @@ impl HexPieces {
         Ok(digits)
     }
 
-    /// The octets of the pairs of digits that are whole with a piece.
+    /// The bytes of the pairs of digits that are complete with a fragment.
     pub fn take<'a>(
         &mut self,
         alloc: Global,

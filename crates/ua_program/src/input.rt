@@ -16,7 +16,7 @@ use std::rt::Files;
 use ua_nodes::{LoadFault, NodeTable};
 use ua_texts::exact_lines;
 
-/// The octets of a file.
+/// The bytes of a file.
 pub fn read_file<'a, R: Files + AllocGlobal>(rt: &R, file: &'a str) -> Result<Vec<u8>, Stop<'a>>
     ensures { IfErr result (λ stop. StopsAtFile file.entry stop) }
 {
@@ -60,7 +60,8 @@ fn exact_form(alloc: Global, text: String, plain: bool) -> Result<String, AllocE
     }
 }
 
-/// The text of a node file or of a script, in its exact form where people write decimals and times in it.
+/// The text of a node file or of a script, in its exact form where people write decimals and times
+/// in it.
 pub fn read_lines<'a, R: Files + AllocGlobal>(
     rt: &R,
     file: &'a str,

@@ -1,12 +1,12 @@
-//! What the program `ua` does: the words of its commands, files, sockets, the clock, and what is
-//! printed. `ua_cli` hands its words and streams to [`run`].
+//! What the program `ua` does: the words of its commands, files, sockets, the clock, and its
+//! output. `ua_cli` gives its words and streams to [`run`].
 //!
 //! ```
 //! let mut input: &[u8] = &[]; // read where FILE is `-`
 //! let mut out = Vec::new(alloc);
 //! let mut err = Vec::new(alloc);
 //! let status = run(&rt, &["ua", "dissect", "data/hello.bin"], &mut input, &mut out, &mut err);
-//! // 0, and the lines of the octets of that file in `out`
+//! // 0, and the output for the bytes of that file in `out`
 //! ```
 #![tactic(auto)]
 

@@ -1,4 +1,4 @@
-//! A line whose octets go over a connection within this process.
+//! A transport over a connection within this process.
 
 ghost use Rattle.std.specs.Prelude.{◌≡◌, ◌≤◌, ◌<◌, ℕ, [], drop, length, take, true, IfOk, OnOk, None};
 ghost use Rattle.std.specs.Io.KnownBytes.{Appends, Consumes};
@@ -9,32 +9,32 @@ use std::io;
 use std::io::{Read, Write};
 use ua_channel::{Line, LineFault};
 
-/// The most octets of a write.
+/// The maximum number of bytes of a write.
 pub const MOST_OCTETS: usize = 4096;
 
-/// A server's line over both ends of one connection. What it reads are the octets of a client, which
-/// are written at the near end and come out at the far one; what it writes goes the other way, and
-/// has to be what the client awaits. At most 4096 octets are written at once, and all of them are read
-/// at the other end before the next ones are written. It does not tell its octets, as no line over a
-/// connection does.
+/// A server's transport over both ends of one connection. It reads the bytes of a client, which are
+/// written at the near end and arrive at the far end; what it writes goes the other way, and has to
+/// be what the client awaits. At most 4096 bytes are written at once, and all of them are read at
+/// the other end before the next ones are written. Its traffic is not known, as that of no
+/// transport over a connection is.
 #[derive(Drop)]
 pub struct LoopLine<'a, S> {
     /// The client's end.
     pub near: S,
     /// The server's end.
     pub far: S,
-    /// What the client is still to write.
+    /// The bytes that the client has still to write.
     pub up: &'a [u8],
-    /// What the client still awaits.
+    /// The bytes that the client still awaits.
     pub down: &'a [u8],
-    /// How many calls failed so far, from the greatest number on again from 0.
+    /// The number of calls that failed so far; after the greatest number it restarts at 0.
     failures: u64,
 }
 
 impl<'a, S> LoopLine<'a, S> {
     ghost use Rattle.ua_program.specs.Lines.{failed_carries};
 
-    /// A line over both ends of a connection, for a client that writes and awaits these octets.
+    /// A transport over both ends of a connection, for a client that writes and awaits these bytes.
     pub fn new(near: S, far: S, up: &'a [u8], down: &'a [u8]) -> LoopLine<'a, S>
         ensures { failed_carries result ≡ 0 }
     {
@@ -47,7 +47,7 @@ impl<'a, S> LoopLine<'a, S> {
         }
     }
 
-    /// Whether all has gone over the connection.
+    /// Whether all bytes have gone over the connection.
     pub fn is_carried(&self) -> bool
         ensures up { result ≡ true → self.now.up.now ≡ [] }
         ensures down { result ≡ true → self.now.down.now ≡ [] }
@@ -65,7 +65,7 @@ impl<'a, S> LoopLine<'a, S> {
     }
 }
 
-/// Writes octets at one end of a connection, and reads as many at the other.
+/// Writes bytes at one end of a connection, and reads as many at the other.
 fn carry<S: Read + Write>(
     from: &mut S,
     to: &mut S,
@@ -81,7 +81,7 @@ fn carry<S: Read + Write>(
 }
 
 impl<S: Read + Write> LoopLine<'_, S> {
-    /// Writes the next octets of the client at its end, and hands out what came of them at the
+    /// Writes the next bytes of the client at its end, and returns those that arrived at the
     /// server's.
     fn carry_up(&mut self, buffer: &mut [u8]) -> Result<usize, LineFault>
         ensures within { IfOk result (λ n. n ≤ length buffer.new) }
@@ -101,7 +101,7 @@ impl<S: Read + Write> LoopLine<'_, S> {
         }
     }
 
-    /// Writes the first of these octets at the server's end, and expects what came of them at the
+    /// Writes the first of these bytes at the server's end, and expects those that arrive at the
     /// client's to be what it awaits.
     fn carry_down(&mut self, octets: &[u8]) -> Result<usize, LineFault>
         ensures within { IfOk result (λ n. n ≤ length octets.now) }

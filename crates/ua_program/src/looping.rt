@@ -32,17 +32,17 @@ const PORT: u16 = 4840;
 /// The server's one channel.
 const CHANNEL: u32 = 1;
 
-/// The moment of all that is said: 1970-01-01 00:00 UTC.
+/// The timestamp of everything that is sent: 1970-01-01 00:00 UTC.
 const MOMENT: i64 = 116_444_736_000_000_000;
 
-/// Moments that are all the same one.
+/// Timestamps that are all the same.
 fn moments(alloc: Global) -> Result<ListMoments, AllocError> {
     let mut ticks = Vec::new(alloc);
     ticks.push(MOMENT)?;
     Ok(ListMoments::new(ticks))
 }
 
-/// What is told of a server over a connection within this process.
+/// The outcome of a server over a connection within this process.
 fn outcome<'a>(ended: Result<End, ServeFault>, is_carried: bool) -> Result<(), Fault<'a>>
     ensures closed { OnOk result (ended ≡ Ok Closed) }
     ensures carried { OnOk result (is_carried ≡ true) }
@@ -79,8 +79,8 @@ fn connection<'a, R: Net>(rt: &R) -> Result<(R::Stream, R::Stream), Stop<'a>> {
     }
 }
 
-/// Sends the octets of a script over the connection of a line: those of its client to a server over
-/// the nodes of this text, and what that server answers back.
+/// Sends the bytes of a script over the connection of a transport: those of its client to a server
+/// over the nodes of this text, and the server's response back.
 pub fn carry_over<'a, S: Read + Write>(
     alloc: Global,
     nodes: &str,
@@ -95,7 +95,7 @@ pub fn carry_over<'a, S: Read + Write>(
     outcome(ended, line.is_carried())
 }
 
-/// Sends the octets of a script over one connection within this process.
+/// Sends the bytes of a script over one connection within this process.
 fn carry_over_tcp<'a, R: Net + AllocGlobal>(
     rt: &R,
     nodes: &str,
@@ -106,9 +106,9 @@ fn carry_over_tcp<'a, R: Net + AllocGlobal>(
     Ok(carry_over(rt.alloc(), nodes, &mut line)?)
 }
 
-/// Runs the script of a text over nodes, each end taking what the other wrote in pieces of at most so
-/// many octets. Where `names` says so, the names of status codes stand behind them; where `plain` does,
-/// values are as people write them.
+/// Runs the script of a text over nodes, each end taking what the other wrote in fragments of at
+/// most `cut` bytes. With `names` the names of StatusCodes stand after them; with `plain` values
+/// are written as people write them.
 pub fn run_script(
     alloc: Global,
     nodes: NodeTable,
@@ -143,7 +143,7 @@ fn run_text<'a>(
     }
 }
 
-/// What counts of the codes of answers: bad ones only where `--strict` asks for them.
+/// Which bad StatusCodes count: they do only where `--strict` asks for it.
 fn counted(has_bad: bool, strict: bool) -> Verdict
     ensures strict { result ≡ SomeBad → strict ≡ true }
     ensures bad { result ≡ SomeBad → has_bad ≡ true }
@@ -156,8 +156,8 @@ fn counted(has_bad: bool, strict: bool) -> Verdict
     }
 }
 
-/// Runs the script of a file over the nodes of another, and prints the answers to its lines and how
-/// many octets went each way. Where a reply is a fault, the answers in front of it are printed.
+/// Runs the script of a file over the nodes of another, and prints the answers to its lines and the
+/// number of bytes in each direction. Where a reply is a fault, the answers before it are printed.
 pub fn run_files<'a, R: Files + Net + AllocGlobal, O: Write>(
     rt: &R,
     asked: &Loop<'a>,

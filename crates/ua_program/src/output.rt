@@ -1,4 +1,4 @@
-//! What is printed as a command goes on.
+//! The output of a command as it runs.
 
 ghost use Rattle.std.specs.Prelude.{◌≡◌, [], IfErr, OnOk};
 ghost use Rattle.std.specs.Io.KnownBytes.{Appends};
@@ -14,16 +14,16 @@ use ua_session::{AskFault, LoopFault, WordFault};
 /// Why a command stops.
 #[derive(Drop, Debug)]
 pub enum Stop<'a> {
-    /// A fault, which is told.
+    /// A fault, which is printed.
     Fault(Fault<'a>),
-    /// A fault, which is told, and what more is known of it.
+    /// A fault, which is printed, and what more is known of it.
     Because(Fault<'a>, Reason),
-    /// What it prints cannot be written, and why.
+    /// The output cannot be written, and why.
     Output(io::Error),
 }
 
 impl Stop<'_> {
-    /// Whether memory was refused.
+    /// Whether an allocation failed.
     pub fn is_starved(&self) -> bool
         ensures { result ≡ is_starved self.now }
     {
@@ -95,7 +95,7 @@ impl From<LoopFault> for Stop<'_> {
     }
 }
 
-/// Prints a text, whole.
+/// Prints a text completely.
 pub fn say<'a, O: Write>(out: &mut O, text: &str) -> Result<(), Stop<'a>>
     ensures said { OnOk result (Appends (O.contents out.old) (O.contents out.new) text.now) }
     ensures failed { IfErr result (λ stop. StopsWriting stop) }

@@ -31,9 +31,10 @@ use std::time::Clock;
 use ua_session::Verdict;
 
 /// Runs the program on its words, of which the first is its name. The input is read only where the
-/// words ask for it. The status is 0 where the command is done, 1 where it met a fault or a writer
-/// failed, 2 where the words don't parse, and 3 where it is done and a status code is bad that it
-/// printed, or a frame that it dissected is refused, if `--strict` is among the words.
+/// words ask for it. The status is 0 where the command succeeded; 1 where it met a fault or a
+/// writer failed; 2 where the words don't parse; and 3 where `--strict` is among the words and the
+/// command succeeded, but a StatusCode that it printed is bad or a frame that it dissected is
+/// refused.
 pub fn run<S: AsStr, R: Files + Net + Clock + AllocGlobal, I: Read, O: Write, E: Write>(
     rt: &R,
     words: &[S],
@@ -67,15 +68,15 @@ pub fn run<S: AsStr, R: Files + Net + Clock + AllocGlobal, I: Read, O: Write, E:
     }
 }
 
-/// Whether a word asks for all connections: `ua serve` may tell and go on then.
+/// Whether a word asks for all connections: `ua serve` may then report a fault and go on.
 fn says_all<S: AsStr>(words: &[S]) -> bool
     ensures { result ≡ true → SaysAll (λ word. S.text word) words.now }
 {
     has_word(words, "all") || has_word(words, "--connections=all")
 }
 
-/// Tells why a command stopped, and where it is to be told the reason that is known of it. That what it
-/// prints cannot be written is told with its reason alone. The status is 1.
+/// Prints why a command stopped, and the reason that is known of it if that is asked for. Where the
+/// output cannot be written, that is printed, with its reason alone. The status is 1.
 fn tell_stop<S: AsStr, E: Write>(words: &[S], telling: Telling, stop: &Stop<'_>, err: &mut E) -> u8
     ensures status { result ≡ 1 }
     ensures silent { StopsWriting stop.now → (err.new ≡ err.old) ⊎ SaysWhy (λ word. S.text word) words.now }
@@ -145,7 +146,7 @@ fn perform<'a, R: Files + Net + Clock + AllocGlobal, I: Read, O: Write, E: Write
     }
 }
 
-/// Tells why words don't parse. The status is 2, or 1 where memory was refused or `err` fails.
+/// Prints why words don't parse. The status is 2, or 1 where an allocation or `err` fails.
 fn refuse<E: Write>(alloc: Global, error: &clap::Error, err: &mut E) -> u8
     ensures { (result ≡ 1) ⊎ (result ≡ 2) }
 {
@@ -158,8 +159,8 @@ fn refuse<E: Write>(alloc: Global, error: &clap::Error, err: &mut E) -> u8
     }
 }
 
-/// Tells which word its place does not take, and with `why` the word. The status is 2, or 1 where memory was
-/// refused or `err` fails.
+/// Prints that a word is not valid at its place, and with `why` the word. The status is 2, or 1
+/// where an allocation or `err` fails.
 fn tell_word<E: Write>(alloc: Global, bad: BadWord<'_>, why: bool, err: &mut E) -> u8
     ensures { (result ≡ 1) ⊎ (result ≡ 2) }
 {
@@ -169,7 +170,7 @@ fn tell_word<E: Write>(alloc: Global, bad: BadWord<'_>, why: bool, err: &mut E) 
     }
 }
 
-/// What is told of a word that its place does not take.
+/// The text for a word that is not valid at its place.
 fn word_text(alloc: Global, bad: BadWord<'_>, why: bool) -> Result<String, AllocError> {
     let mut text = format!(in alloc; "ua: {bad}\n")?;
     if why {
@@ -178,7 +179,8 @@ fn word_text(alloc: Global, bad: BadWord<'_>, why: bool) -> Result<String, Alloc
     Ok(text)
 }
 
-/// Prints the frames and messages of a file, or of the input where it is named `-`.
+/// Prints the UA TCP messages of a file, or of the input where it is named `-`, and the messages
+/// that their chunks carry.
 fn dissect<'a, R: Files + AllocGlobal, I: Read, O: Write>(
     rt: &R,
     asked: &Dissect<'a>,
@@ -196,7 +198,7 @@ fn dissect<'a, R: Files + AllocGlobal, I: Read, O: Write>(
     dissect_watched(rt.alloc(), asked, &mut file, out)
 }
 
-/// Prints the lines of what a source gives, and says what the system says where it cannot be read.
+/// Prints the output for a source, and keeps the system's error where it cannot be read.
 fn dissect_watched<'a, I: Read, O: Write>(
     alloc: Global,
     asked: &Dissect<'a>,
@@ -214,7 +216,7 @@ fn dissect_watched<'a, I: Read, O: Write>(
     }
 }
 
-/// Prints the lines of what a source gives, and says what counts of a frame that is refused.
+/// Prints the output for a source, and returns what counts of a frame that is refused.
 fn dissect_some<'a, I: Read, O: Write>(
     alloc: Global,
     asked: &Dissect<'a>,
@@ -231,8 +233,8 @@ fn dissect_some<'a, I: Read, O: Write>(
     }
 }
 
-/// Tells why the words of the command line could not be gathered. The status is 2 where a word is
-/// not UTF-8, and 1 where memory was refused or `err` fails.
+/// Prints why the words of the command line could not be read. The status is 2 where a word is not
+/// UTF-8, and 1 where an allocation or `err` fails.
 pub fn refuse_words<E: Write>(error: &io::Error, err: &mut E) -> u8
     ensures status { (result ≡ 1) ⊎ (result ≡ 2) }
     ensures memory { error_kind error.now ≡ OutOfMemory → result ≡ 1 }

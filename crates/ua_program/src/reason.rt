@@ -1,4 +1,4 @@
-//! What is known of a fault beside its own text.
+//! The reason of a fault beside its own text.
 
 ghost use Rattle.ua_program.specs.Reasons.{StopsAt, StopsAtFile};
 ghost use Rattle.ua_program.specs.declared.fault.Fault.TheVariants.{CannotConnect, CannotListen, Looping};
@@ -13,16 +13,16 @@ use ua_nodes::{LineReason, MOST_OCTETS, ValueFault, parse_type, parse_value, wit
 use ua_session::LoopFault;
 use ua_texts::push_escaped;
 
-/// What is known of a fault beside its own text: it is told with `--why`.
+/// The reason of a fault beside its own text, which `--why` prints.
 #[derive(Drop, Debug)]
 pub enum Reason {
-    /// What the system says of it.
+    /// The error of the system.
     System(io::Error),
-    /// The text that is blamed: a field of a line, a line, or what is wrong with a file.
+    /// The text to blame: a field of a line, a line, or what is wrong with a file.
     Text(String),
 }
 
-/// That a file cannot be read, by what the system says.
+/// The fault of a file that cannot be read, with the system's error.
 pub fn cannot_read<'a>(file: &'a str, error: io::Error) -> Stop<'a>
     ensures { StopsAtFile file.entry result }
 {
@@ -32,7 +32,7 @@ pub fn cannot_read<'a>(file: &'a str, error: io::Error) -> Stop<'a>
     }
 }
 
-/// That a file of a record cannot be written, by what the system says.
+/// The fault of a record's file that cannot be written, with the system's error.
 pub fn cannot_record<'a>(fault: Fault<'a>, error: io::Error) -> Stop<'a>
     ensures { StopsAt fault.entry result }
 {
@@ -42,22 +42,22 @@ pub fn cannot_record<'a>(fault: Fault<'a>, error: io::Error) -> Stop<'a>
     }
 }
 
-/// That a port cannot be listened on, or gives no connection, by what the system says.
+/// The fault of a port that cannot be listened on, or gives no connection, with the system's error.
 pub fn cannot_listen<'a>(error: io::Error) -> Stop<'a>
     ensures { StopsAt CannotListen result }
 {
     Stop::Because(Fault::CannotListen, Reason::System(error))
 }
 
-/// That a port takes no connection, by what the system says.
+/// The fault of a port that accepts no connection, with the system's error.
 pub fn cannot_connect<'a>(error: io::Error) -> Stop<'a>
     ensures { StopsAt CannotConnect result }
 {
     Stop::Because(Fault::CannotConnect, Reason::System(error))
 }
 
-/// Adds the line of a reason. A text has each control character by its octets in UTF-8, each as `\x`
-/// and two digits, and a backslash doubled.
+/// Appends the line of a reason. In a text, each byte in UTF-8 of a control character is written as
+/// `\x` and two digits, and a backslash is doubled.
 pub fn push_reason(out: &mut String, reason: &Reason) -> Result<(), AllocError> {
     match reason {
         Reason::System(error) => write!(out, "  because {error}\n"),
@@ -65,7 +65,7 @@ pub fn push_reason(out: &mut String, reason: &Reason) -> Result<(), AllocError> 
     }
 }
 
-/// Adds the line of a word that is blamed.
+/// Appends the line of a word to blame.
 pub fn push_word(out: &mut String, word: &str) -> Result<(), AllocError> {
     out.push_str("  because ")?;
     push_escaped(out, word)?;
@@ -82,7 +82,8 @@ fn blame<'a>(alloc: Global, fault: Fault<'a>, text: &str) -> Stop<'a>
     }
 }
 
-/// A fault of a node file with this text: that of a bad line with the field that its reason is against.
+/// A fault of a node file with this text: that of a bad line with the field that its reason is
+/// against.
 pub fn blame_line<'a>(alloc: Global, text: &str, fault: Fault<'a>) -> Stop<'a>
     ensures { StopsAt fault.entry result }
 {
@@ -92,7 +93,8 @@ pub fn blame_line<'a>(alloc: Global, text: &str, fault: Fault<'a>) -> Stop<'a>
     blame(alloc, fault, field_of(line_at(text, line), reason))
 }
 
-/// A fault of a script with this text: that of a bad line with the field, or the line, that is to blame.
+/// A fault of a script with this text: that of a bad line with the field, or the line, that is to
+/// blame.
 pub fn blame_step<'a>(alloc: Global, text: &str, fault: LoopFault) -> Stop<'a>
     ensures { StopsAt (Looping fault) result }
 {
@@ -112,7 +114,8 @@ fn line_at(text: &str, number: usize) -> &str {
     without_return(line.unwrap_or(""))
 }
 
-/// The field of a line of a node file that a reason is against; the line, where it has not five fields.
+/// The field of a line of a node file that a reason is against; the line, where it has not five
+/// fields.
 fn field_of(line: &str, reason: LineReason) -> &str {
     let place = match reason {
         LineReason::Fields => return line,
@@ -125,8 +128,8 @@ fn field_of(line: &str, reason: LineReason) -> &str {
     line.split('\t').nth(place).unwrap_or("")
 }
 
-/// The first field of a line of a script for which it asks for nothing; the line, where it has too few
-/// fields or too many, or where each of them is good.
+/// The first field of a line of a script for which it asks for nothing; the line, where it has too
+/// few fields or too many, or where each of them is good.
 fn bad_field(alloc: Global, line: &str) -> Result<&str, AllocError> {
     let fields: Vec<&str> = line.split('\t').collect(alloc)?;
     match fields.as_slice() {

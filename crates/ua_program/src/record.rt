@@ -1,4 +1,4 @@
-//! `--record`: the octets that went over a connection, in files.
+//! `--record`: files of the bytes that went over a connection.
 
 ghost use Rattle.std.specs.Prelude.{IfErr};
 ghost use Rattle.ua_program.specs.Reasons.{StopsAt, StopsRecording};
@@ -10,8 +10,9 @@ use std::fs;
 use std::rt::Files;
 use ua_tcp::RecordedLine;
 
-/// Writes what a line kept to two files: what was written to it to the one of this name with `.up` behind
-/// it, what was read from it to that with `.down`. A file that is there is written anew.
+/// Writes the bytes that a transport kept to two files: those written to it to the file of this
+/// name with `.up` appended, those read from it to that with `.down`. An existing file is
+/// overwritten.
 pub fn write_record<'a, R: Files + AllocGlobal, L>(
     rt: &R,
     name: &'a str,
@@ -26,7 +27,7 @@ pub fn write_record<'a, R: Files + AllocGlobal, L>(
     Ok(())
 }
 
-/// Writes octets to a file; the fault is told where that cannot be done.
+/// Writes bytes to a file; returns the fault where that fails.
 fn write_octets<'a, R: Files + AllocGlobal>(
     rt: &R,
     file: &str,

@@ -36,7 +36,7 @@ use ua_services::session_requests::local_url;
 use ua_tcp::{ClockMoments, GatheringLine, TcpLine, without_delay};
 use ua_texts::push_code;
 
-/// What the program says of itself on a port of this machine.
+/// The endpoint of the program on a port of this machine.
 fn endpoint(alloc: Global, port: u16) -> Result<Endpoint, AllocError>
     ensures { IfOk result (λ e. e ≡ endpoint_on port) }
 {
@@ -58,7 +58,7 @@ pub fn services<'a>(alloc: Global, text: &str, port: u16) -> Result<Services, Fa
     Ok(Services::new(nodes, endpoint))
 }
 
-/// Adds what became of a connection.
+/// Appends the outcome of a connection.
 pub fn push_outcome(out: &mut String, outcome: Result<End, ServeFault>) -> Result<(), AllocError>
     ensures { OnOk result (AddsOutcome outcome (string_bytes out.old) (string_bytes out.new)) }
 {
@@ -77,8 +77,8 @@ pub fn push_outcome(out: &mut String, outcome: Result<End, ServeFault>) -> Resul
     }
 }
 
-/// Serves the client at the other end of a line. Gives the line of text that says what became of the
-/// connection.
+/// Serves the client at the other end of a transport. Returns the line of text with the outcome of
+/// the connection.
 pub fn serve_line<L: Line, M: Moments>(
     alloc: Global,
     line: &mut L,
@@ -92,7 +92,7 @@ pub fn serve_line<L: Line, M: Moments>(
     outcome_line(alloc, number, outcome)
 }
 
-/// The line of text that says what became of a connection.
+/// The line of text with the outcome of a connection.
 fn outcome_line(
     alloc: Global,
     number: u32,
@@ -128,12 +128,12 @@ fn request_text(alloc: Global, number: u32, request: AnsweredRequest) -> Result<
     Ok(text)
 }
 
-/// Why no line more of a request is printed.
+/// Why no further line of a request is printed.
 #[derive(Clone, Copy)]
 enum Halt {
-    /// Memory was refused. Nothing was printed of that line.
+    /// An allocation failed. Nothing was printed of that line.
     Memory,
-    /// What is printed cannot be written, and why.
+    /// The output cannot be written, and why.
     Output(io::Error),
 }
 
@@ -155,14 +155,14 @@ fn say_request<O: Write>(
     }
 }
 
-/// Prints the line of each request of a connection as it is answered, and none more once that failed.
+/// Prints the line of each request of a connection as it is answered, and none after that failed.
 #[derive(Drop)]
 struct RequestLines<'o, O> {
     alloc: Global,
     /// The connection's number.
     number: u32,
     out: &'o mut O,
-    /// Why no line more is printed, if so.
+    /// Why no further line is printed, if so.
     halt: Option<Halt>,
 }
 
@@ -179,8 +179,8 @@ impl<'o, O: Write> Watch for RequestLines<'o, O> {
     }
 }
 
-/// Serves the client at the other end of a line beside an application, and prints the line of each request
-/// as it is answered. Gives the line of text that says what became of the connection.
+/// Serves the client at the other end of a transport beside an application, and prints the line of
+/// each request as it is answered. Returns the line of text with the outcome of the connection.
 fn tell_beside<'a, L: Line, M: Moments, A: Application, O: Write>(
     alloc: Global,
     line: &mut L,
@@ -225,8 +225,8 @@ fn tell_beside<'a, L: Line, M: Moments, A: Application, O: Write>(
     }
 }
 
-/// Serves the client at the other end of a line beside an application, with the lines of its requests where
-/// they are wanted. Gives the line of text that says what became of the connection.
+/// Serves the client at the other end of a transport beside an application, with the lines of its
+/// requests where they are wanted. Returns the line of text with the outcome of the connection.
 fn serve_beside<'a, L: Line, M: Moments, A: Application, O: Write>(
     alloc: Global,
     line: &mut L,
@@ -257,9 +257,9 @@ fn serve_beside<'a, L: Line, M: Moments, A: Application, O: Write>(
     Ok(outcome_line(alloc, number, outcome)?)
 }
 
-/// Serves the client of a connection, which has ended then, beside an application. What is answered to
-/// requests that came together is sent together. Gives the line of text that says what became of the
-/// connection.
+/// Serves the client of a connection beside an application, after which the connection has ended.
+/// The responses to requests that arrived together are sent together. Returns the line of text with
+/// the outcome of the connection.
 fn serve_stream<'a, S: Read + Write + Drop, M: Moments, A: Application, O: Write>(
     alloc: Global,
     stream: S,
@@ -285,7 +285,7 @@ fn serve_stream<'a, S: Read + Write + Drop, M: Moments, A: Application, O: Write
         application,
         out,
     );
-    // the last answers, or the ERR frame: whether the client gets them no connection tells
+    // the last responses, or the ERR message: no connection tells whether the client receives them
     let _ = line.flush();
     served
 }
@@ -333,11 +333,11 @@ fn serve_asked<'a, R: Clock + AllocGlobal, S: Read + Write + Drop, O: Write>(
     }
 }
 
-/// How many seconds a server that goes on waits where the system gives no connection.
+/// The seconds that a server that goes on waits where the system gives no connection.
 const PAUSE: u64 = 1;
 
-/// Whether an error of a listener is one of the connection that would have been next, and says nothing of
-/// those behind it.
+/// Whether an error of a listener concerns the connection that would have been next, and not those
+/// after it.
 fn is_of_connection(error: &io::Error) -> bool
     ensures { result ≡ is_of_connection (raw_os_error error.now) }
 {
@@ -355,8 +355,8 @@ fn is_number_of_connection(code: i32) -> bool
     matches!(code, 1 | 4 | 64 | 71 | 92 | 95 | 101 | 103 | 112 | 113)
 }
 
-/// The next connection. Where the server goes on, an error of one connection is passed over, and one of
-/// the system is told and tried again behind a pause; else any ends it.
+/// The next connection. Where the server goes on, an error of one connection is skipped, and one of
+/// the system is reported and retried after a pause; else any error ends it.
 fn next_stream<'a, R: Net + Clock, E: Write>(
     rt: &R,
     listener: &R::Listener,
@@ -384,7 +384,7 @@ fn next_stream<'a, R: Net + Clock, E: Write>(
     Err(Stop::Fault(Fault::CannotListen))
 }
 
-/// Says that memory was refused at a connection. That takes none.
+/// Prints that an allocation failed at a connection. The function allocates nothing.
 pub fn say_no_memory<'a, O: Write>(number: u32, out: &mut O) -> Result<(), Stop<'a>>
     ensures said { OnOk result (Appends (O.contents out.old) (O.contents out.new) (connection_line number no_memory)) }
     ensures failed { IfErr result (λ stop. StopsWriting stop) }
@@ -395,7 +395,7 @@ pub fn say_no_memory<'a, O: Write>(number: u32, out: &mut O) -> Result<(), Stop<
     }
 }
 
-/// Writes the line of a connection at which memory was refused, and flushes it.
+/// Writes the line of a connection at which an allocation failed, and flushes it.
 fn write_no_memory<O: Write>(number: u32, out: &mut O) -> io::Result<()>
     ensures { OnOk result (Appends (O.contents out.old) (O.contents out.new) (connection_line number no_memory)) }
 {
@@ -403,8 +403,8 @@ fn write_no_memory<O: Write>(number: u32, out: &mut O) -> io::Result<()>
     out.flush()
 }
 
-/// Waits for the next connection, serves it and says what became of it. Where the server goes on, want of
-/// memory ends that connection alone.
+/// Waits for the next connection, serves it and prints its outcome. Where the server goes on, a
+/// failed allocation ends that connection alone.
 fn serve_next<'a, R: Net + Clock + AllocGlobal, O: Write, E: Write>(
     rt: &R,
     listener: &R::Listener,
@@ -428,8 +428,8 @@ fn serve_next<'a, R: Net + Clock + AllocGlobal, O: Write, E: Write>(
     }
 }
 
-/// Says that memory was refused at a connection, where that is why it stopped and the server goes on; else
-/// it stops the server.
+/// Prints that an allocation failed at a connection, where that is why it stopped and the server
+/// goes on; else stops the server.
 fn outlive<'a, O: Write>(
     stop: Stop<'a>,
     goes_on: bool,
@@ -455,8 +455,8 @@ fn load<'a, R: Files + AllocGlobal>(rt: &R, asked: &Serve<'a>) -> Result<Service
     }
 }
 
-/// The services over the nodes of a file, with the standard's where they are asked for, and whether
-/// CurrentTime is the server's own.
+/// The services over the nodes of a file, with the standard ones where they are asked for, and
+/// whether the server itself keeps CurrentTime.
 fn load_asked<'a, R: Files + AllocGlobal>(
     rt: &R,
     asked: &Serve<'a>,
@@ -482,7 +482,7 @@ fn listen<'a, R: Net>(rt: &R, port: u16) -> Result<R::Listener, Stop<'a>> {
     }
 }
 
-/// Says that connections are taken.
+/// Prints that connections are accepted.
 fn say_listening<'a, O: Write>(alloc: Global, port: u16, out: &mut O) -> Result<(), Stop<'a>>
     ensures said { OnOk result (Appends (O.contents out.old) (O.contents out.new) (listening_line port)) }
     ensures stopped { IfErr result (λ stop. StopsWriting stop ⊎ (out.new ≡ out.old)) }
@@ -491,8 +491,9 @@ fn say_listening<'a, O: Write>(alloc: Global, port: u16, out: &mut O) -> Result<
     say(out, &text)
 }
 
-/// Serves so many connections, numbered from 1. Where the server goes on, as with `--connections all`,
-/// neither want of memory ends it, which is told, nor an error of the listener that has its reason.
+/// Serves so many connections, numbered from 1. Where the server goes on, as with `--connections
+/// all`, it is ended neither by a failed allocation, which is reported, nor by an error of the
+/// listener that has its reason.
 pub fn serve_all<'a, R: Net + Clock + AllocGlobal, O: Write, E: Write>(
     rt: &R,
     listener: &R::Listener,
@@ -504,7 +505,8 @@ pub fn serve_all<'a, R: Net + Clock + AllocGlobal, O: Write, E: Write>(
 ) -> Result<(), Stop<'a>>
     ensures served { OnOk result (HasServed asked.now.requests asked.now.goes_on asked.now.port asked.now.connections (O.contents out.old) (O.contents out.new)) }
     ensures stopped { IfErr result (λ stop. StopsWriting stop ⊎ (out.new ≡ out.old) ⊎ HasServedSome asked.now.requests asked.now.goes_on asked.now.port asked.now.connections (O.contents out.old) (O.contents out.new)) }
-    // Once it listens, neither want of memory nor an error of the listener, with its reason, ends a server that goes on.
+    // Once it listens, neither a failed allocation nor an error of the listener with its reason
+    // ends a server that goes on.
     ensures lasts { asked.now.goes_on ≡ true → IfErr result (λ why. EndsServing why ⊎ (out.new ≡ out.old)) }
     ensures quiet { telling.aloud ≡ false → err.new ≡ err.old }
 {
@@ -515,7 +517,8 @@ pub fn serve_all<'a, R: Net + Clock + AllocGlobal, O: Write, E: Write>(
     Ok(())
 }
 
-/// Serves connections on a port of this machine, one after the other, and says what became of each.
+/// Serves connections on a port of this machine, one after the other, and prints the outcome of
+/// each.
 pub fn serve_connections<'a, R: Files + Net + Clock + AllocGlobal, O: Write, E: Write>(
     rt: &R,
     asked: &Serve<'a>,
@@ -533,7 +536,7 @@ pub fn serve_connections<'a, R: Files + Net + Clock + AllocGlobal, O: Write, E: 
         keeps_time,
     } = load_asked(rt, asked)?;
     let listener = listen(rt, asked.port)?;
-    // CurrentTime is kept where it is not the file's own
+    // the server keeps CurrentTime where the file does not have it
     let asked = Serve {
         standard: keeps_time,
         ..*asked

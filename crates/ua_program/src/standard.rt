@@ -1,4 +1,4 @@
-//! The nodes of the standard that `ua serve --standard` adds to those of a file.
+//! The standard nodes that `ua serve --standard` adds to those of a file.
 
 ghost use Rattle.std.specs.Prelude.{◌≡◌, ◌⊎◌, IfOk, IfErr, map, string_bytes};
 ghost use Rattle.ua_node_files.specs.Namespaces.{AreNamed, namespace_lines};
@@ -19,12 +19,13 @@ use ua_server::Services;
 pub struct StandardServices {
     /// The services.
     pub services: Services,
-    /// Whether CurrentTime is the server's own, and is set before each answer.
+    /// Whether the server itself keeps CurrentTime, and sets it before each response.
     pub keeps_time: bool,
 }
 
-/// The services over the nodes of a file with this text, and the standard's that it lacks, on a port of this
-/// machine. A line that begins with `# namespace` and does not name the next namespace is a bad one.
+/// The services on a port of this machine over the nodes of a file with this text and the standard
+/// nodes that it lacks. A line that begins with `# namespace` and does not name the next namespace
+/// is invalid.
 pub fn standard_services<'a>(
     alloc: Global,
     text: &str,
@@ -43,7 +44,7 @@ pub fn standard_services<'a>(
     }
 }
 
-/// The text of a node file with the standard's nodes behind it that it lacks.
+/// The text of a node file with the standard nodes that it lacks after it.
 #[derive(Drop)]
 struct WholeFile {
     text: String,
@@ -51,7 +52,7 @@ struct WholeFile {
     keeps_time: bool,
 }
 
-/// The text of a node file with the standard's nodes behind it that it lacks.
+/// The text of a node file with the standard nodes that it lacks after it.
 fn whole_of<'a>(alloc: Global, text: &str) -> Result<WholeFile, Fault<'a>>
     ensures whole { IfOk result (λ whole. IsWhole text.now whole.keeps_time (string_bytes whole.text)) }
     ensures faults { IfErr result (λ fault. RefusesStandard text.now fault) }

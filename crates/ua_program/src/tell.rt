@@ -1,4 +1,4 @@
-//! What is told of faults, on standard error.
+//! Faults on standard error.
 
 ghost use Rattle.std.specs.Prelude.{◌≡◌, ◌≢◌, ◌⊎◌, false, OnOk};
 ghost use Rattle.std.specs.Io.KnownBytes.{Appends};
@@ -9,18 +9,19 @@ use crate::reason::{Reason, push_reason};
 use std::alloc::{AllocError, Global};
 use std::io::Write;
 
-/// How faults are told.
+/// How faults are printed.
 #[derive(Clone, Copy)]
 pub struct Telling {
     pub alloc: Global,
-    /// Whether the reason that is known of a fault stands behind it.
+    /// Whether the reason that is known of a fault is printed after it.
     pub why: bool,
-    /// Whether a command tells a fault in spite of which it goes on.
+    /// Whether a command prints a fault after which it goes on.
     pub aloud: bool,
 }
 
 impl Telling {
-    /// Tells why a command stopped, and with `why` the reason that is known of it. The status is 1.
+    /// Prints why a command stopped, and with `why` the reason that is known of it. The status is
+    /// 1.
     pub fn tell<E: Write>(self, stop: &Stop<'_>, err: &mut E) -> u8
         ensures { result ≡ 1 }
     {
@@ -31,17 +32,17 @@ impl Telling {
         }
     }
 
-    /// Tells a fault in spite of which a command goes on, if such are told.
+    /// Prints a fault after which a command goes on, if such faults are printed.
     pub fn tell_on<E: Write>(self, stop: &Stop<'_>, err: &mut E)
         ensures quiet { self.aloud ≡ false → err.new ≡ err.old }
     {
         if self.aloud {
-            // Where it cannot be told the command goes on, too.
+            // Where it cannot be printed the command goes on, too.
             let _ = self.tell(stop, err);
         }
     }
 
-    /// Tells a fault. The status is 1.
+    /// Prints a fault. The status is 1.
     fn tell_fault<E: Write>(self, fault: &Fault<'_>, err: &mut E) -> u8
         ensures { result ≡ 1 }
     {
@@ -51,7 +52,7 @@ impl Telling {
         }
     }
 
-    /// Tells a fault, and behind it its reason. The status is 1.
+    /// Prints a fault, and its reason after it. The status is 1.
     pub fn tell_why<E: Write>(self, fault: &Fault<'_>, reason: &Reason, err: &mut E) -> u8
         ensures { result ≡ 1 }
     {
@@ -62,14 +63,14 @@ impl Telling {
     }
 }
 
-/// What is told of a fault and its reason.
+/// The text of a fault and its reason.
 fn fault_text(alloc: Global, fault: &Fault<'_>, reason: &Reason) -> Result<String, AllocError> {
     let mut text = format!(in alloc; "ua: {fault}\n")?;
     push_reason(&mut text, reason)?;
     Ok(text)
 }
 
-/// Writes a text: the status that follows, or 1 where the writer fails.
+/// Writes a text: returns the given status, or 1 where the writer fails.
 pub fn print<W: Write>(to: &mut W, text: &str, status: u8) -> u8
     ensures status { (result ≡ status) ⊎ (result ≡ 1) }
     ensures printed { result ≢ 1 → Appends (W.contents to.old) (W.contents to.new) text.now }

@@ -1,14 +1,14 @@
-//! The server's time, where it is the server's own to tell.
+//! CurrentTime, where the server keeps it.
 
 use ua_builtin::DateTime;
 use ua_channel::Moments;
 use ua_node_files::{current_time, current_time_id};
 use ua_server::{Application, Services};
 
-/// Sets CurrentTime, `i=2258`, before each answer, to the moment then.
+/// Sets CurrentTime, `i=2258`, to the current time before each response.
 #[derive(Drop)]
 pub struct TimeKeeper<M> {
-    /// What gives the moments.
+    /// The source of timestamps.
     pub moments: M,
 }
 

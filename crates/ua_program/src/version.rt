@@ -1,4 +1,4 @@
-//! What the program says of itself.
+//! The version of the program.
 
 ghost use Rattle.std.specs.Prelude.{◌≡◌};
 ghost use Rattle.ua_program.specs.Printed.{version_line as line_of_version};

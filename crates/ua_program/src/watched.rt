@@ -24,8 +24,8 @@ impl<I> Watched<I> {
         }
     }
 
-    /// A fault, and what the system said of the last read, where the fault is that the source cannot be
-    /// read.
+    /// The fault, with the system's error of the last read where the fault is that the source
+    /// cannot be read.
     pub fn blame<'a>(&self, fault: Fault<'a>) -> Stop<'a>
         ensures { StopsAt fault.entry result }
     {

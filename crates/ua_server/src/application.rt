@@ -2,23 +2,24 @@
 
 use crate::services::Services;
 
-/// Who changes nodes while they are served: a plant whose values move, and which takes the setpoints that
-/// clients wrote.
+/// Something beside the clients that changes nodes while they are served: for example a plant whose
+/// values move, and which takes the setpoints that clients wrote.
 pub trait Application {
     ghost use Rattle.std.specs.Prelude.{◌≡◌};
     ghost use Rattle.ua_server.specs.State.{State, with_nodes};
 
-    /// What it may do: from its state and that of the services to its state and that of the services then.
+    /// What an application may do: a relation between its state and that of the services before,
+    /// and both states after.
     ghost changes: { Self → State → Self → State → Type 0 };
 
-    /// Sets values, by [`Services::set`](crate::Services::set), and looks at those that clients wrote. It
-    /// changes the nodes alone.
+    /// Sets values, by [`Services::set`](crate::Services::set), and looks at those that clients
+    /// wrote. It changes the nodes alone.
     fn act(&mut self, services: &mut Services)
         ensures changes { changes self.old services.old self.new services.new }
         ensures nodes { services.new ≡ with_nodes services.old services.new.nodes };
 }
 
-/// Nobody: nodes are changed by clients alone.
+/// No application: clients alone change nodes.
 #[derive(Clone, Copy)]
 pub struct NoApplication;
 

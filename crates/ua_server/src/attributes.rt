@@ -51,7 +51,7 @@ pub(crate) fn item_count<T>(items: &UaArray<T>) -> usize
     }
 }
 
-/// Why so many items are not looked at.
+/// Why a request with so many items is refused before they are looked at.
 pub(crate) fn count_refusal(items: usize) -> Option<StatusCode>
     ensures refusal { option_map (λ s. s.code) result ≡ first_reason (count_reasons items) }
     ensures few { result ≡ None → items ≤ most_items }
@@ -74,8 +74,8 @@ fn append_front(out: &mut Vec<u8>) -> Result<(), AllocError>
     NodeId::new(0, Identifier::Numeric(READ_RESPONSE)).append(out)
 }
 
-/// The answers to the items of a Read that is granted, each made as it is written, the Value of a node from
-/// where it stands. Once there are more octets than `most`, no further answer is made.
+/// The DataValues for the items of a granted Read, each made as it is written, with the Value of a
+/// node read from where it stands. Once there are more than `most` bytes, no further one is made.
 #[derive(Clone, Copy)]
 struct ReadAnswers<'a> {
     alloc: Global,
@@ -195,8 +195,9 @@ impl Services {
         Ok(Response::Read(ReadResponse::of_results(good_header(moment, handle), results)))
     }
 
-    /// The body of the answer to a Read that is not refused: its results are written one by one, each
-    /// Value from where it stands among the nodes. With more than `most` octets it is given up.
+    /// The body of the response to a Read that is not refused: its results are written one by one,
+    /// each Value from where it stands among the nodes. A body of more than `most` bytes is given
+    /// up.
     fn granted_body(
         &self,
         alloc: Global,
@@ -225,7 +226,7 @@ impl Services {
         Ok(body)
     }
 
-    /// The body of the answer to a Read, and its service result. With more than `most` octets the body
+    /// The body of the response to a Read, and its ServiceResult. A body of more than `most` bytes
     /// is given up.
     pub(crate) fn read_body(
         &self,
@@ -247,8 +248,8 @@ impl Services {
         Ok((body, StatusCode::GOOD))
     }
 
-    /// Why a request with so many items is refused before they are looked at: for its session, or for
-    /// how many they are.
+    /// Why a request with so many items is refused before they are looked at: for its session, or
+    /// for how many they are.
     pub(crate) fn items_refusal(&self, asking: &RequestHeader, items: usize) -> Option<StatusCode>
         ensures refusal { option_map (λ s. s.code) result ≡ first_reason (items_reasons self.now asking.now items) }
         ensures few { result ≡ None → items ≤ most_items }
@@ -259,7 +260,7 @@ impl Services {
         count_refusal(items)
     }
 
-    /// Writes items in order, and answers each. All memory is asked for first.
+    /// Writes items in order, and gives the result of each. All memory is allocated first.
     #[tactic(auto, using(crate::proofs::Statuses::answers_fit, crate::proofs::Statuses::answers_count))]
     fn write_items(
         &mut self,

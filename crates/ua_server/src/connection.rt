@@ -1,4 +1,4 @@
-//! One of several connections over one table.
+//! One of several connections over one node table.
 
 ghost use Rattle.std.specs.Prelude.{◌≡◌, ◌≤◌, ◌↔◌, [], ℕ, List, Err, None, IfOk, IsErrOf, IsTrue};
 ghost use Rattle.ua_channel.specs.Received.{received};
@@ -25,8 +25,8 @@ use ua_frame::Limits;
 
 /// A server on one of several connections over the same services, with its own session.
 ///
-/// Each message is answered from the nodes that all messages completed before it, on whichever
-/// connection, and all changes by the application left.
+/// It answers each message from the nodes as left by all messages completed before it, on whichever
+/// connection, and by all changes of the application.
 #[derive(Drop)]
 pub struct Connection {
     server: Server,
@@ -34,8 +34,8 @@ pub struct Connection {
 }
 
 impl Connection {
-    /// Waits for the HEL of a client, with these limits; the channel will have this id, which no other
-    /// open channel of the server has (OPC 10000-6, 6.7.2).
+    /// A connection that waits for a client's HEL, with these limits. Its channel will have this
+    /// SecureChannelId, which no other open channel of the server has (OPC 10000-6, 6.7.2).
     pub fn new(alloc: Global, limits: Limits, channel_id: u32) -> Connection
         ensures among { (channels : ℕ → ℕ) (k : ℕ) (es : List SharedEvent) (first now : State) → channels k ≡ channel_id → told_by k es ≡ [] → (shared_over channels (opened first) es).state ≡ now
             → StandsAmong channels k (channel_at result) (session_at result) [] es first now }
@@ -51,8 +51,8 @@ impl Connection {
         }
     }
 
-    /// How many octets are held, as [`Server::held`]: they are never more than
-    /// [`bound`](Connection::bound) says, whatever the client sends and other connections do.
+    /// How many bytes are held, as [`Server::held`]: never more than [`bound`](Connection::bound),
+    /// whatever the client sends and other connections do.
     pub fn held(&self) -> usize
         ensures held { (octets : List ℕ) (frames : List Frame) (rest : List ℕ) → Holds (channel_at self.now) octets frames rest
             → result ≡ held_after (received frames) rest }
@@ -63,7 +63,7 @@ impl Connection {
         self.server.held()
     }
 
-    /// The most octets that may be held, as [`Server::bound`].
+    /// The most bytes that may be held, as [`Server::bound`].
     pub fn bound(&self) -> usize
         ensures stands { (octets : List ℕ) (frames : List Frame) (rest : List ℕ) → Holds (channel_at self.now) octets frames rest
             → result ≡ bound_after (limits_of (channel_at self.now)) (received frames) }
@@ -72,7 +72,7 @@ impl Connection {
         self.server.bound()
     }
 
-    /// Whether the client's octets may end here: no frame and no message is unfinished.
+    /// Whether the client's bytes may end here: no frame and no message is unfinished.
     pub fn is_clean(&self) -> bool
         ensures { (octets : List ℕ) (frames : List Frame) (rest : List ℕ) → Holds (channel_at self.now) octets frames rest
             → IsTrue result ↔ IsClean frames rest }
@@ -80,32 +80,34 @@ impl Connection {
         self.server.is_clean()
     }
 
-    /// What [`Server::step`] does, from the session of this connection; the session that the services
-    /// have stays.
+    /// Does what [`Server::step`] does, under the session of this connection; the session in the
+    /// services stays as it is.
     pub fn step(
         &mut self,
         services: &mut Services,
         piece: &[u8],
         moment: DateTime,
     ) -> Result<Step, StepFault>
-        // Among all connections over these services: what this one is sent, and where each other one stands.
+        // Among all connections over these services: what is sent to this one, and the state of
+        // each other one.
         ensures among { (channels : ℕ → ℕ) (k : ℕ) (octets : List ℕ) (es : List SharedEvent) (first : State) → StandsAmong channels k (channel_at self.old) (session_at self.old) octets es first services.old
             → StepAmong (limits_of (channel_at self.old)) channels k moment piece.now result (channel_at self.new) (session_at self.new) octets es first services.old services.new }
-        // By what stands alone, however that came to be.
+        // As a function of the current state alone, however it arose.
         ensures now { (octets : List ℕ) (told : List Told) → Goes (channel_at self.old) octets told
             → StepNow (limits_of (channel_at self.old)) (channel_of (channel_at self.old)) (next_of (channel_at self.old)) moment piece.now result (channel_at self.new) octets told (with_own_session self.old services.old) (with_own_session self.new services.new) }
         // The same over the events of this connection, whatever changed the services before.
         ensures history { (octets : List ℕ) (hs : List ConnectionEvent) (first : State) → StandsOver (channel_at self.old) octets hs first (with_own_session self.old services.old)
             → StepOver (limits_of (channel_at self.old)) (channel_of (channel_at self.old)) moment piece.now result (channel_at self.new) octets hs first (with_own_session self.old services.old) (with_own_session self.new services.new) }
-        // Where it then stands is the same whatever the services are.
+        // The state of the channel afterwards is the same whatever the services are.
         ensures stands { (octets : List ℕ) (told : List Told) → Goes (channel_at self.old) octets told → StepStands piece.now result (channel_at self.new) octets told }
-        // Just the items that the Write that it answered stored are told, in order.
+        // `written` has just the items that were stored by the Write that this step answered, in
+        // order.
         ensures stores { (octets : List ℕ) (told : List Told) → Goes (channel_at self.old) octets told
             → StepStores piece.now result (channel_at self.new) octets told (with_own_session self.old services.old) }
         ensures apart { services.new.session ≡ services.old.session }
         ensures endpoint { services.new.endpoint ≡ services.old.endpoint }
         ensures progress { IfOk result (λ step. StepTakes piece.now step) }
-        // After want of memory, the bound is what it was before the call.
+        // After a failed allocation, the bound is what it was before the call.
         ensures starved { (octets : List ℕ) (told : List Told) → Goes (channel_at self.old) octets told
             → IsErrOf result step_fault.OutOfMemory → bound_of (channel_at self.new) ≡ bound_of (channel_at self.old) }
         ensures closed { IsDone (channel_at self.old) → (result ≡ Err step_fault.Closed) × (self.new ≡ self.old) × (services.new ≡ services.old) }

@@ -1,4 +1,4 @@
-//! What a server says of itself.
+//! What a server tells about itself.
 
 ghost use Rattle.std.specs.Prelude.{◌≡◌, ◌∷◌, [], Some, IfOk};
 ghost use Rattle.std.specs.List.{list_any};
@@ -15,15 +15,15 @@ const NONE_POLICY: &str = "http://opcfoundation.org/UA/SecurityPolicy#None";
 /// UA TCP with secure conversation and binary encoding (OPC 10000-7, 6.6).
 const TRANSPORT_PROFILE: &str = "http://opcfoundation.org/UA-Profile/Transport/uatcp-uasc-uabinary";
 
-/// What a server says of itself. Its texts have to be ones that can be written.
+/// What GetEndpoints and CreateSession answer about a server. Its texts must be encodable.
 #[derive(Drop)]
 pub struct Endpoint {
-    /// Where the server is found.
+    /// The URL of the server.
     pub url: UaString,
     pub application_uri: UaString,
     /// The name of the application, without a locale.
     pub name: UaString,
-    /// The most octets of a request; 0 is no limit.
+    /// The MaxRequestMessageSize of CreateSession responses, in bytes; 0 is no limit.
     pub message_limit: u32,
 }
 
@@ -36,8 +36,8 @@ impl Endpoint {
         self.describe(alloc, server)
     }
 
-    // Each part is handed on as soon as it stands: what a check takes grows fast with the values that
-    // wait where memory may be refused.
+    // Each part is passed on as soon as it is made: the cost of a check grows fast with the number
+    // of values alive where an allocation may fail.
 
     /// The endpoint of this server.
     fn describe(
@@ -56,7 +56,7 @@ impl Endpoint {
         }
     }
 
-    /// The endpoint of this server, with these ways to say who one is.
+    /// The endpoint of this server, with these user token policies.
     fn describe_with(
         &self,
         alloc: Global,
@@ -96,7 +96,7 @@ impl Endpoint {
         Ok((url, policy, profile))
     }
 
-    /// The one endpoint, or none where it is not asked for.
+    /// The one endpoint, or none where the client does not ask for its profile.
     pub(crate) fn endpoints(
         &self,
         alloc: Global,
@@ -125,7 +125,7 @@ impl Endpoint {
     }
 }
 
-/// The one way to say who one is.
+/// The one user token policy.
 fn policies(alloc: Global) -> Result<UaArray<UserTokenPolicy>, AllocError>
     ensures { IfOk result (λ p. p ≡ Some (anonymous ∷ [])) }
 {
@@ -140,7 +140,8 @@ fn policies(alloc: Global) -> Result<UaArray<UserTokenPolicy>, AllocError>
     Ok(UaArray::new(Some(policies)))
 }
 
-/// Whether profiles ask for the endpoint: there are none, or one of them is its own.
+/// Whether a client that names these profiles gets the endpoint: it names none, or the endpoint's
+/// own is one of them.
 pub(crate) fn serves(profiles: &UaArray<UaString>) -> bool
     ensures { result ≡ are_served profiles.now }
 {

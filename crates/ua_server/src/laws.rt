@@ -1,4 +1,4 @@
-//! Laws of what a server says, each the contract of a function that does nothing, or only looks.
+//! Laws of what a server sends, each the contract of a function that does nothing, or only looks.
 
 ghost use Rattle.std.specs.Prelude.{◌≡◌, ◌≤◌, ◌++◌, ◌∷◌, [], ℕ, List, length, IsTrue, Option, Some, Result, Ok};
 ghost use Rattle.ua_builtin.specs.DateTime.{date_time};
@@ -41,7 +41,7 @@ ghost use Rattle.ua_server.specs.declared.session.Session.{Session};
 
 use crate::services::Services;
 
-/// Services are sound, whatever they answered before.
+/// Every `Services` is sound, whatever it answered before.
 pub fn services_are_sound(services: &Services)
     ensures { IsSoundState services.now }
 {
@@ -49,23 +49,25 @@ pub fn services_are_sound(services: &Services)
     let _made = services.made;
 }
 
-/// A request is answered by a response of its own kind, or by a ServiceFault (OPC 10000-4, 5.3). Sound
-/// services answer each request that can be encoded by a response that can be encoded, and stay sound.
+/// A request is answered by a response of its own kind, or by a ServiceFault (OPC 10000-4, 5.3).
+/// Sound services answer each request that can be encoded by a response that can be encoded, and
+/// stay sound.
 pub fn each_request_has_its_answer()
     ensures kind { (s : State) (moment : DateTime) (m : Request) → Answers (answer_kind (answer s moment m).1) (kind_of m) }
     ensures encodable { (s : State) (moment : DateTime) (m : Request) → IsSoundState s → IsTrue (date_time.encodable moment) → IsTrue (request.encodable m) → IsTrue (response.encodable (answer s moment m).1) }
     ensures sound { (s : State) (moment : DateTime) (m : Request) → IsSoundState s → IsTrue (date_time.encodable moment) → IsSoundState (answer s moment m).0 }
 {}
 
-/// What is said of what is told in two parts is said of the first, and then of the second from where
-/// the first leaves the server.
+/// Events of a channel in two parts are answered as the first part, and then as the second from the
+/// state that the first leaves.
 pub fn what_is_told_in_parts_is_answered_in_parts()
     ensures left { (channel : ℕ) (s : State) (a b : List Told) (moments : List DateTime) → state_after channel s (a ++ b) moments ≡ course_after channel (state_after channel s a moments) b }
     ensures said { (channel : ℕ) (s : State) (a b : List Told) (end : End ℕ) (moments : List DateTime)
         → output_of channel s (a ++ b) end moments ≡ output_of channel s a Going moments ++ (said_of channel (state_after channel s a moments) b ++ last_words end) }
 {}
 
-/// Moments that are given later change nothing of what was said before.
+/// Where there are as many timestamps as the events use, further ones after them change nothing of
+/// what is sent, and are left over.
 pub fn later_moments_change_nothing_before()
     ensures left { (channel : ℕ) (s : State) (told : List Told) (moments more : List DateTime) → used_in told ≤ length moments
         → state_after channel s told (moments ++ more) ≡ with_more (state_after channel s told moments) more }
@@ -73,8 +75,8 @@ pub fn later_moments_change_nothing_before()
         → output_of channel s told end (moments ++ more) ≡ output_of channel s told end moments }
 {}
 
-/// What a step answers by what stands is what it answers of all that was told, wherever a first state
-/// leaves what stands.
+/// A step defined by the current state alone answers as one defined by all events before it,
+/// wherever these lead to the current state.
 pub fn what_stands_answers_as_all_that_was_told()
     ensures { (old new : ServerChannel) (moment : DateTime) (piece octets : List ℕ) (told : List Told) (first : State) (moments : List DateTime) (before now : State) (result : Result Step StepFault)
         → ServerStands old octets told first moments before → channel_of new ≡ channel_of old
@@ -82,9 +84,9 @@ pub fn what_stands_answers_as_all_that_was_told()
         → StepAnswers (limits_of old) (channel_of old) moment piece result new octets told first moments before now }
 {}
 
-/// A server goes on over the events of a connection by each change of its nodes, by the application or
-/// by another connection, and by each step. Where nothing is changed from outside, what it sends and how
-/// it is left is what is said of what is told, and left by it.
+/// The history of a server's connection goes on by each change of its nodes, by the application or
+/// by another connection, and by each step. Where nothing was changed from outside, what is sent
+/// and the state that is left are those of the channel's events alone.
 pub fn a_history_goes_on_by_changes_and_steps()
     ensures became { (x : ServerChannel) (octets : List ℕ) (hs : List ConnectionEvent) (first now : State) (nodes : Nodes) (made : ℕ)
         → StandsOver x octets hs first now → StandsOver x octets (hs ++ Became nodes made ∷ []) first (with_changes now nodes made) }
@@ -102,8 +104,9 @@ pub fn a_history_goes_on_by_changes_and_steps()
         → ServerStands x octets (told_in hs) first (moments_of hs) now }
 {}
 
-/// Events in two parts are answered as the first, and then as the second from where the first leaves the
-/// server; what one connection tells and is sent at a moment is nothing to another.
+/// Events in two parts are answered as the first part, and then as the second from the state that
+/// the first leaves. An event of one connection is none of another, and nothing is sent to another
+/// for it.
 pub fn events_are_answered_in_parts()
     ensures shared { (channels : ℕ → ℕ) (p : SharedState) (a b : List SharedEvent) → shared_over channels p (a ++ b) ≡ shared_over channels (shared_over channels p a) b }
     ensures sent { (channels : ℕ → ℕ) (k : ℕ) (p : SharedState) (a b : List SharedEvent) → sent_to channels k p (a ++ b) ≡ sent_to channels k p a ++ sent_to channels k (shared_over channels p a) b }
@@ -114,11 +117,11 @@ pub fn events_are_answered_in_parts()
     ensures course { (channel : ℕ) (c : Course) (a b : List ConnectionEvent) → course_over channel c (a ++ b) ≡ course_over channel (course_over channel c a) b }
 {}
 
-/// One server that handles every message in the order of completion, `shared_over`, answers each of its
-/// connections so: what it is sent, and how far it is, is what is said of its own frames where everything
-/// else that happened, in other connections and by the application, changed the nodes and the number of
-/// sessions made. That running connections are this one server is the clause `among` of
-/// [`Connection::step`](crate::Connection::step).
+/// Let one server handle every message in the order of completion, `shared_over`. What it sends to
+/// a connection, and where that connection stands, are the answer to that connection's own frames,
+/// where everything else that happened, on other connections and by the application, changed the
+/// nodes and the number of sessions made. The clause `among` of
+/// [`Connection::step`](crate::Connection::step) says that running connections are this one server.
 pub fn each_connection_is_answered_as_by_one_server()
     ensures sent { (channels : ℕ → ℕ) (k : ℕ) (first : State) (es : List SharedEvent)
         → sent_to channels k (opened first) es ≡ output_over (channels k) (start (begun first) []) (seen_by channels k (opened first) es) }
@@ -128,8 +131,8 @@ pub fn each_connection_is_answered_as_by_one_server()
         → told_in (seen_by channels k (opened first) es) ≡ told_by k es }
 {}
 
-/// A connection that stands among others stands by itself, over the events as it sees them. It stands
-/// where the application changed the nodes, too, and is sent nothing there.
+/// What holds of a connection among others holds of it by itself, over the events as it sees them.
+/// It also holds after a change of the nodes by the application, for which nothing is sent to it.
 pub fn one_of_several_connections_stands_by_itself()
     ensures alone { (channels : ℕ → ℕ) (k : ℕ) (x : ServerChannel) (session : Option Session) (octets : List ℕ) (es : List SharedEvent) (first now : State)
         → StandsAmong channels k x session octets es first now
@@ -140,10 +143,10 @@ pub fn one_of_several_connections_stands_by_itself()
     ensures silent { (channels : ℕ → ℕ) (k : ℕ) (p : SharedState) (nodes : Nodes) → (sent_to channels k p (Changed nodes ∷ []) ≡ []) × (told_by k (Changed nodes ∷ []) ≡ []) }
 {}
 
-/// Each of several connections follows its client as a server on its own does, renewals of its token among
-/// the messages, whatever the others tell and are sent between: behind octets that begin a conversation it
-/// was told the beginning of what that tells, and behind all of it just that; none of it is refused, and
-/// nothing but a CLO closes it.
+/// Each of several connections follows its client as a server on its own does, token renewals among
+/// the messages, whatever happens on the others in between. After a prefix of the bytes of a
+/// conversation its events are a prefix of that conversation's events, and after all bytes they are
+/// just those; it refuses none of it, and nothing but a CLO closes it.
 pub fn each_connection_follows_its_client()
     ensures begins { (channels : ℕ → ℕ) (k : ℕ) (x : ServerChannel) (session : Option Session) (octets more : List ℕ) (es : List SharedEvent) (first now : State) (all : List Told) (at : AtServer)
         → StandsAmong channels k x session octets es first now → ServerReads (limits_of x) (channel_of x) (octets ++ more) all at → (later : List Told) × (all ≡ told_by k es ++ later) }
@@ -157,9 +160,10 @@ pub fn each_connection_follows_its_client()
         → EndsAmong Over channels k x octets out es new first before now → ServerCloses (limits_of x) (channel_of x) (octets ++ more) all → told_by k (es ++ new) ≡ all }
 {}
 
-/// A hostile client ends its own connection, and no other: that ends at the first wrong frame, with the
-/// code of its first reason, and changes nothing more; what an unfinished frame and unfinished messages of a
-/// connection take is bounded by its own octets alone, as [`Connection::held`](crate::Connection::held) says.
+/// A hostile client ends its own connection, and no other. That connection ends at the first wrong
+/// frame, with the code of the first reason against it, and changes nothing more. The bytes
+/// held for a connection's unfinished frame and messages are bounded by its own bytes alone, as
+/// [`Connection::held`](crate::Connection::held) says.
 pub fn a_hostile_client_ends_its_own_connection()
     ensures refused { (channels : ℕ → ℕ) (k : ℕ) (x : ServerChannel) (octets out : List ℕ) (es new : List SharedEvent) (first before now : State) (code : ℕ)
         → EndsAmong (Stopped code) channels k x octets out es new first before now
@@ -168,9 +172,9 @@ pub fn a_hostile_client_ends_its_own_connection()
         → StandsAmong channels k x session octets es first now → (frames : List Frame) × (rest : List ℕ) × Holds x octets frames rest }
 {}
 
-/// A message that is a request under the AuthenticationToken of a session that another connection has, or
-/// had, is answered by Bad_SessionIdInvalid, and changes nothing: sessions of one connection say nothing to
-/// another.
+/// A request under the AuthenticationToken of a session that another connection has, or had, is
+/// answered with Bad_SessionIdInvalid, and changes nothing: a session is valid on its own
+/// connection only.
 pub fn a_token_of_another_connection_is_no_token()
     ensures refused { (channels : ℕ → ℕ) (j k : ℕ) (first : State) (before es : List SharedEvent) (theirs : Session) (octets : List ℕ) (m : Request) (asking : RequestHeader) (moment : DateTime)
         → (k ≡ j → ⊥) → ((shared_over channels (opened first) before).own j).session ≡ Some theirs
@@ -183,8 +187,8 @@ pub fn a_token_of_another_connection_is_no_token()
     ensures write { (m : WriteRequest) → session_header (kinds.Write m) ≡ Some m.request_header }
 {}
 
-/// What a Write stores is what it changes: each node is left as by the stored items alone (OPC 10000-4,
-/// 5.11.4).
+/// The stored items of a Write are all that it changes: each node is left as by these items alone
+/// (OPC 10000-4, 5.11.4).
 pub fn what_a_write_stores_is_what_it_changes()
     ensures { (items : List WriteValue) (moment : DateTime) (nodes : Nodes) (id : NodeId) → node_at (after_write (stored_items nodes items) moment nodes) id ≡ node_at (after_write items moment nodes) id }
 {}

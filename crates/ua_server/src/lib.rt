@@ -1,13 +1,13 @@
 //! A server on one connection, and its answers: endpoints, one session, and the items of Read and
-//! Write (OPC 10000-4, 5.5, 5.7 and 5.11), with no IO.
+//! Write (OPC 10000-4, 5.5, 5.7 and 5.11). It does no input or output.
 //!
-//! Its contract is that of [`Server::step`]: whatever the pieces in which a client's octets come, what
-//! is to be sent is a stated function of all that came, of the state before the connection and of the
-//! moments. Below it stands [`Services::answer`]: the response to one request, and the state that it
-//! leaves.
+//! Its main contract is that of [`Server::step`]: however the transport fragments a client's bytes,
+//! the bytes to be sent are a stated function of all bytes received, of the state before the
+//! connection, and of the timestamps. Below it stands [`Services::answer`]: the response to one
+//! request, and the state that it leaves.
 //!
-//! Several connections over one table are [`Connection`]s over one [`Services`]: each is answered as by one
-//! server that handles every message in the order of completion ([`laws`]).
+//! Several connections over one node table are [`Connection`]s over one [`Services`]: each is
+//! answered as by one server that handles every message in the order of completion ([`laws`]).
 //!
 //! ```
 //! let nodes = NodeTable::load(alloc, "ns=1;s=Pump\trw\tPump\tInt32\t5\n")?;

@@ -20,9 +20,9 @@ use ua_services::{
 };
 
 impl Services {
-    /// The body of the reply to a message with this body: the response to the request that it is,
-    /// or the ServiceFault that says that it is none. Where memory is refused the state is as it was, or
-    /// that which the message leaves.
+    /// The body of the reply to a message with this body: the response to the request that the body
+    /// encodes, or a ServiceFault where it encodes none. If an allocation fails, the state is as it
+    /// was, or as the message leaves it.
     #[tactic(auto, using(crate::proofs::GivenUp::whole_body))]
     pub fn reply<S: Source>(
         &mut self,
@@ -44,10 +44,10 @@ impl Services {
         }
     }
 
-    /// What [`reply`](Services::reply) does, with what is told of the message, and the results of a Write.
-    /// The results of a Read are given up once the body has more than `most` octets. Of a Write no value is
-    /// kept that its node could not take: its item is refused, at the latest for the type, or all are before
-    /// a session is activated.
+    /// Does what [`reply`](Services::reply) does, and also gives the answered request and the
+    /// results of a Write. The results of a Read are given up once the body has more than `most`
+    /// bytes. Of a Write no value is kept that its node could not take: its item is refused, at the
+    /// latest for the type, or all are before a session is activated.
     pub(crate) fn reply_telling<S: Source>(
         &mut self,
         alloc: Global,
@@ -74,8 +74,8 @@ impl Services {
         }
     }
 
-    /// Reads the request that a message with this body is, without the values of a Write that its nodes
-    /// could not take now: what is kept is answered as the request itself is.
+    /// Reads the request that a message with this body is, without the values of a Write that its
+    /// nodes could not take now: what is kept is answered as the request itself is.
     fn read_kept<S: Source>(&self, alloc: Global, src: &mut S) -> Result<Request, RequestFault>
         ensures answer { IfOk result (λ kept. (moment : DateTime) → answer self.now moment kept ≡ answered self.now moment (S.octets src.old)) }
         ensures kind { IfOk result (λ kept. kind_asked (request_read (S.octets src.old)) ≡ Some (kind_of kept)) }
@@ -86,7 +86,7 @@ impl Services {
         read_request_for(alloc, src, self)
     }
 
-    /// The body of the response to a request, what is told of it, and the results of a Write.
+    /// The body of the response to a request, the answered request, and the results of a Write.
     #[tactic(auto, using(crate::proofs::Answered::kept_by, crate::proofs::Stores::read_results))]
     fn body_for(
         &mut self,
@@ -121,7 +121,8 @@ impl Services {
         Ok((body, AnsweredRequest { kind, items, code }, results))
     }
 
-    /// The body of the ServiceFault that answers what is no request, and what is told of it.
+    /// The body of the ServiceFault that answers what is no request, and what a
+    /// [`Watch`](crate::Watch) gets of it.
     fn misread(
         &self,
         alloc: Global,
@@ -159,8 +160,8 @@ pub(crate) fn body_of(alloc: Global, message: Response) -> Result<Vec<u8>, Alloc
     }
 }
 
-/// The body of a response that can be written, and the results of a Write, where it is the response to
-/// one.
+/// The body of a response that can be written, and the results of a Write, where it is the response
+/// to one.
 #[tactic(auto, using(crate::proofs::Replies::response_takes_some))]
 fn body_with_results(
     alloc: Global,

@@ -1,20 +1,21 @@
-//! Why a line is served no further.
+//! Why a server stops serving a transport.
 
 use thiserror::Error;
 
-/// Why a line is served no further, though its connection did not end.
+/// Why a server stops serving a transport before the connection ended.
 #[derive(Clone, Copy, PartialEq, Eq, Debug, Error)]
 pub enum ServeFault {
-    /// A read of the line failed.
+    /// A read of the transport failed.
     #[error("the line cannot be read")]
     Read,
-    /// A write of the line failed, behind so many octets in all; the number stops at its greatest.
+    /// A write to the transport failed, after so many bytes in all; the count stops at its greatest
+    /// value.
     #[error("the line cannot be written behind {0} octets")]
     Write(u64),
-    /// Memory was refused. Nothing more was written.
+    /// An allocation failed. Nothing more was written.
     #[error("out of memory")]
     OutOfMemory,
-    /// The line was read 18446744073709551615 times.
+    /// The transport was read 18446744073709551615 times.
     #[error("too many reads")]
     TooLong,
 }

@@ -40,7 +40,7 @@ fn is_given_up(answer: &Result<ServerEvent, ChannelFault>) -> bool
     }
 }
 
-/// Takes octets as the channel does, and passes over messages that were given up.
+/// Takes bytes as the channel does, and passes over messages that were given up.
 fn next_answered(
     channel: &mut ServerChannel,
     piece: &[u8],
@@ -73,7 +73,7 @@ fn next_answered(
     (taken, Ok(ServerEvent::NeedMore))
 }
 
-/// Answers a whole message, under its request id, with what is told of it and what it stored.
+/// Answers a whole message, under its RequestId, and gives the answered request and what it stored.
 fn reply_to(
     alloc: Global,
     channel: &mut ServerChannel,
@@ -117,8 +117,8 @@ fn reply_to(
     }
 }
 
-/// What comes of a fault of the channel behind so many octets: the ERR frame that says why what
-/// stands there is refused.
+/// The step for a fault of the channel after so many bytes: its output is the ERR frame with the
+/// reason for the refusal.
 fn refusal(alloc: Global, taken: usize, fault: ChannelFault) -> Result<Step, StepFault>
     ensures stands { (old mid : ServerChannel) (moment : DateTime) (piece octets : List ℕ) (told : List Told)
         → AnswersBehind (channel_of old) (next_of old) moment piece taken (Err fault) mid octets told → StepStands piece result mid octets told }
@@ -147,8 +147,8 @@ fn refusal(alloc: Global, taken: usize, fault: ChannelFault) -> Result<Step, Ste
     }
 }
 
-/// A server on one connection: it takes the octets of a client in whatever pieces they come, answers
-/// them from its services, and says what is to be sent (OPC 10000-6, 6.7 and 7.1).
+/// A server on one connection: it takes the bytes of a client, however they are fragmented, answers
+/// them from its services, and gives the bytes to be sent (OPC 10000-6, 6.7 and 7.1).
 ///
 /// After a fault, and once the connection ended, it holds nothing and takes nothing more.
 #[derive(Drop)]
@@ -174,7 +174,8 @@ impl Server {
     ghost use Rattle.ua_server.specs.Storing.{AdvanceStores, StepStores};
     ghost use Rattle.ua_server.specs.declared.step.StepFault.TheVariants as step_fault;
 
-    /// Waits for the HEL of a client, with these limits; the channel will have this id.
+    /// A server that waits for a client's HEL, with these limits; its channel will have this
+    /// SecureChannelId.
     pub fn new(alloc: Global, limits: Limits, channel_id: u32) -> Server
         ensures stands { (first : State) → ServerStands (channel_in result) [] [] first [] first }
         ensures history { (first : State) → StandsOver (channel_in result) [] [] first first }
@@ -188,8 +189,8 @@ impl Server {
         }
     }
 
-    /// How many octets are held: those of a frame that is not whole, and those of unfinished
-    /// messages. They are never more than [`bound`](Server::bound) says.
+    /// How many bytes are held: those of an unfinished frame, and those of unfinished messages.
+    /// They are never more than [`bound`](Server::bound).
     pub fn held(&self) -> usize
         ensures held { (octets : List ℕ) (frames : List Frame) (rest : List ℕ) → Holds (channel_in self.now) octets frames rest
             → result ≡ held_after (received frames) rest }
@@ -200,7 +201,7 @@ impl Server {
         self.channel.held()
     }
 
-    /// The most octets that may be held: 8192 before the ACK, then those of a frame of the agreed
+    /// The most bytes that may be held: 8192 before the ACK, then those of a frame of the agreed
     /// size and of 4 messages of the greatest size.
     pub fn bound(&self) -> usize
         ensures stands { (octets : List ℕ) (frames : List Frame) (rest : List ℕ) → Holds (channel_in self.now) octets frames rest
@@ -210,9 +211,10 @@ impl Server {
         self.channel.bound()
     }
 
-    /// Takes octets up to the end of the first frame that is answered or that ends the connection,
-    /// else the whole piece, and says what is to be sent. The moment is that of the answer. Where
-    /// memory is refused the services are as they were, or as the message at that place leaves them.
+    /// Takes bytes up to the end of the first frame that is answered or that ends the connection,
+    /// else the whole fragment, and gives the bytes to be sent. `moment` is the timestamp of the
+    /// answer. If an allocation fails, the services are as they were, or as the first whole message
+    /// of the fragment leaves them.
     pub fn step(
         &mut self,
         services: &mut Services,
@@ -221,19 +223,20 @@ impl Server {
     ) -> Result<Step, StepFault>
         ensures answers { (octets : List ℕ) (told : List Told) (first : State) (moments : List DateTime) → ServerStands (channel_in self.old) octets told first moments services.old
             → StepAnswers (limits_of (channel_in self.old)) (channel_of (channel_in self.old)) moment piece.now result (channel_in self.new) octets told first moments services.old services.new }
-        // By what stands alone, however that came to be.
+        // As a function of the current state alone, however it arose.
         ensures now { (octets : List ℕ) (told : List Told) → Goes (channel_in self.old) octets told
             → StepNow (limits_of (channel_in self.old)) (channel_of (channel_in self.old)) (next_of (channel_in self.old)) moment piece.now result (channel_in self.new) octets told services.old services.new }
         // The same over the events of the connection, whatever changed its services before.
         ensures history { (octets : List ℕ) (hs : List ConnectionEvent) (first : State) → StandsOver (channel_in self.old) octets hs first services.old
             → StepOver (limits_of (channel_in self.old)) (channel_of (channel_in self.old)) moment piece.now result (channel_in self.new) octets hs first services.old services.new }
-        // Where it then stands is the same whatever the services are.
+        // The state of the channel afterwards is the same whatever the services are.
         ensures stands { (octets : List ℕ) (told : List Told) → Goes (channel_in self.old) octets told → StepStands piece.now result (channel_in self.new) octets told }
-        // Just the items that the Write that it answered stored are told, in order.
+        // `written` has just the items that were stored by the Write that this step answered, in
+        // order.
         ensures stores { (octets : List ℕ) (told : List Told) → Goes (channel_in self.old) octets told → StepStores piece.now result (channel_in self.new) octets told services.old }
         ensures endpoint { services.new.endpoint ≡ services.old.endpoint }
         ensures progress { IfOk result (λ step. StepTakes piece.now step) }
-        // After want of memory, the bound is what it was before the call.
+        // After a failed allocation, the bound is what it was before the call.
         ensures starved { (octets : List ℕ) (told : List Told) → Goes (channel_in self.old) octets told
             → IsErrOf result step_fault.OutOfMemory → bound_of (channel_in self.new) ≡ bound_of (channel_in self.old) }
         ensures closed { IsDone (channel_in self.old) → (result ≡ Err step_fault.Closed) × (self.new ≡ self.old) × (services.new ≡ services.old) }
@@ -254,7 +257,7 @@ impl Server {
         self.channel.open_count() == 0 && self.channel.held() == 0
     }
 
-    /// What [`step`](Server::step) does, with whether something was answered, and which request.
+    /// What [`step`](Server::step) does, and whether something was answered, and which request.
     pub(crate) fn advance(
         &mut self,
         services: &mut Services,
@@ -285,7 +288,7 @@ impl Server {
         }
     }
 
-    /// What comes of an event behind so many octets.
+    /// The step for an event after so many bytes.
     #[tactic(auto, using(crate::proofs::EndpointStays::left_stays, crate::proofs::EndpointStays::broken_stays))]
     fn answer(
         &mut self,

@@ -20,8 +20,8 @@ use ua_builtin::{DateTime, NodeId, StatusCode};
 use ua_nodes::{InsertFault, Node, NodeTable, Reading, SetFault, a_node_is_sound_where_it_passes};
 use ua_services::{Request, Response, ServiceFault};
 
-/// The state of a server, and what it answers: its nodes, what it says of itself, how many sessions
-/// it made, and at most one session.
+/// The state of a server, and how it answers: its nodes, its endpoint, how many sessions it made,
+/// and at most one session.
 #[derive(Drop)]
 pub struct Services {
     pub(crate) nodes: NodeTable,
@@ -48,7 +48,7 @@ impl Model for Services {
 }
 
 impl Services {
-    /// The services over these nodes, under this endpoint, before any session. Takes no memory.
+    /// The services over these nodes, under this endpoint, before any session. Allocates nothing.
     pub fn new(nodes: NodeTable, endpoint: Endpoint) -> Services
         requires sound { IsSound nodes }
         requires fits { Fits endpoint }
@@ -62,7 +62,7 @@ impl Services {
         }
     }
 
-    /// A connection begins: ends the session, if there is one. Takes no memory.
+    /// A connection begins: ends the session, if there is one. Allocates nothing.
     pub fn begin(&mut self)
         ensures { self.new ≡ begun self.old }
     {
@@ -77,7 +77,7 @@ impl Services {
         &self.nodes
     }
 
-    /// The nodes as they are, for good.
+    /// Turns the services into their nodes.
     pub fn into_nodes(self) -> NodeTable
         ensures is { result ≡ self.nodes }
         ensures sound { IsSound result }
@@ -85,7 +85,7 @@ impl Services {
         self.nodes
     }
 
-    /// Sets what the node of a NodeId holds, as [`NodeTable::set`]. Takes no memory.
+    /// Sets what the node of a NodeId holds, as [`NodeTable::set`]. Allocates nothing.
     pub fn set(&mut self, id: &NodeId, reading: Reading) -> Result<(), SetFault>
         ensures state { self.new ≡ with_nodes self.old (after_set id.now reading self.old.nodes) }
         ensures answer { MatchResult result (λ _. set_refusal (node_at self.old.nodes id.now) reading ≡ None) (λ fault. set_refusal (node_at self.old.nodes id.now) reading ≡ Some fault) }
@@ -94,8 +94,8 @@ impl Services {
         self.nodes.set(id, reading)
     }
 
-    /// Adds a node behind the others, as [`NodeTable::insert`]. [`Node::is_sound`] is the test of what it
-    /// asks for.
+    /// Adds a node after the others, as [`NodeTable::insert`]. [`Node::is_sound`] tests its
+    /// precondition.
     pub fn insert(&mut self, node: Node) -> Result<(), InsertFault>
         requires sound { IsTrue (is_sound_node node.id (variable_of node)) }
         ensures state { OnOk result (self.new ≡ with_nodes self.old (self.old.nodes ++ (node.id, variable_of node) ∷ [])) }
@@ -106,7 +106,8 @@ impl Services {
         self.nodes.insert(node)
     }
 
-    /// The session that there is, if there is one, and that of the slot change places. Takes no memory.
+    /// Exchanges the session of the services with that of the slot; either may be empty. Allocates
+    /// nothing.
     pub fn swap_session(&mut self, slot: &mut SessionSlot)
         ensures services { self.new ≡ with_session self.old (session_in slot.old) }
         ensures slot { session_in slot.new ≡ self.old.session }
@@ -114,8 +115,8 @@ impl Services {
         mem::swap(&mut self.session, &mut slot.session);
     }
 
-    /// The ServiceFault of this code, to the request with this RequestHandle, at a moment
-    /// (OPC 10000-4, 7.35). Takes no memory.
+    /// A ServiceFault with this code, at this timestamp, that answers the request with this
+    /// RequestHandle (OPC 10000-4, 7.35). Allocates nothing.
     #[tactic(auto, using(crate::proofs::Answered::fault_fits))]
     pub fn fault(&self, request_handle: u32, code: StatusCode, moment: DateTime) -> Response
         ensures value { result ≡ fault_of request_handle code.code moment }
@@ -124,8 +125,8 @@ impl Services {
         Response::ServiceFault(ServiceFault::new(moment, request_handle, code))
     }
 
-    /// The response to a request at a moment. All memory is asked for before anything changes, so
-    /// that a refusal leaves everything as it was.
+    /// The response to a request at a timestamp. All memory is allocated before anything changes,
+    /// so an allocation that fails leaves everything as it was.
     pub fn answer(
         &mut self,
         alloc: Global,
@@ -143,7 +144,8 @@ impl Services {
         response
     }
 
-    /// The response to a request, of which what the response or the nodes are to hold is taken out.
+    /// The response to a request, from which it takes out what the response or the nodes are to
+    /// hold.
     #[tactic(auto, using(crate::proofs::Answered::kept_by))]
     fn respond(
         &mut self,

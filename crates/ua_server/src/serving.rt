@@ -1,4 +1,4 @@
-//! Serving a line.
+//! Serving a transport.
 
 ghost use Rattle.std.specs.Prelude.{◌≡◌, ◌<◌, ℕ, List, [], IfOk, length};
 ghost use Rattle.ua_server.specs.Happening.{WasTold};
@@ -18,15 +18,15 @@ use ua_builtin::DateTime;
 use ua_channel::{Line, Moments, write_whole};
 use ua_frame::Limits;
 
-/// The most octets that are read at once.
+/// The most bytes that are read at once.
 const PIECE: usize = 4096;
 
-/// Serves the client at the other end of a line, up to the end of its connection: reads pieces of at
-/// most 4096 octets, answers what they ask in order, and writes each answer whole, by as many calls as
-/// the line needs.
+/// Serves the client at the other end of a transport until its connection ends: reads at most 4096
+/// bytes at a time, answers what they ask in order, and writes each answer whole, by as many calls
+/// as the transport needs.
 ///
-/// The services begin without a session. A moment is asked for before octets are looked at, unless the
-/// last one is not used yet; an OPN response and a reply use one each.
+/// The services begin without a session. A timestamp is asked for before bytes are looked at,
+/// unless the last one is not used yet; each OPN response and each reply uses one.
 pub fn serve<L: Line, M: Moments>(
     alloc: Global,
     line: &mut L,
@@ -49,8 +49,9 @@ pub fn serve<L: Line, M: Moments>(
     )
 }
 
-/// Does what [`serve`] does, and tells of each request that is answered, in order. When it is told beside
-/// the octets that are written no clause says. A message that is given up is not answered.
+/// Does what [`serve`] does, and tells `watch` of each request that is answered, in order. No
+/// clause says when that happens relative to the writes. A message that the client gives up is not
+/// answered.
 pub fn serve_watched<L: Line, M: Moments, W: Watch>(
     alloc: Global,
     line: &mut L,
@@ -76,9 +77,9 @@ pub fn serve_watched<L: Line, M: Moments, W: Watch>(
     )
 }
 
-/// Does what [`serve_watched`] does, beside an application: before each answer of the server it may change
-/// the nodes and see what clients wrote. What is written is what is sent over the events of the connection,
-/// changes and steps in order.
+/// Does what [`serve_watched`] does, beside an application: before each step of the server it may
+/// change the nodes and see what clients wrote. What is written is the output for the events of the
+/// connection, changes and steps in order.
 pub fn serve_application<L: Line, M: Moments, W: Watch, A: Application>(
     alloc: Global,
     line: &mut L,
@@ -101,7 +102,7 @@ pub fn serve_application<L: Line, M: Moments, W: Watch, A: Application>(
     }
 }
 
-/// Room for the octets that are read at once.
+/// A buffer for the bytes that are read at once.
 fn piece(alloc: Global) -> Result<Vec<u8>, AllocError>
     ensures { IfOk result (λ buffer. length buffer.items ≡ most_at_once) }
 {
@@ -114,11 +115,11 @@ fn piece(alloc: Global) -> Result<Vec<u8>, AllocError>
 #[derive(Drop)]
 pub struct Serving {
     server: Server,
-    /// The moment that was asked for and is not used yet.
+    /// The timestamp that was asked for and is not used yet.
     moment: Option<DateTime>,
-    /// Whether the ACK was made: what is answered behind it uses a moment.
+    /// Whether the ACK was made: each answer after it uses a timestamp.
     greeted: bool,
-    /// How many octets were written, up to the greatest number.
+    /// How many bytes were written, up to the greatest number.
     written: u64,
 }
 
@@ -138,7 +139,7 @@ impl Serving {
     ghost use Rattle.ua_server.specs.Stepping.{StepTakes};
     ghost use Rattle.ua_server.specs.State.{State};
 
-    /// Before the first octet of a client.
+    /// Before the first byte of a client.
     fn new(alloc: Global, limits: Limits, channel_id: u32) -> Serving
         ensures { Begins result limits channel_id }
     {
@@ -150,7 +151,7 @@ impl Serving {
         }
     }
 
-    /// How a connection ends whose input does.
+    /// How a connection ends whose input ends.
     fn finish(&self) -> End
         ensures { (octets : List ℕ) (frames : List Frame) (rest : List ℕ) → Holds (channel_in self.now.server) octets frames rest
             → Finishes result frames rest }
@@ -162,7 +163,7 @@ impl Serving {
         }
     }
 
-    /// The moment that is kept, or else the next one, which is kept then.
+    /// The timestamp that is kept, or else the next one, which is kept then.
     fn moment<M: Moments>(&mut self, moments: &mut M) -> DateTime
         ensures asked { Asked M.gives moments.old moments.new (λ ticks. listed self.old.moment ++ map moment_of ticks ≡ result ∷ []) }
         ensures kept { self.new ≡ record self.old { moment = Some result } }
@@ -179,8 +180,8 @@ impl Serving {
         }
     }
 
-    /// One step of the server, before which the application acts. The moment that it used is kept no
-    /// longer, and the request that it answered is told.
+    /// One step of the server, before which the application acts. A timestamp that it used is kept
+    /// no longer, and `watch` is told of the request that it answered.
     fn step<M: Moments, W: Watch, A: Application>(
         &mut self,
         services: &mut Services,
@@ -209,7 +210,7 @@ impl Serving {
         Ok(step)
     }
 
-    /// An answer was made. Those behind the ACK use the moment that is kept.
+    /// An answer was made. Those after the ACK use the timestamp that is kept.
     fn note_answer(&mut self)
         ensures { self.new ≡ noted self.old }
     {
@@ -220,7 +221,7 @@ impl Serving {
         }
     }
 
-    /// Writes octets whole, and counts them.
+    /// Writes bytes whole, and counts them.
     fn say<L: Line>(&mut self, line: &mut L, octets: &[u8]) -> Result<(), ServeFault>
         ensures says { Says octets.now result self.old self.new (L.traffic line.old) (L.traffic line.new) }
         ensures failed { LineFailed (L.failures line.old) result (L.failures line.new) }
@@ -234,7 +235,7 @@ impl Serving {
         }
     }
 
-    /// One step of the server, and its answer. Says how many octets were taken, and how the
+    /// One step of the server, and its answer. Returns how many bytes were taken, and how the
     /// connection ended, if it did.
     fn turn<L: Line, M: Moments, W: Watch, A: Application>(
         &mut self,
@@ -263,7 +264,7 @@ impl Serving {
         }
     }
 
-    /// Answers a piece, up to its end or to that of the connection.
+    /// Answers a fragment, up to its end or to that of the connection.
     fn handle<L: Line, M: Moments, W: Watch, A: Application>(
         &mut self,
         line: &mut L,
@@ -300,7 +301,7 @@ impl Serving {
         Ok(None)
     }
 
-    /// Reads the line into this buffer again and again, and answers what it reads.
+    /// Reads the transport into this buffer again and again, and answers what it reads.
     fn run<L: Line, M: Moments, W: Watch, A: Application>(
         &mut self,
         line: &mut L,

@@ -13,20 +13,21 @@ pub struct Session {
     pub activated: bool,
 }
 
-/// What a connection has of the state of a server, beside its channel: its session, if there is one.
-/// It is made empty, and filled by [`Services::swap_session`](crate::Services::swap_session) alone.
+/// What a connection has of the state of a server, beside its channel: its session, if there is
+/// one. It is made empty, and filled by [`Services::swap_session`](crate::Services::swap_session)
+/// alone.
 ///
-/// A slot belongs to one [`Services`]: sessions are numbered by the services that made them, so one that
-/// is filled from some services and emptied into others names there a session of somebody else. Nothing
-/// hinders a program from that; a [`Connection`](crate::Connection) that takes steps over one `Services`
-/// never does it.
+/// A slot belongs to one [`Services`], which numbers the sessions it makes. A slot that is filled
+/// from one `Services` and emptied into another names a session of another client there. Nothing
+/// keeps a program from that; a [`Connection`](crate::Connection) that takes steps over one
+/// `Services` never does it.
 #[derive(Drop)]
 pub struct SessionSlot {
     pub(crate) session: Option<Session>,
 }
 
 impl SessionSlot {
-    /// Without a session.
+    /// A slot without a session.
     pub fn empty() -> SessionSlot
         ensures { session_in result ≡ None }
     {

@@ -36,7 +36,8 @@ fn is_null(id: &NodeId) -> bool
     *id == NodeId::null()
 }
 
-/// Whether an object says nothing of who one is: it holds nothing, or an AnonymousIdentityToken.
+/// Whether a user identity token is anonymous: the object holds nothing, or an
+/// AnonymousIdentityToken.
 #[tactic(auto, using(crate::proofs::Identities::carried, crate::proofs::Identities::not_carried))]
 fn is_nobody(alloc: Global, identity: &ExtensionObject) -> Result<bool, AllocError>
     ensures { IfOk result (λ b. b ≡ is_anonymous identity.now) }
@@ -75,8 +76,8 @@ impl Services {
         }
     }
 
-    /// Why a request that needs an activated session is refused for it, before anything else of it is
-    /// judged.
+    /// Why a request that needs an activated session is refused for lack of one, before anything
+    /// else of it is judged.
     pub(crate) fn session_refusal(&self, asking: &RequestHeader) -> Option<StatusCode>
         ensures { option_map (λ s. s.code) result ≡ first_reason (session_reasons self.now asking.now) }
     {

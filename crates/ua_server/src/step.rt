@@ -1,4 +1,4 @@
-//! What a step of a server comes to.
+//! The result of a step of a server.
 
 ghost use Rattle.std.specs.Prelude.{◌≡◌, [], None};
 
@@ -16,26 +16,26 @@ pub enum End {
     NoClose,
     /// The input ended within a frame or a message.
     Cut,
-    /// The octets were refused with this code, and the ERR frame was written.
+    /// The bytes were refused with this code, and the ERR frame was written.
     Refused(StatusCode),
 }
 
-/// What came of a piece.
+/// The result of taking a fragment.
 #[derive(Drop)]
 pub struct Step {
-    /// How many octets of the piece were taken.
+    /// How many bytes of the fragment were taken.
     pub taken: usize,
-    /// The octets that are to be sent.
+    /// The bytes to be sent.
     pub out: Vec<u8>,
     /// How the connection ended, if it did.
     pub end: Option<End>,
-    /// What the Write that was answered stored, if it was one. A step takes nothing for it but the message,
-    /// which it keeps instead of letting it go.
+    /// What the Write that was answered stored, if it was one. A step allocates nothing for it: it
+    /// keeps the message instead of dropping it.
     pub written: Written,
 }
 
 impl Step {
-    /// Nothing is said.
+    /// A step that sends nothing.
     pub(crate) fn silent(alloc: Global, taken: usize, end: Option<End>) -> Step
         ensures taken { result.taken ≡ taken }
         ensures out { result.out.items ≡ [] }
@@ -50,7 +50,7 @@ impl Step {
         }
     }
 
-    /// These octets are said, this was stored, and the connection goes on.
+    /// A step that sends these bytes and stored this, after which the connection goes on.
     pub(crate) fn saying(taken: usize, out: Vec<u8>, written: Written) -> Step
         ensures { result ≡ record { taken = taken; out = out; end = None; written = written } }
     {
@@ -63,13 +63,13 @@ impl Step {
     }
 }
 
-/// Why a server takes no octets. It then takes nothing more.
+/// Why a server takes no bytes. After that it takes nothing more.
 #[derive(Clone, Copy, PartialEq, Eq, Debug, Error)]
 pub enum StepFault {
     /// The connection ended, or an earlier call failed.
     #[error("closed")]
     Closed,
-    /// Memory was refused.
+    /// An allocation failed.
     #[error("out of memory")]
     OutOfMemory,
 }

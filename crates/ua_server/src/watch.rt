@@ -1,4 +1,4 @@
-//! The requests that a server answered, and who is told of them.
+//! The requests that a server answered, and who observes them.
 
 ghost use Rattle.std.specs.Prelude.{◌≡◌};
 ghost use Rattle.ua_server.specs.Happening.{IsTold};
@@ -11,28 +11,28 @@ use ua_services::{Request, RequestKind};
 /// A request that was answered.
 #[derive(Clone, Copy)]
 pub struct AnsweredRequest {
-    /// Its kind; none where a message was answered that is no request of these services.
+    /// Its kind; `None` where the answered message is no request of these services.
     pub kind: Option<RequestKind>,
     /// How many items it asks for: those of its array, where its service is one with items, else 0.
     pub items: usize,
-    /// The service result of its answer; where the client takes no such answer, the code of the
-    /// abort that goes in its place.
+    /// The ServiceResult of its response; where the client takes no response of that size, the code
+    /// of the abort that is sent instead.
     pub code: StatusCode,
 }
 
-/// Who is told of each request that a server answers.
+/// An observer of each request that a server answers.
 pub trait Watch {
     ghost use Rattle.ua_server.specs.declared.watch.AnsweredRequest.{AnsweredRequest};
 
-    /// A request leads from what was told before to what is told after.
+    /// Relates the observer's state before a request to that after it.
     ghost notes: { Self → AnsweredRequest → Self → Type 0 };
 
-    /// A request was answered. Whether its answer is written by then no clause says.
+    /// A request was answered. No clause says whether its answer is written by then.
     fn note(&mut self, request: AnsweredRequest)
         ensures { notes self.old request self.new };
 }
 
-/// Nobody: what is told is dropped.
+/// No observer: drops what it is told.
 #[derive(Clone, Copy)]
 pub struct Unwatched;
 
@@ -44,7 +44,7 @@ impl Watch for Unwatched {
     fn note(&mut self, request: AnsweredRequest) {}
 }
 
-/// Tells of a request, if there is one.
+/// Tells the observer of a request, if there is one.
 pub(crate) fn tell<W: Watch>(watch: &mut W, request: Option<AnsweredRequest>)
     ensures { IsTold W.notes watch.old request watch.new }
 {
@@ -71,7 +71,7 @@ impl AnsweredRequest {
     ghost use Rattle.ua_chunk.specs.declared.lane.Lane.{Lane};
     ghost use Rattle.ua_server.specs.Requests.{code_by};
 
-    /// What is told once its answer goes, or an abort in its place.
+    /// The answered request once its answer is sent, or an abort in its place.
     pub(crate) fn sent_as(self, is_abort: bool) -> AnsweredRequest
         ensures { (lane : Lane) (body : List ℕ) → is_abort ≡ is_some (cut_refusal lane body)
             → result ≡ record self { code = code_by (cut_refusal lane body) self.code } }

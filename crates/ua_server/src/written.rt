@@ -13,8 +13,8 @@ use ua_builtin::StatusCode;
 use ua_chunk::Message;
 use ua_services::{Request, RequestFault, UaArray, WriteValue, read_request};
 
-/// The items of a Write that were stored (OPC 10000-4, 5.11.4), as the message that brought them and
-/// the results of its items: nothing is read again before [`values`](Written::values) is called.
+/// The items that a Write stored (OPC 10000-4, 5.11.4), as the message that brought them and the
+/// results of its items. Nothing is decoded again before [`values`](Written::values) is called.
 #[derive(Drop)]
 pub struct Written {
     message: Option<Message>,
@@ -37,7 +37,7 @@ impl Model for Written {
 }
 
 impl Written {
-    /// Nothing was stored. Takes no memory.
+    /// Nothing was stored. Allocates nothing.
     pub(crate) fn nothing() -> Written
         ensures { result ≡ [] }
     {
@@ -47,7 +47,7 @@ impl Written {
         }
     }
 
-    /// What the Write in a message stored, which has these results; nothing where they are null.
+    /// What the Write in a message with these results stored; nothing where they are null.
     #[tactic(auto, using(crate::proofs::Stores::good_nothing))]
     pub(crate) fn of(message: Message, results: UaArray<StatusCode>) -> Written
         ensures { result ≡ good_items (items_written (request_read (concat message))) (items_of results) }
@@ -63,9 +63,9 @@ impl Written {
         }
     }
 
-    /// The items that were stored, in the order of the Write: each with its NodeId, the attribute Value,
-    /// and the value, status and source time that were stored. Reads the Write again, and takes memory
-    /// for all of its items, also those that were not stored.
+    /// The items that were stored, in the order of the Write: each with its NodeId, the attribute
+    /// Value, and the value, status and source timestamp that were stored. Decodes the Write again,
+    /// and allocates memory for all of its items, also those that were not stored.
     pub fn values(&self, alloc: Global) -> Result<Vec<WriteValue>, AllocError>
         ensures { IfOk result (λ values. values.items ≡ self.now) }
     {
@@ -117,7 +117,7 @@ fn keep_good(
     Ok(good)
 }
 
-/// Whether the first code is there and is Good, and the codes behind it.
+/// Whether the first code is there and is Good, and the codes after it.
 fn first_code(codes: &[StatusCode]) -> (bool, &[StatusCode])
     ensures good { result.0 ≡ begins_good codes.now }
     ensures rest { result.1.now ≡ behind_code codes.now }

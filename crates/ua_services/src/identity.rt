@@ -1,4 +1,4 @@
-//! The identity of a user, in the object that carries it.
+//! User identity tokens in ExtensionObjects.
 
 ghost use Rattle.std.specs.Prelude.{◌≡◌, ◌↔◌, IfOk, IsErrOf, IsFalse};
 ghost use Rattle.ua_wire.specs.declared.fault.ReadFault.TheVariants.{NoValue};
@@ -17,7 +17,7 @@ use ua_structures::AnonymousIdentityToken;
 /// The number of the encoding of an AnonymousIdentityToken (OPC 10000-6, A.3).
 const ANONYMOUS: u32 = 321;
 
-/// The object that carries a token: its type is i=321, and its body the token's canonical encoding.
+/// The ExtensionObject of a token: its type is i=321, and its body the token's canonical encoding.
 pub fn write_identity(
     alloc: Global,
     token: &AnonymousIdentityToken,
@@ -33,8 +33,8 @@ pub fn write_identity(
     })
 }
 
-/// The token that an object carries: its type is i=321, and its body a ByteString that is one
-/// AnonymousIdentityToken and nothing behind it.
+/// The token of an ExtensionObject: its type is i=321, and its body a ByteString that is one
+/// AnonymousIdentityToken with nothing after it.
 pub fn read_identity(
     alloc: Global,
     object: &ExtensionObject,

@@ -1,7 +1,7 @@
-//! What is the same for each kind of message.
+//! Code that is the same for each kind of message.
 
-/// A match of a message, the same for each kind: what it holds and the number of its encoding have the
-/// names that are given. As the macros below, it takes the kinds from a macro that has them, as
+/// A match of a message, the same for each kind: what it holds and the number of its encoding have
+/// the names that are given. As the macros below, it takes the kinds from a macro that has them, as
 /// [`requests`](crate::requests) and [`responses`](crate::responses).
 #[macro_export]
 macro_rules! by_kind {
@@ -43,7 +43,7 @@ macro_rules! numbered {
     };
 }
 
-/// The message of a kind, of the structure that is read, behind what is known of that kind.
+/// The message of a kind, of the structure that is read, after what is known of that kind.
 macro_rules! message_of_kind {
     ($all:ident $kinds:ident [$($kind:ident($held:ident) = $of:literal,)+] $of_kind:expr, $known:ident, $read:expr) => {
         match $of_kind {

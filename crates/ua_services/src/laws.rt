@@ -1,4 +1,4 @@
-//! Laws of the bodies of messages, each carried by a function without a body.
+//! Laws of message bodies, each carried by a function without a body.
 
 ghost use Rattle.std.specs.Prelude.{◌≡◌, ◌≢◌, ◌++◌, ◌↔◌, ℕ, IsTrue, List, Ok, Err};
 ghost use Rattle.ua_builtin.specs.NodeId.{node_id};
@@ -27,64 +27,64 @@ pub use ua_opening::laws::{
     bodies_of_the_channel_have_lengths, channel_messages_are_read, channel_messages_read_back,
 };
 
-/// Reading the canonical body of a request gives back that request.
+/// Decoding the canonical body of a request gives back that request.
 pub fn requests_read_back()
     ensures { BodyReadsBack request }
 {}
 
-/// No body is that of two requests.
+/// No body encodes two requests.
 pub fn bodies_of_requests_differ()
     ensures { OneMessage request }
 {}
 
-/// Reading the canonical body of a response gives back that response.
+/// Decoding the canonical body of a response gives back that response.
 pub fn responses_read_back()
     ensures { BodyReadsBack response }
 {}
 
-/// No body is that of two responses.
+/// No body encodes two responses.
 pub fn bodies_of_responses_differ()
     ensures { OneMessage response }
 {}
 
-/// A request can be encoded where its structure can, and its canonical body is that of the structure
-/// behind the NodeId of its encoding.
+/// A request can be encoded if its structure can, and its canonical body is the NodeId of its
+/// encoding followed by the structure.
 pub fn requests_are_encoded_by_kind()
     ensures encodable { (k : RequestKind) (m : RequestStructure k) → request.encodable (requests.make k m) ≡ (requests.format k).encodable m }
     ensures canonical { (k : RequestKind) (m : RequestStructure k) → request.canonical (requests.make k m) ≡ node_id.canonical (standard (requests.number k)) ++ (requests.format k).canonical m }
 {}
 
-/// A response can be encoded where its structure can, and its canonical body is that of the
-/// structure behind the NodeId of its encoding.
+/// A response can be encoded if its structure can, and its canonical body is the NodeId of its
+/// encoding followed by the structure.
 pub fn responses_are_encoded_by_kind()
     ensures encodable { (k : ResponseKind) (m : ResponseStructure k) → response.encodable (responses.make k m) ≡ (responses.format k).encodable m }
     ensures canonical { (k : ResponseKind) (m : ResponseStructure k) → response.canonical (responses.make k m) ≡ node_id.canonical (standard (responses.number k)) ++ (responses.format k).canonical m }
 {}
 
-/// Reading on lists finds a request exactly where the octets are its body; else it gives the fault
-/// that says why they are none, and never want of memory.
+/// Decoding on lists finds a request exactly if the bytes are its body; otherwise it gives the
+/// error that says why they are none, and never `OutOfMemory`.
 pub fn requests_are_read()
     ensures found { (octets : List ℕ) (m : Request) → ((request_read octets ≡ Ok m) ↔ IsBody request m octets) }
     ensures refused { (octets : List ℕ) (fault : RequestFault) → request_read octets ≡ Err fault → MisreadRequest octets fault }
     ensures memory { (octets : List ℕ) → request_read octets ≡ Err no_request_memory → ⊥ }
 {}
 
-/// The same of responses.
+/// The same laws of responses.
 pub fn responses_are_read()
     ensures found { (octets : List ℕ) (m : Response) → ((response_read octets ≡ Ok m) ↔ IsBody response m octets) }
     ensures refused { (octets : List ℕ) (fault : ResponseFault) → response_read octets ≡ Err fault → MisreadResponse octets fault }
     ensures memory { (octets : List ℕ) → response_read octets ≡ Err no_response_memory → ⊥ }
 {}
 
-/// A request that was read can be written, of each kind but Write; a Write just where no value of its
-/// items names a reserved type id.
+/// A request that was decoded can be encoded, of each kind but Write; a Write can exactly if no
+/// value of its items has a reserved type id.
 pub fn requests_read_are_writable()
     ensures each { (octets : List ℕ) (m : Request) → request_read octets ≡ Ok m → request_kind m ≢ Write → IsTrue (request.encodable m) }
     ensures write { (octets : List ℕ) (m : WriteRequest) → request_read octets ≡ Ok (WriteRead m) → request.encodable (WriteRead m) ≡ write_unreserved m }
 {}
 
-/// A response that was read can be written, of each kind but that of Read; that one just where no
-/// value of its results names a reserved type id.
+/// A response that was decoded can be encoded, of each kind but a Read response; a Read response
+/// can exactly if no value of its results has a reserved type id.
 pub fn responses_read_are_writable()
     ensures each { (octets : List ℕ) (m : Response) → response_read octets ≡ Ok m → response_kind m ≢ Read → IsTrue (response.encodable m) }
     ensures read { (octets : List ℕ) (m : ReadResponse) → response_read octets ≡ Ok (ReadAnswered m) → response.encodable (ReadAnswered m) ≡ results_unreserved m }

@@ -1,9 +1,9 @@
-//! The messages of OPC UA Binary: requests and responses by the NodeId of their encoding
-//! (OPC 10000-6, 5.2.9; OPC 10000-4, 5).
+//! The messages of OPC UA Binary: requests and responses, each identified by the NodeId of its
+//! encoding (OPC 10000-6, 5.2.9; OPC 10000-4, 5).
 //!
 //! The contract of the readers: Ok only for a body that is the encoding of one message, of at most
-//! 100 levels, with nothing behind it; every other body is refused by the fault that names why.
-//! Writers add the one canonical encoding, and `laws` says that reading gives back what was written.
+//! nesting depth 100, with nothing after it; for any other body, the error that says why. Writers
+//! append the one canonical encoding, and `laws` states that decoding gives back what was encoded.
 //!
 //! ```
 //! match read_request(alloc, &mut src) {
@@ -13,7 +13,7 @@
 //!     Err(RequestFault::Unreadable(handle)) => no_request(handle),
 //!     Err(RequestFault::OutOfMemory) => no_memory(),
 //! }
-//! write_response(&response, &mut out)?; // the body of a message; an error leaves `out` as it was
+//! write_response(&response, &mut out)?; // on an error `out` is unchanged
 //! ```
 #![tactic(auto)]
 

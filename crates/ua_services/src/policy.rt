@@ -1,4 +1,4 @@
-//! Which token policy of a server's endpoints a client uses.
+//! The choice of a UserTokenPolicy among a server's endpoints.
 
 ghost use Rattle.std.specs.Prelude.{◌≡◌, Some, option_map, is_some};
 ghost use Rattle.std.specs.List.{find};
@@ -80,9 +80,9 @@ fn find_fit(endpoints: &[EndpointDescription]) -> Option<&EndpointDescription>
     endpoints.iter().find(|endpoint| is_fit(endpoint))
 }
 
-/// The PolicyId of the first anonymous token policy of the first endpoint that has one and is by UA TCP,
-/// with the security policy None and the mode None, 1; it may be null. `None` where there is no such
-/// endpoint.
+/// The PolicyId of the first anonymous UserTokenPolicy of the first endpoint that has one and uses
+/// UA TCP, SecurityPolicy None and MessageSecurityMode None (1); it may be null. `None` if there is
+/// no such endpoint.
 #[tactic(auto, unfolding(crate::specs::Policy::chosen_id))]
 pub fn chosen_id(endpoints: &[EndpointDescription]) -> Option<&UaString>
     ensures { option_map (λ id. id.now) result ≡ chosen_id endpoints.now }

@@ -34,7 +34,7 @@ macro_rules! requests {
     };
 }
 
-/// The kinds of request, each with its own encoding (OPC 10000-6, A.3).
+/// The kinds of requests, each with its own encoding (OPC 10000-6, A.3).
 #[derive(Clone, Copy, PartialEq, Eq)]
 pub enum RequestKind {
     GetEndpoints,
@@ -49,7 +49,7 @@ impl RequestKind {
     ghost use Rattle.std.specs.Prelude.{◌≡◌};
     ghost use Rattle.ua_services.specs.Request.{request_kind_name};
 
-    /// The name of the structure that a request of this kind is, as `ReadRequest`.
+    /// The name of the structure of a request of this kind, such as `ReadRequest`.
     pub fn name(self) -> &'static str
         ensures { result.now ≡ request_kind_name self }
     {
@@ -67,7 +67,8 @@ pub enum Request {
     Write(WriteRequest),
 }
 
-// By hand, so that a crate that lets a request go calls this, and proves nothing of what lies in it.
+// By hand, so that a crate that lets a request go calls this, and proves nothing of what lies in
+// it.
 impl Drop for Request {
     fn drop(self) {
         requests!(by_kind, self, message, _number => drop(message))
@@ -80,7 +81,7 @@ impl Request {
     ghost use Rattle.ua_services.specs.declared.request.Request.TheVariants.{Read, Write};
     ghost use Rattle.ua_services.specs.declared.request.RequestKind.TheVariants.{Read as ReadKind, Write as WriteKind};
 
-    /// The Read, or the request itself where it is another one.
+    /// Returns the Read by value, or, as an error, the request itself if it is another one.
     pub fn into_read(self) -> Result<ReadRequest, Request>
         ensures taken { IfOk result (λ message. self ≡ Read message) }
         ensures same { IfErr result (λ other. other ≡ self) }
@@ -92,7 +93,7 @@ impl Request {
         }
     }
 
-    /// The Write, or the request itself where it is another one.
+    /// Returns the Write by value, or, as an error, the request itself if it is another one.
     pub fn into_write(self) -> Result<WriteRequest, Request>
         ensures taken { IfOk result (λ message. self ≡ Write message) }
         ensures same { IfErr result (λ other. other ≡ self) }
@@ -104,14 +105,14 @@ impl Request {
         }
     }
 
-    /// The kind of request.
+    /// The kind of the request.
     pub fn kind(&self) -> RequestKind
         ensures { result ≡ kind_of self.now }
     {
         requests!(kind_of, self)
     }
 
-    /// The header, which requests of every kind begin with.
+    /// The header, with which requests of every kind begin.
     pub fn header(&self) -> &RequestHeader
         ensures { result.now ≡ header_of self.now }
     {
@@ -191,7 +192,8 @@ fn unread(fault: ReadFault, handle: u32) -> RequestFault
     }
 }
 
-// The RequestHandle of the header that the source begins with, or 0 where no header reads whole.
+// The RequestHandle of the header at the start of the source, or 0 where no header reads
+// whole.
 fn handle_ahead<S: Source>(alloc: Global, src: &mut S) -> Result<u32, RequestFault>
     ensures { (result ≡ Ok (handle_behind (S.octets src.old))) ⊎ (result ≡ Err RequestFault.OutOfMemory) }
 {
@@ -202,7 +204,7 @@ fn handle_ahead<S: Source>(alloc: Global, src: &mut S) -> Result<u32, RequestFau
     }
 }
 
-// What a fault within a request means, whose header the source begins with.
+// What a fault within a request means, whose header at the start of the source.
 #[inline(never)]
 fn unreadable<S: Source>(alloc: Global, src: &mut S, fault: ReadFault) -> RequestFault
     ensures { (result ≡ unread_with (handle_behind (S.octets src.old)) fault) ⊎ (result ≡ RequestFault.OutOfMemory) }
@@ -216,7 +218,7 @@ fn unreadable<S: Source>(alloc: Global, src: &mut S, fault: ReadFault) -> Reques
     }
 }
 
-// What a request means that is not supported, whose header the source begins with.
+// What a request means that is not supported, whose header at the start of the source.
 fn unsupported<S: Source>(alloc: Global, src: &mut S) -> RequestFault
     ensures { (result ≡ RequestFault.Unsupported (handle_behind (S.octets src.old))) ⊎ (result ≡ RequestFault.OutOfMemory) }
 {
@@ -226,7 +228,7 @@ fn unsupported<S: Source>(alloc: Global, src: &mut S) -> RequestFault
     }
 }
 
-// Reads a ReadRequest behind its NodeId, and nothing behind it: where it stands, so that it is moved
+// Reads a ReadRequest after its NodeId, and nothing after it: where it stands, so that it is moved
 // once. Its header is read again for the handle where it is refused, from a fork.
 #[inline(never)]
 fn read_last<S: Source>(alloc: Global, src: &mut S) -> Result<Request, RequestFault>
@@ -243,7 +245,7 @@ fn read_last<S: Source>(alloc: Global, src: &mut S) -> Result<Request, RequestFa
     Ok(Request::Read(message))
 }
 
-// Reads a request of another kind behind its NodeId, and nothing behind it.
+// Reads a request of another kind after its NodeId, and nothing after it.
 #[inline(never)]
 fn read_other<S: Source>(
     alloc: Global,
@@ -265,7 +267,7 @@ fn read_other<S: Source>(
 }
 
 // The kind of request that a body is to be, by the NodeId that it begins with. The source is left
-// behind that.
+// after that.
 #[inline(always)]
 fn body_kind<S: Source>(alloc: Global, src: &mut S) -> Result<RequestKind, RequestFault>
     ensures found { IfOk result (λ k. request_read (S.octets src.old) ≡ kind_read k (S.octets src.new)) }
@@ -292,8 +294,8 @@ fn read_body<S: Source>(alloc: Global, src: &mut S) -> Result<Request, RequestFa
     }
 }
 
-/// Reads a body that is one request and nothing behind it, of at most 100 levels. After a fault the
-/// source is to be given up.
+/// Decodes a body that is one request, of at most nesting depth 100, with nothing after it. After
+/// an error, discard the source.
 #[tactic(auto, using(crate::proofs::RequestRead::request_found, crate::proofs::RequestRead::request_refused, crate::proofs::RequestRead::request_counted))]
 pub fn read_request<S: Source>(alloc: Global, src: &mut S) -> Result<Request, RequestFault>
     ensures read { (result ≡ request_read (S.octets src.old)) ⊎ (result ≡ Err RequestFault.OutOfMemory) }
@@ -304,7 +306,8 @@ pub fn read_request<S: Source>(alloc: Global, src: &mut S) -> Result<Request, Re
     read_body(alloc, src)
 }
 
-// Reads a Write behind its NodeId, and nothing behind it, without the values that nodes could not take.
+// Reads a Write after its NodeId, and nothing after it, without the values that nodes could not
+// take.
 #[inline(never)]
 fn read_thinned<S: Source, T: TakesTypes>(
     alloc: Global,
@@ -325,10 +328,10 @@ fn read_thinned<S: Source, T: TakesTypes>(
     Ok(Request::Write(message))
 }
 
-/// Reads a body as [`read_request`] does, but keeps of a Write no value that its node could not take: a
-/// null Variant stands in its place, and what stands beside it is passed over too (OPC 10000-4, 5.11.4).
-/// Of such an array no more memory is asked for than one element or part takes at a time; such a scalar is
-/// read, and let go. After a fault the source is to be given up.
+/// Decodes a body as [`read_request`] does, but keeps of a Write no value that its node could not
+/// take: a null Variant takes its place, and the other fields of its DataValue are skipped too
+/// (OPC 10000-4, 5.11.4). For such an array no more memory is allocated than one element or part
+/// needs at a time; such a scalar is decoded and dropped. After an error, discard the source.
 pub fn read_request_for<S: Source, T: TakesTypes>(
     alloc: Global,
     src: &mut S,
@@ -345,7 +348,7 @@ pub fn read_request_for<S: Source, T: TakesTypes>(
     }
 }
 
-// Passes over the structure of a request of that kind. Of a Read and a Write no item is kept.
+// Skips the structure of a request of that kind. Of a Read and a Write no item is kept.
 #[tactic(auto, unfolding(crate::specs::Request::request_of_kind))]
 fn skip_kind<S: Source>(
     alloc: Global,
@@ -368,7 +371,7 @@ fn skip_kind<S: Source>(
     }
 }
 
-// Passes over a request of that kind behind its NodeId, and nothing behind it.
+// Skips a request of that kind after its NodeId, and nothing after it.
 fn skip_last<S: Source>(
     alloc: Global,
     src: &mut S,
@@ -386,9 +389,10 @@ fn skip_last<S: Source>(
     Ok(kind)
 }
 
-/// The kind of the request that a body is, which [`read_request`] would read. Of a Read and a Write no item
-/// is kept: no more memory is asked for than one field, one scalar of a value, or a part of an array takes
-/// at a time. A request of another kind is read, and let go. After a fault the source is to be given up.
+/// The kind of the request that [`read_request`] would decode from this body. No item of a Read or
+/// a Write is kept: no more memory is allocated than one field, one scalar of a value, or a part of
+/// an array needs at a time. A request of another kind is decoded and dropped. After an error,
+/// discard the source.
 pub fn skip_request<S: Source>(alloc: Global, src: &mut S) -> Result<RequestKind, RequestFault>
     ensures kind { (result ≡ kind_alone (request_read (S.octets src.old))) ⊎ (result ≡ Err RequestFault.OutOfMemory) }
 {
@@ -396,7 +400,7 @@ pub fn skip_request<S: Source>(alloc: Global, src: &mut S) -> Result<RequestKind
     skip_last(alloc, src, kind)
 }
 
-/// Adds the canonical body of a request at the end. An error leaves what was there.
+/// Appends the canonical body of a request at the end. On an error the vector is unchanged.
 pub fn write_request(message: &Request, out: &mut Vec<u8>) -> Result<(), WriteFault>
     ensures ok { OnOk result (out.new.items ≡ out.old.items ++ request.canonical message.now) }
     ensures err { OnErr result (out.new.items ≡ out.old.items) }
@@ -405,7 +409,7 @@ pub fn write_request(message: &Request, out: &mut Vec<u8>) -> Result<(), WriteFa
     message.write(out)
 }
 
-/// The canonical body of a request, which is let go of.
+/// The canonical body of a request, which is dropped.
 pub fn request_body(alloc: Global, message: Request) -> Result<Vec<u8>, WriteFault>
     ensures ok { IfOk result (λ body. body.items ≡ request.canonical message) }
     ensures refused { IsErrOf result NotWritable ↔ IsFalse (request.encodable message) }

@@ -35,7 +35,7 @@ macro_rules! responses {
     };
 }
 
-/// The kinds of response, each with its own encoding (OPC 10000-6, A.3).
+/// The kinds of responses, each with its own encoding (OPC 10000-6, A.3).
 #[derive(Clone, Copy, PartialEq, Eq)]
 pub enum ResponseKind {
     GetEndpoints,
@@ -51,7 +51,7 @@ impl ResponseKind {
     ghost use Rattle.std.specs.Prelude.{◌≡◌};
     ghost use Rattle.ua_services.specs.Response.{response_kind_name};
 
-    /// The name of the structure that a response of this kind is, as `ReadResponse`.
+    /// The name of the structure of a response of this kind, such as `ReadResponse`.
     pub fn name(self) -> &'static str
         ensures { result.now ≡ response_kind_name self }
     {
@@ -70,7 +70,8 @@ pub enum Response {
     ServiceFault(ServiceFault),
 }
 
-// By hand, so that a crate that lets a response go calls this, and proves nothing of what lies in it.
+// By hand, so that a crate that lets a response go calls this, and proves nothing of what lies in
+// it.
 impl Drop for Response {
     fn drop(self) {
         responses!(by_kind, self, message, _number => drop(message))
@@ -83,7 +84,8 @@ impl Response {
     ghost use Rattle.ua_services.specs.declared.response.Response.TheVariants.{CreateSession, Read};
     ghost use Rattle.ua_services.specs.declared.response.ResponseKind.TheVariants.{CreateSession as CreateSessionKind, Read as ReadKind};
 
-    /// The answer to a Read, or the response itself where it is another one.
+    /// Returns the Read response by value, or, as an error, the response itself if it is another
+    /// one.
     pub fn into_read(self) -> Result<ReadResponse, Response>
         ensures taken { IfOk result (λ message. self ≡ Read message) }
         ensures same { IfErr result (λ other. other ≡ self) }
@@ -95,7 +97,8 @@ impl Response {
         }
     }
 
-    /// The answer to CreateSession, or the response itself where it is another one.
+    /// Returns the CreateSession response by value, or, as an error, the response itself if it is
+    /// another one.
     pub fn into_create_session(self) -> Result<CreateSessionResponse, Response>
         ensures taken { IfOk result (λ message. self ≡ CreateSession message) }
         ensures same { IfErr result (λ other. other ≡ self) }
@@ -107,21 +110,21 @@ impl Response {
         }
     }
 
-    /// The kind of response.
+    /// The kind of the response.
     pub fn kind(&self) -> ResponseKind
         ensures { result ≡ kind_of self.now }
     {
         responses!(kind_of, self)
     }
 
-    /// The header, which responses of every kind begin with.
+    /// The header, with which responses of every kind begin.
     pub fn header(&self) -> &ResponseHeader
         ensures { result.now ≡ header_of self.now }
     {
         responses!(by_kind, self, message, _number => &message.response_header)
     }
 
-    /// Whether this answers a request of that kind: it is of the request's own kind, or a
+    /// Whether this is a response to a request of that kind: it is of the request's own kind, or a
     /// ServiceFault (OPC 10000-4, 5.3).
     pub fn answers(&self, request: RequestKind) -> bool
         ensures { IsTrue result ↔ Answers (kind_of self.now) request }
@@ -223,7 +226,7 @@ fn unreadable(fault: ReadFault) -> ResponseFault
     }
 }
 
-// Reads a ReadResponse behind its NodeId, and nothing behind it: where it stands, so that it is moved
+// Reads a ReadResponse after its NodeId, and nothing after it: where it stands, so that it is moved
 // once.
 #[inline(never)]
 fn read_last<S: Source>(alloc: Global, src: &mut S) -> Result<Response, ResponseFault>
@@ -239,7 +242,7 @@ fn read_last<S: Source>(alloc: Global, src: &mut S) -> Result<Response, Response
     Ok(Response::Read(message))
 }
 
-// Reads a response of another kind behind its NodeId, and nothing behind it.
+// Reads a response of another kind after its NodeId, and nothing after it.
 #[inline(never)]
 fn read_other<S: Source>(
     alloc: Global,
@@ -274,8 +277,8 @@ fn read_body<S: Source>(alloc: Global, src: &mut S) -> Result<Response, Response
     }
 }
 
-/// Reads a body that is one response and nothing behind it, of at most 100 levels. After a fault
-/// the source is to be given up.
+/// Decodes a body that is one response, of at most nesting depth 100, with nothing after it. After
+/// an error, discard the source.
 #[tactic(auto, using(crate::proofs::ResponseRead::response_found, crate::proofs::ResponseRead::response_refused, crate::proofs::ResponseRead::response_counted))]
 pub fn read_response<S: Source>(alloc: Global, src: &mut S) -> Result<Response, ResponseFault>
     ensures read { (result ≡ response_read (S.octets src.old)) ⊎ (result ≡ Err ResponseFault.OutOfMemory) }
@@ -286,7 +289,7 @@ pub fn read_response<S: Source>(alloc: Global, src: &mut S) -> Result<Response, 
     read_body(alloc, src)
 }
 
-/// Adds the canonical body of a response at the end. An error leaves what was there.
+/// Appends the canonical body of a response at the end. On an error the vector is unchanged.
 pub fn write_response(message: &Response, out: &mut Vec<u8>) -> Result<(), WriteFault>
     ensures ok { OnOk result (out.new.items ≡ out.old.items ++ response.canonical message.now) }
     ensures err { OnErr result (out.new.items ≡ out.old.items) }
@@ -295,7 +298,7 @@ pub fn write_response(message: &Response, out: &mut Vec<u8>) -> Result<(), Write
     message.write(out)
 }
 
-/// The canonical body of a response, which is let go of.
+/// The canonical body of a response, which is dropped.
 pub fn response_body(alloc: Global, message: Response) -> Result<Vec<u8>, WriteFault>
     ensures ok { IfOk result (λ body. body.items ≡ response.canonical message) }
     ensures refused { IsErrOf result NotWritable ↔ IsFalse (response.encodable message) }

@@ -1,4 +1,5 @@
-//! The requests of a session as the program `ua` makes them, each with just the fields that it says.
+//! The requests that the program `ua` makes in a session, each with exactly the fields that are
+//! documented here.
 //!
 //! ```
 //! let url = local_url(alloc, 4840)?;
@@ -37,7 +38,7 @@ const SESSION_TIMEOUT: DoubleBits = DoubleBits {
     bits: 0x40FD_4C00_0000_0000,
 };
 
-/// The address of a server on this machine.
+/// The EndpointUrl of a server on this machine.
 #[tactic(auto, unfolding(crate::specs::SessionRequests::local_url))]
 pub fn local_url(alloc: Global, port: u16) -> Result<UaString, AllocError>
     ensures value { IfOk result (λ url. url ≡ Some (url_of port)) }
@@ -47,7 +48,7 @@ pub fn local_url(alloc: Global, port: u16) -> Result<UaString, AllocError>
     Ok(UaString::new(Some(text)))
 }
 
-/// A request of GetEndpoints.
+/// A GetEndpoints request.
 #[tactic(auto, using(crate::proofs::Asked::get_endpoints_fits, crate::proofs::Words::null_id_fits))]
 pub fn get_endpoints_request(url: UaString, moment: DateTime, handle: u32) -> Request
     ensures value { result ≡ get_endpoints url moment handle }
@@ -57,7 +58,7 @@ pub fn get_endpoints_request(url: UaString, moment: DateTime, handle: u32) -> Re
     Request::GetEndpoints(GetEndpointsRequest::of_url(header, url))
 }
 
-/// A request of CreateSession, for a session `ua` of the client `urn:ua:client`.
+/// A CreateSession request, for a session named `ua` of the client `urn:ua:client`.
 #[tactic(auto, using(crate::proofs::Asked::create_session_fits, crate::proofs::Words::client_uri_fits, crate::proofs::Words::name_fits, crate::proofs::Words::null_id_fits))]
 pub fn create_session_request(
     alloc: Global,
@@ -82,7 +83,8 @@ pub fn create_session_request(
     )))
 }
 
-/// The identity of a user without a name, by the token policy with this id, which is UTF-8 as any text.
+/// The identity of a user without a name, by the token policy with this id, which is UTF-8 as any
+/// text.
 fn anonymous_token(policy_id: UaString) -> AnonymousIdentityToken
     ensures named { result.policy_id ≡ policy_id }
     ensures utf8 { IsTrue (is_text policy_id) }
@@ -92,9 +94,9 @@ fn anonymous_token(policy_id: UaString) -> AnonymousIdentityToken
     AnonymousIdentityToken { policy_id }
 }
 
-/// A request of ActivateSession, by the identity of a user without a name under the token policy with
-/// this id: `NotWritable` where the id cannot be encoded as a String, and then the request could not be
-/// encoded either.
+/// An ActivateSession request for an anonymous user, with the UserTokenPolicy of this PolicyId. The
+/// error is `NotWritable` if the id cannot be encoded as a String; the request could not be encoded
+/// either.
 pub fn activate_session_request_as(
     alloc: Global,
     token: NodeId,
@@ -115,8 +117,7 @@ pub fn activate_session_request_as(
     Ok(Request::ActivateSession(ActivateSessionRequest::new(header, identity)))
 }
 
-/// A request of ActivateSession, by the identity of a user without a name under the token policy
-/// `anonymous`.
+/// An ActivateSession request for an anonymous user, with the UserTokenPolicy `anonymous`.
 pub fn activate_session_request(
     alloc: Global,
     token: NodeId,
@@ -134,7 +135,7 @@ pub fn activate_session_request(
     }
 }
 
-/// A request of CloseSession, which keeps subscriptions.
+/// A CloseSession request, which keeps subscriptions.
 #[tactic(auto, using(crate::proofs::Asked::closing_fits))]
 pub fn close_session_request(token: NodeId, moment: DateTime, handle: u32) -> Request
     ensures value { result ≡ close_session token moment handle }
@@ -146,7 +147,7 @@ pub fn close_session_request(token: NodeId, moment: DateTime, handle: u32) -> Re
     })
 }
 
-/// A request of Read with these items, for both times.
+/// A Read request of these items, for source and server timestamps.
 #[tactic(auto, using(crate::proofs::Asked::read_fits))]
 pub fn read_request(
     token: NodeId,
@@ -162,7 +163,7 @@ pub fn read_request(
     Request::Read(ReadRequest::of_items(header, items))
 }
 
-/// A request of Write with these items.
+/// A Write request of these items.
 #[tactic(auto, using(crate::proofs::Asked::write_fits))]
 pub fn write_request(
     token: NodeId,
@@ -178,8 +179,8 @@ pub fn write_request(
     Request::Write(WriteRequest::of_items(header, items))
 }
 
-/// The item of a Read for an attribute of a node, by its id (OPC 10000-6, A.1), or for the part of an
-/// array that an index range names.
+/// A Read item for an attribute of a node, by its AttributeId (OPC 10000-6, A.1), or for the part
+/// of an array that an index range selects.
 #[tactic(auto, using(crate::proofs::Asked::attribute_fits))]
 pub fn read_attribute_item(node: NodeId, attribute: u32, range: UaString) -> ReadValueId
     ensures value { result ≡ attribute_of_node node attribute range }
@@ -191,8 +192,7 @@ pub fn read_attribute_item(node: NodeId, attribute: u32, range: UaString) -> Rea
     item
 }
 
-/// The item of a Read for the Value of a node, or for the part of an array that an index range
-/// names.
+/// A Read item for the Value of a node, or for the part of an array that an index range selects.
 pub fn read_item(node: NodeId, range: UaString) -> ReadValueId
     ensures value { result ≡ part_of_node node range }
     ensures encodable { IsTrue (node_id.encodable node) → IsTrue (string.encodable range) → IsTrue (read_value_id.encodable result) }
@@ -200,7 +200,7 @@ pub fn read_item(node: NodeId, range: UaString) -> ReadValueId
     read_attribute_item(node, VALUE_ATTRIBUTE, range)
 }
 
-/// The item of a Write that sets the Value of a node, without status and times.
+/// A Write item that sets the Value of a node, without status and timestamps.
 pub fn write_item(node: NodeId, value: Variant) -> WriteValue
     ensures value { result ≡ value_for_node node (value_alone (variant_of value)) }
     ensures encodable { IsTrue (node_id.encodable node) → IsTrue (data_value_format.encodable (value_alone (variant_of value)))

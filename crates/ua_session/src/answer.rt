@@ -1,4 +1,4 @@
-//! What is made of replies.
+//! Responses that a command prints.
 
 ghost use Rattle.std.specs.Prelude.{◌≡◌, [], IfErr, OnOk};
 ghost use Rattle.std.specs.Io.KnownBytes.{Appends};
@@ -13,7 +13,7 @@ use ua_client::Reply;
 use ua_services::Response;
 use ua_texts::{EndpointStyle, has_bad_code, push_endpoints};
 
-/// The response that a reply is. That the server gave its answer up is a fault.
+/// The response that a reply is. A reply that the server aborted is a fault.
 pub fn response_of(called: Result<Reply, AskFault>) -> Result<Response, AskFault>
     ensures { GivesResponse called result }
 {
@@ -24,7 +24,7 @@ pub fn response_of(called: Result<Reply, AskFault>) -> Result<Response, AskFault
     }
 }
 
-/// Writes lines and flushes them, and leaves the writer alone where there are none.
+/// Writes lines of text and flushes them, and leaves the writer alone where there are none.
 pub fn write_lines<O: Write>(out: &mut O, lines: &str) -> io::Result<()>
     ensures written { OnOk result (Appends (O.contents out.old) (O.contents out.new) lines.now) }
     ensures none { lines.now ≡ [] → out.new ≡ out.old }
@@ -36,7 +36,7 @@ pub fn write_lines<O: Write>(out: &mut O, lines: &str) -> io::Result<()>
     out.flush()
 }
 
-/// The same, where it is told that the writer failed.
+/// The same, where a failure of the writer is a fault.
 pub fn print_lines<O: Write>(out: &mut O, lines: &str) -> Result<(), AskFault>
     ensures written { OnOk result (Appends (O.contents out.old) (O.contents out.new) lines.now) }
     ensures failed { IfErr result IsOutput }
@@ -47,8 +47,8 @@ pub fn print_lines<O: Write>(out: &mut O, lines: &str) -> Result<(), AskFault>
     }
 }
 
-/// Writes the lines of the endpoints in a reply, in this style, and flushes them: all or none, unless
-/// the writer fails.
+/// Writes the lines of the endpoints in a reply, in this style, and flushes them: all or none,
+/// unless the writer fails.
 pub fn print_endpoints<O: Write>(
     alloc: Global,
     out: &mut O,
@@ -65,7 +65,8 @@ pub fn print_endpoints<O: Write>(
     print_lines(out, &lines)
 }
 
-/// Whether the response to a Read or a Write has a bad code: its own ServiceResult, or that of a result.
+/// Whether the response to a Read or a Write has a bad code: its own ServiceResult, or that of a
+/// result.
 pub fn is_bad_response(response: &Response) -> bool
     ensures { result ≡ is_bad_response response.now }
 {
@@ -83,7 +84,7 @@ fn has_failed(response: &Response) -> bool
     }
 }
 
-/// Whether a reply says that the service is done.
+/// Whether a reply shows that the service succeeded.
 pub fn expect_done(called: Result<Reply, AskFault>) -> Result<(), AskFault>
     ensures { Expects called result }
 {

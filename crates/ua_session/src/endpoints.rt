@@ -18,7 +18,7 @@ use ua_frame::Limits;
 use ua_services::session_requests::get_endpoints_request;
 use ua_texts::EndpointStyle;
 
-/// The request id of the first call of a client: its OPN has 1.
+/// The RequestId of the first call of a client: its OPN has 1.
 const FIRST_CALL: u32 = 2;
 
 /// Calls GetEndpoints of a server by this URL.
@@ -37,7 +37,7 @@ pub fn call_endpoints<L: Line>(
     call(line, client, request, moment)
 }
 
-/// Asks for the endpoints, and writes their lines.
+/// Calls GetEndpoints, and writes the lines of the endpoints.
 fn ask_endpoints<L: Line, M: Moments, O: Write>(
     alloc: Global,
     line: &mut L,
@@ -54,11 +54,12 @@ fn ask_endpoints<L: Line, M: Moments, O: Write>(
     print_endpoints(alloc, out, called, style)
 }
 
-/// Asks the server at the other end of a line for its endpoints, by this URL, and writes their lines in this
-/// style. The connection stands at its beginning. A client is opened, calls
-/// GetEndpoints without a session and is closed, also behind a fault after which it may go on. The lines are
-/// written and flushed as soon as the response is read, before the client is closed. The first fault is
-/// told, or that the writer failed, or that memory ran out. Each of these steps has the next moment.
+/// Asks the server at the other end of a transport for its endpoints, by this URL, and writes their
+/// lines in this style. The connection has to be at its beginning. A client is opened, calls
+/// GetEndpoints without a session and is closed, also after a fault that lets it go on. The lines
+/// are written and flushed as soon as the response is read, before the client is closed. The
+/// function returns the first fault, but a failed allocation in a later step takes its place unless
+/// it is a failed writer. Each of these steps takes the next timestamp.
 pub fn endpoints_over<L: Line, M: Moments, O: Write>(
     alloc: Global,
     line: &mut L,

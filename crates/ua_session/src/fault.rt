@@ -1,4 +1,4 @@
-//! Why a server gave no answers, and why words ask for nothing.
+//! Faults of asking a server, and of words that ask for nothing.
 
 use crate::fault_name::FaultName;
 use std::alloc::AllocError;
@@ -9,22 +9,23 @@ use ua_client::ClientFault;
 use ua_nodes::ValueFault;
 use ua_texts::AnswerFault;
 
-/// Why a server gave no answers, why they were not written, or why the client was not closed behind them.
+/// Why a server gave no answers, why they were not written, or why the client was not closed after
+/// them.
 #[derive(Clone, Copy, Debug, Error)]
 pub enum AskFault {
-    /// A service failed, and why: the code of a ServiceFault, or of an answer that the server gave up.
+    /// A service failed: the StatusCode of a ServiceFault, or of a reply that the server aborted.
     #[error("service {code:08X}", code = .0.code)]
     Service(StatusCode),
-    /// A connection came to nothing, and why.
+    /// A connection failed, and why.
     #[error("connection {name}", name = FaultName(*.0))]
     Connection(ClientFault),
-    /// No endpoint without security has a token policy for users without a name.
+    /// No endpoint without security has a token policy for anonymous users.
     #[error("no anonymous policy")]
     NoPolicy,
     /// Answers could not be written, and why.
     #[error("cannot write")]
     Output(io::Error),
-    /// Memory was refused.
+    /// An allocation failed.
     #[error("no memory")]
     NoMemory,
 }
@@ -73,25 +74,25 @@ impl From<AllocError> for AskFault {
 /// Why a session was not begun.
 #[derive(Drop)]
 pub struct NotBegun {
-    /// The token of a session that stands at the server nevertheless: CreateSession brought it.
+    /// The token of a session that CreateSession brought, and that stays at the server.
     pub token: Option<NodeId>,
-    /// What is told.
+    /// The fault that is reported.
     pub fault: AskFault,
 }
 
-/// Why words are not read.
+/// Why words are refused.
 #[derive(Clone, Copy, PartialEq, Eq, Debug, Error)]
 pub enum WordFault {
-    /// A word names no NodeId.
+    /// A word is not a NodeId.
     #[error("bad node")]
     BadNode,
-    /// A word is no type, or another is no value of it.
+    /// A word is not a type, or another is not a value of it.
     #[error("bad value")]
     BadValue,
-    /// A word names no index range.
+    /// A word is not an index range.
     #[error("bad range")]
     BadRange,
-    /// Memory was refused.
+    /// An allocation failed.
     #[error("no memory")]
     NoMemory,
 }

@@ -4,7 +4,7 @@ use std::fmt;
 use ua_builtin::StatusCode;
 use ua_client::ClientFault;
 
-/// The name of a fault of a client, and behind a space the code that it has, if it has one.
+/// The name of a client's fault and, after a space, its StatusCode, if it has one.
 #[derive(Clone, Copy)]
 pub struct FaultName(pub ClientFault);
 
@@ -12,7 +12,7 @@ impl FaultName {
     ghost use Rattle.std.specs.Prelude.{◌≡◌};
     ghost use Rattle.ua_session.specs.FaultText.{code_in, name_of};
 
-    /// The name of the fault, as that of its variant.
+    /// The name of the fault's variant.
     fn name(self) -> &'static str
         ensures { result.now ≡ name_of self.0 }
     {
@@ -34,7 +34,7 @@ impl FaultName {
         }
     }
 
-    /// The code that the fault has.
+    /// The StatusCode of the fault.
     fn code(self) -> Option<StatusCode>
         ensures { result ≡ code_in self.0 }
     {

@@ -1,4 +1,4 @@
-//! Laws of what a script asks. Each is the contract of a function that does nothing.
+//! Laws of the requests of a script. Each is the contract of a function that has no effect.
 
 ghost use Rattle.std.specs.Prelude.{◌≡◌, Some};
 ghost use Rattle.ua_session.specs.Script.{given_token, token};

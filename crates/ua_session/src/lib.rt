@@ -1,23 +1,27 @@
-//! What the commands that ask do. `ua endpoints`, `ua read` and `ua write` ask a server over a line, and
-//! write the lines of the answers; `ua loop` runs a script over nodes, with both ends in this process.
+//! The commands that ask a server. `ua endpoints`, `ua read` and `ua write` ask a server over a
+//! transport, and write the lines of the answers; `ua loop` runs a script over nodes, with both
+//! ends in this process.
 //!
-//! Its contracts are those of [`endpoints_over`] and [`ask_over`]: what a client does at each step, how
-//! often its line fails, which lines are written of the replies, and which fault is told.
+//! The main contracts are those of [`endpoints_over`] and [`ask_over`]: what a client does at each
+//! step, how often its transport fails, which lines are written of the replies, and which fault is
+//! returned.
 //!
 //! ```
 //! let question = Question::parse_read(alloc, &["ns=1;s=Pump"], 13, None)?;
 //! let style = AnswerStyle::exact(LineStyle::plain(false));
-//! ask_over(alloc, &mut line, limits, &url, &question, &TokenPolicy::Auto, style, &mut moments, &mut out)?;
+//! let policy = TokenPolicy::Auto;
+//! ask_over(alloc, &mut line, limits, &url, &question, &policy, style, &mut moments, &mut out)?;
 //! // `ns=1;s=Pump 00000000 Int32 6` is written to `out`
 //! ```
 //!
-//! And that of [`run_lines`]: the octets each way and the text are functions of the nodes and of the
-//! script's lines, whatever the pieces; or a line's request is the first that a client does not ask.
+//! And that of [`run_lines`]: the bytes in each direction and the text are functions of the nodes
+//! and the lines of the script, however the bytes are fragmented; or the request of a line is the
+//! first that a client does not send.
 //!
 //! ```
 //! let lines = parse_lines(alloc, "write\tns=1;s=Pump\tInt32\t6\nread\tns=1;s=Pump\n")?;
 //! let looped = run_lines(alloc, nodes, &lines, 65535, false, false)?;
-//! // looped.up, looped.down: what each end wrote; looped.text: what is printed, up to looped.fault
+//! // looped.up, looped.down: what each end wrote; looped.text: the output, up to looped.fault
 //! ```
 #![tactic(auto)]
 

@@ -1,8 +1,9 @@
-//! A script that is run over nodes: a client asks what its lines ask for of a server, both within
+//! A script that is run over nodes: a client sends a server the requests of its lines, both within
 //! this process.
 //!
-//! The octets each way and the text are functions of the nodes and of the script's lines, whatever
-//! the pieces; or a line's request is the first that a client does not ask.
+//! The bytes in each direction and the text are functions of the nodes and the lines of the script,
+//! however the bytes are fragmented; or the request of a line is the first that a client does not
+//! send.
 
 mod fault;
 mod looped;

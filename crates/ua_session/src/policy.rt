@@ -1,4 +1,4 @@
-//! By which token policy of a server a session is begun.
+//! The token policy of a session.
 
 ghost use Rattle.std.specs.Prelude.{◌≡◌, Ok};
 ghost use Rattle.ua_client.specs.declared.reply.Reply.TheVariants.{Response as Responds};
@@ -11,13 +11,13 @@ use ua_client::{ClientFault, Reply};
 use ua_services::{Response, chosen_id};
 use ua_structures::EndpointDescription;
 
-/// By which token policy for users without a name a session is begun.
+/// The token policy for anonymous users by which a session is begun.
 #[derive(Drop)]
 pub enum TokenPolicy {
     /// The one with this PolicyId.
     Named(UaString),
-    /// The first one of the first endpoint by UA TCP and without security that has one, for which the
-    /// server is asked.
+    /// The first one of the first endpoint by UA TCP and without security that has one; the server
+    /// is asked for it.
     Auto,
 }
 

@@ -1,4 +1,4 @@
-//! What is asked in a session.
+//! The question that is asked in a session.
 
 ghost use Rattle.std.specs.Prelude.{◌≡◌, ◌∷◌, [], string_bytes, IfOk, IfErr, OnOk};
 ghost use Rattle.ua_session.specs.Question.{AnswersNothing, AnswersQuestion, PrintsAnswers, item_for, items_of, request_of, verdict_of};
@@ -19,17 +19,17 @@ use ua_services::{ReadValueId, Request, Response, WriteValue};
 use ua_texts::{AnswerFault, AnswerStyle, push_read_answers_as, push_write_answers};
 use ua_variant::Variant;
 
-/// What is asked in a session.
+/// The question that is asked in a session.
 #[derive(Drop)]
 pub enum Question {
-    /// An attribute of nodes, by its id (OPC 10000-6, A.1), or the part of it that an index range names,
-    /// where this is not null (OPC 10000-4, 7.27).
+    /// To read an attribute of nodes, by its id (OPC 10000-6, A.1), or the part of it that an index
+    /// range selects, where this is not null (OPC 10000-4, 7.27).
     Read {
         nodes: Vec<NodeId>,
         attribute: u32,
         range: UaString,
     },
-    /// That the Value of a node be this one.
+    /// To set the Value of a node to this one.
     Write(NodeId, Variant),
 }
 
@@ -59,7 +59,7 @@ fn write_items(alloc: Global, node: &NodeId, value: &Variant) -> Result<Vec<Writ
     Ok(items)
 }
 
-/// Whether a response has a bad code, its own or that of an answer.
+/// Whether a response has a bad StatusCode, its own or that of an answer.
 fn verdict_of(response: &Response) -> Verdict
     ensures { result ≡ verdict_of (Responds response.now) }
 {
@@ -70,7 +70,7 @@ fn verdict_of(response: &Response) -> Verdict
 }
 
 impl Question {
-    /// The request that asks it, under the token of a session.
+    /// The request of the question, under the token of a session.
     pub(crate) fn request(
         &self,
         alloc: Global,
@@ -96,7 +96,7 @@ impl Question {
         }
     }
 
-    /// Adds the lines of its answers in a response, in this style.
+    /// Appends the lines of its answers in a response, in this style.
     fn push(
         &self,
         alloc: Global,
@@ -117,8 +117,8 @@ impl Question {
         }
     }
 
-    /// Writes the lines of its answers in a reply, in this style, and flushes them: all or none, unless
-    /// the writer fails. Says whether the reply has a bad code.
+    /// Writes the lines of its answers in a reply, in this style, and flushes them: all or none,
+    /// unless the writer fails. Returns whether the reply has a bad StatusCode.
     pub(crate) fn print<O: Write>(
         &self,
         alloc: Global,

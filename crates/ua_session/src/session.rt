@@ -1,4 +1,4 @@
-//! `ua read` and `ua write`: what is asked in a session of its own.
+//! `ua read` and `ua write`: a question in a session of its own.
 
 ghost use Rattle.std.specs.Prelude.{◌≡◌, ◌<◌, ◌^◌, IfErr, IsTrue, OnOk};
 ghost use Rattle.ua_wire.specs.Counted.{text};
@@ -47,8 +47,8 @@ fn find_policy<L: Line, M: Moments>(
     }
 }
 
-/// The request id of the first call in a session: the OPN has 1, those that begin a session have 2 and
-/// 3, and one more where the server is asked for the token policy first.
+/// The RequestId of the first call in a session: the OPN has 1, those that begin a session have 2
+/// and 3, and one more where the server is asked for the token policy first.
 fn first_call(policy: &TokenPolicy) -> u32
     ensures handle { result ≡ first_call policy.now }
     ensures few { result < 2 ^ 31 }
@@ -81,7 +81,7 @@ fn call_question<L: Line>(
     }
 }
 
-/// The request id of the call behind a question: a question that was not asked took none.
+/// The RequestId of the call after a question: a question that was not sent used none.
 fn handle_behind(handle: u32, called: &Result<Reply, AskFault>) -> u32
     requires few { handle < 2 ^ 31 }
     ensures { result ≡ handle_behind handle called.now }
@@ -107,7 +107,8 @@ fn end_session<L: Line>(
     expect_done(called)
 }
 
-/// Asks a question under the token of a session, writes the lines of the answers, and ends the session.
+/// Asks a question under the token of a session, writes the lines of the answers, and ends the
+/// session.
 fn ask_under<L: Line, M: Moments, O: Write>(
     alloc: Global,
     line: &mut L,
@@ -131,8 +132,8 @@ fn ask_under<L: Line, M: Moments, O: Write>(
     first_of(printed, ended)
 }
 
-/// The request id of the call behind a session that was not begun, where that of the first call in it
-/// would have been this: one less, but where a service answered that it failed.
+/// The RequestId of the call after a session that was not begun, where that of the first call in it
+/// would have been this: one less, unless a service answered that it failed.
 fn handle_unbegun(handle: u32, fault: AskFault) -> u32
     requires some { 0 < handle }
     ensures { result ≡ handle_unbegun handle fault }
@@ -143,8 +144,8 @@ fn handle_unbegun(handle: u32, fault: AskFault) -> u32
     }
 }
 
-/// Ends the session that stands at the server where it was not begun, if one does. What becomes of that
-/// adds nothing.
+/// Ends the session that stays at the server where it was not begun, if there is one. The outcome
+/// of that is not reported.
 fn end_unbegun<L: Line, M: Moments>(
     line: &mut L,
     client: &mut Client,
@@ -214,16 +215,16 @@ fn ask_by_policy<L: Line, M: Moments, O: Write>(
     }
 }
 
-/// Asks the server at the other end of a line a question in a session of its own, by this URL, and writes
-/// the lines of the answers in this style. The connection stands at its beginning. A client is opened,
-/// begins a session by this token policy, asks, ends the session and
-/// is closed, these two also behind a fault after which it may go on. A session that CreateSession
-/// made, and ActivateSession did not begin, is ended, too, and the fault told is that of
-/// ActivateSession. The lines are written and flushed as soon as the response is read, before the
-/// session is ended. The first fault is told, or that the writer failed, or that memory ran out. For
-/// [`TokenPolicy::Auto`] the client calls GetEndpoints before it begins the session; where the
-/// endpoints give no policy that is told as `NoPolicy`, and no session is begun. Each of these steps
-/// has the next moment.
+/// Asks the server at the other end of a transport a question in a session of its own, by this URL,
+/// and writes the lines of the answers in this style. The connection has to be at its beginning. A
+/// client is opened, begins a session by this token policy, asks, ends the session and is closed,
+/// these two also after a fault that lets it go on. A session that CreateSession made, and
+/// ActivateSession did not begin, is ended, too; the outcome of that is not reported, and the fault
+/// is that of ActivateSession. The lines are written and flushed as soon as the response is read,
+/// before the session is ended. The function returns the first fault, but a failed allocation in a
+/// later step takes its place unless it is a failed writer. For [`TokenPolicy::Auto`] the client
+/// calls GetEndpoints before it begins the session; where the endpoints give no policy the fault is
+/// `NoPolicy`, and no session is begun. Each of these steps takes the next timestamp.
 pub fn ask_over<L: Line, M: Moments, O: Write>(
     alloc: Global,
     line: &mut L,

@@ -13,7 +13,7 @@ use ua_client::{Client, ClientFault, Reply, SessionFault};
 use ua_frame::Limits;
 use ua_services::Request;
 
-/// The next moment.
+/// The next timestamp.
 pub fn next_moment<M: Moments>(moments: &mut M) -> DateTime
     ensures { M.gives moments.old result.ticks moments.new }
 {
@@ -22,7 +22,7 @@ pub fn next_moment<M: Moments>(moments: &mut M) -> DateTime
     }
 }
 
-/// What a client answers, its fault as it is told.
+/// The result of a client, with its fault as it is reported.
 fn told<A: Drop>(answer: Result<A, ClientFault>) -> Result<A, AskFault>
     ensures { result ≡ told answer }
 {
@@ -32,8 +32,9 @@ fn told<A: Drop>(answer: Result<A, ClientFault>) -> Result<A, AskFault>
     }
 }
 
-/// The first of two faults, or what the first one found where there is none; that the writer failed is
-/// told before all others, and that memory ran out before any other.
+/// The first of two faults, or what the first step returned where there is none. A failed
+/// allocation in the second step takes the place of a fault of the first, unless that is a failed
+/// writer.
 pub fn first_of<A: Drop>(
     first: Result<A, AskFault>,
     second: Result<(), AskFault>,

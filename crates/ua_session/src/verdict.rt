@@ -1,10 +1,11 @@
-//! What is said of answers.
+//! Verdicts on answers.
 
-/// Whether the answers to a Read or a Write have a bad code, one whose top bit is set (OPC 10000-4, 7.39).
+/// Whether the answers to a Read or a Write have a bad StatusCode, one whose top bit is set (OPC
+/// 10000-4, 7.39).
 #[derive(Clone, Copy, PartialEq, Eq, Debug)]
 pub enum Verdict {
-    /// None has.
+    /// None is bad.
     AllGood,
-    /// At least one has.
+    /// At least one is bad.
     SomeBad,
 }

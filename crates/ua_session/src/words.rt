@@ -1,4 +1,4 @@
-//! What is asked by words of a command line.
+//! Questions in the words of a command line.
 
 ghost use Rattle.std.specs.Prelude.{IfOk, IfErr, option_map};
 ghost use Rattle.ua_texts.specs.PlainLines.{exact_typed as exact_typed_of};
@@ -12,14 +12,14 @@ use ua_nodes::{is_range, parse_type, parse_value};
 use ua_texts::exact_typed;
 use ua_variant::Variant;
 
-/// The NodeId that a word names; `BadNode` where it names none.
+/// The NodeId that a word denotes; `BadNode` where it denotes none.
 fn parse_node(alloc: Global, text: &str) -> Result<NodeId, WordFault>
     ensures { GivesNode text.now result }
 {
     Ok(NodeId::parse_text(alloc, text)?)
 }
 
-/// The NodeIds that words name, in their order.
+/// The NodeIds that words denote, in their order.
 fn parse_node_list(alloc: Global, texts: &[&str]) -> Result<Vec<NodeId>, WordFault>
     ensures nodes { IfOk result (λ nodes. AreNodes (λ text. text.now) texts.now nodes.items) }
     ensures faults { IfErr result (λ fault. NamesNoNodes (λ text. text.now) texts.now fault) }
@@ -42,7 +42,8 @@ fn parse_typed(alloc: Global, kind: &str, text: &str) -> Result<Variant, WordFau
     Ok(parse_value(alloc, kind, array, text)?)
 }
 
-/// The index range that a text names, null where there is no text; `BadRange` where it names none.
+/// The index range that a text denotes, null where there is no text; `BadRange` where it denotes
+/// none.
 fn parse_range(alloc: Global, text: Option<&str>) -> Result<UaString, WordFault>
     ensures { GivesRange (option_map (λ t. t.now) text.entry) result }
 {
@@ -59,9 +60,10 @@ fn parse_range(alloc: Global, text: Option<&str>) -> Result<UaString, WordFault>
 }
 
 impl Question {
-    /// What the texts of nodes ask: to read an attribute of them, by its id (OPC 10000-6, A.1), in their
-    /// order, or the part of it that an index range names. `BadNode` where one of them names no NodeId,
-    /// else `BadRange` where the text of the range names none that `ua_nodes` serves.
+    /// The question of the texts of nodes: to read an attribute of them, by its id (OPC 10000-6,
+    /// A.1), in their order, or the part of it that an index range selects. `BadNode` where one of
+    /// them is not a NodeId, else `BadRange` where the text of the range is not one that `ua_nodes`
+    /// serves.
     pub fn parse_read(
         alloc: Global,
         nodes: &[&str],
@@ -84,9 +86,9 @@ impl Question {
         }
     }
 
-    /// What the texts of a node, of a type, as `Int32` or `Int32[]`, and of a value ask: that the Value
-    /// of the node be this one. `BadNode` where the first names no NodeId, else `BadValue` where the
-    /// others denote no value.
+    /// The question of the texts of a node, of a type, as `Int32` or `Int32[]`, and of a value: to
+    /// set the Value of the node to this one. `BadNode` where the first is not a NodeId, else
+    /// `BadValue` where the others denote no value.
     pub fn parse_write(
         alloc: Global,
         node: &str,
@@ -105,8 +107,8 @@ impl Question {
         }
     }
 
-    /// The same, where the value may be written as people write it: a decimal or a time in the place of a
-    /// pattern or of ticks.
+    /// The same, where the value may be written as people write it: a decimal or a time in place of
+    /// a bit pattern or of ticks.
     pub fn parse_plain_write(
         alloc: Global,
         node: &str,

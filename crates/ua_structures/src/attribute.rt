@@ -1,4 +1,4 @@
-//! Reading and writing attributes.
+//! The services Read and Write.
 
 ghost use Rattle.std.specs.Prelude.{◌≡◌, ◌<◌, ◌≤◌, ◌∷◌, [], length, IsTrue, IfOk, OnOk, OnErr};
 ghost use Rattle.std.specs.List.{list_all};
@@ -24,26 +24,26 @@ use ua_opening::{
 use ua_variant::{DataValue, DiagnosticInfo};
 use ua_wire::{append_three, append_two};
 
-/// What is to be read: an attribute of a node, or a part of it (OPC 10000-4, 7.29).
+/// An item of a Read: an attribute of a node, or a part of it (OPC 10000-4, 7.29).
 #[derive(Drop)]
 pub struct ReadValueId {
     pub node_id: NodeId,
-    /// [`VALUE_ATTRIBUTE`] is the Value.
+    /// The attribute; [`VALUE_ATTRIBUTE`] is the Value.
     pub attribute_id: u32,
-    /// Which elements of an array; null is all.
+    /// The elements of an array to read; null means all.
     pub index_range: UaString,
-    /// The encoding of a structure; a null name is the default.
+    /// The encoding of a structure; a null name means the default.
     pub data_encoding: QualifiedName,
 }
 
-/// The id of the attribute Value of a node (OPC 10000-6, A.1).
+/// The AttributeId of the Value attribute (OPC 10000-6, A.1).
 pub const VALUE_ATTRIBUTE: u32 = 13;
 
 /// The times of source and server (OPC 10000-4, 7.40).
 const BOTH_TIMES: i32 = 2;
 
 impl ReadValueId {
-    /// The whole value of a node, in its default encoding.
+    /// An item for the whole Value of a node, in its default encoding.
     #[tactic(auto, using(crate::proofs::PlainFits::read_value_id_fits))]
     pub fn of_value(node_id: NodeId) -> ReadValueId
         ensures value { result ≡ value_of_node node_id }
@@ -102,13 +102,13 @@ impl Skip for ReadValueId {
     }
 }
 
-/// Read: asks for attributes of nodes (OPC 10000-4, 5.11.2).
+/// The Read request: asks for attributes of nodes (OPC 10000-4, 5.11.2).
 #[derive(Drop)]
 pub struct ReadRequest {
     pub request_header: RequestHeader,
-    /// How old a value may be, in milliseconds.
+    /// The greatest age of a value, in milliseconds.
     pub max_age: DoubleBits,
-    /// 0 for the source's, 1 for the server's, 2 for both, 3 for neither; every number is kept.
+    /// 0 for Source, 1 for Server, 2 for Both, 3 for Neither; any other number is preserved.
     pub timestamps_to_return: i32,
     pub nodes_to_read: UaArray<ReadValueId>,
 }
@@ -116,7 +116,7 @@ pub struct ReadRequest {
 impl ReadRequest {
     ghost use Rattle.ua_builtin.specs.Format.{most_levels, GivesBy, StaysBehind};
 
-    /// A Read of these items, however old their values, with the times of source and server.
+    /// A Read of these items with a MaxAge of 0, and with source and server timestamps.
     #[tactic(auto, using(crate::proofs::PlainFits::read_request_fits))]
     pub fn of_items(request_header: RequestHeader, items: Vec<ReadValueId>) -> ReadRequest
         ensures value { result ≡ read_of request_header items.items }
@@ -131,7 +131,7 @@ impl ReadRequest {
         }
     }
 
-    /// A Read of this one item, as [`of_items`](ReadRequest::of_items) makes it.
+    /// A Read of one item, as [`of_items`](ReadRequest::of_items) makes it.
     #[tactic(auto, using(crate::proofs::PlainFits::read_item_fits))]
     pub fn of_item(
         alloc: Global,
@@ -147,7 +147,7 @@ impl ReadRequest {
         Ok(ReadRequest::of_items(request_header, items))
     }
 
-    /// A Read of nothing under an empty header, to read one into. Takes no memory.
+    /// A Read of no items with an empty header, to decode one into. Allocates nothing.
     pub fn empty() -> ReadRequest
         ensures { result ≡ empty_read }
     {
@@ -159,8 +159,8 @@ impl ReadRequest {
         }
     }
 
-    /// Reads the ReadRequest that the source begins with in the place of this one, as reading a value
-    /// does. After a fault the source is to be given up.
+    /// Decodes the ReadRequest at the start of the source into this one, as `read_value` does.
+    /// After an error, discard the source.
     #[inline(never)]
     #[tactic(auto, unfolding(crate::specs::Attribute::read_request))]
     pub fn read_into<S: Source>(
@@ -220,17 +220,17 @@ impl Skip for ReadRequest {
     }
 }
 
-/// The answer to a [`ReadRequest`] (OPC 10000-4, 5.11.2).
+/// The response to a [`ReadRequest`] (OPC 10000-4, 5.11.2).
 #[derive(Drop)]
 pub struct ReadResponse {
     pub response_header: ResponseHeader,
-    /// One for each item of the request, in its order.
+    /// One result for each item of the request, in its order.
     pub results: UaArray<DataValue>,
     pub diagnostic_infos: UaArray<DiagnosticInfo>,
 }
 
 impl ReadResponse {
-    /// The values of the items, without diagnostics.
+    /// A response with the values of the items, without diagnostics.
     #[tactic(auto, using(crate::proofs::PlainFits::read_response_fits))]
     pub fn of_results(response_header: ResponseHeader, results: Vec<DataValue>) -> ReadResponse
         ensures value { result ≡ values_of response_header results.items }
@@ -248,7 +248,7 @@ impl ReadResponse {
 impl ReadResponse {
     ghost use Rattle.ua_builtin.specs.Format.{most_levels, GivesBy, StaysBehind};
 
-    /// The values of no items under an empty header, to read one into. Takes no memory.
+    /// A response of no values with an empty header, to decode one into. Allocates nothing.
     pub fn empty() -> ReadResponse
         ensures { result ≡ empty_read_response }
     {
@@ -259,8 +259,8 @@ impl ReadResponse {
         }
     }
 
-    /// Reads the ReadResponse that the source begins with in the place of this one, as reading a value
-    /// does. After a fault the source is to be given up.
+    /// Decodes the ReadResponse at the start of the source into this one, as `read_value` does.
+    /// After an error, discard the source.
     #[inline(never)]
     #[tactic(auto, unfolding(crate::specs::Attribute::read_response))]
     pub fn read_into<S: Source>(
@@ -314,26 +314,26 @@ impl Wire for ReadResponse {
     }
 }
 
-/// Values that answer the items of a Read: held, or made one by one as they are written.
+/// The results of a Read: stored, or made one by one as they are encoded.
 pub trait ReadResults {
     ghost use Rattle.std.specs.Prelude.{ℕ, List, OnOk};
     ghost use Rattle.ua_builtin.specs.Format.{Extends};
 
-    /// They can be written.
+    /// The results can be encoded.
     ghost writable: { Self → Type 0 };
 
-    /// What they add: the octets behind which they are written, and those that stand there then.
+    /// Relates the bytes before the results are appended to the bytes afterwards.
     ghost adds: { Self → List ℕ → List ℕ → Type 0 };
 
-    /// Adds them at the end, as an array of DataValues is encoded (OPC 10000-6, 5.2.5). What was there stays,
-    /// also behind an error.
+    /// Appends the results, as an array of DataValues is encoded (OPC 10000-6, 5.2.5). The earlier
+    /// contents stay, also after an error.
     fn append_results(&self, out: &mut Vec<u8>) -> Result<(), AllocError>
         requires { writable self.now }
         ensures ok { OnOk result (adds self.now out.old.items out.new.items) }
         ensures behind { Extends out.old.items out.new.items };
 }
 
-/// An array that is held.
+/// A stored array of results.
 impl ReadResults for UaArray<DataValue> {
     ghost use Rattle.ua_structures.specs.Results.{AddsArray, IsWritableArray};
 
@@ -346,8 +346,8 @@ impl ReadResults for UaArray<DataValue> {
     }
 }
 
-/// Adds the fields of a ReadResponse at the end, in their order (OPC 10000-4, 5.11.2). An error leaves what
-/// was there, and perhaps octets behind it.
+/// Appends the fields of a ReadResponse, in their order (OPC 10000-4, 5.11.2). On an error the
+/// earlier contents stay, perhaps followed by more bytes.
 pub fn append_read_response<R: ReadResults>(
     response_header: &ResponseHeader,
     results: &R,
@@ -365,19 +365,19 @@ pub fn append_read_response<R: ReadResults>(
     diagnostic_infos.append(out)
 }
 
-/// What is to be written: a value for an attribute of a node (OPC 10000-4, 5.11.4).
+/// An item of a Write: a value for an attribute of a node (OPC 10000-4, 5.11.4).
 #[derive(Drop)]
 pub struct WriteValue {
     pub node_id: NodeId,
-    /// [`VALUE_ATTRIBUTE`] is the Value.
+    /// The attribute; [`VALUE_ATTRIBUTE`] is the Value.
     pub attribute_id: u32,
-    /// Which elements of an array; null is all.
+    /// The elements of an array to write; null means all.
     pub index_range: UaString,
     pub value: DataValue,
 }
 
 impl WriteValue {
-    /// The whole value of a node, set to this.
+    /// An item that sets the whole Value of a node.
     #[tactic(auto, using(crate::proofs::PlainFits::write_value_fits))]
     pub fn of_value(node_id: NodeId, value: DataValue) -> WriteValue
         ensures value { result ≡ value_for_node node_id value }
@@ -424,7 +424,7 @@ impl Skip for WriteValue {
     }
 }
 
-/// Write: sets attributes of nodes (OPC 10000-4, 5.11.4).
+/// The Write request: sets attributes of nodes (OPC 10000-4, 5.11.4).
 #[derive(Drop)]
 pub struct WriteRequest {
     pub request_header: RequestHeader,
@@ -445,7 +445,7 @@ impl WriteRequest {
         }
     }
 
-    /// A Write of this one item.
+    /// A Write of one item.
     #[tactic(auto, using(crate::proofs::PlainFits::write_item_fits))]
     pub fn of_item(
         alloc: Global,
@@ -492,17 +492,17 @@ impl Skip for WriteRequest {
     }
 }
 
-/// The answer to a [`WriteRequest`] (OPC 10000-4, 5.11.4).
+/// The response to a [`WriteRequest`] (OPC 10000-4, 5.11.4).
 #[derive(Drop)]
 pub struct WriteResponse {
     pub response_header: ResponseHeader,
-    /// One for each item of the request, in its order.
+    /// One result for each item of the request, in its order.
     pub results: UaArray<StatusCode>,
     pub diagnostic_infos: UaArray<DiagnosticInfo>,
 }
 
 impl WriteResponse {
-    /// What became of each item, without diagnostics.
+    /// A response with the result of each item, without diagnostics.
     #[tactic(auto, using(crate::proofs::PlainFits::write_response_fits))]
     pub fn of_results(response_header: ResponseHeader, results: Vec<StatusCode>) -> WriteResponse
         ensures value { result ≡ statuses_of response_header results.items }

@@ -1,4 +1,4 @@
-//! Arrays of DataValues, each read where it stands.
+//! Arrays of DataValues, each decoded in its place.
 
 ghost use Rattle.std.specs.Prelude.{◌≡◌, ◌≤◌, IsErrOf};
 ghost use Rattle.ua_builtin.specs.Counted.{IsOverlong};
@@ -30,12 +30,13 @@ fn read_each<S: Source>(
     Ok(items)
 }
 
-/// Reads the array of DataValues that the source begins with, each of at most `depth` levels, and
-/// takes just its octets, as [`UaArray`] of them does. Where values are handed over one by one they
-/// are moved at each step, which costs as much as reading them.
+/// Decodes the array of DataValues at the start of the source, each of at most nesting depth
+/// `depth`, and consumes exactly its bytes, as [`UaArray`] of them does. Values returned one by one
+/// would be moved at each step, which costs as much as decoding them.
 ///
-/// `NoValue` where the source begins with no such array, also where its count is above the octets
-/// behind it; `OutOfMemory` where memory is refused. After a fault the source is to be given up.
+/// The error is `NoValue` if no such array is at the start of the source, also if its count exceeds
+/// the number of bytes after it, and `OutOfMemory` if an allocation fails. After an error, discard
+/// the source.
 #[tactic(auto, unfolding(ua_opening::specs::Array::array))]
 pub fn read_data_values<S: Source>(
     alloc: Global,
@@ -52,7 +53,7 @@ pub fn read_data_values<S: Source>(
     if count >= FIRST_NEGATIVE {
         return Ok(UaArray::null());
     }
-    // No encoding is empty: each value needs an octet at least.
+    // No encoding is empty: each value needs a byte at least.
     if src.left() < count as usize {
         return Err(ReadFault::NoValue);
     }

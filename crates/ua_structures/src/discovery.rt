@@ -1,4 +1,4 @@
-//! Discovery: endpoints, and who serves them.
+//! Discovery: endpoints, and the applications that provide them.
 
 ghost use Rattle.std.specs.Prelude.{◌≡◌, ◌≤◌, None, pos, IsTrue};
 ghost use Rattle.ua_opening.specs.Array.{array};
@@ -14,14 +14,14 @@ use ua_opening::{
 };
 use ua_wire::{append_three, append_two};
 
-/// A server or a client (OPC 10000-4, 7.2).
+/// The description of a server or a client (OPC 10000-4, 7.2).
 #[derive(Drop)]
 pub struct ApplicationDescription {
-    /// The name of this installation, unique in the world.
+    /// The globally unique identifier of the application instance.
     pub application_uri: UaString,
     pub product_uri: UaString,
     pub application_name: LocalizedText,
-    /// 0 for a server, 1 for a client; every number is kept.
+    /// 0 for a server, 1 for a client; any other number is preserved.
     pub application_type: i32,
     pub gateway_server_uri: UaString,
     pub discovery_profile_uri: UaString,
@@ -35,7 +35,8 @@ const SERVER: i32 = 0;
 const CLIENT: i32 = 1;
 
 impl ApplicationDescription {
-    /// A server of this URI and name, which has no locale, at these addresses; with nulls else.
+    /// A server with this ApplicationUri, this name without a locale, and these discovery URLs; the
+    /// other fields are null.
     #[tactic(auto, using(crate::proofs::PlainFits::server_fits))]
     pub fn server(
         application_uri: UaString,
@@ -49,7 +50,7 @@ impl ApplicationDescription {
         ApplicationDescription::of_type(SERVER, application_uri, name, discovery_urls)
     }
 
-    /// A client of this URI and name, which has no locale; with nulls else.
+    /// A client with this ApplicationUri and this name without a locale; the other fields are null.
     #[tactic(auto, using(crate::proofs::PlainFits::client_fits))]
     pub fn client(application_uri: UaString, name: UaString) -> ApplicationDescription
         ensures value { result ≡ application_of (pos 1) application_uri name None }
@@ -112,12 +113,12 @@ impl Wire for ApplicationDescription {
     }
 }
 
-/// A kind of user token that an endpoint takes (OPC 10000-4, 7.42).
+/// A kind of user identity token that an endpoint accepts (OPC 10000-4, 7.42).
 #[derive(Drop)]
 pub struct UserTokenPolicy {
-    /// The name by which an identity token refers to this policy.
+    /// The PolicyId by which an identity token refers to this policy.
     pub policy_id: UaString,
-    /// 0 for Anonymous; every number is kept.
+    /// 0 for Anonymous; any other number is preserved.
     pub token_type: i32,
     pub issued_token_type: UaString,
     pub issuer_endpoint_url: UaString,
@@ -152,18 +153,18 @@ impl Wire for UserTokenPolicy {
     }
 }
 
-/// A way to reach a server: where, and under which security (OPC 10000-4, 7.14).
+/// An endpoint of a server: its URL and its security settings (OPC 10000-4, 7.14).
 #[derive(Drop)]
 pub struct EndpointDescription {
     pub endpoint_url: UaString,
     pub server: ApplicationDescription,
     pub server_certificate: UaBytes,
-    /// 1 for None, 2 for Sign, 3 for SignAndEncrypt; every number is kept.
+    /// 1 for None, 2 for Sign, 3 for SignAndEncrypt; any other number is preserved.
     pub security_mode: i32,
     pub security_policy_uri: UaString,
     pub user_identity_tokens: UaArray<UserTokenPolicy>,
     pub transport_profile_uri: UaString,
-    /// The greater, the more secure.
+    /// A greater number means more secure.
     pub security_level: u8,
 }
 
@@ -198,19 +199,19 @@ impl Wire for EndpointDescription {
     }
 }
 
-/// GetEndpoints: asks for the endpoints of a server (OPC 10000-4, 5.5.4).
+/// The GetEndpoints request: asks for the endpoints of a server (OPC 10000-4, 5.5.4).
 #[derive(Drop)]
 pub struct GetEndpointsRequest {
     pub request_header: RequestHeader,
-    /// The address by which the client reached the server.
+    /// The URL by which the client reached the server.
     pub endpoint_url: UaString,
     pub locale_ids: UaArray<UaString>,
-    /// The transport profiles that are asked for; none is all.
+    /// The transport profiles that are asked for; none means all.
     pub profile_uris: UaArray<UaString>,
 }
 
 impl GetEndpointsRequest {
-    /// Asks for the endpoints at this address, for any locale and profile.
+    /// Asks for the endpoints at this URL, for any locale and profile.
     #[tactic(auto, using(crate::proofs::PlainFits::endpoints_fit))]
     pub fn of_url(request_header: RequestHeader, endpoint_url: UaString) -> GetEndpointsRequest
         ensures value { result ≡ endpoints_of request_header endpoint_url }
@@ -249,7 +250,7 @@ impl Wire for GetEndpointsRequest {
     }
 }
 
-/// The answer to a [`GetEndpointsRequest`] (OPC 10000-4, 5.5.4).
+/// The response to a [`GetEndpointsRequest`] (OPC 10000-4, 5.5.4).
 #[derive(Drop)]
 pub struct GetEndpointsResponse {
     pub response_header: ResponseHeader,

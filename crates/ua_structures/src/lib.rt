@@ -1,7 +1,7 @@
-//! The structures of the services of OPC UA Binary: how octets encode them, both ways
-//! (OPC 10000-6, 5.2.5 and 5.2.6; OPC 10000-4, 5 and 7).
+//! The structures of the services of OPC UA Binary, decoded and encoded (OPC 10000-6, 5.2.5 and
+//! 5.2.6; OPC 10000-4, 5 and 7).
 //!
-//! A structure is its fields in order, and its contract is that of [`ua_builtin::Wire`].
+//! A structure is encoded as its fields in order, and has the contract of [`ua_builtin::Wire`].
 //!
 //! ```
 //! let header = RequestHeader::new(token, moment, handle);

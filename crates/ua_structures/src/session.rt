@@ -1,4 +1,4 @@
-//! Sessions.
+//! The Session services.
 
 ghost use Rattle.std.specs.Prelude.{◌≡◌, ◌≤◌, IsTrue};
 ghost use Rattle.ua_builtin.specs.DoubleBits.{double_bits};
@@ -32,10 +32,10 @@ fn timeout_is_encodable(timeout: &DoubleBits)
     let _bits = timeout.bits;
 }
 
-/// The identity of a user without a name. It stands in the body of an ExtensionObject. (OPC 10000-4, 7.41.3).
+/// The identity token of an anonymous user, the body of an ExtensionObject (OPC 10000-4, 7.41.3).
 #[derive(Drop)]
 pub struct AnonymousIdentityToken {
-    /// The `policy_id` of the [`UserTokenPolicy`](crate::UserTokenPolicy) that is used.
+    /// The `policy_id` of the [`UserTokenPolicy`](crate::UserTokenPolicy) that the token is for.
     pub policy_id: UaString,
 }
 
@@ -61,27 +61,27 @@ impl Wire for AnonymousIdentityToken {
     }
 }
 
-/// CreateSession: asks for a session (OPC 10000-4, 5.7.2).
+/// The CreateSession request: asks for a session (OPC 10000-4, 5.7.2).
 #[derive(Drop)]
 pub struct CreateSessionRequest {
     pub request_header: RequestHeader,
     pub client_description: ApplicationDescription,
     pub server_uri: UaString,
-    /// The address by which the client reached the server.
+    /// The URL by which the client reached the server.
     pub endpoint_url: UaString,
-    /// A text for people.
+    /// A human-readable name.
     pub session_name: UaString,
     pub client_nonce: UaBytes,
     pub client_certificate: UaBytes,
-    /// How long the session is to live without a request, in milliseconds.
+    /// The requested session timeout, in milliseconds without a request.
     pub requested_session_timeout: DoubleBits,
-    /// The most octets of a response; 0 is no limit.
+    /// The maximum size of a response in bytes; 0 is no limit.
     pub max_response_message_size: u32,
 }
 
 impl CreateSessionRequest {
-    /// Asks for a session of this client, at this address, under this name, with this timeout in
-    /// milliseconds: without a limit of responses, and with nulls else.
+    /// Asks for a session of this client, at this EndpointUrl, with this name and this timeout in
+    /// milliseconds; without a limit on responses, and the other fields are null.
     #[tactic(auto, using(crate::proofs::PlainFits::create_session_fits))]
     pub fn new(
         request_header: RequestHeader,
@@ -140,28 +140,29 @@ impl Wire for CreateSessionRequest {
     }
 }
 
-/// The answer to a [`CreateSessionRequest`] (OPC 10000-4, 5.7.2).
+/// The response to a [`CreateSessionRequest`] (OPC 10000-4, 5.7.2).
 #[derive(Drop)]
 pub struct CreateSessionResponse {
     pub response_header: ResponseHeader,
-    /// The name of the session.
+    /// The NodeId of the session.
     pub session_id: NodeId,
-    /// What the request headers of the session carry.
+    /// The AuthenticationToken in the request headers of the session.
     pub authentication_token: NodeId,
-    /// How long the session lives without a request, in milliseconds.
+    /// The session timeout, in milliseconds without a request.
     pub revised_session_timeout: DoubleBits,
     pub server_nonce: UaBytes,
     pub server_certificate: UaBytes,
     pub server_endpoints: UaArray<EndpointDescription>,
     pub server_software_certificates: UaArray<SignedSoftwareCertificate>,
     pub server_signature: SignatureData,
-    /// The most octets of a request; 0 is no limit.
+    /// The maximum size of a request in bytes; 0 is no limit.
     pub max_request_message_size: u32,
 }
 
 impl CreateSessionResponse {
-    /// The session with this id and token, its timeout in milliseconds, the endpoints of the
-    /// server, and the most octets of a request; with nulls else.
+    /// A session with this SessionId and AuthenticationToken, its timeout in milliseconds, the
+    /// endpoints of the server, and the maximum size of a request in bytes; the other fields are
+    /// null.
     #[tactic(auto, using(crate::proofs::PlainFits::session_fits))]
     pub fn new(
         response_header: ResponseHeader,
@@ -225,7 +226,7 @@ impl Wire for CreateSessionResponse {
     }
 }
 
-/// ActivateSession: says whose a session is (OPC 10000-4, 5.7.3).
+/// The ActivateSession request: gives the identity of the session's user (OPC 10000-4, 5.7.3).
 #[derive(Drop)]
 pub struct ActivateSessionRequest {
     pub request_header: RequestHeader,
@@ -237,7 +238,7 @@ pub struct ActivateSessionRequest {
 }
 
 impl ActivateSessionRequest {
-    /// Says that the session of the header is that of this identity; with nulls else.
+    /// Gives this user identity to the session of the header; the other fields are null.
     #[tactic(auto, using(crate::proofs::PlainFits::activate_session_fits))]
     pub fn new(
         request_header: RequestHeader,
@@ -289,7 +290,7 @@ impl Wire for ActivateSessionRequest {
     }
 }
 
-/// The answer to an [`ActivateSessionRequest`] (OPC 10000-4, 5.7.3).
+/// The response to an [`ActivateSessionRequest`] (OPC 10000-4, 5.7.3).
 #[derive(Drop)]
 pub struct ActivateSessionResponse {
     pub response_header: ResponseHeader,
@@ -299,7 +300,7 @@ pub struct ActivateSessionResponse {
 }
 
 impl ActivateSessionResponse {
-    /// The answer with nulls alone.
+    /// A response whose fields, other than the header, are null.
     #[tactic(auto, using(crate::proofs::PlainFits::activated_fits))]
     pub fn new(response_header: ResponseHeader) -> ActivateSessionResponse
         ensures value { result ≡ activated_of response_header }
@@ -338,7 +339,7 @@ impl Wire for ActivateSessionResponse {
     }
 }
 
-/// CloseSession: ends a session (OPC 10000-4, 5.7.4).
+/// The CloseSession request: closes a session (OPC 10000-4, 5.7.4).
 #[derive(Drop)]
 pub struct CloseSessionRequest {
     pub request_header: RequestHeader,
@@ -369,7 +370,7 @@ impl Wire for CloseSessionRequest {
     }
 }
 
-/// The answer to a [`CloseSessionRequest`] (OPC 10000-4, 5.7.4).
+/// The response to a [`CloseSessionRequest`] (OPC 10000-4, 5.7.4).
 #[derive(Drop)]
 pub struct CloseSessionResponse {
     pub response_header: ResponseHeader,

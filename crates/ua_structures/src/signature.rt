@@ -1,4 +1,4 @@
-//! Signatures, and what is signed.
+//! Signatures and signed certificates.
 
 ghost use Rattle.std.specs.Prelude.{◌≡◌};
 ghost use Rattle.ua_structures.specs.Plain.{null_signature};
@@ -8,7 +8,7 @@ use ua_builtin::{ReadFault, Source, UaBytes, UaString, Wire};
 use ua_opening::{append_fields, are_encodable, read_fields};
 use ua_wire::append_two;
 
-/// A certificate of software, and its signature (OPC 10000-4, 7.38).
+/// A software certificate and its signature (OPC 10000-4, 7.38).
 #[derive(Drop)]
 pub struct SignedSoftwareCertificate {
     pub certificate_data: UaBytes,
@@ -37,7 +37,7 @@ impl Wire for SignedSoftwareCertificate {
     }
 }
 
-/// A signature, and the algorithm that made it (OPC 10000-4, 7.37).
+/// A signature and the algorithm that made it (OPC 10000-4, 7.37).
 #[derive(Drop)]
 pub struct SignatureData {
     pub algorithm: UaString,
@@ -45,7 +45,7 @@ pub struct SignatureData {
 }
 
 impl SignatureData {
-    /// No signature: neither an algorithm nor octets.
+    /// The null signature: neither an algorithm nor bytes.
     pub fn null() -> SignatureData
         ensures { result ≡ null_signature }
     {

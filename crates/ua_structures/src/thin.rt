@@ -1,4 +1,4 @@
-//! Writes that are read without the values that their nodes could not take.
+//! Writes that are decoded without the values that their nodes could not take.
 
 ghost use Rattle.std.specs.Prelude.{◌≡◌, ◌≤◌, Bool};
 ghost use Rattle.ua_builtin.specs.Exact.{image_read};
@@ -18,22 +18,22 @@ use ua_variant::{DataValue, HeldVariant, Variant};
 /// The flag of a value in the mask of a DataValue (OPC 10000-6, 5.2.2.17).
 const VALUE: u8 = 0x01;
 
-/// The flag of an array in the first octet of a Variant (OPC 10000-6, 5.2.2.16).
+/// The flag of an array in the first byte of a Variant (OPC 10000-6, 5.2.2.16).
 const ARRAY: u8 = 0x80;
 
-/// The bits of the type id in the first octet of an array (OPC 10000-6, 5.2.2.16).
+/// The bits of the type id in the first byte of an array (OPC 10000-6, 5.2.2.16).
 const TYPE_ID: u8 = 0x3F;
 
-/// The type of a value: that of a scalar, or of an array.
+/// The type of a value: a scalar's, or an array's.
 #[derive(Clone, Copy)]
 pub struct ValueType {
     /// The type id of the scalar, or of the elements of the array (OPC 10000-6, 5.1.2).
     pub kind: u8,
-    /// Whether it is an array.
+    /// Whether the value is an array.
     pub array: bool,
 }
 
-/// Who knows which nodes could take which values.
+/// Knows which nodes could take values of which types.
 pub trait TakesTypes {
     ghost use Rattle.ua_builtin.specs.declared.node_id.NodeId.{NodeId};
     ghost use Rattle.ua_structures.specs.declared.thin.ValueType.{ValueType};
@@ -41,12 +41,12 @@ pub trait TakesTypes {
     /// The node of the NodeId could take a value of the type.
     ghost takes: { Self → NodeId → ValueType → Bool };
 
-    /// Whether the node of the NodeId could take a value of the type. Takes no memory.
+    /// Whether the node of the NodeId could take a value of the type. Allocates nothing.
     fn could_take(&self, id: &NodeId, value_type: ValueType) -> bool
         ensures { result ≡ takes self.now id.now value_type };
 }
 
-/// The type that the first octet of a Variant announces; a null one has none.
+/// The type that the first byte of a Variant announces; a null one has none.
 fn announced_type(tag: u8) -> Option<ValueType>
     ensures { result ≡ type_at tag }
 {
@@ -65,8 +65,8 @@ fn announced_type(tag: u8) -> Option<ValueType>
     })
 }
 
-/// Whether the DataValue that the source begins with is kept, in an item for this node: looked at are
-/// its mask and the first octet of its value, in a fork.
+/// Whether the DataValue at the start of the source is kept, in an item for this node: looked
+/// at are its mask and the first byte of its value, in a fork.
 fn is_kept<S: Source, T: TakesTypes>(src: &S, types: &T, id: &NodeId) -> bool
     ensures { result ≡ is_kept_at (T.takes types.now id.now) (S.octets src.now) }
 {
@@ -85,7 +85,7 @@ fn is_kept<S: Source, T: TakesTypes>(src: &S, types: &T, id: &NodeId) -> bool
     }
 }
 
-/// A null Variant, and neither a status nor a time. Takes no memory.
+/// A null Variant, and neither a status nor a time. Allocates nothing.
 fn null_value() -> DataValue
     ensures { result ≡ null_value_is }
 {
@@ -99,7 +99,7 @@ fn null_value() -> DataValue
     }
 }
 
-/// Reads what is kept of the DataValue that the source begins with, in an item for this node.
+/// Reads what is kept of the DataValue at the start of the source, in an item for this node.
 fn read_kept<S: Source, T: TakesTypes>(
     alloc: Global,
     src: &mut S,
@@ -119,9 +119,9 @@ fn read_kept<S: Source, T: TakesTypes>(
 }
 
 impl WriteValue {
-    /// Reads the item that the source begins with, as reading a value does, but for a value that its node
-    /// could not take: that is passed over, and a null Variant stands in its place. After a fault the
-    /// source is to be given up.
+    /// Decodes the item at the start of the source, as `read_value` does, but skips a value that
+    /// its node could not take, and puts a null Variant in its place. After an error, discard the
+    /// source.
     #[tactic(auto, unfolding(crate::specs::Attribute::write_value))]
     pub fn read_thinned<S: Source, T: TakesTypes>(
         alloc: Global,
@@ -181,7 +181,7 @@ fn read_array<S: Source, T: TakesTypes>(
     if count >= FIRST_NEGATIVE {
         return Ok(UaArray::null());
     }
-    // No encoding is empty: each item needs an octet at least.
+    // No encoding is empty: each item needs a byte at least.
     if src.left() < count as usize {
         return Err(ReadFault::NoValue);
     }
@@ -190,10 +190,10 @@ fn read_array<S: Source, T: TakesTypes>(
 }
 
 impl WriteRequest {
-    /// Reads the Write that the source begins with, as reading a value does, but keeps of each item what
-    /// [`WriteValue::read_thinned`] keeps (OPC 10000-4, 5.11.4). A value that its node could not take is
-    /// passed over: of an array no more memory is asked for than one element or part takes at a time; a
-    /// scalar is read, and let go. After a fault the source is to be given up.
+    /// Decodes the Write at the start of the source, as `read_value` does, but keeps of each item
+    /// what [`WriteValue::read_thinned`] keeps (OPC 10000-4, 5.11.4). A value that its node could
+    /// not take is skipped: for an array, no more memory is allocated than one element or part
+    /// needs at a time; a scalar is decoded and dropped. After an error, discard the source.
     #[tactic(auto, unfolding(crate::specs::Attribute::write_request))]
     pub fn read_thinned<S: Source, T: TakesTypes>(
         alloc: Global,

@@ -1,4 +1,4 @@
-//! Moments of the system's clock.
+//! Timestamps of the system's clock.
 
 ghost use Rattle.std.specs.Prelude.{◌≡◌, ◌+◌, ◌/◌, ◌≤◌, ◌^◌, pos, None, IfSome};
 ghost use Rattle.std.specs.Duration.{as_nanos};
@@ -12,15 +12,15 @@ const TICKS_OF_1970: i64 = 116_444_736_000_000_000;
 
 const NANOSECONDS_OF_A_TICK: u128 = 100;
 
-/// The moments of a clock, each at the time when it is asked for. Where the clock fails, or tells a
-/// moment that is none of a DateTime, it is 1970-01-01.
+/// The times of a clock, each read when it is asked for. Where the clock fails, or its time is not
+/// that of a DateTime, the timestamp is 1970-01-01.
 #[derive(Drop)]
 pub struct ClockMoments<'a, C> {
     clock: &'a C,
 }
 
 impl<'a, C> ClockMoments<'a, C> {
-    /// The moments of this clock.
+    /// The timestamps of this clock.
     pub fn new(clock: &'a C) -> ClockMoments<'a, C> {
         ClockMoments { clock }
     }
@@ -37,7 +37,7 @@ impl<'a, C: Clock> Moments for ClockMoments<'a, C> {
     }
 }
 
-/// The moment so long after 1970-01-01, in ticks of 100 ns, if it is one of a DateTime.
+/// The time so long after 1970-01-01, in ticks of 100 ns, if a DateTime can hold it.
 fn moment_at(since: Duration) -> Option<i64>
     ensures some { IfSome result (λ moment. moment ≡ pos (ticks_of_1970 + as_nanos since / 100)) }
     ensures none { result ≡ None → 2 ^ 63 ≤ ticks_of_1970 + as_nanos since / 100 }

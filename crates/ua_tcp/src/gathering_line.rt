@@ -1,26 +1,27 @@
-//! A line that gathers what is written to it.
+//! A transport that buffers writes.
 
 ghost use Rattle.std.specs.Prelude.{◌≡◌, ◌++◌, [], ℕ, OnOk, cond, option_map};
 
 use std::alloc::Global;
 use ua_channel::{Line, LineFault};
 
-/// The most octets that are gathered.
+/// The maximum number of buffered bytes.
 const MOST_GATHERED: usize = 16384;
 
-/// A line that gathers what is written to it, and writes it to the line beneath at once: before that is
-/// read; before a write by which more than 16384 octets would be gathered, for which memory is refused, or
-/// which comes behind a flush that stopped midway; and when it is asked to
-/// ([`flush`](GatheringLine::flush)). What can't be gathered then either, for its length or for want of
-/// memory, is written to the line beneath itself. So many short answers go out by one call, and who waits
-/// for an answer has it before the next octets are waited for. What is gathered when the line is let go
-/// does not go out. It tells its octets where the line beneath does: each call does to them what the same
-/// call of the line beneath may do, and what is gathered counts as written.
+/// A transport that buffers writes, and writes the buffered bytes to the transport beneath it:
+/// before it reads from that; before a write that would make the buffer larger than 16384 bytes,
+/// that fails to allocate memory for the buffer, or that comes after a flush that stopped midway;
+/// and on request ([`flush`](GatheringLine::flush)). Bytes that cannot be buffered then either, for
+/// their length or a failed allocation, are written to the transport beneath directly. So many
+/// short responses go out by one call, and a peer that waits for a response has it before the next
+/// bytes are waited for. Bytes that are buffered when the value is dropped are not sent. Its
+/// traffic is known where that of the transport beneath is: each call has an effect on it that the
+/// same call of the transport beneath may have, and buffered bytes count as written.
 #[derive(Drop)]
 pub struct GatheringLine<L> {
     line: L,
     gathered: Vec<u8>,
-    /// How many of the gathered octets went out.
+    /// The number of buffered bytes that were sent.
     gone: usize,
 }
 
@@ -28,7 +29,7 @@ impl<L: Line> GatheringLine<L> {
     ghost use Rattle.ua_channel.specs.Line.{failures_after};
     ghost use Rattle.ua_tcp.specs.Lines.{beneath, behind_gathered, gathered_in};
 
-    /// A line over this one, of which nothing is gathered.
+    /// A transport over this one, with an empty buffer.
     pub fn new(alloc: Global, line: L) -> GatheringLine<L>
         ensures line { beneath result ≡ line }
         ensures gathered { gathered_in result ≡ [] }
@@ -40,14 +41,15 @@ impl<L: Line> GatheringLine<L> {
         }
     }
 
-    /// The line beneath.
+    /// The transport beneath.
     pub fn beneath(&self) -> &L
         ensures { result.now ≡ beneath self.now }
     {
         &self.line
     }
 
-    /// Writes what is gathered to the line beneath. Where that fails what did not go out stays gathered.
+    /// Writes the buffered bytes to the transport beneath. Where that fails the bytes that were not
+    /// sent stay buffered.
     pub fn flush(&mut self) -> Result<(), LineFault>
         ensures gathered { OnOk result (gathered_in self.new ≡ []) }
         ensures octets { option_map (behind_gathered (gathered_in self.new)) (L.traffic (beneath self.new)) ≡ option_map (behind_gathered (gathered_in self.old)) (L.traffic (beneath self.old)) }
@@ -64,8 +66,8 @@ impl<L: Line> GatheringLine<L> {
         Ok(())
     }
 
-    /// Gathers these octets, and says whether it did: not where some of what is gathered went out, nor
-    /// where it would be too much, nor where memory is refused.
+    /// Buffers these bytes, and returns whether it did: it does not where some of the buffered
+    /// bytes were sent, where there would be too many, or where an allocation fails.
     fn gather(&mut self, octets: &[u8]) -> bool
         ensures line { beneath self.new ≡ beneath self.old }
         ensures gathered { gathered_in self.new ≡ cond result (gathered_in self.old ++ octets.now) (gathered_in self.old) }

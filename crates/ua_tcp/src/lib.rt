@@ -1,11 +1,12 @@
-//! Lines over sockets, and moments of the system's clock: what a program has to hand to the crates that
-//! have no input and no output of their own.
+//! Transports over sockets, and timestamps of the system's clock: what a program has to give to the
+//! crates that have no input and no output of their own.
 //!
 //! ```
 //! let stream = TcpStream::connect(&rt, (Ipv4Addr::LOCALHOST, 4840))?;
 //! let mut line = TcpLine::new(without_delay(stream));
 //! let mut moments = ClockMoments::new(&rt);
-//! let mut client = Client::open(alloc, &mut line, limits, url, DateTime { ticks: moments.next() })?;
+//! let moment = DateTime { ticks: moments.next() };
+//! let mut client = Client::open(alloc, &mut line, limits, url, moment)?;
 //! ```
 #![tactic(auto)]
 

@@ -1,22 +1,23 @@
-//! A line that keeps what goes over it.
+//! A transport that keeps the bytes that go over it.
 
 ghost use Rattle.std.specs.Prelude.{◌≡◌, ◌++◌, ◌+◌, ◌≤◌, ◌<◌, [], ℕ, length, take, IfOk};
 
 use std::alloc::Global;
 use ua_channel::{Line, LineFault};
 
-/// A line that keeps the octets that are read from the line beneath, and those that are written to it,
-/// since it was made: over a connection too, which does not tell its octets. Its traffic is that of the
-/// line beneath.
+/// A transport that keeps the bytes that are read from the transport beneath it, and those that are
+/// written to it, since it was made. It does so over a connection too, whose traffic is not known
+/// otherwise. Its traffic is that of the transport beneath.
 ///
-/// Room for what a call may move is made before the line beneath is called. Where memory is refused the
-/// call fails, and nothing is read, written or kept.
+/// A call reserves memory for the bytes that it may move before it calls the transport beneath.
+/// Where that allocation fails the call fails, and nothing is read, written or kept.
 #[derive(Drop)]
 pub struct RecordedLine<L> {
     line: L,
     read: Vec<u8>,
     written: Vec<u8>,
-    /// How many calls failed since it was made, from the greatest number on again from 0.
+    /// The number of calls that failed since it was made; after the greatest number it restarts at
+    /// 0.
     failures: u64,
 }
 
@@ -25,7 +26,7 @@ impl<L> RecordedLine<L> {
     ghost use Rattle.ua_channel.specs.declared.line.LineFault.TheVariants.{Failed};
     ghost use Rattle.ua_tcp.specs.Records.{failed_since, line_of, octets_read, octets_written};
 
-    /// A line over this one, over which nothing went.
+    /// A transport over this one that has kept no bytes.
     pub fn new(alloc: Global, line: L) -> RecordedLine<L>
         ensures line { line_of result ≡ line }
         ensures read { octets_read result ≡ [] }
@@ -40,21 +41,21 @@ impl<L> RecordedLine<L> {
         }
     }
 
-    /// The octets that its reads handed out, in order.
+    /// The bytes that its reads returned, in order.
     pub fn octets_read(&self) -> &[u8]
         ensures { result.now ≡ octets_read self.now }
     {
         &self.read
     }
 
-    /// The octets that its writes took, in order.
+    /// The bytes that its writes took, in order.
     pub fn octets_written(&self) -> &[u8]
         ensures { result.now ≡ octets_written self.now }
     {
         &self.written
     }
 
-    /// The line beneath.
+    /// The transport beneath.
     pub fn into_line(self) -> L
         ensures { result ≡ line_of self }
     {
@@ -74,7 +75,7 @@ impl<L> RecordedLine<L> {
     }
 }
 
-/// Puts octets behind the first ones of a list, in the place of as many.
+/// Puts bytes after the first ones of a list, in the place of as many.
 fn put(kept: &mut Vec<u8>, before: usize, octets: &[u8])
     requires { before + length octets.now ≤ length kept.old.items }
     ensures { kept.new.items ≡ take before kept.old.items ++ octets.now }

@@ -1,4 +1,4 @@
-//! Lines over connections.
+//! Transports over connections.
 
 ghost use Rattle.std.specs.Prelude.{◌≡◌, ℕ, None};
 ghost use Rattle.ua_channel.specs.Line.{one_more};
@@ -8,19 +8,19 @@ use std::io::{Read, Write};
 use std::net::OpenStream;
 use ua_channel::{Line, LineFault};
 
-/// A line over a connection. It does not tell its octets: what a peer sends and gets is not known
-/// here.
+/// The transport over a connection. Its traffic is not known: the contract says nothing of what a
+/// peer sends and receives.
 #[derive(Drop)]
 pub struct TcpLine<S> {
     stream: S,
-    /// How many calls failed so far, from the greatest number on again from 0.
+    /// The number of calls that failed so far; after the greatest number it restarts at 0.
     failures: u64,
 }
 
 impl<S> TcpLine<S> {
     ghost use Rattle.ua_tcp.specs.Lines.{failed_calls};
 
-    /// A line over this connection, of which no call failed.
+    /// A transport over this connection, of which no call failed.
     pub fn new(stream: S) -> TcpLine<S>
         ensures { failed_calls result ≡ 0 }
     {
@@ -40,9 +40,9 @@ impl<S> TcpLine<S> {
     }
 }
 
-/// The connection, set to send what is written at once (TCP_NODELAY): a frame that is not the first one
-/// would else wait until the peer has said that it got those before. Where that cannot be set, frames
-/// go out later.
+/// Sets the connection to send written bytes at once (TCP_NODELAY): a frame after the first one
+/// would otherwise wait until the peer has acknowledged those before. Where that cannot be set,
+/// frames are sent later.
 pub fn without_delay<S: OpenStream>(stream: S) -> S {
     let _ = stream.set_nodelay(true);
     stream
@@ -62,7 +62,7 @@ impl<S: Read + Write> Line for TcpLine<S> {
 
     fn write(&mut self, octets: &[u8]) -> Result<usize, LineFault> {
         match self.stream.write(octets) {
-            // No octet was taken, and a further call need not take one.
+            // No byte was taken, and a further call need not take one.
             Ok(0) if !octets.is_empty() => Err(self.fail()),
             Ok(n) => Ok(n),
             Err(_) => Err(self.fail()),

@@ -1,4 +1,4 @@
-//! The lines of answers.
+//! The lines of results and endpoints.
 
 ghost use Rattle.std.specs.Prelude.{◌≡◌, ◌++◌, codes, string_bytes, OnOk};
 ghost use Rattle.std.specs.List.{flat_map};
@@ -17,10 +17,10 @@ use ua_builtin::{DateTime, NodeId, StatusCode};
 use ua_structures::{EndpointDescription, UaArray, UserTokenPolicy};
 use ua_variant::{DataValue, HeldVariant};
 
-/// Adds the answer to an item of a Read: `NODE CODE TYPE VALUE`, or `NODE CODE` where there is no
-/// value. Where names are wanted, the code's name stands behind it; where timestamps are wanted,
-/// `source TICKS server TICKS` stands at the end, with `none` for one that is not there. Where JSON is
-/// wanted, the line is an object of JSON with the same parts.
+/// Appends the result of a Read item: `NODE CODE TYPE VALUE`, or `NODE CODE` if there is no value.
+/// With names, the StatusCode's name follows it; with timestamps, the line ends in `source TICKS
+/// server TICKS`, with `none` for an absent one. With JSON, the line is a JSON object with the same
+/// parts.
 #[tactic(auto, unfolding(crate::specs::Answers::read_line))]
 pub fn push_read_line(
     alloc: Global,
@@ -59,8 +59,8 @@ fn push_plain_read(
     out.push_str("\n")
 }
 
-/// Adds the answer to an item of a Write: `NODE CODE`. Where names are wanted, the code's name stands
-/// behind it. Where JSON is wanted, the line is an object of JSON with the same parts.
+/// Appends the result of a Write item: `NODE CODE`. With names, the StatusCode's name follows it.
+/// With JSON, the line is a JSON object with the same parts.
 #[tactic(auto, unfolding(crate::specs::Answers::write_line))]
 pub fn push_write_line(
     alloc: Global,
@@ -91,7 +91,7 @@ fn push_plain_write(
     out.push_str("\n")
 }
 
-/// Adds a NodeId and a status code, with its name where names are wanted.
+/// Appends a NodeId and a status code, with its name where names are wanted.
 pub(crate) fn push_status(
     alloc: Global,
     out: &mut String,
@@ -107,7 +107,7 @@ pub(crate) fn push_status(
     push_code_as(out, status, names)
 }
 
-/// Adds a value behind a space, where there is one.
+/// Appends a value after a space, where there is one.
 fn push_value_part(
     alloc: Global,
     out: &mut String,
@@ -124,7 +124,7 @@ fn push_value_part(
     }
 }
 
-/// Adds the timestamps of an answer, where they are wanted.
+/// Appends the timestamps of an answer, where they are wanted.
 fn push_times_part(out: &mut String, answer: &DataValue, times: bool) -> Result<(), AllocError>
     ensures { OnOk result (string_bytes out.new ≡ string_bytes out.old ++ times_part times answer.now) }
 {
@@ -135,7 +135,7 @@ fn push_times_part(out: &mut String, answer: &DataValue, times: bool) -> Result<
     }
 }
 
-/// Adds the timestamps of an answer.
+/// Appends the timestamps of an answer.
 fn push_times(out: &mut String, answer: &DataValue) -> Result<(), AllocError>
     ensures { OnOk result (string_bytes out.new ≡ string_bytes out.old ++ times_text answer.now) }
 {
@@ -145,7 +145,7 @@ fn push_times(out: &mut String, answer: &DataValue) -> Result<(), AllocError>
     push_ticks(out, answer.server_timestamp)
 }
 
-/// Adds a timestamp by its ticks, or `none`.
+/// Appends a timestamp by its ticks, or `none`.
 fn push_ticks(out: &mut String, moment: Option<DateTime>) -> Result<(), AllocError>
     ensures { OnOk result (string_bytes out.new ≡ string_bytes out.old ++ ticks_text moment) }
 {
@@ -155,9 +155,9 @@ fn push_ticks(out: &mut String, moment: Option<DateTime>) -> Result<(), AllocErr
     }
 }
 
-/// Adds an endpoint: `URL MODE POLICY`, the mode by its number. Where token policies are wanted, each
-/// stands in a line behind it: `  policy ID TYPE`, the type by its number. Where JSON is wanted, the
-/// line is an object of JSON with the same parts.
+/// Appends an endpoint: `URL MODE POLICY`, the MessageSecurityMode by its number. With token
+/// policies, each has a line after it: `  policy ID TYPE`, the token type by its number. With JSON,
+/// the line is a JSON object with the same parts.
 #[tactic(auto, unfolding(crate::specs::Answers::endpoint_line))]
 pub fn push_endpoint_line(
     alloc: Global,
@@ -185,7 +185,7 @@ fn push_plain_endpoint(
     push_policies_part(out, &endpoint.user_identity_tokens, style.policies)
 }
 
-/// Adds where a server is, and under which security.
+/// Appends where a server is, and under which security.
 fn push_address(out: &mut String, endpoint: &EndpointDescription) -> Result<(), AllocError>
     ensures { OnOk result (string_bytes out.new ≡ string_bytes out.old ++ address_line endpoint.now) }
 {
@@ -195,7 +195,7 @@ fn push_address(out: &mut String, endpoint: &EndpointDescription) -> Result<(), 
     out.push_str("\n")
 }
 
-/// Adds the token policies of an endpoint, where they are wanted.
+/// Appends the token policies of an endpoint, where they are wanted.
 fn push_policies_part(
     out: &mut String,
     policies: &UaArray<UserTokenPolicy>,
@@ -209,7 +209,7 @@ fn push_policies_part(
     }
 }
 
-/// Adds token policies, each in a line.
+/// Appends token policies, each in a line.
 fn push_policies(out: &mut String, policies: &[UserTokenPolicy]) -> Result<(), AllocError>
     ensures { OnOk result (string_bytes out.new ≡ string_bytes out.old ++ flat_map policy_line policies.now) }
 {
@@ -219,7 +219,7 @@ fn push_policies(out: &mut String, policies: &[UserTokenPolicy]) -> Result<(), A
     Ok(())
 }
 
-/// Adds a token policy.
+/// Appends a token policy.
 fn push_policy(out: &mut String, policy: &UserTokenPolicy) -> Result<(), AllocError>
     ensures { OnOk result (string_bytes out.new ≡ string_bytes out.old ++ policy_line policy.now) }
 {

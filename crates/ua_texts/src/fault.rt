@@ -1,17 +1,17 @@
-//! Why a script was not read, and an answer not printed.
+//! The reasons why a script was not parsed, or results were not printed.
 
 use std::alloc::{AllocError, AllocFailed};
 use thiserror::Error;
 use ua_builtin::{StatusCode, TextFault};
 use ua_nodes::ValueFault;
 
-/// Why a script was not read.
+/// The reason why a script was not parsed.
 #[derive(Clone, Copy, PartialEq, Eq, Debug, Error)]
 pub enum ScriptFault {
-    /// The first line that asks for nothing, counted from 1.
+    /// The first line that is no step, counted from 1.
     #[error("script line {0}")]
     Line(usize),
-    /// Memory was refused.
+    /// An allocation failed.
     #[error("out of memory")]
     OutOfMemory,
 }
@@ -30,7 +30,7 @@ impl<T: Drop> From<AllocFailed<T>> for ScriptFault {
 /// Why a line gave no step.
 #[derive(Clone, Copy, PartialEq, Eq, Debug)]
 pub(crate) enum StepFault {
-    /// The line asks for nothing.
+    /// The line is no step.
     Bad,
     NoMemory,
 }
@@ -89,17 +89,17 @@ impl From<AllocError> for StepFault {
     }
 }
 
-/// Why the answers in a response were not printed.
+/// The reason why the results of a response were not printed.
 #[derive(Clone, Copy, PartialEq, Eq, Debug, Error)]
 pub enum AnswerFault {
-    /// The service failed, with this code.
+    /// The service call failed with this StatusCode.
     #[error("the service failed")]
     Service(StatusCode),
-    /// The response is that of another service, or has another number of answers than were asked
-    /// for.
+    /// The response is of another service, or has another number of results than the request has
+    /// items.
     #[error("the response is unknown")]
     Unknown,
-    /// Memory was refused.
+    /// An allocation failed.
     #[error("out of memory")]
     OutOfMemory,
 }

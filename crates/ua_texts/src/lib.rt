@@ -1,8 +1,8 @@
-//! What the program `ua` prints and what its scripts ask for, as texts: values, the lines of answers,
+//! The text output and the scripts of the program `ua`: values, the lines of results and endpoints,
 //! and the lines of scripts.
 //!
-//! Its contract: each text is a function of the value, and each line of a script asks for one step at
-//! most.
+//! The contract: each text is a function of the value, and each line of a script is at most one
+//! step.
 //!
 //! ```
 //! let steps = parse_script(alloc, "write\tns=1;s=Pump\tInt32\t6\nread\tns=1;s=Pump\n")?;

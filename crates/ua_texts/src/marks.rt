@@ -10,9 +10,9 @@ use ua_builtin::UaString;
 /// Which characters part a text from what stands beside it, so that they are escaped in it.
 #[derive(Clone, Copy, PartialEq, Eq, Debug)]
 pub(crate) struct Marks {
-    /// A bar stands behind the text.
+    /// A bar follows the text.
     pub bar: bool,
-    /// A semicolon stands behind the text.
+    /// A semicolon follows the text.
     pub semicolon: bool,
     /// The text stands within an array or within brackets.
     pub within: bool,
@@ -53,7 +53,7 @@ impl Marks {
     }
 }
 
-/// Adds a text with each mark by its digits, and each other character as it is shown.
+/// Appends a text with each mark by its digits, and each other character as it is shown.
 pub(crate) fn push_marked(out: &mut String, text: &str, marks: Marks) -> Result<(), AllocError>
     ensures { OnOk result (string_bytes out.new ≡ string_bytes out.old ++ marked marks text.now) }
 {
@@ -72,7 +72,7 @@ fn push_marked_char(out: &mut String, c: char, marks: Marks) -> Result<(), Alloc
     }
 }
 
-/// The octet of a mark.
+/// The byte of a mark.
 fn mark_octet(c: char, marks: Marks) -> Option<u8>
     ensures { result ≡ (if is_mark marks c then Some c else None) }
 {
@@ -85,7 +85,7 @@ fn mark_octet(c: char, marks: Marks) -> Option<u8>
     if is_mark { Some(c as u8) } else { None }
 }
 
-/// Adds a String so, null as `null`.
+/// Appends a String so, null as `null`.
 pub(crate) fn push_marked_string(
     out: &mut String,
     text: &UaString,

@@ -9,7 +9,7 @@ use crate::text::push_code;
 use std::alloc::AllocError;
 use ua_builtin::StatusCode;
 
-/// The standard's name of a status code (OPC 10000-6, A.2), where the table has the code.
+/// The standard's name of a StatusCode (OPC 10000-6, A.2), if the table has the code.
 pub fn code_name(status: StatusCode) -> Option<&'static str>
     ensures { option_map (λ name. name.now) result ≡ name_of_code status.code }
 {
@@ -33,7 +33,7 @@ fn name_at(place: usize) -> Option<&'static str>
     STATUS_NAMES.lines().nth(place)
 }
 
-/// Adds a status code, and where names are wanted, its name behind a space.
+/// Appends a StatusCode, and, if names are wanted, its name after a space.
 pub fn push_code_as(out: &mut String, status: StatusCode, names: bool) -> Result<(), AllocError>
     ensures { OnOk result (string_bytes out.new ≡ string_bytes out.old ++ named_code names status.code) }
 {

@@ -1,4 +1,4 @@
-//! Answers as objects of JSON.
+//! Results and endpoints as JSON objects.
 
 ghost use Rattle.std.specs.Prelude.{◌≡◌, ◌++◌, ◌∷◌, [], codes, true, map, option_map, string_bytes, IfOk, OnOk};
 ghost use Rattle.std.specs.List.{flat_map};
@@ -32,7 +32,7 @@ use ua_variant::{DataValue, Elements, HeldVariant, Packed, Scalar, Scalars, Vari
 /// The greatest magnitude up to which a Double holds each whole number, 2^53.
 const MOST_EXACT: u64 = 9_007_199_254_740_992;
 
-/// Adds the answer to an item of a Read.
+/// Appends the result of a Read item.
 pub fn push_read_json(
     alloc: Global,
     out: &mut String,
@@ -50,7 +50,7 @@ pub fn push_read_json(
     end_line(out, line)
 }
 
-/// Adds the answer to an item of a Write.
+/// Appends the result of a Write item.
 pub fn push_write_json(
     alloc: Global,
     out: &mut String,
@@ -65,7 +65,7 @@ pub fn push_write_json(
     end_line(out, line)
 }
 
-/// Adds an endpoint.
+/// Appends an endpoint.
 pub fn push_endpoint_json(
     alloc: Global,
     out: &mut String,
@@ -89,7 +89,7 @@ pub(crate) fn begin_line(alloc: Global) -> Result<Writer, AllocError>
     Ok(line)
 }
 
-/// Ends the object, and adds what was put as a line.
+/// Ends the object, and appends what was put as a line.
 pub(crate) fn end_line(out: &mut String, mut line: Writer) -> Result<(), AllocError>
     requires { line.before ≡ [] }
     ensures { OnOk result (string_bytes out.new ≡ string_bytes out.old ++ (print (line.tokens ++ end_object ∷ []) ++ codes "\n")) }
@@ -98,7 +98,7 @@ pub(crate) fn end_line(out: &mut String, mut line: Writer) -> Result<(), AllocEr
     push_line(out, line)
 }
 
-/// Adds what was put as a line.
+/// Appends what was put as a line.
 fn push_line(out: &mut String, line: Writer) -> Result<(), AllocError>
     requires { line.before ≡ [] }
     ensures { OnOk result (string_bytes out.new ≡ string_bytes out.old ++ (print line.tokens ++ codes "\n")) }

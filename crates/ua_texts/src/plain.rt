@@ -1,4 +1,4 @@
-//! Values with all that they hold, as people write them.
+//! Values with all that they hold, in the human-readable form.
 
 ghost use Rattle.std.specs.Prelude.{◌≡◌, ◌++◌, OnOk, map, string_bytes, true};
 ghost use Rattle.std.specs.List.{flat_map};
@@ -22,10 +22,10 @@ use ua_variant::{
     BoxedDataValue, BoxedVariant, DataValue, Dimensions, Elements, Packed, Scalar, Scalars, Variant,
 };
 
-/// Adds the type and the value as people write it: Float and Double as decimals, DateTime as a time of
-/// RFC 3339, names and ids by their texts, a Variant within another value with its type in round brackets,
-/// a DataValue and a DiagnosticInfo by their fields in curly ones, all else as `push_variant` does. Where
-/// names are wanted, that of a status code stands behind it.
+/// Appends the type and the value in the human-readable form: Float and Double as decimals,
+/// DateTime as an RFC 3339 timestamp, names and ids by their texts, a Variant inside another value
+/// with its type in parentheses, a DataValue and a DiagnosticInfo by their fields in braces, all
+/// else as `push_variant` does. If names are wanted, that of a StatusCode follows it.
 pub fn push_plain_variant(
     alloc: Global,
     out: &mut String,
@@ -41,7 +41,7 @@ pub fn push_plain_variant(
     }
 }
 
-/// Adds the type and the value, alone or within brackets.
+/// Appends the type and the value, alone or within brackets.
 #[cycle(plain)]
 fn push_plain_typed(
     alloc: Global,
@@ -65,7 +65,7 @@ fn push_plain_typed(
     }
 }
 
-/// Adds the type and the elements of an array, null as `null`.
+/// Appends the type and the elements of an array, null as `null`.
 #[cycle(plain)]
 fn push_plain_array(
     alloc: Global,
@@ -87,7 +87,7 @@ fn push_plain_array(
     }
 }
 
-/// Adds the type of an array and its dimensions.
+/// Appends the type of an array and its dimensions.
 fn push_array_type(out: &mut String, kind: u8, dims: &Dimensions) -> Result<(), AllocError>
     ensures { OnOk result (string_bytes out.new ≡ string_bytes out.old ++ array_type kind dims.now) }
 {
@@ -99,7 +99,7 @@ fn push_array_type(out: &mut String, kind: u8, dims: &Dimensions) -> Result<(), 
     push_lengths(out, lengths)
 }
 
-/// Adds the lengths of dimensions, each in square brackets.
+/// Appends the lengths of dimensions, each in square brackets.
 fn push_lengths(out: &mut String, lengths: &[i32]) -> Result<(), AllocError>
     ensures { OnOk result (string_bytes out.new ≡ string_bytes out.old ++ flat_map length_text lengths.now) }
 {
@@ -109,7 +109,7 @@ fn push_lengths(out: &mut String, lengths: &[i32]) -> Result<(), AllocError>
     Ok(())
 }
 
-/// Adds the elements of an array, with a comma between.
+/// Appends the elements of an array, with a comma between.
 #[cycle(plain)]
 fn push_plain_items(
     alloc: Global,
@@ -159,7 +159,7 @@ fn push_plain_scalars(
     Ok(())
 }
 
-/// Adds a comma in front of the element at a place, unless it is the first.
+/// Appends a comma in front of the element at a place, unless it is the first.
 fn push_comma(out: &mut String, index: usize) -> Result<(), AllocError>
     ensures { OnOk result (string_bytes out.new ≡ string_bytes out.old ++ comma_at index) }
 {
@@ -169,7 +169,7 @@ fn push_comma(out: &mut String, index: usize) -> Result<(), AllocError>
     Ok(())
 }
 
-/// Adds a value of a built-in type, alone or within an array or brackets.
+/// Appends a value of a built-in type, alone or within an array or brackets.
 #[cycle(plain)]
 pub(crate) fn push_plain_scalar(
     alloc: Global,
@@ -188,7 +188,7 @@ pub(crate) fn push_plain_scalar(
     }
 }
 
-/// Adds a value that holds no further value; any other by its octets.
+/// Appends a value that holds no further value; any other by its bytes.
 fn push_plain_leaf(
     alloc: Global,
     out: &mut String,
@@ -212,7 +212,7 @@ fn push_plain_leaf(
     }
 }
 
-/// Adds a Variant among other Variants, in round brackets.
+/// Appends a Variant among other Variants, in round brackets.
 #[cycle(plain)]
 fn push_plain_bracketed(
     alloc: Global,
@@ -230,7 +230,7 @@ fn push_plain_bracketed(
     out.push_str(")")
 }
 
-/// Adds a DataValue among Variants: the fields that are there, in curly brackets.
+/// Appends a DataValue among Variants: the fields that are there, in curly brackets.
 #[cycle(plain)]
 fn push_plain_data_value(
     alloc: Global,
@@ -259,7 +259,7 @@ fn push_plain_data_value(
     }
 }
 
-/// Adds the fields of a DataValue that are there, but its value.
+/// Appends the fields of a DataValue that are there, but its value.
 fn push_plain_fields(out: &mut String, value: &DataValue, names: bool) -> Result<(), AllocError>
     ensures { Adds result (string_bytes out.old) (string_bytes out.new) (IsPlainFields names (data_fields_of value.now)) }
 {

@@ -1,4 +1,4 @@
-//! The lines of answers to a Read, as people write values and times.
+//! The lines of Read results, with values and timestamps in the human-readable form.
 
 ghost use Rattle.std.specs.Prelude.{◌≡◌, ◌++◌, string_bytes};
 ghost use Rattle.ua_texts.specs.PlainAnswers.{ArePlainTimes, IsPlainLine, IsPlainRead, IsPlainTime, IsPlainTimesPart, IsPlainValuePart};
@@ -13,9 +13,9 @@ use std::alloc::{AllocError, Global};
 use ua_builtin::{DateTime, NodeId, StatusCode};
 use ua_variant::{DataValue, HeldVariant};
 
-/// Adds the answer to an item of a Read as [`push_read_line`](crate::push_read_line) does, but the value as
-/// [`push_plain_variant`] does, and timestamps as times of RFC 3339. Where JSON is wanted, a Float and a
-/// Double are numbers, or texts where JSON has no number for them.
+/// Appends the result of a Read item as [`push_read_line`](crate::push_read_line) does, but the
+/// value as [`push_plain_variant`] does, and timestamps in RFC 3339. With JSON, a Float and a
+/// Double are numbers, or strings if JSON has no number for them.
 pub fn push_plain_read_line(
     alloc: Global,
     out: &mut String,
@@ -53,7 +53,7 @@ fn push_plain_line(
     out.push_str("\n")
 }
 
-/// Adds a value behind a space, where there is one.
+/// Appends a value after a space, where there is one.
 fn push_plain_value_part(
     alloc: Global,
     out: &mut String,
@@ -71,7 +71,7 @@ fn push_plain_value_part(
     }
 }
 
-/// Adds the timestamps of an answer, where they are wanted.
+/// Appends the timestamps of an answer, where they are wanted.
 fn push_plain_times_part(
     out: &mut String,
     answer: &DataValue,
@@ -86,7 +86,7 @@ fn push_plain_times_part(
     }
 }
 
-/// Adds the timestamps of an answer.
+/// Appends the timestamps of an answer.
 fn push_plain_times(out: &mut String, answer: &DataValue) -> Result<(), AllocError>
     ensures { Adds result (string_bytes out.old) (string_bytes out.new) (ArePlainTimes answer.now) }
 {
@@ -96,7 +96,7 @@ fn push_plain_times(out: &mut String, answer: &DataValue) -> Result<(), AllocErr
     push_plain_time(out, answer.server_timestamp)
 }
 
-/// Adds a timestamp, or `none`.
+/// Appends a timestamp, or `none`.
 fn push_plain_time(out: &mut String, moment: Option<DateTime>) -> Result<(), AllocError>
     ensures { Adds result (string_bytes out.old) (string_bytes out.new) (IsPlainTime moment) }
 {

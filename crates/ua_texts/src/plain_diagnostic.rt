@@ -9,7 +9,7 @@ use crate::plain_parts::{push_number_part, push_status_part, push_text_part};
 use std::alloc::AllocError;
 use ua_diagnostic::{BoxedDiagnostic, DiagnosticInfo};
 
-/// Adds a DiagnosticInfo: the fields that are there, each by its name, within curly brackets.
+/// Appends a DiagnosticInfo: the fields that are there, each by its name, within curly brackets.
 #[cycle(plain_diagnostics)]
 pub(crate) fn push_plain_diagnostic(
     out: &mut String,
@@ -40,7 +40,7 @@ fn push_diagnostic(out: &mut String, value: &DiagnosticInfo, names: bool) -> Res
     }
 }
 
-/// Adds a DiagnosticInfo without any field.
+/// Appends a DiagnosticInfo without any field.
 #[tactic(auto, using(crate::proofs::PlainDiagnostics::no_parts))]
 fn push_empty_diagnostic(out: &mut String, names: bool) -> Result<(), AllocError>
     ensures { OnOk result (string_bytes out.new ≡ string_bytes out.old ++ plain_diagnostic names (innermost no_fields)) }
@@ -49,7 +49,7 @@ fn push_empty_diagnostic(out: &mut String, names: bool) -> Result<(), AllocError
     out.push_str("{ }")
 }
 
-/// Adds the fields that are there, but the inner info.
+/// Appends the fields that are there, but the inner info.
 #[tactic(auto, unfolding(crate::specs::PlainDiagnostic::diagnostic_parts))]
 fn push_diagnostic_parts(
     out: &mut String,

@@ -14,7 +14,7 @@ use ua_builtin::{
 };
 use ua_plain::{double_text, float_text, moment_text};
 
-/// Adds a Float: its decimal, or its pattern where it has none.
+/// Appends a Float: its decimal, or its pattern where it has none.
 pub(crate) fn push_float(out: &mut String, value: FloatBits) -> Result<(), AllocError>
     ensures { Adds result (string_bytes out.old) (string_bytes out.new) (IsPlainFloat value.bits) }
 {
@@ -24,7 +24,7 @@ pub(crate) fn push_float(out: &mut String, value: FloatBits) -> Result<(), Alloc
     }
 }
 
-/// Adds a Double: its decimal, or its pattern where it has none.
+/// Appends a Double: its decimal, or its pattern where it has none.
 pub(crate) fn push_double(out: &mut String, value: DoubleBits) -> Result<(), AllocError>
     ensures { Adds result (string_bytes out.old) (string_bytes out.new) (IsPlainDouble value.bits) }
 {
@@ -34,7 +34,7 @@ pub(crate) fn push_double(out: &mut String, value: DoubleBits) -> Result<(), All
     }
 }
 
-/// Adds a DateTime: its time, or its ticks where it has none.
+/// Appends a DateTime: its time, or its ticks where it has none.
 pub(crate) fn push_moment(out: &mut String, value: DateTime) -> Result<(), AllocError>
     ensures { Adds result (string_bytes out.old) (string_bytes out.new) (IsPlainMoment value) }
 {
@@ -44,7 +44,7 @@ pub(crate) fn push_moment(out: &mut String, value: DateTime) -> Result<(), Alloc
     }
 }
 
-/// Adds a String, with the marks escaped where it stands within an array or brackets.
+/// Appends a String, with the marks escaped where it stands within an array or brackets.
 pub(crate) fn push_plain_string(
     out: &mut String,
     text: &UaString,
@@ -59,7 +59,7 @@ pub(crate) fn push_plain_string(
     }
 }
 
-/// Adds a NodeId as its text.
+/// Appends a NodeId as its text.
 pub(crate) fn push_plain_node(
     alloc: Global,
     out: &mut String,
@@ -72,7 +72,7 @@ pub(crate) fn push_plain_node(
     push_marked(out, &text, Marks::of(within))
 }
 
-/// Adds an ExpandedNodeId: its server, the URI of its namespace, and its NodeId.
+/// Appends an ExpandedNodeId: its server, the URI of its namespace, and its NodeId.
 pub(crate) fn push_plain_expanded(
     alloc: Global,
     out: &mut String,
@@ -86,7 +86,7 @@ pub(crate) fn push_plain_expanded(
     push_plain_node(alloc, out, &id.node_id, within)
 }
 
-/// Adds the index of a server, unless that is 0.
+/// Appends the index of a server, unless that is 0.
 fn push_server(out: &mut String, server: u32) -> Result<(), AllocError>
     ensures { OnOk result (string_bytes out.new ≡ string_bytes out.old ++ server_text server) }
 {
@@ -96,7 +96,7 @@ fn push_server(out: &mut String, server: u32) -> Result<(), AllocError>
     write!(out, "svr={server};")
 }
 
-/// Adds the URI of a namespace, where there is one.
+/// Appends the URI of a namespace, where there is one.
 fn push_uri(out: &mut String, uri: &UaString, within: bool) -> Result<(), AllocError>
     ensures { OnOk result (string_bytes out.new ≡ string_bytes out.old ++ uri_text within uri.now) }
 {
@@ -108,7 +108,7 @@ fn push_uri(out: &mut String, uri: &UaString, within: bool) -> Result<(), AllocE
     out.push_str(";")
 }
 
-/// Adds a QualifiedName: its namespace and its name, with a colon between.
+/// Appends a QualifiedName: its namespace and its name, with a colon between.
 pub(crate) fn push_plain_name(
     out: &mut String,
     name: &QualifiedName,
@@ -120,7 +120,7 @@ pub(crate) fn push_plain_name(
     push_marked_string(out, &name.name, Marks::of(within))
 }
 
-/// Adds a LocalizedText: its locale with a bar behind it, where it has one, and its text.
+/// Appends a LocalizedText: its locale with a bar after it, where it has one, and its text.
 pub(crate) fn push_plain_localized(
     out: &mut String,
     value: &LocalizedText,
@@ -133,7 +133,7 @@ pub(crate) fn push_plain_localized(
     push_marked_string(out, &value.text, marks)
 }
 
-/// Adds a locale and a bar, where there is one.
+/// Appends a locale and a bar, where there is one.
 fn push_locale(out: &mut String, locale: &UaString, marks: Marks) -> Result<(), AllocError>
     ensures { OnOk result (string_bytes out.new ≡ string_bytes out.old ++ locale_text marks locale.now) }
 {
@@ -146,7 +146,7 @@ fn push_locale(out: &mut String, locale: &UaString, marks: Marks) -> Result<(), 
     }
 }
 
-/// Adds a StatusCode as a pattern, and where names are wanted its name behind a space.
+/// Appends a StatusCode as a pattern, and where names are wanted its name after a space.
 pub(crate) fn push_plain_code(
     out: &mut String,
     status: StatusCode,

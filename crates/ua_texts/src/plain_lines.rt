@@ -1,4 +1,4 @@
-//! Texts of values behind their types, and the lines that hold them, as people write them.
+//! Texts of values after their types, and the lines that hold them, as people write them.
 
 ghost use Rattle.std.specs.Prelude.{◌≡◌, ◌++◌, ◌∷◌, [], IfOk, OnOk, string_bytes};
 ghost use Rattle.ua_texts.specs.PlainLines.{exact_fields, exact_line, exact_lines as exact_lines_of, exact_typed as exact_typed_of};
@@ -7,8 +7,8 @@ use crate::plain_read::push_exact_text;
 use std::alloc::{AllocError, Global};
 use ua_nodes::{parse_type, without_return};
 
-/// The text of a value behind the name of its type, with each decimal's pattern, and each time's ticks, in
-/// its place; as it stands where the name is none.
+/// The text of a value after the name of its type, with the bit pattern in place of each decimal
+/// and the ticks in place of each time; unchanged if the name is no type.
 pub fn exact_typed(alloc: Global, kind: &str, text: &str) -> Result<String, AllocError>
     ensures { IfOk result (λ exact. string_bytes exact ≡ exact_typed_of kind.now text.now) }
 {
@@ -17,7 +17,7 @@ pub fn exact_typed(alloc: Global, kind: &str, text: &str) -> Result<String, Allo
     Ok(exact)
 }
 
-/// Adds the text of a value behind the name of its type so.
+/// Appends the text of a value after the name of its type so.
 fn push_exact_typed(out: &mut String, kind: &str, text: &str) -> Result<(), AllocError>
     ensures { OnOk result (string_bytes out.new ≡ string_bytes out.old ++ exact_typed_of kind.now text.now) }
 {
@@ -27,8 +27,8 @@ fn push_exact_typed(out: &mut String, kind: &str, text: &str) -> Result<(), Allo
     }
 }
 
-/// The lines of a node file or of a script, with the value that stands at the end of a line behind its type
-/// in its exact form. Each line has its number, and ends in LF.
+/// The lines of a node file or of a script, with the value at the end of a line, after its type, in
+/// its exact form. Each line keeps its number, and ends in LF.
 pub fn exact_lines(alloc: Global, text: &str) -> Result<String, AllocError>
     ensures { IfOk result (λ exact. string_bytes exact ≡ exact_lines_of text.now) }
 {
@@ -39,7 +39,7 @@ pub fn exact_lines(alloc: Global, text: &str) -> Result<String, AllocError>
     Ok(exact)
 }
 
-/// Adds a line so.
+/// Appends a line so.
 fn push_exact_line(out: &mut String, line: &str) -> Result<(), AllocError>
     ensures { OnOk result (string_bytes out.new ≡ string_bytes out.old ++ exact_line line.now) }
 {
@@ -47,7 +47,7 @@ fn push_exact_line(out: &mut String, line: &str) -> Result<(), AllocError>
     out.push_str("\n")
 }
 
-/// Adds the fields of a line, with a tab between, and the last one in its exact form.
+/// Appends the fields of a line, with a tab between, and the last one in its exact form.
 fn push_exact_fields(out: &mut String, line: &str) -> Result<(), AllocError>
     ensures { OnOk result (string_bytes out.new ≡ string_bytes out.old ++ exact_fields line.now) }
 {
@@ -61,7 +61,7 @@ fn push_exact_fields(out: &mut String, line: &str) -> Result<(), AllocError>
     push_exact_typed(out, kind, rest)
 }
 
-/// Adds a field, and a tab behind it.
+/// Appends a field, and a tab after it.
 fn push_field(out: &mut String, field: &str) -> Result<(), AllocError>
     ensures { OnOk result (string_bytes out.new ≡ string_bytes out.old ++ (field.now ++ 9 ∷ [])) }
 {

@@ -1,4 +1,4 @@
-//! Answers to a Read as objects of JSON, as people write values and times.
+//! Read results as JSON objects, with values and timestamps in the human-readable form.
 
 ghost use Rattle.std.specs.Prelude.{false, from_bits, map, string_bytes};
 ghost use Rattle.std.specs.Float.{binary32, binary64};
@@ -23,7 +23,7 @@ use ua_builtin::{DateTime, DoubleBits, FloatBits, NodeId, StatusCode};
 use ua_diagnostic::Dimensions;
 use ua_variant::{DataValue, Elements, HeldVariant, Packed, Scalar, Scalars, Variant};
 
-/// Adds the answer to an item of a Read.
+/// Appends the result of a Read item.
 pub fn push_plain_json(
     alloc: Global,
     out: &mut String,

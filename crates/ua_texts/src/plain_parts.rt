@@ -10,7 +10,7 @@ use std::alloc::AllocError;
 use std::fmt::Write;
 use ua_builtin::{DateTime, StatusCode, UaString};
 
-/// Adds a number by its name, where there is one.
+/// Appends a number by its name, where there is one.
 pub(crate) fn push_number_part(
     out: &mut String,
     name: &str,
@@ -24,7 +24,7 @@ pub(crate) fn push_number_part(
     }
 }
 
-/// Adds a text in brackets by its name, where there is one.
+/// Appends a text in brackets by its name, where there is one.
 pub(crate) fn push_text_part(
     out: &mut String,
     name: &str,
@@ -40,7 +40,7 @@ pub(crate) fn push_text_part(
     out.push_str(")")
 }
 
-/// Adds a status by its name, where there is one.
+/// Appends a status by its name, where there is one.
 pub(crate) fn push_status_part(
     out: &mut String,
     name: &str,
@@ -58,7 +58,7 @@ pub(crate) fn push_status_part(
     }
 }
 
-/// Adds a timestamp, and what is to be added to it, each by its name, where it is there.
+/// Appends a timestamp, and what is to be added to it, each by its name, where it is there.
 pub(crate) fn push_time_part(
     out: &mut String,
     name: &str,

@@ -1,4 +1,4 @@
-//! Values as people write them, read.
+//! Parsing of values in the human-readable form.
 
 ghost use Rattle.std.specs.Prelude.{◌≡◌, ◌++◌, IfOk, IsErrOf, None, OnOk, Some, string_bytes};
 ghost use Rattle.ua_nodes.specs.declared.fault.ValueFault.TheVariants.{NotValue};
@@ -13,11 +13,11 @@ use ua_nodes::{ValueFault, parse_value};
 use ua_plain::{parse_double, parse_float, parse_moment};
 use ua_variant::Variant;
 
-/// The value that a text denotes at the type of an id, or at an array of it: as `parse_value` of
-/// `ua_nodes`, but a Float and a Double also by a decimal, which gives the nearest number, and a DateTime
-/// also by a time of RFC 3339.
+/// Parses the text form of a value of a type id, or of an array of it, as `parse_value` of
+/// `ua_nodes` does; a Float and a Double may also be a decimal, which gives the nearest number, and
+/// a DateTime an RFC 3339 timestamp.
 ///
-/// `NotValue` where the text denotes none; `OutOfMemory` where memory is refused.
+/// The error is `NotValue` if the text is none of these, and `OutOfMemory` if an allocation fails.
 pub fn parse_plain_value(
     alloc: Global,
     kind: u8,
@@ -40,7 +40,7 @@ fn exact_text(alloc: Global, kind: u8, array: bool, text: &str) -> Result<String
     Ok(exact)
 }
 
-/// Adds a text with each decimal's pattern, and each time's ticks, in its place.
+/// Appends a text with each decimal's pattern, and each time's ticks, in its place.
 pub(crate) fn push_exact_text(
     out: &mut String,
     kind: u8,
@@ -56,7 +56,7 @@ pub(crate) fn push_exact_text(
     }
 }
 
-/// Adds the elements of an array so, with a comma between.
+/// Appends the elements of an array so, with a comma between.
 fn push_exact_elements(out: &mut String, kind: u8, text: &str) -> Result<(), AllocError>
     ensures { OnOk result (string_bytes out.new ≡ string_bytes out.old ++ exact_elements kind text.now) }
 {
@@ -68,7 +68,7 @@ fn push_exact_elements(out: &mut String, kind: u8, text: &str) -> Result<(), All
     Ok(())
 }
 
-/// Adds the element at a place so, behind a comma unless it is the first.
+/// Appends the element at a place so, after a comma unless it is the first.
 fn push_exact_item(
     out: &mut String,
     kind: u8,
@@ -83,8 +83,8 @@ fn push_exact_item(
     push_exact(out, kind, element)
 }
 
-/// Adds a Float's or Double's pattern for its decimal, or a DateTime's ticks for its time, or the text as
-/// it stands.
+/// Appends a Float's or Double's pattern for its decimal, or a DateTime's ticks for its time, or
+/// the text as it stands.
 fn push_exact(out: &mut String, kind: u8, text: &str) -> Result<(), AllocError>
     ensures { OnOk result (string_bytes out.new ≡ string_bytes out.old ++ exact_element kind text.now) }
 {

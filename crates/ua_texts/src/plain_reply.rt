@@ -1,4 +1,4 @@
-//! What the responses to a Read are printed as, with values and times as people write them.
+//! The output for Read responses, with values and timestamps in the human-readable form.
 
 ghost use Rattle.std.specs.Prelude.{◌≡◌, length, string_bytes, IfErr, OnOk};
 ghost use Rattle.ua_texts.specs.PlainAnswers.{ArePlainReads, AreReads};
@@ -15,8 +15,8 @@ use ua_builtin::NodeId;
 use ua_services::Response;
 use ua_variant::DataValue;
 
-/// Adds the lines of the answers to a Read of these nodes, in their order, in this style: each as
-/// [`push_plain_read_line`] adds it.
+/// Appends the lines of the results of a Read of these nodes, in their order, in this style: each
+/// as [`push_plain_read_line`] appends it.
 pub fn push_plain_read_answers(
     alloc: Global,
     out: &mut String,
@@ -59,8 +59,8 @@ fn push_plain_read_lines(
     Ok(())
 }
 
-/// Adds the lines of the answers to a Read of these nodes, in their order, in this style: those of
-/// [`push_plain_read_answers`] where values and times are to be as people write them, else those of
+/// Appends the lines of the results of a Read of these nodes, in their order, in this style: those
+/// of [`push_plain_read_answers`] if the style is the human-readable one, else those of
 /// [`push_read_answers`].
 pub fn push_read_answers_as(
     alloc: Global,

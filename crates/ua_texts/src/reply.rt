@@ -1,4 +1,4 @@
-//! What the responses to requests are printed as.
+//! The output for responses.
 
 ghost use Rattle.std.specs.Prelude.{◌≡◌, ◌++◌, length, string_bytes, IfErr, OnOk};
 ghost use Rattle.std.specs.List.{flat_map, list_any};
@@ -15,8 +15,8 @@ use ua_services::Response;
 use ua_structures::EndpointDescription;
 use ua_variant::DataValue;
 
-/// Whether any result of a Read or a Write has a bad code: one whose top bit is set. An answer without
-/// a code is Good, and no other response has results.
+/// Whether any result of a Read or a Write has a Bad StatusCode: one whose top bit is set. A result
+/// without a StatusCode is Good, and no other response has results.
 pub fn has_bad_code(response: &Response) -> bool
     ensures { result ≡ has_bad response.now }
 {
@@ -49,7 +49,7 @@ fn has_bad_status(statuses: &[StatusCode]) -> bool
     false
 }
 
-/// Adds the lines of the answers to a Read of these nodes, in their order, in this style.
+/// Appends the lines of the results of a Read of these nodes, in their order, in this style.
 pub fn push_read_answers(
     alloc: Global,
     out: &mut String,
@@ -92,7 +92,7 @@ fn push_read_lines(
     Ok(())
 }
 
-/// Adds the lines of the answers to a Write to these nodes, in their order, in this style.
+/// Appends the lines of the results of a Write to these nodes, in their order, in this style.
 pub fn push_write_answers(
     alloc: Global,
     out: &mut String,
@@ -135,7 +135,7 @@ fn push_write_lines(
     Ok(())
 }
 
-/// Adds the lines of the endpoints of a response to GetEndpoints; none where there is no list.
+/// Appends the lines of the endpoints of a GetEndpoints response; none if its array is null.
 pub fn push_endpoints(
     alloc: Global,
     out: &mut String,

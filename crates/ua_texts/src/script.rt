@@ -1,4 +1,4 @@
-//! Scripts: the steps that their lines ask for.
+//! Scripts and their steps.
 
 ghost use Rattle.std.specs.Prelude.{◌≡◌, ◌∷◌, [], codes, IfOk, IfErr};
 ghost use Rattle.ua_nodes.specs.NodeFile.{fields};
@@ -10,28 +10,28 @@ use ua_builtin::{NodeId, UaString};
 use ua_nodes::{MOST_OCTETS, is_read, parse_type, parse_value, without_return};
 use ua_variant::Variant;
 
-/// What a line of a script asks for.
+/// The step that a line of a script asks for.
 #[derive(Drop)]
 pub enum Step {
-    /// Read the Value of a node, or the part of an array that an index range names.
+    /// Read the Value of a node, or the part of an array that an index range selects.
     Read { node: NodeId, range: UaString },
-    /// Set the Value of a node.
+    /// Write the Value of a node.
     Write { node: NodeId, value: Variant },
-    /// Renew the token of the channel.
+    /// Renew the token of the SecureChannel.
     Renew,
 }
 
-/// A line of a script, by its number, counted from 1.
+/// A line of a script with its number, counted from 1.
 #[derive(Drop)]
 pub struct ScriptLine {
     pub number: usize,
     pub step: Step,
 }
 
-/// The steps of a script. Its lines end at LF, the last one at the end; one CR at the end of a line
-/// is dropped. Lines that are empty or begin with `#` are skipped, and counted. Each other line is
-/// `read` and a NodeId, perhaps with an index range behind it; or `write`, a NodeId, a type and a
-/// value; or `renew`; with one tab between.
+/// Parses the steps of a script. Its lines end at LF, the last one at the end of the text; one CR
+/// at the end of a line is dropped. Lines that are empty or begin with `#` are skipped, but
+/// counted. Each other line is `read` and a NodeId, optionally followed by an index range; or
+/// `write`, a NodeId, a type and a value; or `renew`; with one tab between fields.
 pub fn parse_script(alloc: Global, text: &str) -> Result<Vec<ScriptLine>, ScriptFault>
     ensures steps { IfOk result (λ steps. AsksFor text.now steps.items) }
     ensures fault { IfErr result (λ fault. Refuses text.now fault) }
@@ -92,7 +92,7 @@ fn parse_read(alloc: Global, rest: &str) -> Result<Step, StepFault>
     Ok(Step::Read { node, range })
 }
 
-/// The first field, and the text behind it, which is empty where there is no other field.
+/// The first field, and the text after it, which is empty where there is no other field.
 fn split_range(rest: &str) -> (&str, &str)
     ensures { IsCutBehindFirst rest.now result.0.now result.1.now }
 {

@@ -1,8 +1,8 @@
-//! The standard's names of status codes, as a table.
+//! The standard's names of StatusCodes, as a table.
 
-/// The table: 270 of the codes of OPC 10000-6, A.2, each with its name, in the order of the codes. Not in
-/// it are 0x80520000, whose name editions of the standard spell in two ways, and codes that late editions
-/// added.
+/// The table: 270 of the codes of OPC 10000-6, A.2, each with its name, in the order of the codes.
+/// Not in it are 0x80520000, whose name editions of the standard spell in two ways, and codes that
+/// late editions added.
 macro_rules! status_codes {
     ($of:ident) => {
         $of!(

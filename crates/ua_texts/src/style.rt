@@ -1,21 +1,21 @@
-//! How lines are written.
+//! The styles of lines.
 
 ghost use Rattle.std.specs.Prelude.{◌≡◌};
 ghost use Rattle.ua_texts.specs.Styles.{exact, plain, plain_endpoints};
 
-/// How the lines of answers are written.
+/// The style of the lines of results.
 #[derive(Clone, Copy, PartialEq, Eq, Debug)]
 pub struct LineStyle {
-    /// Whether the standard's names stand behind status codes.
+    /// Whether the standard's names follow StatusCodes.
     pub names: bool,
-    /// Whether the timestamps of answers to a Read stand behind their values.
+    /// Whether the timestamps of Read results follow their values.
     pub times: bool,
-    /// Whether each line is an object of JSON.
+    /// Whether each line is a JSON object.
     pub json: bool,
 }
 
 impl LineStyle {
-    /// Lines of fields with a blank between, without timestamps.
+    /// Lines of fields separated by spaces, without timestamps.
     pub fn plain(names: bool) -> LineStyle
         ensures { result ≡ plain names }
     {
@@ -27,17 +27,17 @@ impl LineStyle {
     }
 }
 
-/// How answers to a Read are written.
+/// The style of Read results.
 #[derive(Clone, Copy, PartialEq, Eq, Debug)]
 pub struct AnswerStyle {
-    /// How their lines are written.
+    /// The style of their lines.
     pub lines: LineStyle,
-    /// Whether values and timestamps are as people write them.
+    /// Whether values and timestamps are in the human-readable form.
     pub plain: bool,
 }
 
 impl AnswerStyle {
-    /// Lines of this style, with values by their patterns and timestamps by their ticks.
+    /// Lines of this style, with values by their bit patterns and timestamps by their ticks.
     pub fn exact(lines: LineStyle) -> AnswerStyle
         ensures { result ≡ exact lines }
     {
@@ -48,17 +48,17 @@ impl AnswerStyle {
     }
 }
 
-/// How the lines of endpoints are written.
+/// The style of the lines of endpoints.
 #[derive(Clone, Copy, PartialEq, Eq, Debug)]
 pub struct EndpointStyle {
-    /// Whether each endpoint has its token policies behind it.
+    /// Whether the token policies of each endpoint follow it.
     pub policies: bool,
-    /// Whether each line is an object of JSON.
+    /// Whether each line is a JSON object.
     pub json: bool,
 }
 
 impl EndpointStyle {
-    /// Lines of fields with a blank between, without token policies.
+    /// Lines of fields separated by spaces, without token policies.
     pub fn plain() -> EndpointStyle
         ensures { result ≡ plain_endpoints }
     {

@@ -1,4 +1,4 @@
-//! Texts, status codes and octets as the program prints them.
+//! Texts, StatusCodes and bytes as the program prints them.
 
 ghost use Rattle.std.specs.Prelude.{◌≡◌, ◌++◌, string_bytes, OnOk};
 ghost use Rattle.std.specs.Char.{encode_utf8};
@@ -12,7 +12,8 @@ use std::fmt::Write;
 use ua_builtin::{Guid, StatusCode, UaBytes, UaString, Wire, WriteFault};
 use uuid::Uuid;
 
-/// Adds a String: octets below 0x20 and 0x7F as `\x` and two digits, a backslash doubled, null as `null`.
+/// Appends a String: bytes below 0x20 and 0x7F as `\x` and two digits, a backslash doubled, null as
+/// `null`.
 pub fn push_string(out: &mut String, text: &UaString) -> Result<(), AllocError>
     ensures { OnOk result (string_bytes out.new ≡ string_bytes out.old ++ shown_string text.now) }
 {
@@ -43,8 +44,9 @@ pub(crate) fn push_char(out: &mut String, c: char) -> Result<(), AllocError>
     }
 }
 
-/// Adds a text with each control character, U+0080 to U+009F among them, by its octets in UTF-8, each as
-/// `\x` and two digits, and a backslash doubled: what is added has no control character.
+/// Appends a text with each control character, U+0080 to U+009F among them, escaped by its UTF-8
+/// bytes, each as `\x` and two digits, and a backslash doubled: what is appended has no control
+/// character.
 pub fn push_escaped(out: &mut String, text: &str) -> Result<(), AllocError>
     ensures { OnOk result (string_bytes out.new ≡ string_bytes out.old ++ escaped text.now) }
 {
@@ -81,7 +83,7 @@ pub(crate) fn push_escaped_octet(out: &mut String, octet: u8) -> Result<(), Allo
     write!(out, "\\x{octet:02x}")
 }
 
-/// Adds a String with its text escaped, null as `null`.
+/// Appends a String with its text escaped, null as `null`.
 pub fn push_escaped_string(out: &mut String, text: &UaString) -> Result<(), AllocError>
     ensures { OnOk result (string_bytes out.new ≡ string_bytes out.old ++ escaped_string text.now) }
 {
@@ -91,28 +93,28 @@ pub fn push_escaped_string(out: &mut String, text: &UaString) -> Result<(), Allo
     }
 }
 
-/// Adds a status code, as eight upper case hexadecimal digits.
+/// Appends a StatusCode as eight upper case hexadecimal digits.
 pub fn push_code(out: &mut String, status: StatusCode) -> Result<(), AllocError>
     ensures { OnOk result (string_bytes out.new ≡ string_bytes out.old ++ code_text status.code) }
 {
     write!(out, "{:08X}", status.code)
 }
 
-/// Adds a pattern of 32 bits: `0x` and eight hexadecimal digits.
+/// Appends a pattern of 32 bits: `0x` and eight hexadecimal digits.
 pub(crate) fn push_pattern(out: &mut String, bits: u32) -> Result<(), AllocError>
     ensures { OnOk result (string_bytes out.new ≡ string_bytes out.old ++ pattern_text 8 bits) }
 {
     write!(out, "0x{bits:08x}")
 }
 
-/// Adds a pattern of 64 bits: `0x` and sixteen hexadecimal digits.
+/// Appends a 64-bit pattern: `0x` and sixteen hexadecimal digits.
 pub fn push_wide_pattern(out: &mut String, bits: u64) -> Result<(), AllocError>
     ensures { OnOk result (string_bytes out.new ≡ string_bytes out.old ++ pattern_text 16 bits) }
 {
     write!(out, "0x{bits:016x}")
 }
 
-/// Adds a Guid with its hyphens, in lower case.
+/// Appends a Guid with its hyphens, in lower case.
 pub(crate) fn push_guid(out: &mut String, guid: &Guid) -> Result<(), AllocError>
     ensures { OnOk result (string_bytes out.new ≡ string_bytes out.old ++ hyphenated_text lower guid.now.uuid) }
 {
@@ -120,7 +122,7 @@ pub(crate) fn push_guid(out: &mut String, guid: &Guid) -> Result<(), AllocError>
     out.push_str(guid.uuid.hyphenated().encode_lower(&mut buffer))
 }
 
-/// Adds a ByteString in base64, null as `null`.
+/// Appends a ByteString in base64, null as `null`.
 pub fn push_base64(out: &mut String, octets: &UaBytes) -> Result<(), AllocError>
     ensures { OnOk result (string_bytes out.new ≡ string_bytes out.old ++ base64_text octets.now) }
 {
@@ -130,8 +132,8 @@ pub fn push_base64(out: &mut String, octets: &UaBytes) -> Result<(), AllocError>
     }
 }
 
-/// Adds the octets of a value's canonical encoding, as `0x` and two hexadecimal digits of each, or
-/// `unwritable` where it has none.
+/// Appends the bytes of a value's canonical encoding, as `0x` and two hexadecimal digits for each,
+/// or `unwritable` if it has none.
 pub fn push_encoded<T: Wire>(alloc: Global, out: &mut String, value: &T) -> Result<(), AllocError>
     ensures { OnOk result (string_bytes out.new ≡ string_bytes out.old ++ written_text (T.format.encodable value.now) (T.format.canonical value.now)) }
 {

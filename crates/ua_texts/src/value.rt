@@ -16,8 +16,8 @@ use ua_variant::{
     Scalar, Scalars, Variant,
 };
 
-/// The standard's name of the type of an id (OPC 10000-6, 5.1.2), `Reserved` for any id but those
-/// from 1 to 25.
+/// The standard's name of the type of an id (OPC 10000-6, 5.1.2), or `Reserved` for any id outside
+/// 1 to 25.
 pub fn type_name(kind: u8) -> &'static str
     ensures { result.now ≡ name_of_type kind }
 {
@@ -51,8 +51,8 @@ pub fn type_name(kind: u8) -> &'static str
     }
 }
 
-/// Adds the type and the value: an array's type with `[]` behind it, its elements with a comma
-/// between, a null array as `null`, and no value as `Null`. A value that cannot be written is
+/// Appends the type and the value: an array's type with `[]` after it, its elements separated by
+/// commas, a null array as `null`, and no value as `Null`. A value that cannot be encoded is
 /// `unwritable`, without its type.
 pub fn push_variant(alloc: Global, out: &mut String, value: &Variant) -> Result<(), AllocError>
     ensures { OnOk result (string_bytes out.new ≡ string_bytes out.old ++ variant_text (variant_of value.now)) }
@@ -64,7 +64,7 @@ pub fn push_variant(alloc: Global, out: &mut String, value: &Variant) -> Result<
     }
 }
 
-/// Adds the type and the value.
+/// Appends the type and the value.
 #[tactic(auto, using(crate::proofs::Rows::typed_of))]
 fn push_typed(alloc: Global, out: &mut String, value: &Variant) -> Result<(), AllocError>
     ensures { OnOk result (string_bytes out.new ≡ string_bytes out.old ++ typed_text (variant_of value.now)) }
@@ -80,7 +80,7 @@ fn push_typed(alloc: Global, out: &mut String, value: &Variant) -> Result<(), Al
     }
 }
 
-/// Adds the type and the elements of an array, null as `null`.
+/// Appends the type and the elements of an array, null as `null`.
 fn push_array(
     alloc: Global,
     out: &mut String,
@@ -99,7 +99,7 @@ fn push_array(
     }
 }
 
-/// Adds the elements of an array, with a comma between.
+/// Appends the elements of an array, with a comma between.
 fn push_elements(alloc: Global, out: &mut String, elements: &Elements) -> Result<(), AllocError>
     ensures { OnOk result (string_bytes out.new ≡ string_bytes out.old ++ items_text (elements_of elements.now)) }
 {
@@ -130,7 +130,7 @@ fn push_scalars(alloc: Global, out: &mut String, scalars: &[Scalar]) -> Result<(
     Ok(())
 }
 
-/// Adds the element at a place, behind a comma unless it is the first.
+/// Appends the element at a place, after a comma unless it is the first.
 fn push_item(
     alloc: Global,
     out: &mut String,
@@ -145,7 +145,7 @@ fn push_item(
     push_scalar(alloc, out, scalar)
 }
 
-/// Adds a value of a built-in type.
+/// Appends a value of a built-in type.
 pub(crate) fn push_scalar(
     alloc: Global,
     out: &mut String,
@@ -183,7 +183,7 @@ pub(crate) fn push_scalar(
     }
 }
 
-/// Adds the octets of a DataValue among Variants.
+/// Appends the bytes of a DataValue among Variants.
 #[tactic(auto, unfolding(ua_variant::specs::Formats::data_value_format))]
 fn push_data_value_octets(
     alloc: Global,
@@ -198,7 +198,7 @@ fn push_data_value_octets(
     }
 }
 
-/// Adds the octets of a Variant among other Variants.
+/// Appends the bytes of a Variant among other Variants.
 #[tactic(auto, unfolding(ua_variant::specs::Formats::variant_format))]
 fn push_variant_octets(
     alloc: Global,
@@ -213,7 +213,7 @@ fn push_variant_octets(
     }
 }
 
-/// Adds the octets of a DiagnosticInfo among Variants.
+/// Appends the bytes of a DiagnosticInfo among Variants.
 #[tactic(auto, unfolding(ua_diagnostic::specs::Formats::diagnostic_format))]
 fn push_diagnostic_octets(
     alloc: Global,
@@ -228,7 +228,7 @@ fn push_diagnostic_octets(
     }
 }
 
-/// Adds `true` or `false`.
+/// Appends `true` or `false`.
 fn push_boolean(out: &mut String, value: bool) -> Result<(), AllocError>
     ensures { OnOk result (string_bytes out.new ≡ string_bytes out.old ++ boolean_text value) }
 {

@@ -1,4 +1,4 @@
-//! Reads arrays of packed types, a block of octets at a time.
+//! Decoding of packed arrays, a block of bytes at a time.
 
 ghost use Rattle.std.specs.Prelude.{◌≡◌, ◌≤◌, ◌*◌, ◌+◌, ℕ, length, map, true};
 ghost use Rattle.ua_builtin.specs.Exact.{image_read};
@@ -18,7 +18,7 @@ use crate::packed::{Pack, Packed};
 use std::alloc::Global;
 use ua_builtin::{DateTime, DoubleBits, FloatBits, Guid, Octets, ReadFault, Source, StatusCode};
 
-/// How many octets are taken at a time. Each packed type takes a part of them without a rest.
+/// How many bytes are taken at a time. Each packed type takes a part of them without a rest.
 const BLOCK: usize = 512;
 
 /// Whether arrays of the type id are packed.
@@ -29,7 +29,7 @@ pub fn is_packed(kind: u8) -> bool
     (1 <= kind && kind <= 11) || (13 <= kind && kind <= 14) || kind == 19
 }
 
-/// Reads so many elements of a type id whose arrays are packed.
+/// Decodes so many elements of a type id whose arrays are packed.
 pub fn read_packed<S: Source>(
     alloc: Global,
     src: &mut S,
@@ -58,7 +58,8 @@ pub fn read_packed<S: Source>(
     }
 }
 
-/// Reads so many elements of a type, whose type id is the one given, into exactly the room for them.
+/// Reads so many elements of a type, whose type id is the one given, into exactly the room for
+/// them.
 fn read_items<T: Pack, S: Source>(
     alloc: Global,
     src: &mut S,
@@ -109,7 +110,8 @@ fn read_many<T: Group, S: Source>(
     Ok(T::pack(items))
 }
 
-/// Takes a block of octets, which are so many numbers, and puts these behind the elements that there are.
+/// Takes a block of bytes, which are so many numbers, and puts these after the elements that there
+/// are.
 #[inline]
 fn read_part<T: Group, S: Source>(
     src: &mut S,
@@ -132,7 +134,7 @@ fn read_part<T: Group, S: Source>(
     Ok(())
 }
 
-/// Takes a block of octets, and reads so many elements of it behind those that there are.
+/// Takes a block of bytes, and reads so many elements of it after the existing ones.
 #[inline]
 fn read_block<T: Pack, S: Source>(
     alloc: Global,
@@ -154,7 +156,7 @@ fn read_block<T: Pack, S: Source>(
     read_each(alloc, &mut Octets::new(block), count, items)
 }
 
-/// Reads so many elements behind those that there are.
+/// Reads so many elements after the existing ones.
 #[inline]
 fn read_each<T: Pack>(
     alloc: Global,

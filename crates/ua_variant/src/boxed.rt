@@ -5,7 +5,7 @@ ghost use Rattle.std.specs.Prelude.{◌≡◌, IfOk};
 use std::alloc::{AllocError, Global};
 use std::marker::Model;
 
-/// A value on the heap, so that what holds it stays small. A contract sees the value.
+/// A value on the heap, so that what holds it stays small. Contracts see the value itself.
 #[derive(Drop)]
 pub struct Boxed<T> {
     inner: Box<T>,
@@ -18,7 +18,7 @@ impl<T> Model for Boxed<T> {
 }
 
 impl<T> Boxed<T> {
-    /// This value, on the heap.
+    /// Moves this value to the heap.
     #[inline]
     pub fn new(alloc: Global, value: T) -> Result<Boxed<T>, AllocError>
     where
@@ -38,7 +38,7 @@ impl<T> Boxed<T> {
         &self.inner
     }
 
-    /// Hands the value over.
+    /// Returns the value, consuming its holder.
     #[inline]
     pub fn into_inner(self) -> T
         ensures { result ≡ self }

@@ -10,7 +10,7 @@ use crate::values::{
 use std::alloc::{AllocError, Global};
 
 impl Variant {
-    /// A value of its own, equal to this one.
+    /// Returns an owned copy, equal to this value.
     pub fn try_clone(&self, alloc: Global) -> Result<Variant, AllocError>
         ensures { IfOk result (λ v. v ≡ self.now) }
     {
@@ -19,7 +19,7 @@ impl Variant {
 }
 
 impl DataValue {
-    /// A value of its own, equal to this one.
+    /// Returns an owned copy, equal to this value.
     pub fn try_clone(&self, alloc: Global) -> Result<DataValue, AllocError>
         ensures { IfOk result (λ d. d ≡ self.now) }
     {
@@ -28,7 +28,7 @@ impl DataValue {
 }
 
 impl Scalar {
-    /// A value of its own, equal to this one.
+    /// Returns an owned copy, equal to this value.
     pub fn try_clone(&self, alloc: Global) -> Result<Scalar, AllocError>
         ensures { IfOk result (λ s. s ≡ self.now) }
     {
@@ -37,7 +37,7 @@ impl Scalar {
 }
 
 impl Scalars {
-    /// The element at a place, counted from 0, as a value of its own.
+    /// Returns an owned copy of the element at a position, counted from 0.
     pub fn get(&self, alloc: Global, index: usize) -> Result<Option<Scalar>, AllocError>
         ensures { IfOk result (λ found. option_map scalar_of found ≡ slice_get self.now index) }
     {
@@ -47,7 +47,8 @@ impl Scalars {
         }
     }
 
-    /// The elements from one place up to another, which is not among them; no other is cloned.
+    /// Returns an owned copy of the elements from position `from` up to, and without, position
+    /// `to`; no other element is copied.
     pub fn part(&self, alloc: Global, from: usize, to: usize) -> Result<Scalars, AllocError>
         requires order { from ≤ to }
         requires within { to ≤ length self.now }

@@ -1,4 +1,4 @@
-//! Whether values can be written.
+//! Whether values can be encoded.
 
 ghost use Rattle.std.specs.Prelude.{◌≡◌};
 ghost use Rattle.ua_variant.specs.Encodable.{variant_encodable, data_value_encodable, variant_fits, scalar_fits, scalars_fit, data_value_fits, data_fields_encodable, kind_of, is_kind, row_length};
@@ -13,8 +13,9 @@ use ua_diagnostic::{dims_fit, is_counted};
 use ua_wire::MOST_LEVELS;
 
 impl Variant {
-    /// Whether the value can be written: it has at most 100 levels, the elements of an array are
-    /// of its type id, dimensions name as many elements as there are, and so on within.
+    /// Whether the value can be encoded: its nesting depth is at most 100, the elements of an array
+    /// are of its type id, its dimensions match the number of elements, and the same holds for each
+    /// value inside.
     pub fn writable(&self) -> bool
         ensures { result ≡ variant_encodable (variant_of self.now) }
     {
@@ -23,7 +24,7 @@ impl Variant {
 }
 
 impl DataValue {
-    /// Whether the value can be written.
+    /// Whether the value can be encoded.
     pub fn writable(&self) -> bool
         ensures { result ≡ data_value_encodable (data_value_of self.now) }
     {
@@ -32,7 +33,7 @@ impl DataValue {
 }
 
 impl Scalar {
-    /// The type id (OPC 10000-6, 5.1.2).
+    /// The type id of the scalar (OPC 10000-6, 5.1.2).
     pub fn kind(&self) -> u8
         ensures { result ≡ kind_of (scalar_of self.now) }
     {
@@ -75,7 +76,7 @@ fn is_written_kind(kind: u8) -> bool
     1 <= kind && kind <= 25
 }
 
-/// How many elements there are.
+/// The number of elements.
 #[inline]
 pub fn element_count(items: &Scalars) -> usize
     ensures { result ≡ row_length (row items.now) }
@@ -198,7 +199,8 @@ fn boxed_variant_levels_of(value: &BoxedVariant) -> Option<u32>
     }
 }
 
-/// How many levels the deepest element has, if each is of the type id and can be written but for these.
+/// How many levels the deepest element has, if each is of the type id and can be written but for
+/// these.
 #[cycle(fits)]
 fn row_levels_of(kind: u8, items: &Scalars) -> Option<u32>
     ensures { result ≡ levels_if (scalars_fit kind (row items.now)) (scalars_depth (row items.now)) }

@@ -1,4 +1,4 @@
-//! The fields of a DataValue that hold no further value.
+//! The fields of a DataValue other than its value.
 
 ghost use Rattle.std.specs.Prelude.{◌≡◌, ◌<◌};
 ghost use Rattle.std.specs.Vec.{vec_len, vec_capacity};
@@ -14,7 +14,7 @@ use std::alloc::Global;
 use ua_builtin::{DateTime, ReadFault, Source, StatusCode};
 use ua_diagnostic::field::read_field;
 
-/// The fields of a DataValue but its value.
+/// The fields of a DataValue other than its value.
 #[derive(Clone, Copy)]
 pub struct Fields {
     status: Option<StatusCode>,
@@ -25,7 +25,7 @@ pub struct Fields {
 }
 
 impl Fields {
-    /// The DataValue of these fields.
+    /// The DataValue of this value and these fields.
     #[inline]
     pub fn behind(self, value: Option<HeldVariant>) -> DataValue
         ensures { data_value_of result ≡ value_within value (fields_of self) }
@@ -40,7 +40,7 @@ impl Fields {
         }
     }
 
-    /// Puts the DataValue of these fields behind the others.
+    /// Pushes the DataValue of this value and these fields.
     #[inline(always)]
     pub fn push(self, value: Option<HeldVariant>, items: &mut Vec<DataValue>)
         requires room { vec_len items.old < vec_capacity items.old }
@@ -50,7 +50,7 @@ impl Fields {
     }
 }
 
-/// Reads the fields of a DataValue that the mask announces, behind its value.
+/// Decodes the fields of a DataValue, after its value, that its encoding mask announces.
 #[inline(always)]
 #[tactic(auto, unfolding(crate::specs::Fields::data_fields))]
 pub fn read_data_fields<S: Source>(

@@ -15,7 +15,7 @@ use ua_builtin::{
     QualifiedName, ReadFault, Source, StatusCode, UaBytes, UaString, Wire, XmlElement,
 };
 
-/// A type whose values are the scalars of one type id that hold no further value.
+/// A type whose values are the scalars of one type id, without further values inside.
 pub trait Leaf: Wire {
     /// The type id.
     ghost kind: { ℕ };
@@ -23,7 +23,7 @@ pub trait Leaf: Wire {
     /// The data of the scalar.
     ghost as_leaf: { Self → LeafData };
 
-    /// Shows that scalars of the type id are the values of this type, in its encoding.
+    /// Shows that the scalars of the type id are the values of this type, with its encoding.
     fn is_leaf()
         ensures reads { (octets : List ℕ) → leaf_at kind octets ≡ image_read as_leaf (Self.format.decode 0) octets }
         ensures id { (x : Self) → leaf_kind (as_leaf x) ≡ kind }
@@ -31,21 +31,21 @@ pub trait Leaf: Wire {
         ensures canonical { (x : Self) → leaf_canonical (as_leaf x) ≡ Self.format.canonical x };
 }
 
-/// A type whose values a scalar holds in its place.
+/// A type whose values a scalar stores in place.
 pub trait HeldLeaf: Leaf {
-    /// This value as a scalar.
+    /// Converts this value into a scalar.
     fn into_scalar(self) -> Scalar
         ensures { scalar_of result ≡ leaf (Self.as_leaf self) };
 }
 
-/// A type whose values a scalar holds on the heap.
+/// A type whose values a scalar stores on the heap.
 pub trait BoxedLeaf: Leaf + Drop {
-    /// This value as a scalar.
+    /// Converts this value into a scalar.
     fn boxed_scalar(value: Boxed<Self>) -> Scalar
         ensures { scalar_of result ≡ leaf (Self.as_leaf value) };
 }
 
-/// Reads a scalar as a value of its type.
+/// Decodes a scalar as a value of its type.
 #[inline]
 pub fn read_leaf_as<T: Leaf, S: Source>(alloc: Global, src: &mut S) -> Result<T, ReadFault>
     ensures exact { GivesBy (λ x. leaf (T.as_leaf x)) (image_read leaf (leaf_at T.kind)) (S.octets src.old) (S.octets src.new) result }
@@ -56,7 +56,7 @@ pub fn read_leaf_as<T: Leaf, S: Source>(alloc: Global, src: &mut S) -> Result<T,
     Ok(value)
 }
 
-/// Reads a scalar of the type id of a type, which holds its value in its place.
+/// Decodes a scalar of the type id of a type that it stores in place.
 #[inline]
 pub fn read_as<T: HeldLeaf, S: Source>(alloc: Global, src: &mut S) -> Result<Scalar, ReadFault>
     ensures exact { GivesBy scalar_of (image_read leaf (leaf_at T.kind)) (S.octets src.old) (S.octets src.new) result }
@@ -65,7 +65,7 @@ pub fn read_as<T: HeldLeaf, S: Source>(alloc: Global, src: &mut S) -> Result<Sca
     Ok(read_leaf_as::<T, S>(alloc, src)?.into_scalar())
 }
 
-/// Reads a scalar of the type id of a type, which holds its value on the heap.
+/// Decodes a scalar of the type id of a type that it stores on the heap.
 pub fn read_boxed_as<T: BoxedLeaf, S: Source>(
     alloc: Global,
     src: &mut S,

@@ -1,9 +1,9 @@
-//! How many octets a value takes at least.
+//! The least number of bytes that encode a value.
 
 ghost use Rattle.std.specs.Prelude.{◌≡◌, ◌<◌, ◌≤◌};
 ghost use Rattle.ua_variant.specs.Least.{least_octets as least_of};
 
-/// The least octets that a value of the type id takes.
+/// The least number of bytes that encode a value of the type id.
 #[inline]
 #[tactic(auto, unfolding(crate::specs::Least::least_octets))]
 pub fn least_octets(kind: u8) -> usize

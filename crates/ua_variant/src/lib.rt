@@ -1,9 +1,9 @@
-//! Values that hold values of OPC UA Binary, both ways: Variant, DataValue and DiagnosticInfo
-//! (OPC 10000-6, 5.2.2.12, 5.2.2.16 and 5.2.2.17).
+//! The types of OPC UA Binary whose values hold values, decoded and encoded: Variant, DataValue and
+//! DiagnosticInfo (OPC 10000-6, 5.2.2.12, 5.2.2.16 and 5.2.2.17).
 //!
-//! Its contract is that of `Wire` and of `Skip` for the three, over the relations `EncodesVariant`,
-//! `EncodesDataValue` and `EncodesDiagnostic`, and exact `depth`, `count`, `writable` and
-//! `try_clone`. Values hold no pointers or capacities in a contract, so `≡` is equality of values.
+//! The contract is that of `Wire` and of `Skip` for the three, over the relations `EncodesVariant`,
+//! `EncodesDataValue` and `EncodesDiagnostic`, with exact `depth`, `count`, `writable` and
+//! `try_clone`. In contracts, values have no pointers or capacities, so `≡` is equality of values.
 //!
 //! ```
 //! let five = Variant::One(Scalar::Int32(5));
@@ -17,7 +17,7 @@
 //! };
 //! answer.write(&mut out)?; // 01 06 05 00 00 00
 //! let read = DataValue::read(alloc, &mut Octets::new(out.as_slice()), MOST_LEVELS)?;
-//! let levels = read.depth(); // 2: the DataValue, and the Variant within
+//! let levels = read.depth(); // 2: the DataValue and its Variant
 //! ```
 #![tactic(auto)]
 

@@ -1,4 +1,4 @@
-//! The bits of the octets at the front of DataValues and Variants.
+//! The bits of the encoding masks of DataValues and Variants.
 
 // DataValue (OPC 10000-6, 5.2.2.17).
 
@@ -14,7 +14,7 @@ pub const SOURCE_PICOSECONDS: u8 = 0x10;
 
 pub const SERVER_PICOSECONDS: u8 = 0x20;
 
-/// The flags that the mask of a DataValue may have.
+/// The bits that the encoding mask of a DataValue may have.
 pub const KNOWN_FLAGS: u8 = 0x3F;
 
 // Variant (OPC 10000-6, 5.2.2.16).

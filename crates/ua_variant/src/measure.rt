@@ -1,4 +1,4 @@
-//! How deep values nest, and how many values they hold.
+//! The nesting depth of values, and the number of values in them.
 
 ghost use Rattle.std.specs.Prelude.{◌≡◌, ◌≤◌, min};
 ghost use Rattle.ua_variant.specs.Measure.{variant_depth, scalar_depth, scalars_depth, data_value_depth, variant_count, scalar_count, scalars_count, data_value_count, data_fields_count};
@@ -8,14 +8,14 @@ use crate::values::{DataValue, Elements, Scalar, Scalars, Variant};
 use ua_diagnostic::field::count_of;
 
 impl Variant {
-    /// How many levels the value has, or the greatest number.
+    /// The nesting depth of the value, saturated at `u32::MAX`.
     pub fn depth(&self) -> u32
         ensures { result ≡ min (variant_depth (variant_of self.now)) u32.MAX }
     {
         variant_levels(self)
     }
 
-    /// How many values are in it, or the greatest number.
+    /// The number of values in it, saturated at `u64::MAX`.
     pub fn count(&self) -> u64
         ensures { result ≡ min (variant_count (variant_of self.now)) u64.MAX }
     {
@@ -24,14 +24,14 @@ impl Variant {
 }
 
 impl DataValue {
-    /// How many levels the value has, or the greatest number.
+    /// The nesting depth of the value, saturated at `u32::MAX`.
     pub fn depth(&self) -> u32
         ensures { result ≡ min (data_value_depth (data_value_of self.now)) u32.MAX }
     {
         data_value_levels(self)
     }
 
-    /// How many values are in it, or the greatest number.
+    /// The number of values in it, saturated at `u64::MAX`.
     pub fn count(&self) -> u64
         ensures { result ≡ min (data_value_count (data_value_of self.now)) u64.MAX }
     {

@@ -1,4 +1,4 @@
-//! Arrays of numbers, read and written many elements at a time.
+//! Arrays of numbers, decoded and encoded many elements at a time.
 
 ghost use Rattle.std.specs.Prelude.{◌≡◌, ◌≤◌, ◌*◌, ◌++◌, [], drop, length, map, Some, OnOk};
 ghost use Rattle.ua_builtin.specs.Exact.{image_read};
@@ -15,38 +15,38 @@ use byteorder::{ByteOrder, LittleEndian};
 use std::alloc::AllocError;
 use ua_builtin::{DateTime, DoubleBits, FloatBits, StatusCode};
 
-/// How many numbers are read and written at a time.
+/// How many numbers are decoded and encoded at a time.
 pub const MANY: usize = 64;
 
-/// A packed type whose values are numbers of two, four or eight octets, the least first
-/// (OPC 10000-6, 5.2.2.2).
+/// A packed type whose values are little-endian numbers of two, four or eight bytes (OPC 10000-6,
+/// 5.2.2.2).
 pub trait Number: Pack {
-    /// How many octets each value takes.
+    /// The number of bytes of each value.
     fn width() -> usize
         ensures octets { result ≡ least_of Self.kind }
         ensures few { result ≤ 8 };
 
-    /// The value whose octets stand first.
+    /// The value that the first bytes encode.
     fn first(octets: &[u8]) -> Self
         requires whole { least_of Self.kind ≤ length octets.now }
         ensures read { leaf_at Self.kind octets.now ≡ Some (Self.as_leaf result, drop (least_of Self.kind) octets.now) };
 
-    /// Puts the octets of the value first.
+    /// Writes the encoding of the value to the first bytes.
     fn put(self, octets: &mut [u8])
         requires whole { least_of Self.kind ≤ length octets.old }
         ensures written { octets.new ≡ leaf_canonical (Self.as_leaf self) ++ drop (least_of Self.kind) octets.old };
 }
 
-/// Numbers of which many are read at a time.
+/// Numbers of which many are decoded at a time.
 pub trait Group: Number {
-    /// Reads so many values, whose octets these are, behind those that there are.
+    /// Decodes so many values from their bytes, and pushes them.
     fn extend(octets: &[u8], count: usize, items: &mut Vec<Self>) -> Result<(), AllocError>
         requires few { count ≤ 64 }
         requires whole { length octets.now ≡ count * least_of Self.kind }
         ensures read { OnOk result (row_behind (map leaf (map Self.as_leaf items.old.items)) count (image_read leaf (leaf_at Self.kind)) octets.now ≡ Some (row (map leaf (map Self.as_leaf items.new.items)), [])) };
 }
 
-/// Reads so many numbers, which octets are one behind the other, into places for just these.
+/// Decodes so many numbers from consecutive bytes into a slice of that length.
 #[inline]
 pub fn read_numbers<T: Number>(octets: &[u8], count: usize, numbers: &mut [T])
     requires room { length numbers.old ≡ count }
@@ -60,7 +60,7 @@ pub fn read_numbers<T: Number>(octets: &[u8], count: usize, numbers: &mut [T])
     }
 }
 
-/// Writes numbers, one behind the other, onto octets that there are just enough of.
+/// Encodes numbers, one after the other, into a slice of exactly their length.
 #[inline]
 pub fn write_numbers<T: Number>(numbers: &[T], octets: &mut [u8])
     requires whole { length octets.old ≡ length numbers.now * least_of T.kind }

@@ -18,8 +18,8 @@ use std::alloc::Global;
 use ua_builtin::{DoubleBits, FloatBits, ReadFault, Source, Wire};
 
 impl DataValue {
-    /// Reads the DataValue that the source begins with, of at most so many levels, and puts it
-    /// behind the others. After a fault the source is to be given up.
+    /// Decodes the DataValue at the start of the source, of at most nesting depth `depth`, and
+    /// pushes it to the vector. After an error, discard the source.
     #[tactic(auto, unfolding(crate::specs::Formats::data_value_format))]
     pub fn read_onto<S: Source>(
         alloc: Global,
@@ -40,7 +40,7 @@ impl DataValue {
     }
 }
 
-/// Reads a DataValue, with so many levels left within.
+/// Reads a DataValue, whose inner values may have that nesting depth.
 #[inline(always)]
 #[tactic(auto, unfolding(crate::specs::Decoding::data_value_step))]
 fn push_level<S: Source>(
@@ -62,7 +62,7 @@ fn push_level<S: Source>(
     push_announced(alloc, src, depth, mask, mask & masks::VALUE != 0, items)
 }
 
-/// Reads a DataValue behind its mask, with a value where it is announced.
+/// Reads a DataValue after its mask, with a value where it is announced.
 #[inline(always)]
 fn push_announced<S: Source>(
     alloc: Global,
@@ -85,7 +85,7 @@ fn push_announced<S: Source>(
     push_valued(alloc, src, depth, mask, items)
 }
 
-/// Reads a DataValue with a value behind its mask.
+/// Reads a DataValue with a value after its mask.
 #[inline(always)]
 fn push_valued<S: Source>(
     alloc: Global,
@@ -106,7 +106,7 @@ fn push_valued<S: Source>(
     push_stepped(alloc, src, depth - 1, mask, items)
 }
 
-/// Reads a DataValue with a value behind its mask, with so many levels left within the value.
+/// Reads a DataValue with a value after its mask, with so many levels left within the value.
 #[inline(always)]
 #[tactic(auto, unfolding(crate::specs::Decoding::variant_step))]
 fn push_stepped<S: Source>(
@@ -126,7 +126,7 @@ fn push_stepped<S: Source>(
     push_tagged(alloc, src, depth, mask, tag, items)
 }
 
-/// Reads a DataValue with a value behind the first octet of the value.
+/// Reads a DataValue with a value after the first byte of the value.
 #[inline(always)]
 fn push_tagged<S: Source>(
     alloc: Global,
@@ -148,7 +148,7 @@ fn push_tagged<S: Source>(
     push_other(alloc, src, depth, mask, tag, items)
 }
 
-/// Reads a DataValue of any value behind the first octet of the value.
+/// Reads a DataValue of any value after the first byte of the value.
 #[inline(never)]
 fn push_other<S: Source>(
     alloc: Global,

@@ -1,4 +1,4 @@
-//! Arrays of numbers and of other types of one width, each in a vector of its own type.
+//! Arrays of numbers and of other fixed-width types, each in a vector of its own type.
 
 ghost use Rattle.std.specs.Prelude.{◌≡◌, ◌≢◌, ◌-◌, ◌≤◌, ◌++◌, List, drop, take, length, map, option_map, slice_get, true, IfOk, IfSome, IsNone, OnOk, OnErr};
 ghost use Rattle.ua_builtin.specs.Format.{Extends};
@@ -15,7 +15,8 @@ use crate::values::Scalar;
 use std::alloc::{AllocError, Global};
 use ua_builtin::{DateTime, DoubleBits, FloatBits, Guid, StatusCode};
 
-/// The elements of an array of one of the types whose values all take the same octets.
+/// The elements of an array of one of the types whose values are all encoded in the same number of
+/// bytes.
 #[derive(Drop)]
 pub enum Packed {
     Booleans(Vec<bool>),
@@ -34,14 +35,14 @@ pub enum Packed {
     StatusCodes(Vec<StatusCode>),
 }
 
-/// A type of which arrays are packed.
+/// A type whose arrays are packed.
 pub trait Pack: HeldLeaf + Copy {
-    /// An array of these elements.
+    /// Makes an array of these elements.
     fn pack(items: Vec<Self>) -> Packed
         ensures leaves { packed_leaves result ≡ map Self.as_leaf items.items }
         ensures kind { packed_kind result ≡ Self.kind };
 
-    /// The elements, or `None` where they are of another type.
+    /// The elements, or `None` if they are of another type.
     fn items(packed: &Packed) -> Option<&[Self]>
         ensures found { IfSome result (λ items. map Self.as_leaf items.now ≡ packed_leaves packed.now) }
         ensures kind { IfSome result (λ items. packed_kind packed.now ≡ Self.kind) }
@@ -71,7 +72,7 @@ impl Packed {
         }
     }
 
-    /// How many elements there are.
+    /// The number of elements.
     pub fn len(&self) -> usize
         ensures { result ≡ length (packed_leaves self.now) }
     {
@@ -93,7 +94,7 @@ impl Packed {
         }
     }
 
-    /// The elements, or `None` where they are of another type.
+    /// The elements, or `None` if they are of another type.
     pub fn as_items<T: Pack>(&self) -> Option<&[T]>
         ensures found { IfSome result (λ items. map T.as_leaf items.now ≡ packed_leaves self.now) }
         ensures kind { IfSome result (λ items. packed_kind self.now ≡ T.kind) }
@@ -102,7 +103,7 @@ impl Packed {
         T::items(self)
     }
 
-    /// The element at a place, counted from 0.
+    /// The element at a position, counted from 0.
     pub fn get(&self, index: usize) -> Option<Scalar>
         ensures { option_map scalar_of result ≡ option_map leaf (slice_get (packed_leaves self.now) index) }
     {
@@ -124,14 +125,14 @@ impl Packed {
         }
     }
 
-    /// An array of its own, equal to this one.
+    /// Returns an owned copy, equal to this array.
     pub fn try_clone(&self, alloc: Global) -> Result<Packed, AllocError>
         ensures { IfOk result (λ copy. packed_leaves copy ≡ packed_leaves self.now) }
     {
         self.part(alloc, 0, self.len())
     }
 
-    /// The elements from one place up to another, which is not among them.
+    /// Returns a copy of the elements from position `from` up to, and without, position `to`.
     pub fn part(&self, alloc: Global, from: usize, to: usize) -> Result<Packed, AllocError>
         requires order { from ≤ to }
         requires within { to ≤ length (packed_leaves self.now) }
@@ -177,7 +178,7 @@ impl Packed {
         }
     }
 
-    /// Adds the canonical encodings of the elements, which are of the type id, at the end.
+    /// Appends the canonical encodings of the elements, which are of the type id, at the end.
     pub(crate) fn append(&self, kind: u8, out: &mut Vec<u8>) -> Result<(), AllocError>
         requires { scalars_fit kind (row (map leaf (packed_leaves self.now))) ≡ true }
         ensures ok { OnOk result (out.new.items ≡ out.old.items ++ row_canonical (row (map leaf (packed_leaves self.now)))) }
@@ -243,7 +244,7 @@ fn items_fit<T: Pack>(items: &[T], own: u8, kind: u8) -> bool
     true
 }
 
-/// Adds the canonical encodings of the elements at the end.
+/// Appends the canonical encodings of the elements at the end.
 fn append_items<T: Pack>(items: &[T], kind: u8, out: &mut Vec<u8>) -> Result<(), AllocError>
     requires { scalars_fit kind (row (map leaf (map T.as_leaf items.now))) ≡ true }
     ensures ok { OnOk result (out.new.items ≡ out.old.items ++ row_canonical (row (map leaf (map T.as_leaf items.now)))) }
@@ -257,10 +258,10 @@ fn append_items<T: Pack>(items: &[T], kind: u8, out: &mut Vec<u8>) -> Result<(),
     Ok(())
 }
 
-/// The octets that are put together before they are added.
+/// The bytes that are put together before they are added.
 const BLOCK: usize = 512;
 
-/// Adds the canonical encodings of numbers at the end.
+/// Appends the canonical encodings of numbers at the end.
 fn append_numbers<T: Number>(items: &[T], out: &mut Vec<u8>) -> Result<(), AllocError>
     ensures ok { OnOk result (out.new.items ≡ out.old.items ++ row_canonical (row (map leaf (map T.as_leaf items.now)))) }
     ensures err { OnErr result (Extends out.old.items out.new.items) }

@@ -1,4 +1,4 @@
-//! Reads Variants and DataValues.
+//! Decoding of Variants and DataValues.
 
 ghost use Rattle.std.specs.Prelude.{◌≡◌, ◌<◌, ◌≤◌, ◌%◌, true, IsErrOf};
 ghost use Rattle.ua_builtin.specs.Exact.{image_read};
@@ -33,7 +33,7 @@ use ua_builtin::{
 use ua_diagnostic::{read_dims, read_no_dims};
 use ua_wire::FIRST_NEGATIVE;
 
-/// Reads a scalar that holds no further value.
+/// Decodes a scalar without further values inside.
 #[inline(always)]
 pub fn read_leaf<S: Source>(alloc: Global, src: &mut S, kind: u8) -> Result<Scalar, ReadFault>
     ensures exact { GivesBy scalar_of (image_read leaf (leaf_at kind)) (S.octets src.old) (S.octets src.new) result }
@@ -92,7 +92,7 @@ fn read_record<S: Source>(alloc: Global, src: &mut S, kind: u8) -> Result<Scalar
     }
 }
 
-/// Reads a Variant of at most so many levels.
+/// Decodes a Variant of at most this nesting depth.
 #[cycle(variants)]
 #[inline(always)]
 pub fn read_variant<S: Source>(alloc: Global, src: &mut S, depth: u32) -> Result<Variant, ReadFault>
@@ -107,7 +107,7 @@ pub fn read_variant<S: Source>(alloc: Global, src: &mut S, depth: u32) -> Result
     read_variant_level(alloc, src, depth - 1)
 }
 
-/// Whether values of the type id are read.
+/// Whether values of the type id are decoded.
 #[inline]
 pub fn is_read_kind(kind: u8) -> bool
     ensures { result ≡ read_kind kind }
@@ -115,7 +115,7 @@ pub fn is_read_kind(kind: u8) -> bool
     1 <= kind && kind <= 31
 }
 
-/// Reads a Variant, with so many levels left within.
+/// Reads a Variant, whose inner values may have that nesting depth.
 #[cycle(variants)]
 #[inline(always)]
 #[tactic(auto, unfolding(crate::specs::Decoding::variant_step))]
@@ -133,7 +133,7 @@ fn read_variant_level<S: Source>(
     read_tagged(alloc, src, depth, tag)
 }
 
-/// Reads a Variant behind its first octet, with so many levels left within.
+/// Decodes a Variant after its encoding byte, whose inner values may have this nesting depth.
 #[cycle(variants)]
 #[inline(always)]
 #[tactic(auto, unfolding(crate::specs::Decoding::variant_after))]
@@ -164,8 +164,8 @@ pub fn read_tagged<S: Source>(
     Ok(Variant::One(read_scalar(alloc, src, depth, tag)?))
 }
 
-/// Reads an array behind its first octet; no memory is asked for where the octets left cannot hold
-/// so many elements.
+/// Reads an array after its first byte; nothing is allocated where the bytes left cannot hold so
+/// many elements.
 #[cycle(variants)]
 #[tactic(auto, unfolding(crate::specs::Decoding::array_at))]
 fn read_array<S: Source>(
@@ -247,7 +247,7 @@ fn read_row<S: Source>(
     }
 }
 
-/// Reads so many DataValues as scalars, with so many levels left within.
+/// Reads so many DataValues as scalars, whose inner values may have that nesting depth.
 #[cycle(variants)]
 fn read_data_value_row<S: Source>(
     alloc: Global,
@@ -268,7 +268,7 @@ fn read_data_value_row<S: Source>(
     Ok(Scalars::new(items))
 }
 
-/// Reads so many Variants as scalars, with so many levels left within.
+/// Reads so many Variants as scalars, whose inner values may have that nesting depth.
 #[cycle(variants)]
 fn read_variant_row<S: Source>(
     alloc: Global,
@@ -289,7 +289,7 @@ fn read_variant_row<S: Source>(
     Ok(Scalars::new(items))
 }
 
-/// Reads a value of the type id, with so many levels left within.
+/// Reads a value of the type id, whose inner values may have that nesting depth.
 #[cycle(variants)]
 #[inline(always)]
 #[tactic(auto, unfolding(crate::specs::Decoding::scalar_at))]
@@ -311,7 +311,7 @@ fn read_scalar<S: Source>(
     }
 }
 
-/// Reads a DataValue as a scalar, with so many levels left within.
+/// Reads a DataValue as a scalar, whose inner values may have that nesting depth.
 #[cycle(variants)]
 #[inline(never)]
 #[tactic(auto, unfolding(crate::specs::Decoding::scalar_at))]
@@ -328,7 +328,7 @@ fn read_boxed_data_value<S: Source>(
     Ok(Scalar::DataValue(BoxedDataValue::new(alloc, value)?))
 }
 
-/// Reads a Variant as a scalar, with so many levels left within.
+/// Reads a Variant as a scalar, whose inner values may have that nesting depth.
 #[cycle(variants)]
 #[inline(never)]
 #[tactic(auto, unfolding(crate::specs::Decoding::scalar_at))]
@@ -345,7 +345,7 @@ fn read_boxed_variant<S: Source>(
     Ok(Scalar::Variant(BoxedVariant::new(alloc, value)?))
 }
 
-/// Reads a DataValue of at most so many levels.
+/// Decodes a DataValue of at most this nesting depth.
 #[cycle(variants)]
 #[inline(always)]
 pub fn read_data_value<S: Source>(
@@ -363,7 +363,7 @@ pub fn read_data_value<S: Source>(
     read_data_value_level(alloc, src, depth - 1)
 }
 
-/// Reads a DataValue, with so many levels left within.
+/// Reads a DataValue, whose inner values may have that nesting depth.
 #[cycle(variants)]
 #[inline(always)]
 #[tactic(auto, unfolding(crate::specs::Decoding::data_value_step))]
@@ -390,7 +390,7 @@ fn read_data_value_level<S: Source>(
     }
 }
 
-/// Lets a value go whose DataValue is none.
+/// Drops a value whose DataValue was not decoded.
 #[cold]
 #[inline(never)]
 pub fn give_up(value: Option<HeldVariant>) {

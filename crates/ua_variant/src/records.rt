@@ -1,4 +1,4 @@
-//! Reads arrays of texts, octets, ids and objects as scalars, one loop for each type.
+//! Decoding of arrays of texts, bytes, ids and objects as scalars, one loop for each type.
 
 ghost use Rattle.std.specs.Prelude.{◌≡◌, ◌≤◌, ◌<◌, map, false, OnOk};
 ghost use Rattle.std.specs.Vec.{vec_len, vec_capacity};
@@ -19,16 +19,16 @@ use ua_builtin::{
 };
 use ua_diagnostic::{BoxedDiagnostic, read_diagnostic};
 
-/// For so many elements room is made at once; a longer array grows by what was read, so that
-/// nested arrays with false counts ask for room of so many elements a level, and for no more than a
-/// multiple of the octets that were read.
+/// Capacity for this many elements is reserved at once; a longer array grows with the elements that
+/// were decoded, so that nested arrays with false counts reserve this many elements for each level
+/// of nesting, and no more than a multiple of the bytes that were read.
 pub const MOST_RESERVED: usize = 64;
 
 /// Up to so many elements a vector that is full grows to twice its elements.
 const MOST_DOUBLED: usize = 4096;
 
-/// Makes room for the next of `count` elements. A vector that is full grows by as many elements as it has,
-/// a large one by an eighth of them, and by no more than are still to come.
+/// Reserves capacity for the next of `count` elements. A full vector grows by as many elements as
+/// it has, a large one by an eighth of them, and by no more than are still to be decoded.
 #[inline]
 pub fn make_room(items: &mut Vec<Scalar>, count: u32) -> Result<(), AllocError>
     ensures items { items.new.items ≡ items.old.items }
@@ -54,7 +54,7 @@ fn grow(items: &mut Vec<Scalar>, count: usize) -> Result<(), AllocError>
     Ok(())
 }
 
-/// Reads so many scalars of a type id from String's to ExtensionObject's, or of a reserved one.
+/// Decodes so many scalars of a type id from String's to ExtensionObject's, or of a reserved one.
 pub fn read_records<S: Source>(
     alloc: Global,
     src: &mut S,
@@ -140,7 +140,7 @@ fn read_reserved_row<S: Source>(
     Ok(items)
 }
 
-/// Reads octets under a reserved type id.
+/// Decodes the bytes of a reserved type id.
 #[tactic(auto, using(crate::proofs::Leaves::reserved_reads))]
 pub fn read_reserved<S: Source>(alloc: Global, src: &mut S, kind: u8) -> Result<Scalar, ReadFault>
     requires low { 26 ≤ kind }
@@ -152,7 +152,7 @@ pub fn read_reserved<S: Source>(alloc: Global, src: &mut S, kind: u8) -> Result<
     Ok(Scalar::Reserved(kind, octets))
 }
 
-/// Reads so many DiagnosticInfos as scalars, with so many levels left within.
+/// Decodes so many DiagnosticInfos as scalars, whose inner ones may have this nesting depth.
 pub fn read_diagnostic_row<S: Source>(
     alloc: Global,
     src: &mut S,
@@ -172,7 +172,7 @@ pub fn read_diagnostic_row<S: Source>(
     Ok(Scalars::new(items))
 }
 
-/// Reads a DiagnosticInfo as a scalar, with so many levels left within.
+/// Decodes a DiagnosticInfo as a scalar, whose inner one may have this nesting depth.
 #[tactic(auto, unfolding(crate::specs::Decoding::scalar_at))]
 pub fn read_boxed_diagnostic<S: Source>(
     alloc: Global,

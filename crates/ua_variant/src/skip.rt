@@ -1,5 +1,5 @@
-//! Passes over Variants and DataValues. Of an array one scalar is made at a time, or a part of a packed
-//! one, and let go before the next, so that memory does not grow with the elements.
+//! Skips Variants and DataValues. Of an array, one scalar at a time is decoded and dropped, or a
+//! part of a packed one, so that memory does not grow with the number of elements.
 
 ghost use Rattle.std.specs.Prelude.{◌≡◌, ◌<◌, ◌≤◌, ◌%◌, true, IsErrOf};
 ghost use Rattle.ua_builtin.specs.Counted.{first_negative};
@@ -42,8 +42,8 @@ impl Skip for DataValue {
     }
 }
 
-/// Passes over a scalar that holds no further value: it is read, and let go. Not inlined, so that the room
-/// for a scalar is not taken on the stack at each level.
+/// Skips a scalar that holds no further value: it is read, and let go. Not inlined, so that the
+/// room for a scalar is not taken on the stack at each level.
 #[inline(never)]
 fn skip_leaf<S: Source>(alloc: Global, src: &mut S, kind: u8) -> Result<(), ReadFault>
     ensures exact { Gives (skipped (image_read leaf (leaf_at kind))) (S.octets src.old) (S.octets src.new) result }
@@ -53,7 +53,7 @@ fn skip_leaf<S: Source>(alloc: Global, src: &mut S, kind: u8) -> Result<(), Read
     Ok(())
 }
 
-/// Passes over so many elements of a type id whose arrays are packed, a part of them at a time.
+/// Skips so many elements of a type id whose arrays are packed, a part of them at a time.
 #[inline(never)]
 fn skip_packed<S: Source>(alloc: Global, src: &mut S, kind: u8, count: u32) -> Result<(), ReadFault>
     requires { is_packed_kind kind ≡ true }
@@ -69,7 +69,7 @@ fn skip_packed<S: Source>(alloc: Global, src: &mut S, kind: u8, count: u32) -> R
     Ok(())
 }
 
-/// Passes over a Variant of at most so many levels.
+/// Skips a Variant of at most that nesting depth.
 #[cycle(skips)]
 fn skip_variant<S: Source>(alloc: Global, src: &mut S, depth: u32) -> Result<(), ReadFault>
     requires levels { depth ≤ most_levels }
@@ -83,7 +83,7 @@ fn skip_variant<S: Source>(alloc: Global, src: &mut S, depth: u32) -> Result<(),
     skip_variant_level(alloc, src, depth - 1)
 }
 
-/// Passes over a Variant, with so many levels left within.
+/// Skips a Variant, whose inner values may have that nesting depth.
 #[cycle(skips)]
 #[tactic(auto, unfolding(crate::specs::Decoding::variant_step))]
 fn skip_variant_level<S: Source>(alloc: Global, src: &mut S, depth: u32) -> Result<(), ReadFault>
@@ -96,7 +96,7 @@ fn skip_variant_level<S: Source>(alloc: Global, src: &mut S, depth: u32) -> Resu
     skip_tagged(alloc, src, depth, tag)
 }
 
-/// Passes over a Variant behind its first octet, with so many levels left within.
+/// Skips a Variant after its first byte, whose inner values may have that nesting depth.
 #[cycle(skips)]
 #[tactic(auto, unfolding(crate::specs::Decoding::variant_after))]
 fn skip_tagged<S: Source>(alloc: Global, src: &mut S, depth: u32, tag: u8) -> Result<(), ReadFault>
@@ -121,7 +121,7 @@ fn skip_tagged<S: Source>(alloc: Global, src: &mut S, depth: u32, tag: u8) -> Re
     skip_scalar(alloc, src, depth, tag)
 }
 
-/// Passes over an array behind its first octet.
+/// Skips an array after its first byte.
 #[cycle(skips)]
 #[tactic(auto, unfolding(crate::specs::Decoding::array_at))]
 fn skip_array<S: Source>(
@@ -149,7 +149,7 @@ fn skip_array<S: Source>(
     skip_elements(alloc, src, depth, kind, flagged, count)
 }
 
-/// Passes over so many elements and the dimensions.
+/// Skips so many elements and the dimensions.
 #[cycle(skips)]
 fn skip_elements<S: Source>(
     alloc: Global,
@@ -168,7 +168,7 @@ fn skip_elements<S: Source>(
     skip_dims(alloc, src, flagged, count)
 }
 
-/// Passes over so many elements of the type id.
+/// Skips so many elements of the type id.
 #[cycle(skips)]
 fn skip_row<S: Source>(
     alloc: Global,
@@ -190,7 +190,7 @@ fn skip_row<S: Source>(
     Ok(())
 }
 
-/// Passes over a value of the type id, with so many levels left within.
+/// Skips a value of the type id, whose inner values may have that nesting depth.
 #[cycle(skips)]
 #[tactic(auto, unfolding(crate::specs::Decoding::scalar_at))]
 fn skip_scalar<S: Source>(alloc: Global, src: &mut S, depth: u32, kind: u8) -> Result<(), ReadFault>
@@ -206,7 +206,7 @@ fn skip_scalar<S: Source>(alloc: Global, src: &mut S, depth: u32, kind: u8) -> R
     }
 }
 
-/// Passes over a DataValue of at most so many levels.
+/// Skips a DataValue of at most that nesting depth.
 #[cycle(skips)]
 fn skip_data_value<S: Source>(alloc: Global, src: &mut S, depth: u32) -> Result<(), ReadFault>
     requires levels { depth ≤ most_levels }
@@ -219,7 +219,7 @@ fn skip_data_value<S: Source>(alloc: Global, src: &mut S, depth: u32) -> Result<
     skip_data_value_level(alloc, src, depth - 1)
 }
 
-/// Passes over a DataValue, with so many levels left within.
+/// Skips a DataValue, whose inner values may have that nesting depth.
 #[cycle(skips)]
 #[tactic(auto, unfolding(crate::specs::Decoding::data_value_step))]
 fn skip_data_value_level<S: Source>(alloc: Global, src: &mut S, depth: u32) -> Result<(), ReadFault>
@@ -236,7 +236,7 @@ fn skip_data_value_level<S: Source>(alloc: Global, src: &mut S, depth: u32) -> R
     Ok(())
 }
 
-/// Passes over a Variant within a DataValue, where it is announced.
+/// Skips a Variant within a DataValue, where it is announced.
 #[cycle(skips)]
 fn skip_held<S: Source>(alloc: Global, src: &mut S, depth: u32, set: bool) -> Result<(), ReadFault>
     requires levels { depth ≤ most_levels }

@@ -15,14 +15,14 @@ use ua_builtin::{
 };
 use ua_diagnostic::{BoxedDiagnostic, Dimensions};
 
-/// A value of any built-in type, or an array of such (OPC 10000-6, 5.2.2.16).
+/// A value of any built-in type, or an array of them (OPC 10000-6, 5.2.2.16).
 #[cycle(values)]
 pub enum Variant {
     /// No value.
     Null,
     /// A value of a type other than Variant.
     One(Scalar),
-    /// An array, each element of the type id `kind`; a null one has no elements.
+    /// An array whose elements are of the type id `kind`; a null array has no elements.
     Many {
         kind: u8,
         items: Option<Scalars>,
@@ -30,9 +30,9 @@ pub enum Variant {
     },
 }
 
-// The drops of this file are by hand, so that a crate that lets a Variant or what boxes one go makes a
-// call, and proves nothing of what lies in it. Those of Scalar and DataValue are derived, so that they
-// can be taken apart anywhere.
+// The drops of this file are by hand, so that a crate that lets a Variant or what boxes one go
+// makes a call, and proves nothing of what lies in it. Those of Scalar and DataValue are derived,
+// so that they can be taken apart anywhere.
 
 impl Drop for Variant {
     #[cycle(letting_go)]
@@ -81,26 +81,26 @@ pub enum Scalar {
     DataValue(BoxedDataValue),
     Variant(BoxedVariant),
     DiagnosticInfo(BoxedDiagnostic),
-    /// Octets under a type id from 26 to 31, which are reserved. They are read, and not written.
+    /// Bytes under a reserved type id, from 26 to 31. They are decoded, but never encoded.
     Reserved(u8, UaBytes),
 }
 
-/// A value with its status and when it came about (OPC 10000-6, 5.2.2.17). Picoseconds are kept
-/// as they stand, also above 9999 or without their time.
+/// A value with its status and its timestamps (OPC 10000-6, 5.2.2.17). Picoseconds are preserved as
+/// they are, also above 9999 or without their timestamp.
 #[cycle(values)]
 #[derive(Drop)]
 pub struct DataValue {
     pub value: Option<HeldVariant>,
     pub status: Option<StatusCode>,
     pub source_timestamp: Option<DateTime>,
-    /// What is to be added to the source time, in units of 10 picoseconds.
+    /// The addition to the SourceTimestamp, in units of 10 picoseconds.
     pub source_picoseconds: Option<u16>,
     pub server_timestamp: Option<DateTime>,
-    /// What is to be added to the server time, in units of 10 picoseconds.
+    /// The addition to the ServerTimestamp, in units of 10 picoseconds.
     pub server_picoseconds: Option<u16>,
 }
 
-/// A Variant among other Variants, on the heap; a null one takes no memory.
+/// A Variant inside a Variant, on the heap; a null one is not allocated.
 #[cycle(values)]
 pub struct BoxedVariant {
     inner: Option<Box<Variant>>,
@@ -139,7 +139,7 @@ impl Model for BoxedVariant {
     ghost size_decreases = { λ a h. boxed_variant_falls a.inner };
 }
 
-/// A Variant within a DataValue, in its place.
+/// A Variant inside a DataValue, stored in place.
 #[cycle(values)]
 pub struct HeldVariant {
     inner: Variant,
@@ -175,7 +175,7 @@ impl Model for HeldVariant {
     ghost size_decreases = { λ a h. variant_falls a.inner };
 }
 
-/// A DataValue among Variants, on the heap; one without any field takes no memory.
+/// A DataValue inside a Variant, on the heap; one without any field is not allocated.
 #[cycle(values)]
 pub struct BoxedDataValue {
     inner: Option<Box<DataValue>>,
@@ -214,7 +214,7 @@ impl Model for BoxedDataValue {
     ghost size_decreases = { λ a h. boxed_data_value_falls a.inner };
 }
 
-/// The elements of an array, as they are held.
+/// The elements of an array, as they are stored.
 #[cycle(values)]
 #[derive(Drop)]
 pub enum Elements {
@@ -266,7 +266,7 @@ impl DataValue {
     ghost use Rattle.ua_variant.specs.View.{no_fields};
     ghost use Rattle.ua_variant.specs.Data.{bare};
 
-    /// One without any field.
+    /// A DataValue without any field.
     #[inline]
     pub fn empty() -> DataValue
         ensures { data_value_of result ≡ bare no_fields }
@@ -281,7 +281,7 @@ impl DataValue {
         }
     }
 
-    /// Whether no field is there.
+    /// Whether no field is present.
     #[inline]
     pub fn is_empty(&self) -> bool
         ensures { IsTrue result ↔ (data_value_of self.now ≡ bare no_fields) }
@@ -299,7 +299,7 @@ impl Variant {
     ghost use Rattle.std.specs.Prelude.{◌≡◌, ◌≢◌, ℕ, Option, IfOk, IfErr};
     ghost use Rattle.ua_variant.specs.declared.values.Variant.TheVariants.{Many, One};
 
-    /// Hands the scalar over, or the value itself where it holds none.
+    /// Returns the scalar by value, or, as an error, the value itself if it holds none.
     #[inline]
     pub fn into_scalar(self) -> Result<Scalar, Variant>
         ensures taken { IfOk result (λ scalar. self ≡ One scalar) }
@@ -312,8 +312,8 @@ impl Variant {
         }
     }
 
-    /// Hands the array over, as its type id, its elements and its dimensions, or the value itself where
-    /// it is none.
+    /// Returns the array by value, as its type id, its elements and its dimensions, or, as an
+    /// error, the value itself if it is no array.
     #[inline]
     pub fn into_array(self) -> Result<(u8, Option<Scalars>, Dimensions), Variant>
         ensures taken { IfOk result (λ (kind, items, dims). self ≡ Many kind items dims) }
@@ -328,7 +328,7 @@ impl Variant {
 }
 
 impl BoxedVariant {
-    /// This value, on the heap, but for a null one.
+    /// Moves this value to the heap, unless it is null.
     #[inline(always)]
     pub fn new(alloc: Global, value: Variant) -> Result<BoxedVariant, AllocError>
         ensures { IfOk result (λ b. b ≡ variant_of value) }
@@ -353,7 +353,7 @@ impl BoxedVariant {
         }
     }
 
-    /// Hands the value over.
+    /// Returns the value, consuming its holder.
     #[inline]
     pub fn into_inner(self) -> Variant
         ensures { variant_of result ≡ self }
@@ -367,7 +367,7 @@ impl BoxedVariant {
 }
 
 impl HeldVariant {
-    /// This value, in its place.
+    /// Stores this value in place.
     #[inline]
     pub fn new(value: Variant) -> HeldVariant
         ensures { result ≡ variant_of value }
@@ -383,7 +383,7 @@ impl HeldVariant {
         &self.inner
     }
 
-    /// Hands the value over.
+    /// Returns the value, consuming its holder.
     #[inline]
     pub fn into_inner(self) -> Variant
         ensures { variant_of result ≡ self }
@@ -394,7 +394,7 @@ impl HeldVariant {
 }
 
 impl BoxedDataValue {
-    /// This value, on the heap, but for one without any field.
+    /// Moves this value to the heap, unless it has no field.
     #[inline]
     pub fn new(alloc: Global, value: DataValue) -> Result<BoxedDataValue, AllocError>
         ensures { IfOk result (λ b. b ≡ data_value_of value) }
@@ -419,7 +419,7 @@ impl BoxedDataValue {
         }
     }
 
-    /// Hands the value over.
+    /// Returns the value, consuming its holder.
     #[inline]
     pub fn into_inner(self) -> DataValue
         ensures { data_value_of result ≡ self }
@@ -433,7 +433,7 @@ impl BoxedDataValue {
 }
 
 impl Scalars {
-    /// These elements, each held as a scalar.
+    /// The elements of an array, each stored as a scalar.
     #[inline]
     pub fn new(items: Vec<Scalar>) -> Scalars
         ensures { result ≡ map scalar_of items.items }
@@ -443,7 +443,7 @@ impl Scalars {
         }
     }
 
-    /// These elements, of one type.
+    /// The elements of an array, of one packed type.
     #[inline]
     pub fn packed(items: Packed) -> Scalars
         ensures { result ≡ map leaf (packed_leaves items) }
@@ -453,7 +453,7 @@ impl Scalars {
         }
     }
 
-    /// How many elements there are.
+    /// The number of elements.
     #[inline]
     pub fn len(&self) -> usize
         ensures { result ≡ length self.now }
@@ -464,7 +464,7 @@ impl Scalars {
         }
     }
 
-    /// The elements, as they are held.
+    /// The elements, as they are stored.
     #[inline]
     pub fn elements(&self) -> &Elements
         ensures { elements_of result.now ≡ self.now }
@@ -472,7 +472,7 @@ impl Scalars {
         &self.elements
     }
 
-    /// Hands the elements over, as they are held.
+    /// Returns the elements by value, as they are stored.
     #[inline]
     pub fn into_elements(self) -> Elements
         ensures { elements_of result ≡ self }
@@ -481,7 +481,7 @@ impl Scalars {
         elements
     }
 
-    /// These elements, in a vector of their type.
+    /// The elements of an array, stored in a vector of their type.
     #[inline]
     pub fn from_items<T: Pack>(items: Vec<T>) -> Scalars
         ensures { result ≡ map leaf (map T.as_leaf items.items) }
@@ -489,8 +489,8 @@ impl Scalars {
         Scalars::packed(T::pack(items))
     }
 
-    /// The elements, where they are held in a vector of the type: `None` of elements that are held
-    /// as scalars, or in a vector of another type ([`Scalars::elements`] tells which).
+    /// The elements, if they are stored in a vector of this type; `None` if they are stored as
+    /// scalars, or in a vector of another type ([`Scalars::elements`] tells which).
     #[inline]
     pub fn as_items<T: Pack>(&self) -> Option<&[T]>
         ensures { IfSome result (λ items. map leaf (map T.as_leaf items.now) ≡ self.now) }

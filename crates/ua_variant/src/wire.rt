@@ -1,4 +1,4 @@
-//! How octets encode Variants and DataValues.
+//! The binary encoding of Variants and DataValues.
 
 ghost use Rattle.std.specs.Prelude.{◌≡◌, ◌++◌, true, OnOk, OnErr};
 ghost use Rattle.ua_builtin.specs.Format.{Extends};
@@ -75,8 +75,9 @@ impl Wire for DataValue {
 }
 
 impl DataValue {
-    /// Adds the canonical encoding of a DataValue that has this value, and the status and the times of this one: a value is
-    /// written from where it stands. An error leaves what was there, and perhaps octets behind it.
+    /// Appends the canonical encoding of the DataValue with this value and with the status and
+    /// timestamps of `self`, without moving the value. On an error the earlier contents stay,
+    /// perhaps followed by more bytes.
     #[inline]
     #[tactic(auto, using(crate::proofs::Written::valued_parts))]
     pub fn append_beside(&self, value: &Variant, out: &mut Vec<u8>) -> Result<(), AllocError>

@@ -1,4 +1,4 @@
-//! Writes Variants and DataValues.
+//! Encoding of Variants and DataValues.
 
 ghost use Rattle.std.specs.Prelude.{◌≡◌, ◌<◌, ◌≤◌, ◌++◌, true, OnOk, OnErr};
 ghost use Rattle.ua_builtin.specs.Counted.{first_negative};
@@ -40,7 +40,7 @@ fn data_mask(value: &DataValue) -> u8
         )
 }
 
-/// Adds the fields that are there, but the value.
+/// Appends the fields that are there, but the value.
 #[inline(always)]
 #[tactic(auto, unfolding(crate::specs::Canonical::data_fields_canonical, crate::specs::Fields::data_fields))]
 fn append_data_fields(value: &DataValue, out: &mut Vec<u8>) -> Result<(), AllocError>
@@ -57,7 +57,7 @@ fn append_data_fields(value: &DataValue, out: &mut Vec<u8>) -> Result<(), AllocE
     append_two(&value.server_timestamp, &value.server_picoseconds, out)
 }
 
-/// The first octet of an array.
+/// The first byte of an array.
 fn array_tag(kind: u8, dims: &Dimensions) -> u8
     requires { kind < 32 }
     ensures { result ≡ array_octet (has_dims dims.now) kind }
@@ -69,7 +69,7 @@ fn array_tag(kind: u8, dims: &Dimensions) -> u8
     }
 }
 
-/// Adds the canonical encoding of a Variant that can be written, its depth apart.
+/// Appends the canonical encoding of a Variant that can be encoded, apart from its nesting depth.
 #[cycle(appends)]
 #[inline(always)]
 #[tactic(auto, using(crate::proofs::Written::many_parts))]
@@ -105,7 +105,7 @@ pub fn append_variant(value: &Variant, out: &mut Vec<u8>) -> Result<(), AllocErr
     Ok(())
 }
 
-/// Adds the canonical encoding of an array that is not null.
+/// Appends the canonical encoding of an array that is not null.
 #[cycle(appends)]
 fn append_array(
     kind: u8,
@@ -128,7 +128,7 @@ fn append_array(
     Ok(())
 }
 
-/// Adds the canonical encoding of a value, without its type id.
+/// Appends the canonical encoding of a value, without its type id.
 #[cycle(appends)]
 #[inline(always)]
 fn append_scalar(value: &Scalar, out: &mut Vec<u8>) -> Result<(), AllocError>
@@ -166,7 +166,7 @@ fn append_scalar(value: &Scalar, out: &mut Vec<u8>) -> Result<(), AllocError>
     }
 }
 
-/// Adds the canonical encoding of a DataValue among Variants.
+/// Appends the canonical encoding of a DataValue among Variants.
 #[cycle(appends)]
 #[inline(never)]
 #[tactic(auto, using(crate::proofs::Valued::bare_canonical))]
@@ -184,7 +184,7 @@ fn append_boxed_data_value(value: &BoxedDataValue, out: &mut Vec<u8>) -> Result<
     }
 }
 
-/// Adds the canonical encoding of a Variant among other Variants.
+/// Appends the canonical encoding of a Variant among other Variants.
 #[cycle(appends)]
 #[inline(never)]
 fn append_boxed_variant(value: &BoxedVariant, out: &mut Vec<u8>) -> Result<(), AllocError>
@@ -201,7 +201,7 @@ fn append_boxed_variant(value: &BoxedVariant, out: &mut Vec<u8>) -> Result<(), A
     }
 }
 
-/// Adds the elements, one behind the other.
+/// Appends the elements, one after the other.
 #[cycle(appends)]
 fn append_row(kind: u8, items: &Scalars, out: &mut Vec<u8>) -> Result<(), AllocError>
     requires { scalars_fit kind (row items.now) ≡ true }
@@ -218,7 +218,7 @@ fn append_row(kind: u8, items: &Scalars, out: &mut Vec<u8>) -> Result<(), AllocE
     Ok(())
 }
 
-/// Adds the canonical encoding of a DataValue that can be written, its depth apart.
+/// Appends the canonical encoding of a DataValue that can be encoded, apart from its nesting depth.
 #[cycle(appends)]
 #[inline(always)]
 pub fn append_data_value(value: &DataValue, out: &mut Vec<u8>) -> Result<(), AllocError>
@@ -235,8 +235,8 @@ pub fn append_data_value(value: &DataValue, out: &mut Vec<u8>) -> Result<(), All
     }
 }
 
-/// Adds the canonical encoding of a DataValue of this value that can be written, its depth apart, with the
-/// status and the times of another DataValue.
+/// Appends the canonical encoding of a DataValue with this value that can be encoded, apart from
+/// its nesting depth, and with the status and timestamps of another DataValue.
 #[cycle(appends)]
 #[inline(always)]
 pub fn append_valued(

@@ -1,4 +1,4 @@
-//! Fields that are written one behind the other.
+//! Fields that are written one after the other.
 
 ghost use Rattle.std.specs.Prelude.{◌≡◌, ◌++◌, IsTrue, OnOk, OnErr};
 ghost use Rattle.ua_wire.specs.Format.{Extends};
@@ -6,7 +6,7 @@ ghost use Rattle.ua_wire.specs.Format.{Extends};
 use crate::wire::Wire;
 use std::alloc::AllocError;
 
-/// Adds the canonical encodings of two fields.
+/// Appends the canonical encodings of two fields, in order.
 #[inline(always)]
 pub fn append_two<A: Wire, B: Wire>(
     first: &A,
@@ -22,7 +22,7 @@ pub fn append_two<A: Wire, B: Wire>(
     second.append(out)
 }
 
-/// Adds the canonical encodings of three fields.
+/// Appends the canonical encodings of three fields, in order.
 pub fn append_three<A: Wire, B: Wire, C: Wire>(
     first: &A,
     second: &B,

@@ -5,7 +5,7 @@ use crate::source::Source;
 use crate::wire::Wire;
 use std::alloc::{AllocError, Global};
 
-/// Boolean, 1 octet (OPC 10000-6, 5.2.2.1).
+/// Boolean, 1 byte (OPC 10000-6, 5.2.2.1).
 impl Wire for bool {
     ghost use Rattle.ua_wire.specs.Boolean.{boolean};
     ghost use Rattle.ua_wire.specs.Format.{flat};

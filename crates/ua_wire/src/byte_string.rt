@@ -10,7 +10,8 @@ use std::alloc::{AllocError, Global};
 use std::hash::{Hash, Hasher};
 use std::marker::Model;
 
-/// A ByteString: octets, or null, which differs from no octets (OPC 10000-6, 5.2.2.7).
+/// A ByteString: bytes, or null, which differs from a ByteString of no bytes (OPC 10000-6,
+/// 5.2.2.7).
 #[derive(Debug)]
 pub struct UaBytes {
     octets: Option<Vec<u8>>,
@@ -35,7 +36,7 @@ impl Model for UaBytes {
 impl UaBytes {
     ghost use Rattle.std.specs.Prelude.{◌≡◌, option_map, None, IfOk};
 
-    /// These octets, or null for `None`.
+    /// Makes a ByteString of these bytes, or the null one for `None`.
     #[inline]
     pub fn new(octets: Option<Vec<u8>>) -> UaBytes
         ensures { result ≡ option_map (λ v. v.items) octets }
@@ -43,7 +44,7 @@ impl UaBytes {
         UaBytes { octets }
     }
 
-    /// Null.
+    /// The null ByteString.
     #[inline]
     pub fn null() -> UaBytes
         ensures { result ≡ None }
@@ -51,7 +52,7 @@ impl UaBytes {
         UaBytes { octets: None }
     }
 
-    /// The octets, or `None` for null.
+    /// The bytes, or `None` for a null ByteString.
     #[inline]
     pub fn as_octets(&self) -> Option<&[u8]>
         ensures { option_map (λ o. o.now) result ≡ self.now }
@@ -62,7 +63,7 @@ impl UaBytes {
         }
     }
 
-    /// Hands the octets over.
+    /// Returns the bytes by value, or `None` for a null ByteString.
     #[inline]
     pub fn into_octets(self) -> Option<Vec<u8>>
         ensures { option_map (λ v. v.items) result ≡ self }
@@ -71,7 +72,7 @@ impl UaBytes {
         octets
     }
 
-    /// A value of its own, equal to this one.
+    /// Returns an owned copy, equal to this value.
     pub fn try_clone(&self) -> Result<UaBytes, AllocError>
         ensures { IfOk result (λ v. v ≡ self.now) }
     {

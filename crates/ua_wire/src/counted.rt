@@ -1,4 +1,4 @@
-//! Octets and texts behind their count.
+//! Bytes and texts with their length prefix.
 
 ghost use Rattle.std.specs.Prelude.{◌≡◌, ◌<◌, length, true, false, string_bytes, Some, None, IsErrOf, MatchOption, MatchResult};
 ghost use Rattle.std.specs.Str.{is_utf8};
@@ -10,13 +10,13 @@ use crate::fault::ReadFault;
 use crate::source::Source;
 use std::alloc::Global;
 
-/// The count that stands for null.
+/// The length prefix of a null value: -1 as an Int32.
 pub const NULL_COUNT: u32 = u32::MAX;
 
-/// Counts from here on are negative as an Int32, and mean null.
+/// The least length prefix that is negative as an Int32. A negative length means null.
 pub const FIRST_NEGATIVE: u32 = 1 << 31;
 
-/// Takes as many octets as the buffer has.
+/// Reads as many bytes as the buffer has into it.
 #[inline]
 pub fn fill_octets<S: Source>(src: &mut S, octets: &mut [u8]) -> Result<(), ReadFault>
     ensures exact { MatchResult result (λ _. octets_at (length octets.old) (S.octets src.old) ≡ Some (octets.new, S.octets src.new))
@@ -29,7 +29,7 @@ pub fn fill_octets<S: Source>(src: &mut S, octets: &mut [u8]) -> Result<(), Read
     Ok(())
 }
 
-/// Takes that many octets, and no memory where there are fewer.
+/// Reads that many bytes; allocates nothing if fewer are left.
 #[inline]
 pub fn take_octets<S: Source>(
     alloc: Global,
@@ -48,7 +48,7 @@ pub fn take_octets<S: Source>(
     Ok(octets)
 }
 
-/// The text that the octets are.
+/// The text whose UTF-8 bytes these are.
 #[inline]
 pub fn text_of(octets: Vec<u8>) -> Option<String>
     ensures { MatchOption result (is_utf8 octets.items ≡ false)
@@ -57,6 +57,6 @@ pub fn text_of(octets: Vec<u8>) -> Option<String>
     if !simdutf8::is_utf8(&octets) {
         return None;
     }
-    // The octets are UTF-8 by the test above, so no second scan is made.
+    // The bytes are UTF-8 by the test above, so no second scan is made.
     Some(unsafe { String::from_utf8_unchecked(octets) })
 }

@@ -5,7 +5,7 @@ use crate::source::Source;
 use crate::wire::Wire;
 use std::alloc::{AllocError, Global};
 
-/// A Double, as the pattern of its 64 bits: every pattern is kept (OPC 10000-6, 5.2.2.3).
+/// A Double, kept as its 64-bit pattern: every pattern is preserved (OPC 10000-6, 5.2.2.3).
 #[derive(Clone, Copy, PartialEq, Eq, Debug)]
 pub struct DoubleBits {
     pub bits: u64,

@@ -1,17 +1,17 @@
-//! Why values are not read or written.
+//! Errors of decoding and of encoding.
 
 ghost use Rattle.std.specs.Prelude.{◌≡◌};
 
 use std::alloc::{AllocError, AllocFailed};
 use thiserror::Error;
 
-/// Why no value was read.
+/// The reason why no value was decoded.
 #[derive(Clone, Copy, PartialEq, Eq, Debug, Error)]
 pub enum ReadFault {
-    /// No front of the octets encodes a value of the type within the levels allowed.
+    /// No prefix of the bytes encodes a value of the type within the allowed nesting depth.
     #[error("the octets do not begin with a value")]
     NoValue,
-    /// Memory was refused.
+    /// An allocation failed.
     #[error("out of memory")]
     OutOfMemory,
 }
@@ -36,13 +36,13 @@ impl<T: Drop> From<AllocFailed<T>> for ReadFault {
     }
 }
 
-/// Why a value was not written.
+/// The reason why a value was not encoded.
 #[derive(Clone, Copy, PartialEq, Eq, Debug, Error)]
 pub enum WriteFault {
     /// The value has no encoding.
     #[error("the value cannot be encoded")]
     NotWritable,
-    /// Memory was refused.
+    /// An allocation failed.
     #[error("out of memory")]
     OutOfMemory,
 }

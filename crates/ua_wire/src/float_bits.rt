@@ -5,7 +5,7 @@ use crate::source::Source;
 use crate::wire::Wire;
 use std::alloc::{AllocError, Global};
 
-/// A Float, as the pattern of its 32 bits: every pattern is kept (OPC 10000-6, 5.2.2.3).
+/// A Float, kept as its 32-bit pattern: every pattern is preserved (OPC 10000-6, 5.2.2.3).
 #[derive(Clone, Copy, PartialEq, Eq, Debug)]
 pub struct FloatBits {
     pub bits: u32,

@@ -1,4 +1,4 @@
-//! Fields at the front of octets, taken off without memory.
+//! Fields at the start of a byte slice, split off without allocating.
 
 ghost use Rattle.std.specs.Prelude.{◌≡◌, ◌≤◌, length, drop, Some, None, MatchOption, option_map};
 ghost use Rattle.ua_wire.specs.Number.{number_at};
@@ -7,7 +7,7 @@ ghost use Rattle.ua_wire.specs.Counted.{counted, is_text};
 use crate::counted::FIRST_NEGATIVE;
 use byteorder::{ByteOrder, LittleEndian};
 
-/// The UInt32 in the first four octets, and the octets behind them.
+/// Splits off the UInt32 in the first four bytes; returns it and the remaining bytes.
 #[inline]
 pub fn front_number(octets: &[u8]) -> (u32, &[u8])
     requires { 4 ≤ length octets.now }
@@ -18,7 +18,7 @@ pub fn front_number(octets: &[u8]) -> (u32, &[u8])
     (LittleEndian::read_u32(front), rest)
 }
 
-/// A UInt32, and the octets behind it.
+/// Splits off a UInt32; returns it and the remaining bytes, or `None` if there are fewer than four.
 #[inline]
 pub fn split_number(octets: &[u8]) -> Option<(u32, &[u8])>
     ensures { MatchOption result (number_at 4 octets.now ≡ None) (λ r. number_at 4 octets.now ≡ Some (r.0, r.1.now)) }
@@ -29,7 +29,8 @@ pub fn split_number(octets: &[u8]) -> Option<(u32, &[u8])>
     Some(front_number(octets))
 }
 
-/// Octets, or null, behind their Int32 count, and the octets behind them.
+/// Splits off a field with its Int32 length prefix; returns its bytes, or `None` inside for a null
+/// field, and the remaining bytes.
 #[inline]
 #[tactic(auto, unfolding(crate::specs::Counted::counted))]
 pub fn split_counted(octets: &[u8]) -> Option<(Option<&[u8]>, &[u8])>
@@ -47,7 +48,7 @@ pub fn split_counted(octets: &[u8]) -> Option<(Option<&[u8]>, &[u8])>
     Some((Some(field), rest))
 }
 
-/// Whether a field is null or UTF-8.
+/// Whether a field is null or valid UTF-8.
 #[inline]
 pub fn is_text(field: Option<&[u8]>) -> bool
     ensures { result ≡ is_text (option_map (λ o. o.now) field.entry) }

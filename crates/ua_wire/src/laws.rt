@@ -1,25 +1,25 @@
-//! Laws of every value that octets encode, each carried by a function that does nothing at run time.
+//! Laws of every type with an encoding, each carried by a function that does nothing at run time.
 
 ghost use Rattle.std.specs.Prelude.{[]};
 ghost use Rattle.ua_wire.specs.Laws.{CanonicalEncodes, CountsWithinOctets, EncodesOnce, ReadsBack};
 
 use crate::wire::Wire;
 
-/// The canonical encoding of a value encodes it.
+/// The canonical encoding of a value is one of its encodings.
 pub fn canonical_encodes<T: Wire>()
     ensures { CanonicalEncodes T.format }
 {
     T::lawful();
 }
 
-/// No encoding begins another, and no octets encode two values.
+/// No encoding is a proper prefix of another, and no byte sequence encodes two values.
 pub fn encodes_once<T: Wire>()
     ensures { EncodesOnce T.format.encodes }
 {
     T::lawful();
 }
 
-/// Reading gives back the value that was written, whatever follows.
+/// Decoding gives back the value that was encoded, whatever bytes follow.
 pub fn reads_back<T: Wire>()
     ensures { ReadsBack T.format }
 {
@@ -33,7 +33,7 @@ pub fn encodes_in_octets<T: Wire>()
     T::lawful();
 }
 
-/// A value is at most as many values as its encoding has octets.
+/// The number of values in a value is at most the number of bytes of its encoding.
 pub fn counts_within_octets<T: Wire>()
     ensures { CountsWithinOctets T.format }
 {

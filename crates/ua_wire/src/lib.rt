@@ -1,19 +1,19 @@
-//! Octets and the values that they encode (OPC 10000-6, 5.2): where octets come from, what it is
-//! for a type to be encoded, and the encodings of Booleans, numbers, Strings, ByteStrings and pairs, of
-//! which all others are made.
+//! Bytes and the values that they encode (OPC 10000-6, 5.2): sources of bytes, the trait of types
+//! with a binary encoding, and the encodings of Booleans, numbers, Strings, ByteStrings and pairs,
+//! from which all others are made.
 //!
-//! Its contract is that of [`Wire`]: `read` takes just the front that encodes a value, answers
-//! `NoValue` only where no front encodes one, and `write` adds the one canonical encoding.
+//! The contract is that of [`Wire`]: `read` consumes exactly the prefix that encodes a value,
+//! returns `NoValue` only if no prefix encodes one, and `write` appends the one canonical encoding.
 //!
 //! ```
 //! let mut src = Octets::new(&octets);
-//! let name = UaString::read(alloc, &mut src, MOST_LEVELS)?; // takes just the octets of the value
-//! let size = u32::read(alloc, &mut src, MOST_LEVELS)?; // what stands behind it
+//! let name = UaString::read(alloc, &mut src, MOST_LEVELS)?; // consumes exactly its bytes
+//! let size = u32::read(alloc, &mut src, MOST_LEVELS)?; // what follows it
 //! if src.left() != 0 {
-//!     return Err(ReadFault::NoValue); // more than these two: for the caller to refuse
+//!     return Err(ReadFault::NoValue); // more than these two: the caller refuses it
 //! }
 //! let mut out = Vec::new(alloc);
-//! name.write(&mut out)?; // adds its one canonical encoding
+//! name.write(&mut out)?; // appends its one canonical encoding
 //! size.write(&mut out)?;
 //! let again = <(UaString, u32)>::read_whole(alloc, &out)?; // `Some` of the two
 //! ```

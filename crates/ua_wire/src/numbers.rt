@@ -1,4 +1,4 @@
-//! Whole numbers, the least octet first.
+//! Unsigned whole numbers, little-endian.
 
 ghost use Rattle.std.specs.Prelude.{◌≡◌, length, Some, None, MatchResult};
 ghost use Rattle.byteorder.specs.Endian.{little_number};
@@ -13,7 +13,7 @@ use crate::wire::Wire;
 use byteorder::{ByteOrder, LittleEndian};
 use std::alloc::{AllocError, Global};
 
-/// Takes the octets of a number.
+/// Takes the bytes of a number.
 #[inline]
 #[tactic(auto, using(crate::proofs::Behind::stays_behind))]
 fn take_number<S: Source>(src: &mut S, octets: &mut [u8]) -> Result<(), ReadFault>
@@ -27,7 +27,7 @@ fn take_number<S: Source>(src: &mut S, octets: &mut [u8]) -> Result<(), ReadFaul
     Ok(())
 }
 
-/// Byte, 1 octet (OPC 10000-6, 5.2.2.2).
+/// Byte, 1 byte (OPC 10000-6, 5.2.2.2).
 impl Wire for u8 {
     ghost format = { flat (number 1) };
 
@@ -57,7 +57,7 @@ impl Wire for u8 {
     }
 }
 
-/// UInt16, 2 octets (OPC 10000-6, 5.2.2.2).
+/// UInt16, 2 bytes (OPC 10000-6, 5.2.2.2).
 impl Wire for u16 {
     ghost format = { flat (number 2) };
 
@@ -89,7 +89,7 @@ impl Wire for u16 {
     }
 }
 
-/// UInt32, 4 octets (OPC 10000-6, 5.2.2.2).
+/// UInt32, 4 bytes (OPC 10000-6, 5.2.2.2).
 impl Wire for u32 {
     ghost format = { flat (number 4) };
 
@@ -121,7 +121,7 @@ impl Wire for u32 {
     }
 }
 
-/// UInt64, 8 octets (OPC 10000-6, 5.2.2.2).
+/// UInt64, 8 bytes (OPC 10000-6, 5.2.2.2).
 impl Wire for u64 {
     ghost format = { flat (number 8) };
 

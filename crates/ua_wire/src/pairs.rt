@@ -1,11 +1,11 @@
-//! Pairs: one value behind the other.
+//! Pairs: one value after the other.
 
 use crate::fault::ReadFault;
 use crate::source::Source;
 use crate::wire::Wire;
 use std::alloc::{AllocError, Global};
 
-/// Two values, one behind the other. A structure of many fields is read as nested pairs.
+/// Two values, one after the other. A structure of many fields is decoded as nested pairs.
 impl<A: Wire + Drop, B: Wire + Drop> Wire for (A, B) {
     ghost use Rattle.ua_wire.specs.Join.{pair};
 

@@ -1,4 +1,4 @@
-//! Octets that lie in several parts.
+//! Bytes that are stored in several parts.
 
 ghost use Rattle.std.specs.Prelude.{◌≡◌, ◌≤◌, ◌<◌, ◌^◌, ◌++◌, ℕ, List, [], length, drop, MatchBool};
 ghost use Rattle.std.specs.List.{concat};
@@ -7,15 +7,15 @@ use crate::source::Source;
 use bytes::Bytes;
 use std::marker::Model;
 
-/// A source over parts that follow one another, as if they were joined. Empty parts are passed
-/// over. It takes no memory, and an octet costs the same however many parts there are.
+/// A source over parts that follow one another, as if they were joined. Empty parts are skipped. It
+/// allocates nothing, and the cost of a byte does not depend on the number of parts.
 #[derive(Drop)]
 pub struct Parts<'a> {
     /// What is left of the part that is being read.
     front: &'a [u8],
-    /// The parts behind it.
+    /// The parts after it.
     behind: &'a [Bytes],
-    /// How many octets they have together.
+    /// The number of bytes that they have together.
     left: usize,
 }
 
@@ -27,7 +27,7 @@ impl<'a> Model for Parts<'a> {
     ghost invariant = { λ p. p.left ≡ length (p.front.now ++ concat p.behind.now) };
 }
 
-/// The first part that is not empty, if there is one, and the parts behind it.
+/// The first part that is not empty, if there is one, and the parts after it.
 #[inline]
 fn first_filled(parts: &[Bytes]) -> (&[u8], &[Bytes])
     ensures octets { result.0.now ++ concat result.1.now ≡ concat parts.now }
@@ -44,7 +44,7 @@ fn first_filled(parts: &[Bytes]) -> (&[u8], &[Bytes])
 }
 
 impl<'a> Parts<'a> {
-    /// The octets of the parts, joined, from the first on.
+    /// A source of the bytes of the parts, joined, from the first byte on.
     pub fn new(parts: &'a [Bytes]) -> Parts<'a>
         requires { length (concat parts.now) < 2 ^ 64 }
         ensures { result ≡ concat parts.now }
@@ -60,7 +60,7 @@ impl<'a> Parts<'a> {
         }
     }
 
-    /// Takes the next octets that lie in one part, `most` of them where there are so many.
+    /// Takes the next bytes that lie in one part, `most` of them where there are so many.
     #[inline]
     fn take_run(&mut self, most: usize) -> &'a [u8]
         requires some { 0 < most }
@@ -78,7 +78,7 @@ impl<'a> Parts<'a> {
         run
     }
 
-    /// As `take_into`, where the octets lie in several parts.
+    /// As `take_into`, where the bytes lie in several parts.
     #[inline(never)]
     fn take_across(&mut self, out: &mut [u8]) -> bool
         ensures { MatchBool result (self.old ≡ out.new ++ self.new)
@@ -96,7 +96,7 @@ impl<'a> Parts<'a> {
         true
     }
 
-    /// As `skip`, where the octets lie in several parts.
+    /// As `skip`, where the bytes lie in several parts.
     #[inline(never)]
     fn skip_across(&mut self, n: usize) -> bool
         ensures { MatchBool result ((n ≤ length self.old) × (self.new ≡ drop n self.old))

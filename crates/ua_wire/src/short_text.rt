@@ -15,14 +15,14 @@ use byteorder::{ByteOrder, LittleEndian};
 use std::alloc::AllocError;
 use std::marker::Model;
 
-/// The most octets of a short text. With its length and the mark that it is short, it takes the room in
-/// which a longer text, which stands elsewhere, is named.
+/// The most bytes of a short text. With its length and the mark that it is short, it takes the room
+/// in which a longer text, which stands elsewhere, is named.
 pub(crate) const SHORT: usize = 30;
 
-/// The octets of a count.
+/// The bytes of a count.
 const COUNT: usize = 4;
 
-/// A text of at most 30 octets.
+/// A text of at most 30 bytes.
 #[derive(Drop)]
 pub(crate) struct ShortText {
     len: u8,
@@ -57,7 +57,7 @@ impl ShortText {
         })
     }
 
-    /// Reads a text of that many octets.
+    /// Reads a text of that many bytes.
     #[inline]
     pub(crate) fn read<S: Source>(src: &mut S, count: usize) -> Result<ShortText, ReadFault>
         requires { count ≤ 30 }
@@ -82,7 +82,7 @@ impl ShortText {
         ensures text { result.now ≡ self.now }
         ensures utf8 { is_utf8 self.now ≡ true }
     {
-        // Its octets are UTF-8, as those of each short text.
+        // Its bytes are UTF-8, as those of each short text.
         unsafe { std::str::from_utf8_unchecked(&self.octets[..self.len as usize]) }
     }
 
@@ -96,7 +96,7 @@ impl ShortText {
             octets: self.octets,
         }
     }
-    /// Adds its octets behind their count, by one copy.
+    /// Appends its bytes after their count, by one copy.
     #[inline]
     pub(crate) fn append(&self, out: &mut Vec<u8>) -> Result<(), AllocError>
         ensures ok { OnOk result (out.new.items ≡ out.old.items ++ (number_octets 4 (length self.now) ++ self.now)) }

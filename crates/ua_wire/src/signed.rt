@@ -9,7 +9,7 @@ use crate::source::Source;
 use crate::wire::Wire;
 use std::alloc::{AllocError, Global};
 
-/// SByte, 1 octet (OPC 10000-6, 5.2.2.2).
+/// SByte, 1 byte (OPC 10000-6, 5.2.2.2).
 impl Wire for i8 {
     ghost format = { flat (signed w8) };
 
@@ -39,7 +39,7 @@ impl Wire for i8 {
     }
 }
 
-/// Int16, 2 octets (OPC 10000-6, 5.2.2.2).
+/// Int16, 2 bytes (OPC 10000-6, 5.2.2.2).
 impl Wire for i16 {
     ghost format = { flat (signed w16) };
 
@@ -69,7 +69,7 @@ impl Wire for i16 {
     }
 }
 
-/// Int32, 4 octets (OPC 10000-6, 5.2.2.2).
+/// Int32, 4 bytes (OPC 10000-6, 5.2.2.2).
 impl Wire for i32 {
     ghost format = { flat (signed w32) };
 
@@ -99,7 +99,7 @@ impl Wire for i32 {
     }
 }
 
-/// Int64, 8 octets (OPC 10000-6, 5.2.2.2).
+/// Int64, 8 bytes (OPC 10000-6, 5.2.2.2).
 impl Wire for i64 {
     ghost format = { flat (signed w64) };
 

@@ -1,4 +1,4 @@
-//! Values that are passed over.
+//! Values that are skipped.
 
 ghost use Rattle.std.specs.Prelude.{◌≡◌, ◌≤◌, IfErr, IsErrOf};
 ghost use Rattle.ua_wire.specs.Exact.{skipped};
@@ -14,11 +14,12 @@ use crate::text::UaString;
 use crate::wire::Wire;
 use std::alloc::Global;
 
-/// A value that can be passed over: its octets are taken just where reading would take them, and nothing
-/// of it is kept. A type of many values gives a `skip_value` of its own, which makes one at a time.
+/// A type whose values can be skipped: `skip_value` consumes exactly the bytes that decoding would
+/// consume, and keeps nothing of the value. A type of many values has a `skip_value` of its own,
+/// which decodes one at a time.
 pub trait Skip: Wire + Drop {
-    /// Passes over the value that the source begins with, of at most `depth` levels. After a fault the
-    /// source is to be given up.
+    /// Skips the value at the start of the source, of at most nesting depth `depth`. After an
+    /// error, discard the source.
     #[inline]
     fn skip_value<S: Source>(alloc: Global, src: &mut S, depth: u32) -> Result<(), ReadFault>
         requires levels { depth ≤ most_levels }
@@ -55,7 +56,7 @@ impl Skip for UaString {}
 
 impl Skip for UaBytes {}
 
-/// Two values, one behind the other. The fields of a structure are passed over as nested pairs.
+/// Two values, one after the other. The fields of a structure are skipped as nested pairs.
 impl<A: Skip, B: Skip> Skip for (A, B) {
     #[inline]
     fn skip_value<S: Source>(alloc: Global, src: &mut S, depth: u32) -> Result<(), ReadFault> {

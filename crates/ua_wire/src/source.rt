@@ -1,29 +1,29 @@
-//! Where octets come from.
+//! Sources of bytes.
 
 ghost use Rattle.std.specs.Prelude.{◌≡◌, ◌≤◌, ◌<◌, ◌++◌, ℕ, List, length, drop, MatchBool};
 
 use std::marker::Model;
 
-/// Octets that are still to come, taken from the left. A source may be let go at any place, as a fork is
-/// that was only looked at.
+/// A sequence of bytes that is consumed from its start. A source may be dropped at any position, as
+/// a fork for looking ahead is.
 pub trait Source: Drop {
-    /// The octets still to come.
+    /// The bytes that are still to be read.
     ghost octets: { Self → List ℕ };
 
-    /// A source of the same octets, of which neither sees what is taken of the other.
+    /// A source of the same bytes: what is consumed of one is not consumed of the other.
     fn fork(&self) -> Self
         ensures { octets result ≡ octets self.now };
 
-    /// How many octets are still to come.
+    /// The number of bytes that are still to be read.
     fn left(&self) -> usize
         ensures { result ≡ length (octets self.now) };
 
-    /// Takes as many octets as `out` has. False, which changes nothing, where fewer are left.
+    /// Fills `out` with the next bytes. Returns false, and changes nothing, if fewer are left.
     fn take_into(&mut self, out: &mut [u8]) -> bool
         ensures { MatchBool result (octets self.old ≡ out.new ++ octets self.new)
             ((length (octets self.old) < length out.old) × (octets self.new ≡ octets self.old) × (out.new ≡ out.old)) };
 
-    /// Passes over the next `n` octets. False, which changes nothing, where fewer are left.
+    /// Skips the next `n` bytes. Returns false, and changes nothing, if fewer are left.
     fn skip(&mut self, n: usize) -> bool
         ensures { MatchBool result ((n ≤ length (octets self.old)) × (octets self.new ≡ drop n (octets self.old)))
             ((length (octets self.old) < n) × (octets self.new ≡ octets self.old)) };
@@ -42,7 +42,7 @@ impl<'a> Model for Octets<'a> {
 }
 
 impl<'a> Octets<'a> {
-    /// The octets of a slice, from its first on.
+    /// A source of the bytes of a slice, from its first byte on.
     #[inline]
     pub fn new(octets: &'a [u8]) -> Octets<'a>
         ensures { result ≡ octets.now }

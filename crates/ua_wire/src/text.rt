@@ -10,9 +10,9 @@ use std::fmt;
 use std::hash::{Hash, Hasher};
 use std::marker::Model;
 
-/// A String: a text, or null, which differs from the empty text (OPC 10000-6, 5.2.2.4). A text of at most
-/// 30 octets that was read, copied or made by [`UaString::from_str`] stands in the value itself, and takes
-/// no memory.
+/// A String: a text, or null, which differs from the empty text (OPC 10000-6, 5.2.2.4). A text of
+/// at most 30 bytes that was decoded, copied or made by [`UaString::from_str`] is stored in the
+/// value itself, without an allocation.
 pub struct UaString {
     held: Held,
 }
@@ -25,8 +25,8 @@ enum Held {
     Long(String),
 }
 
-// By hand, not derived: a derived drop is spelled out, field by field, in each function of each crate
-// that lets a value go without a call, and its lifetimes with it; this one is called.
+// By hand, not derived: a derived drop is spelled out, field by field, in each function of each
+// crate that lets a value go without a call, and its lifetimes with it; this one is called.
 impl Drop for UaString {
     fn drop(self) {
         let UaString { held } = self;
@@ -47,7 +47,7 @@ impl UaString {
     ghost use Rattle.std.specs.Prelude.{◌≡◌, option_map, is_some, string_bytes, None, Some, IfOk, IsTrue};
     ghost use Rattle.ua_wire.specs.Counted.{is_text};
 
-    /// This text, or null for `None`.
+    /// Makes a String of this text, or the null one for `None`.
     #[inline]
     pub fn new(text: Option<String>) -> UaString
         ensures { result ≡ option_map string_bytes text }
@@ -59,7 +59,7 @@ impl UaString {
         UaString { held }
     }
 
-    /// Null.
+    /// The null String.
     #[inline]
     pub fn null() -> UaString
         ensures { result ≡ None }
@@ -67,7 +67,7 @@ impl UaString {
         UaString { held: Held::Null }
     }
 
-    /// A text of its own with these octets.
+    /// Makes a String with a copy of this text.
     pub fn from_str(alloc: Global, text: &str) -> Result<UaString, AllocError>
         ensures { IfOk result (λ s. s ≡ Some text.now) }
     {
@@ -78,7 +78,7 @@ impl UaString {
         Ok(UaString { held })
     }
 
-    /// The text, or `None` for null. It is UTF-8, whatever it was made of.
+    /// The text, or `None` for null. It is valid UTF-8, whatever the String was made from.
     #[inline]
     #[tactic(auto, using(crate::proofs::FrontsRead::is_utf8_string))]
     pub fn as_str(&self) -> Option<&str>
@@ -92,7 +92,7 @@ impl UaString {
         }
     }
 
-    /// Whether there is a text.
+    /// Whether the String is not null.
     #[inline]
     pub fn is_some(&self) -> bool
         ensures { result ≡ is_some self.now }
@@ -100,7 +100,7 @@ impl UaString {
         !matches!(self.held, Held::Null)
     }
 
-    /// Hands the text over, which takes memory where it stands in the value.
+    /// Returns the text by value; allocates if it is stored in the value itself.
     pub fn into_string(self, alloc: Global) -> Result<Option<String>, AllocError>
         ensures { IfOk result (λ text. option_map string_bytes text ≡ self) }
     {
@@ -112,7 +112,7 @@ impl UaString {
         }
     }
 
-    /// A value of its own, equal to this one.
+    /// Returns an owned copy, equal to this value.
     pub fn try_clone(&self) -> Result<UaString, AllocError>
         ensures { IfOk result (λ v. v ≡ self.now) }
     {

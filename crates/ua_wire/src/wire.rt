@@ -1,4 +1,4 @@
-//! Values that octets encode.
+//! Types with a binary encoding.
 
 ghost use Rattle.std.specs.Prelude.{◌≡◌, ◌≤◌, ◌+◌, ◌++◌, ℕ, List, length, IsTrue, IsFalse, OnOk, OnErr, IfOk, IfErr, IsOk, IsErrOf, ◌↔◌};
 ghost use Rattle.ua_wire.specs.Exact.{Begins};
@@ -10,27 +10,27 @@ use crate::fault::{ReadFault, WriteFault};
 use crate::source::{Octets, Source};
 use std::alloc::{AllocError, Global};
 
-/// The most levels of a value that is read or written: each Variant, DataValue or DiagnosticInfo
-/// within another is one more (OPC 10000-6, 5.2.2.12 and 5.2.2.16).
+/// The greatest nesting depth of a value that is decoded or encoded: each Variant, DataValue or
+/// DiagnosticInfo inside another adds one (OPC 10000-6, 5.2.2.12 and 5.2.2.16).
 pub const MOST_LEVELS: u32 = 100;
 
-/// A value that octets encode (OPC 10000-6, 5.2). `read` and `write` are for callers; a type
-/// gives `lawful`, `read_value`, `is_encodable` and `append`.
+/// A type whose values have a binary encoding (OPC 10000-6, 5.2). Callers use `read` and `write`; a
+/// type implements `lawful`, `read_value`, `is_encodable` and `append`.
 pub trait Wire: Sized {
-    /// Which octets encode which value, how many levels it has, and its canonical encoding.
+    /// Which bytes encode which value, the nesting depth of a value, and its canonical encoding.
     ghost format: { Format Self };
 
-    /// Octets whose first count names more than stands behind it: no memory is asked for them.
+    /// Bytes whose first count exceeds what follows it: nothing is allocated for them.
     ghost overlong: { List ℕ → Type 0 } = { λ _. ⊥ };
 
-    /// Reading takes no memory.
+    /// Decoding allocates nothing.
     ghost memoryless: { Type 0 } = { ⊥ };
 
-    /// Shows that reading finds just what is encoded, and that what is written is read.
+    /// Shows that decoding finds exactly what is encoded, and that what is encoded is decoded.
     fn lawful()
         ensures { IsLawful format };
 
-    /// Reads the value that the source begins with, as reading on lists does.
+    /// Decodes the value at the start of the source, as decoding on lists does.
     fn read_value<S: Source>(alloc: Global, src: &mut S, depth: u32) -> Result<Self, ReadFault>
         requires levels { depth ≤ most_levels }
         ensures exact { Gives (format.decode depth) (S.octets src.old) (S.octets src.new) result }
@@ -42,14 +42,14 @@ pub trait Wire: Sized {
     fn is_encodable(&self) -> bool
         ensures { result ≡ format.encodable self.now };
 
-    /// Adds the canonical encoding at the end. After an error some of it may stand there.
+    /// Appends the canonical encoding. After an error, part of it may have been appended.
     fn append(&self, out: &mut Vec<u8>) -> Result<(), AllocError>
         requires { IsTrue (format.encodable self.now) }
         ensures ok { OnOk result (out.new.items ≡ out.old.items ++ format.canonical self.now) }
         ensures err { OnErr result (Extends out.old.items out.new.items) };
 
-    /// Reads the value that the source begins with, of at most `depth` levels, and takes just its
-    /// octets. After a fault the source is to be given up.
+    /// Decodes the value at the start of the source, of at most nesting depth `depth`, and consumes
+    /// exactly its bytes. After an error, discard the source.
     #[inline]
     #[tactic(auto, using(crate::proofs::Behind::behind_is))]
     final fn read<S: Source>(alloc: Global, src: &mut S, depth: u32) -> Result<Self, ReadFault>
@@ -67,8 +67,8 @@ pub trait Wire: Sized {
         Self::read_value(alloc, src, depth)
     }
 
-    /// The value that the octets encode, with nothing behind it, if they encode one of at most
-    /// [`MOST_LEVELS`] levels.
+    /// The value that exactly these bytes encode, with nothing after it, or `None` if they encode
+    /// none of at most [`MOST_LEVELS`] nesting depth.
     final fn read_whole(alloc: Global, octets: &[u8]) -> Result<Option<Self>, AllocError>
     where
         Self: Drop,
@@ -86,7 +86,7 @@ pub trait Wire: Sized {
         }
     }
 
-    /// Adds the canonical encoding at the end. An error leaves what was there.
+    /// Appends the canonical encoding. On an error the vector is unchanged.
     final fn write(&self, out: &mut Vec<u8>) -> Result<(), WriteFault>
         ensures ok { OnOk result (out.new.items ≡ out.old.items ++ format.canonical self.now) }
         ensures err { OnErr result (out.new.items ≡ out.old.items) }

@@ -5,7 +5,7 @@ ghost use Rattle.ua_wire.specs.Counted.{text};
 
 use ua_builtin::UaString;
 
-/// The URL of an endpoint, of which a Hello can be made.
+/// The URL of an endpoint, from which a Hello can be made.
 #[derive(Drop)]
 pub struct Address {
     pub url: UaString,

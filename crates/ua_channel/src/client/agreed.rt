@@ -1,4 +1,4 @@
-//! What a client and a server agreed to.
+//! The agreement of a client and a server.
 
 ghost use Rattle.std.specs.Prelude.{◌≤◌};
 

@@ -1,4 +1,4 @@
-//! The answers to OPNs.
+//! The responses to OPNs.
 ghost use Rattle.ua_opening.specs.Open.{answer_read};
 ghost use Rattle.ua_channel.specs.inside.ClientParts.{Judged, JudgesAnswer, body_reasons, response_reasons, IsResponse, IsAnsweredBy};
 ghost use Rattle.ua_channel.specs.Content.{opening_of};
@@ -10,7 +10,7 @@ use ua_chunk::read_open;
 use ua_frame::Frame;
 use ua_opening::{OpenAnswer, OpenResponse, read_open_response};
 
-/// A good response to an OPN: its numbers, and the channel and the token that it brings.
+/// A good response to an OPN: its numbers, and the SecureChannelId and the TokenId that it brings.
 #[derive(Clone, Copy, Debug)]
 pub struct Answer {
     pub sequence: u32,
@@ -19,7 +19,7 @@ pub struct Answer {
     pub token: u32,
 }
 
-/// The channel and the token of a good response.
+/// The SecureChannelId and the TokenId of a good response.
 fn judge_response(response: OpenResponse) -> Result<(u32, u32), StepFault>
     ensures { Judged (response_reasons response) (IsResponse response) result }
 {
@@ -30,7 +30,7 @@ fn judge_response(response: OpenResponse) -> Result<(u32, u32), StepFault>
     Ok((response.channel_id, response.token_id))
 }
 
-/// The channel and the token of the body of an OPN.
+/// The SecureChannelId and the TokenId in the body of an OPN.
 fn judge_body(alloc: Global, body: &[u8]) -> Result<(u32, u32), StepFault>
     ensures { Judged (body_reasons (answer_read body.now)) (λ ids. IsAnsweredBy (answer_read body.now) ids) result }
 {
@@ -45,7 +45,7 @@ fn judge_body(alloc: Global, body: &[u8]) -> Result<(u32, u32), StepFault>
     }
 }
 
-/// What an OPN frame answers, but for what depends on the frames before it.
+/// The response in an OPN frame, judged without the frames before it.
 pub fn judge_answer(alloc: Global, frame: Frame) -> Result<Answer, StepFault>
     ensures { JudgesAnswer (opening_of frame.body) result }
 {

@@ -1,15 +1,15 @@
-//! What a client sends for a call.
+//! The bytes that a client sends for a call.
 
 ghost use Rattle.std.specs.Prelude.{◌<◌};
 
-/// A call that was asked.
+/// A call that a client sends.
 #[derive(Drop)]
 pub struct AskedCall {
-    /// The request id under which it is answered.
+    /// The RequestId of the call, under which it is answered.
     pub id: u32,
-    /// Its chunks, one frame behind the other.
+    /// The chunks of the call, one frame after the other.
     pub octets: Vec<u8>,
-    /// The octets of each of these frames but the last, which has at most so many.
+    /// The length in bytes of each of these frames but the last, whose length is at most this.
     pub frame_len: usize,
     ghost some: { 0 < frame_len },
 }

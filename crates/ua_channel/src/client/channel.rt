@@ -31,11 +31,11 @@ use std::alloc::{AllocError, Global};
 use ua_builtin::{DateTime, UaString};
 use ua_frame::{FrameReader, Gate, Kind, LEAST_BUFFER_SIZE, Limits};
 
-/// The client's end of a connection and its secure channel (OPC 10000-6, 6.7 and 7.1), with no IO:
-/// octets that came go in, octets to be sent come out.
+/// The client's end of a connection and its SecureChannel (OPC 10000-6, 6.7 and 7.1), without input
+/// and output: it takes the bytes that were received, and returns the bytes to send.
 ///
-/// First [`hello`](ClientChannel::hello) is to be sent, then what [`take`](ClientChannel::take)
-/// answers by `Send`; after `Open` calls may be asked.
+/// First send [`hello`](ClientChannel::hello), then what [`take`](ClientChannel::take) returns with
+/// `Send`; after `Open` the client may send calls.
 #[derive(Drop)]
 pub struct ClientChannel {
     address: Address,
@@ -43,7 +43,7 @@ pub struct ClientChannel {
 }
 
 impl ClientChannel {
-    /// A client with these limits, to the server of this URL, that has sent and received nothing.
+    /// A client with these limits, for the server of this URL, that has sent and received nothing.
     pub fn new(alloc: Global, limits: Limits, url: UaString) -> ClientChannel
         requires { IsTrue (text.encodable url) }
         ensures stands { ClientStands result [] [] [] [] }
@@ -71,7 +71,7 @@ impl ClientChannel {
 
     // ---- memory
 
-    /// How many octets are held of what is not whole yet: of a frame, and of unfinished messages.
+    /// The number of bytes held that are incomplete: of a frame, and of unfinished messages.
     pub fn held(&self) -> usize
         ensures held { (asks : List Placed) (octets : List ℕ) (frames : List Frame) (rest : List ℕ) → ClientStands self.now asks octets frames rest
             → result ≡ held_octets frames rest }
@@ -82,8 +82,8 @@ impl ClientChannel {
         self.end.held()
     }
 
-    /// The most octets that may be held: 8192 before the ACK; then the largest frame that the server
-    /// sends, and 4 times the largest message that this end takes.
+    /// The maximum number of bytes that may be held: 8192 before the ACK; after it the largest
+    /// frame that the server sends, and 4 times the largest message that this end accepts.
     #[inline]
     pub fn bound(&self) -> usize
         ensures stands { (asks : List Placed) (octets : List ℕ) (frames : List Frame) (rest : List ℕ) → ClientStands self.now asks octets frames rest
@@ -103,7 +103,7 @@ impl ClientChannel {
         &self.address.url
     }
 
-    /// The request id of what is asked next, or of the CLO; 2 where the channel failed or was closed.
+    /// The RequestId of the next call, renewal or CLO; 2 where the channel failed or was closed.
     pub fn next_id(&self) -> u32
         ensures stands { (asks : List Placed) (octets : List ℕ) (frames : List Frame) (rest : List ℕ) → ClientStands self.now asks octets frames rest
             → result ≡ next_id (asked_in asks) }
@@ -115,15 +115,15 @@ impl ClientChannel {
         }
     }
 
-    /// The HEL that begins the connection, whatever came so far.
+    /// The HEL that begins the connection, whatever was received so far.
     pub fn hello(&self) -> Result<Vec<u8>, AllocError>
         ensures { IfOk result (λ out. out.items ≡ frame_octets (hello_frame (hello_to (client_limits self.now) (url_of self.now)))) }
     {
         hello_octets(self.end.alloc, &self.end.rules.limits, &self.address.url)
     }
 
-    /// Why a call of a body of so many octets would be refused after so many more calls, each of
-    /// which succeeds, but for memory. It takes none.
+    /// Why a call with a body of `len` bytes would be refused after `before` more calls, each of
+    /// which succeeds. Failing allocations are not considered, and the function allocates nothing.
     pub fn judge(&self, before: usize, len: usize) -> Result<(), AskFault>
         ensures judges { JudgesLength self.now before len result }
         ensures stands { (asks : List Placed) (octets : List ℕ) (frames : List Frame) (rest : List ℕ) → ClientStands self.now asks octets frames rest
@@ -135,14 +135,14 @@ impl ClientChannel {
         }
     }
 
-    /// Asks a call with this body: its chunks, where their frames end, and the request id under which it
-    /// is answered.
+    /// Sends a call with this body: returns its chunks, where their frames end, and the RequestId
+    /// under which it is answered.
     pub fn call(&mut self, body: &[u8]) -> Result<AskedCall, AskFault>
         requires { 0 < length body.now }
         ensures answers { AnswersFor (call_refused self.old 0 body.now) result }
         ensures sent { IfOk result (λ asked. SendsCall self.old (client_next self.old) body.now asked.id asked.octets.items (client_next self.new)) }
         ensures frames { IfOk result (λ asked. AreFramesOf asked.frame_len asked.octets.items) }
-        // The same by what was received and asked, in the middle of a frame or of a message too.
+        // The same by what was received and sent, also inside a frame or a message.
         ensures refuses { (asks : List Placed) (octets : List ℕ) (frames : List Frame) (rest : List ℕ) → ClientStands self.old asks octets frames rest
             → AnswersFor (first_reason (call_reasons (received frames) (asked_in asks) 0 body.now)) result }
         ensures calls { (asks : List Placed) (octets : List ℕ) (frames : List Frame) (rest : List ℕ) → ClientStands self.old asks octets frames rest
@@ -150,7 +150,7 @@ impl ClientChannel {
         ensures stands { (asks : List Placed) (octets : List ℕ) (frames : List Frame) (rest : List ℕ) → ClientStands self.old asks octets frames rest
             → IfOk result (λ asked. ClientStands self.new (asks ++ (length octets, Call asked.id) ∷ []) octets frames rest) }
 
-        // After a fault the channel stands as before, and sends next what it would have sent.
+        // After a fault the channel is in the state before, and sends next what it would have sent.
         ensures kept { (asks : List Placed) (octets : List ℕ) (frames : List Frame) (rest : List ℕ) → ClientStands self.old asks octets frames rest
             → OnErr result (ClientStands self.new asks octets frames rest) }
         ensures next { OnErr result (client_next self.new ≡ client_next self.old) }
@@ -164,12 +164,12 @@ impl ClientChannel {
         }
     }
 
-    /// The chunks that [`call`](ClientChannel::call) answers, and the request id.
+    /// The chunks that [`call`](ClientChannel::call) returns, and the RequestId.
     pub fn ask(&mut self, body: &[u8]) -> Result<(u32, Vec<u8>), AskFault>
         requires { 0 < length body.now }
         ensures answers { AnswersFor (call_refused self.old 0 body.now) result }
         ensures sent { IfOk result (λ r. SendsCall self.old (client_next self.old) body.now r.0 r.1.items (client_next self.new)) }
-        // The same by what was received and asked, in the middle of a frame or of a message too.
+        // The same by what was received and sent, also inside a frame or a message.
         ensures refuses { (asks : List Placed) (octets : List ℕ) (frames : List Frame) (rest : List ℕ) → ClientStands self.old asks octets frames rest
             → AnswersFor (first_reason (call_reasons (received frames) (asked_in asks) 0 body.now)) result }
         ensures calls { (asks : List Placed) (octets : List ℕ) (frames : List Frame) (rest : List ℕ) → ClientStands self.old asks octets frames rest
@@ -177,7 +177,7 @@ impl ClientChannel {
         ensures stands { (asks : List Placed) (octets : List ℕ) (frames : List Frame) (rest : List ℕ) → ClientStands self.old asks octets frames rest
             → IfOk result (λ r. ClientStands self.new (asks ++ (length octets, Call r.0) ∷ []) octets frames rest) }
 
-        // After a fault the channel stands as before, and sends next what it would have sent.
+        // After a fault the channel is in the state before, and sends next what it would have sent.
         ensures kept { (asks : List Placed) (octets : List ℕ) (frames : List Frame) (rest : List ℕ) → ClientStands self.old asks octets frames rest
             → OnErr result (ClientStands self.new asks octets frames rest) }
         ensures next { OnErr result (client_next self.new ≡ client_next self.old) }
@@ -191,11 +191,12 @@ impl ClientChannel {
         }
     }
 
-    /// The OPN that asks for a further token (OPC 10000-4, 5.6.2), and its request id.
+    /// The OPN that renews the token (OPC 10000-4, 5.6.2), and its RequestId. Its timestamp is
+    /// `moment`.
     pub fn renew(&mut self, moment: DateTime) -> Result<(u32, Vec<u8>), AskFault>
         ensures answers { AnswersFor (renewal_refused self.old) result }
         ensures sent { IfOk result (λ r. SendsRenewal self.old (client_next self.old) moment r.0 r.1.items (client_next self.new)) }
-        // The same by what was received and asked.
+        // The same by what was received and sent.
         ensures refuses { (asks : List Placed) (octets : List ℕ) (frames : List Frame) (rest : List ℕ) → ClientStands self.old asks octets frames rest
             → AnswersFor (first_reason (renewing_reasons (received frames) (asked_in asks))) result }
         ensures renews { (asks : List Placed) (octets : List ℕ) (frames : List Frame) (rest : List ℕ) → ClientStands self.old asks octets frames rest
@@ -212,11 +213,11 @@ impl ClientChannel {
         }
     }
 
-    /// The CLO, after which the channel is closed.
+    /// The CLO, after which the channel is closed. Its timestamp is `moment`.
     pub fn close(&mut self, moment: DateTime) -> Result<Vec<u8>, AskFault>
         ensures answers { AnswersFor (closing_refused self.old) result }
         ensures sent { IfOk result (λ out. SendsClosing self.old (client_next self.old) moment out.items) }
-        // The same by what was received and asked.
+        // The same by what was received and sent.
         ensures refuses { (asks : List Placed) (octets : List ℕ) (frames : List Frame) (rest : List ℕ) → ClientStands self.old asks octets frames rest
             → AnswersFor (first_reason (closing_reasons (received frames))) result }
         ensures closes { (asks : List Placed) (octets : List ℕ) (frames : List Frame) (rest : List ℕ) → ClientStands self.old asks octets frames rest
@@ -256,9 +257,9 @@ impl ClientChannel {
         }
     }
 
-    // ---- what comes
+    // ---- what is received
 
-    /// What is answered at an event. The moment is that of the OPN.
+    /// The event that is returned. `moment` is the timestamp of an OPN request.
     fn answer(&mut self, event: Event, moment: DateTime) -> Result<ClientEvent, ClientTakeFault>
         ensures answers { (asks : List Placed) (octets : List ℕ) (told : List ClientTold) → ComesTo event self.old asks octets told
             → AnswersEvent moment result self.new asks octets told }
@@ -282,8 +283,9 @@ impl ClientChannel {
         }
     }
 
-    /// Takes octets up to the end of the first frame that tells something, and answers what that
-    /// comes to, else takes the whole piece, and says how many it took. The moment is that of the OPN.
+    /// Takes bytes up to the end of the first frame that has an event, and returns that event, or
+    /// else takes the whole piece; returns how many it took. `moment` is the timestamp of the OPN
+    /// request.
     fn go_on(
         &mut self,
         piece: &[u8],
@@ -308,9 +310,10 @@ impl ClientChannel {
         }
     }
 
-    /// Takes octets up to the end of the first frame at which there is something to be sent or to be
-    /// told, else the whole piece. The moment is that of the OPN. A header that is refused ends at its
-    /// eighth octet. After a failure the channel is closed.
+    /// Takes bytes up to the end of the first frame that has an event or needs bytes to be sent, or
+    /// else the whole piece, and returns how many it took. `moment` is the timestamp of the OPN
+    /// request. At a header that is refused, the bytes taken end at its eighth byte. After a
+    /// failure the channel is closed.
     pub fn take(
         &mut self,
         piece: &[u8],
@@ -318,15 +321,15 @@ impl ClientChannel {
     ) -> Result<(usize, ClientEvent), ClientTakeFault>
         ensures answers { (asks : List Placed) (octets : List ℕ) (told : List ClientTold) → ClientGoes self.old asks octets told
             → ClientAnswers moment piece.now result self.new asks octets told }
-        // A message that is handed out is the bodies of its chunks: nothing is joined.
+        // A message that is returned is the bodies of its chunks, which are not joined.
         ensures parts { (asks : List Placed) (octets : List ℕ) (told : List ClientTold) → ClientGoes self.old asks octets told
             → IfOk result (λ r. ComesInParts (parts_handed r.1) self.new asks (octets ++ take r.0 piece.now)) }
         ensures progress { ClientProgress piece.now result }
         ensures closed { IsClientDone self.old → (result ≡ Err Closed) × (self.new ≡ self.old) }
-        // Where memory is refused, it is within a frame whose header is there and good.
+        // Where an allocation fails, it is within a frame whose header is complete and valid.
         ensures starves { (asks : List Placed) (octets : List ℕ) (told : List ClientTold) → ClientGoes self.old asks octets told → IsErrOf result OutOfMemory
             → (n : ℕ) × (n ≤ length piece.now) × ClientStarvedAt self.new asks (octets ++ take n piece.now) told }
-        // After want of memory, the bound is what it was before the call.
+        // After `OutOfMemory` the bound is what it was before the call.
         ensures starved { IsErrOf result OutOfMemory → client_bound self.new ≡ client_bound self.old }
         ensures same { SameClient self.old self.new }
         ensures next { client_next self.new ≡ client_next self.old }

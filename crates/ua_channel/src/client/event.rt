@@ -1,4 +1,4 @@
-//! What comes of the octets that a client takes.
+//! The events of the bytes that a client takes.
 
 use crate::client::fault::ClientTakeFault;
 use crate::step_fault::StepFault;
@@ -6,40 +6,40 @@ use ua_builtin::StatusCode;
 use ua_chunk::Message;
 use ua_frame::Ack;
 
-/// What came of the octets so far.
+/// The event of the bytes so far.
 #[derive(Drop)]
 pub enum ClientEvent {
-    /// More octets are to come.
+    /// More bytes are needed.
     NeedMore,
-    /// The server agreed: these octets, an OPN frame, are to be sent.
+    /// The server acknowledged: send these bytes, an OPN frame.
     Send(Vec<u8>),
-    /// The channel is open, and calls may be asked.
+    /// The channel is open, and calls may be sent.
     Open,
-    /// The reply to the call of this request id.
+    /// The reply to the call with this RequestId.
     Answered(u32, Message),
-    /// The server gave up its reply to the call of this request id, and why.
+    /// The server aborted its reply to the call with this RequestId, and why.
     Aborted(u32, StatusCode),
     /// The connection failed, and the channel is closed.
     Failed {
-        /// Why.
+        /// The StatusCode of the failure.
         code: StatusCode,
-        /// Whether the server said so, by an ERR frame; else this end refused what came.
+        /// Whether the server sent it, in an ERR message; else this end refused what it received.
         peer: bool,
     },
-    /// A renewal was answered by this token, under which calls go out from now on.
+    /// The response to a renewal brought this TokenId, under which calls are sent from now on.
     Renewed(u32),
 }
 
-/// What a frame comes to.
+/// The event of a frame.
 #[derive(Drop)]
 pub enum Event {
-    /// The server agreed.
+    /// The server acknowledged.
     Agreed(Ack),
-    /// The channel of this id is open under this token.
+    /// The channel of this SecureChannelId is open under this TokenId.
     Opened(u32, u32),
     /// The reply to a call.
     Answered(u32, Message),
-    /// A call that the server gave up.
+    /// A call whose reply the server aborted.
     Aborted(u32, StatusCode),
     /// A further token.
     Renewed(u32),

@@ -1,21 +1,21 @@
-//! Why a client's channel does not answer.
+//! Faults of a client's channel.
 
 use std::alloc::AllocError;
 use thiserror::Error;
 use ua_chunk::CutFault;
 
-/// Why octets were not taken.
+/// Why bytes were not taken.
 #[derive(Clone, Copy, PartialEq, Eq, Debug, Error)]
 pub enum ClientTakeFault {
     /// The channel failed or was closed.
     #[error("closed")]
     Closed,
-    /// Memory was refused. The channel is closed.
+    /// An allocation failed. The channel is closed.
     #[error("out of memory")]
     OutOfMemory,
 }
 
-/// Why nothing was asked. Of several reasons it is the first of these.
+/// Why nothing was sent. Of several reasons it is the first in this order.
 #[derive(Clone, Copy, PartialEq, Eq, Debug, Error)]
 pub enum AskFault {
     /// No channel is open.
@@ -30,13 +30,13 @@ pub enum AskFault {
     /// 16 tokens are held.
     #[error("too many tokens are held")]
     TooManyTokens,
-    /// All request ids were used.
+    /// All RequestIds were used.
     #[error("the request ids are exhausted")]
     Exhausted,
-    /// The server does not take a message of so many octets or chunks.
+    /// The server does not accept a message of so many bytes or chunks.
     #[error("the request is too large")]
     RequestTooLarge,
-    /// Memory was refused.
+    /// An allocation failed.
     #[error("out of memory")]
     OutOfMemory,
 }
@@ -45,7 +45,7 @@ impl AskFault {
     ghost use Rattle.std.specs.Prelude.{◌≡◌};
     ghost use Rattle.ua_channel.specs.inside.ClientAsking.{of_cut_fault};
 
-    /// What a fault of cutting comes to.
+    /// The fault of splitting a body, as a fault of a call.
     pub(crate) fn of_cut(fault: CutFault) -> AskFault
         ensures { result ≡ of_cut_fault fault }
     {

@@ -65,7 +65,7 @@ fn judge_ack(alloc: Global, limits: &Limits, body: &[u8]) -> Result<Agreed, Step
     Ok(Agreed { ack })
 }
 
-/// What a frame of a server agrees to that had nothing but a HEL.
+/// The agreement on the first frame of a server that received only a HEL.
 pub fn greet(alloc: Global, limits: &Limits, frame: Frame) -> Result<Agreed, StepFault>
     ensures { LetsIn ack_gate frame
         → Judged (client_reasons limits.now nothing_received [] (content frame)) (λ a. content frame ≡ Acks (Some a.ack)) result }

@@ -1,4 +1,4 @@
-//! The frames that a client sends beside the chunks of calls.
+//! The frames that a client sends besides the chunks of calls.
 
 ghost use Rattle.std.specs.Prelude.{◌≡◌, ◌<◌, ◌^◌, ◌++◌, length, IsTrue, IfOk, OnOk};
 ghost use Rattle.ua_wire.specs.Counted.{text};
@@ -17,19 +17,19 @@ use ua_frame::{Hello, Kind, Limits, header_octets};
 use ua_opening::laws::bodies_of_the_channel_have_lengths;
 use ua_opening::{CloseRequest, OpenRequest, write_close_request, write_open_request};
 
-/// The octets of a Hello whose URL is null.
+/// The length in bytes of a Hello whose URL is null.
 const SHORT_HELLO: usize = 32;
 
-/// The octets of an OPN frame with a request in it.
+/// The length in bytes of an OPN frame with a request in it.
 const OPEN_SIZE: usize = 132;
 
-/// The octets of the body of an OPN request without a nonce.
+/// The length in bytes of the body of an OPN request without a nonce.
 const OPEN_LEN: usize = 53;
 
-/// The octets of a CLO frame with a request in it.
+/// The length in bytes of a CLO frame with a request in it.
 const CLOSE_SIZE: u32 = 57;
 
-/// How long a token is asked to live, in milliseconds: an hour.
+/// The requested lifetime of a token, in milliseconds: an hour.
 const TOKEN_LIFETIME: u32 = 3_600_000;
 
 /// The Hello of a client with these limits to the server of this URL.
@@ -46,7 +46,7 @@ fn hello_of(limits: &Limits, url: &UaString) -> Result<Hello, AllocError>
     })
 }
 
-/// The number of octets of a URL.
+/// The length of a URL in bytes.
 #[tactic(auto, using(crate::proofs::ClientFrames::url_short))]
 fn url_len(url: &UaString) -> usize
     requires { IsTrue (text.encodable url.now) }
@@ -71,14 +71,14 @@ pub fn hello_octets(alloc: Global, limits: &Limits, url: &UaString) -> Result<Ve
     out.extend_from_slice(&header_octets(Kind::Hel, b'F', size as u32))?;
     let written = hello.write(&mut out);
     drop(hello);
-    // Its URL can be encoded, so a fault is want of memory.
+    // Its URL can be encoded, so a fault is a failed allocation.
     match written {
         Ok(()) => Ok(out),
         Err(_) => Err(AllocError),
     }
 }
 
-/// The OPN of a request on a channel, with this number and request id.
+/// The OPN of a request on a channel, with this SequenceNumber and RequestId.
 fn request_octets(
     alloc: Global,
     channel: u32,
@@ -91,7 +91,7 @@ fn request_octets(
 {
     let mut out = Vec::with_capacity(alloc, OPEN_SIZE)?;
     append_opening(channel, number, id, OPEN_LEN, &mut out)?;
-    // Where the request can be encoded, a fault is want of memory.
+    // Where the request can be encoded, a fault is a failed allocation.
     match write_open_request(request, &mut out) {
         Ok(()) => Ok(out),
         Err(_) => Err(AllocError),
@@ -122,7 +122,7 @@ pub fn renewal_octets(
     request_octets(alloc, channel, number, id, &request)
 }
 
-/// Adds what stands in front of the request of a CLO.
+/// Appends the headers before the request of a CLO.
 fn append_closing(
     channel: u32,
     token: u32,
@@ -156,7 +156,7 @@ pub fn close_octets(
     append_closing(channel, token, number, id, &mut out)?;
     let request = CloseRequest::new(moment, 0);
     bodies_of_the_channel_have_lengths();
-    // The request can be encoded, so a fault is want of memory.
+    // The request can be encoded, so a fault is a failed allocation.
     match write_close_request(&request, &mut out) {
         Ok(()) => Ok(out),
         Err(_) => Err(AllocError),

@@ -1,4 +1,4 @@
-//! The rules of a client: what it makes of a frame.
+//! The rules of a client for frames.
 
 ghost use Rattle.std.specs.Prelude.{◌≡◌, List, OnErr};
 ghost use Rattle.ua_frame.specs.Frames.{LetsIn};
@@ -21,7 +21,7 @@ use std::alloc::Global;
 use ua_chunk::MOST_OPEN;
 use ua_frame::{Frame, Gate, Limits};
 
-/// What a client does with frames: its limits.
+/// The rules of a client for frames: its limits.
 #[derive(Drop)]
 pub struct ClientRules {
     pub limits: Limits,

@@ -39,7 +39,7 @@ const MOST_PENDING: usize = 64;
 /// The most tokens that are held where a further one is asked for.
 const MOST_TOKENS: usize = 16;
 
-/// The first number that is the request id of no call and of no renewal; the CLO may have it.
+/// The first number that is the RequestId of no call and of no renewal; the CLO may have it.
 const NO_ID: usize = 4_294_967_295;
 
 /// What a client keeps of an open channel.
@@ -51,11 +51,11 @@ pub struct Talking {
     pub tokens: Vec<u32>,
     /// The newest token, under which calls go out.
     pub newest: u32,
-    /// The request ids of the calls that are unanswered.
+    /// The RequestIds of the calls that are unanswered.
     pub pending: Vec<u32>,
-    /// The request id of the renewal that is unanswered.
+    /// The RequestId of the renewal that is unanswered.
     pub renewal: Option<u32>,
-    /// The request id that the next call gets.
+    /// The RequestId that the next call gets.
     pub next: u32,
     pub assembler: Assembler,
 }
@@ -79,14 +79,14 @@ fn release_before(tokens: &mut Vec<u32>, token: u32)
     }
 }
 
-/// Drops a request id.
+/// Drops a RequestId.
 fn forget(ids: &mut Vec<u32>, request: u32)
     ensures { ids.new.items ≡ left_behind true request ids.old.items }
 {
     ids.retain(|id| *id != request);
 }
 
-/// What a delivered message tells.
+/// The event of a delivered message.
 fn event_of(delivered: Option<Delivered>) -> Option<Event>
     ensures { DeliversEvent delivered result }
 {
@@ -131,7 +131,7 @@ impl Talking {
         })
     }
 
-    /// The channel that the first frame behind an ACK opens.
+    /// The channel that the first frame after an ACK opens.
     pub fn on_first(
         alloc: Global,
         limits: &Limits,
@@ -151,7 +151,7 @@ impl Talking {
         }
     }
 
-    // ---- what comes
+    // ---- what is received
 
     /// Takes the answer to a renewal.
     fn on_answer(&mut self, answer: Answer) -> Result<(), StepFault>
@@ -177,7 +177,7 @@ impl Talking {
         Ok(())
     }
 
-    /// Takes the answer to a renewal, and tells the token.
+    /// Takes the response to a renewal, and returns the token as an event.
     fn on_renewed(&mut self, answer: Answer) -> Result<Option<Event>, StepFault>
         ensures { (cs : List Chunk) → Stands self.old.assembler cs → Judged (renewal_reasons self.old answer) (TellsRenewal self.old answer cs self.new) result }
     {
@@ -270,7 +270,7 @@ impl Talking {
         }
     }
 
-    // ---- what is asked
+    // ---- what is sent
 
     /// Where calls go.
     fn lane(&self) -> Lane
@@ -288,7 +288,7 @@ impl Talking {
         }
     }
 
-    /// Why no call may be asked after so many more calls, whatever its body.
+    /// Why no call may be sent after so many more calls, whatever its body.
     fn full(&self, more: usize) -> Option<AskFault>
         ensures { result ≡ first_reason (more_reasons self.now more) }
     {
@@ -301,14 +301,14 @@ impl Talking {
         None
     }
 
-    /// Whether the server does not take a body of so many octets.
+    /// Whether the server does not accept a body of so many bytes.
     fn is_too_large(&self, len: usize) -> bool
         ensures { (body : List ℕ) → length body ≡ len → result ≡ is_too_large self.now.agreed.ack body }
     {
         self.lane().refusal(len).is_some()
     }
 
-    /// Why a call of a body of so many octets is refused after so many more calls.
+    /// Why a call with a body of so many bytes is refused after so many more calls.
     pub fn judge(&self, more: usize, len: usize) -> Result<(), AskFault>
         ensures { JudgesCall self.now more len result }
     {
@@ -321,7 +321,7 @@ impl Talking {
         Ok(())
     }
 
-    /// The chunks of a call under the next request id.
+    /// The chunks of a call under the next RequestId.
     #[tactic(auto, using(crate::proofs::ChunkFrames::chunks_framed))]
     pub fn ask(
         &mut self,
@@ -362,7 +362,7 @@ impl Talking {
         }
     }
 
-    /// Why a renewal is not asked.
+    /// Why a renewal is not sent.
     fn renew_refusal(&self) -> Option<AskFault>
         ensures { result ≡ first_reason (renew_reasons self.now) }
     {
@@ -378,7 +378,7 @@ impl Talking {
         None
     }
 
-    /// The OPN that asks for a further token under the next request id.
+    /// The OPN that renews the token, under the next RequestId.
     pub fn renew(
         &mut self,
         alloc: Global,

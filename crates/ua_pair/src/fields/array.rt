@@ -9,7 +9,7 @@ use std::alloc::{AllocError, Global};
 use std::fmt::Write;
 use ua_services::UaArray;
 
-/// Adds the lines of the elements, one behind the other.
+/// Appends the lines of the elements, one after the other.
 fn push_elements<T: Lines>(
     alloc: Global,
     out: &mut String,
@@ -24,7 +24,7 @@ fn push_elements<T: Lines>(
     Ok(())
 }
 
-/// Adds the line with the count of an array.
+/// Appends the line with the count of an array.
 #[tactic(auto, unfolding(crate::specs::Tree::line))]
 fn push_count(out: &mut String, place: Place<'_>, count: usize) -> Result<(), AllocError>
     ensures { OnOk result (string_bytes out.new ≡ string_bytes out.old ++ line place.entry.margin.now place.entry.path.now (decimal count)) }
@@ -33,7 +33,7 @@ fn push_count(out: &mut String, place: Place<'_>, count: usize) -> Result<(), Al
     writeln!(out, "{count}")
 }
 
-/// Adds the count and the elements of an array.
+/// Appends the count and the elements of an array.
 fn push_items<T: Lines>(
     alloc: Global,
     out: &mut String,

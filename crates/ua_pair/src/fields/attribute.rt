@@ -1,4 +1,4 @@
-//! What reads and writes attributes, as lines.
+//! The services Read and Write, as lines.
 
 use crate::fields::lines::{Lines, Place, push_fields};
 use std::alloc::{AllocError, Global};

@@ -1,4 +1,4 @@
-//! Bodies of messages as lines.
+//! Message bodies as lines.
 
 ghost use Rattle.std.specs.Prelude.{◌≡◌, ◌++◌, string_bytes, IfOk, OnOk};
 ghost use Rattle.ua_opening.specs.SecureChannel.{close_request, open_request};
@@ -19,18 +19,18 @@ use ua_services::{
     ServiceFault, read_open_request, read_open_response, read_request, read_response,
 };
 
-/// What a body is read as, by who sent it and in which message (OPC 10000-6, 6.7.2).
+/// How a body is decoded, given its sender and its message type (OPC 10000-6, 6.7.2).
 #[derive(Clone, Copy, PartialEq, Eq)]
 pub enum BodyKind {
     /// A request, from a client in a MSG.
     Request,
     /// A response, from a server in a MSG.
     Response,
-    /// A request of OpenSecureChannel, from a client in an OPN.
+    /// An OpenSecureChannel request, from a client in an OPN.
     OpenRequest,
-    /// The answer to it, from a server in an OPN: a response, or a ServiceFault.
+    /// The response to an OpenSecureChannel request, or a ServiceFault, from a server in an OPN.
     OpenResponse,
-    /// A request of CloseSecureChannel, from a client in a CLO.
+    /// A CloseSecureChannel request, from a client in a CLO.
     CloseRequest,
 }
 
@@ -76,7 +76,7 @@ fn found_open_request<S: Source>(
     }
 }
 
-/// The answer to a request of OpenSecureChannel that a body is, if it is one.
+/// The response to an OpenSecureChannel request that a body is, if it is one.
 #[tactic(auto, using(ua_opening::proofs::BodyRead::found_ok, ua_opening::proofs::BodyRead::found_err))]
 fn found_open_answer<S: Source>(
     alloc: Global,
@@ -101,7 +101,7 @@ fn standard_number(id: &NodeId) -> Option<u32>
     }
 }
 
-/// The request of CloseSecureChannel that octets are, behind the NodeId of its encoding.
+/// The request of CloseSecureChannel that bytes are, after the NodeId of its encoding.
 fn found_last<S: Source>(alloc: Global, src: &mut S) -> Result<Option<CloseRequest>, AllocError>
     ensures { IfOk result (λ found. found ≡ body_of close_request (S.octets src.old)) }
 {
@@ -134,7 +134,7 @@ fn found_close_request<S: Source>(
     found_last(alloc, src)
 }
 
-/// Adds the lines of the message that was found, and lets it go.
+/// Appends the lines of the message that was found, and lets it go.
 fn push_found<T: Lines + Drop>(
     alloc: Global,
     found: Option<T>,
@@ -149,8 +149,9 @@ fn push_found<T: Lines + Drop>(
     }
 }
 
-/// Adds the lines of a body: those of the message that it is, or none where it is unreadable or of an
-/// unknown service. The source is to be given up. Where memory is refused, some lines may stand there.
+/// Appends the lines of the message in a body, or none if the body cannot be decoded or is of an
+/// unknown service. Discard the source afterwards. If an allocation fails, some lines may have been
+/// appended.
 #[tactic(auto, unfolding(crate::specs::Bodies::body_fields), using(crate::proofs::Bodies::body_told))]
 pub fn push_body_fields<S: Source>(
     alloc: Global,
@@ -171,7 +172,7 @@ pub fn push_body_fields<S: Source>(
     }
 }
 
-/// The value that stands behind the NodeId that octets begin with, whatever follows it.
+/// The value that follows the NodeId that bytes begin with, whatever follows it.
 fn found_behind<T: Wire, S: Source>(alloc: Global, src: &mut S) -> Result<Option<T>, AllocError>
     ensures { IfOk result (λ found. found ≡ behind_id T.format (S.octets src.old)) }
 {
@@ -187,8 +188,8 @@ fn found_behind<T: Wire, S: Source>(alloc: Global, src: &mut S) -> Result<Option
     }
 }
 
-/// Adds the lines of the header of a message that this side sent, where it reads whole. The source is to
-/// be given up. Where memory is refused, some lines may stand there.
+/// Appends the lines of the header of a message that this side sent, where it reads whole. Discard
+/// the source afterwards. Where an allocation fails, some lines may stand there.
 pub(crate) fn push_header_fields<S: Source>(
     alloc: Global,
     side: Side,

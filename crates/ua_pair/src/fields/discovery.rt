@@ -1,4 +1,4 @@
-//! What finds servers, as lines.
+//! The Discovery services, as lines.
 
 use crate::fields::lines::{Lines, Place, push_fields};
 use std::alloc::{AllocError, Global};

@@ -1,4 +1,4 @@
-//! The headers and the fault, as lines.
+//! The headers and the ServiceFault, as lines.
 
 use crate::fields::lines::{Lines, Place, push_fields};
 use std::alloc::{AllocError, Global};

@@ -20,7 +20,7 @@ trait Text {
     /// The text, with the names of status codes or without.
     ghost shown: { Bool → Self → List ℕ };
 
-    /// Adds the text.
+    /// Appends the text.
     fn push_text(&self, alloc: Global, out: &mut String, names: bool) -> Result<(), AllocError>
         ensures { OnOk result (string_bytes out.new ≡ string_bytes out.old ++ shown names self.now) };
 }
@@ -65,7 +65,7 @@ impl Text for HeldVariant {
     }
 }
 
-/// Adds a line with the text of a value.
+/// Appends a line with the text of a value.
 #[tactic(auto, unfolding(crate::specs::Tree::line))]
 fn push_text_line<T: Text>(
     alloc: Global,

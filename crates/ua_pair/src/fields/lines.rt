@@ -1,4 +1,4 @@
-//! Values as lines, and where they stand.
+//! Values as lines, and their places.
 
 ghost use Rattle.std.specs.Prelude.{◌≡◌, ◌++◌, codes, string_bytes, OnOk, IfOk};
 ghost use Rattle.ua_pair.specs.Tree.{Tree, deeper, element_path, field_path, line, with_lines};
@@ -9,7 +9,7 @@ use std::fmt::Write;
 /// Where the lines of a value stand.
 #[derive(Clone, Copy)]
 pub(crate) struct Place<'a> {
-    /// Whether a status code has its standard name behind it.
+    /// Whether a status code has its standard name after it.
     pub(crate) names: bool,
     /// The blanks in front of each.
     pub(crate) margin: &'a str,
@@ -22,12 +22,12 @@ pub(crate) trait Lines {
     /// The value as a tree of its fields.
     ghost tree: { Self → Tree };
 
-    /// Adds the lines of the value.
+    /// Appends the lines of the value.
     fn push_lines(&self, alloc: Global, out: &mut String, place: Place) -> Result<(), AllocError>
         ensures { OnOk result (string_bytes out.new ≡ with_lines place.entry.names place.entry.margin.now place.entry.path.now (string_bytes out.old) (tree self.now)) };
 }
 
-/// Adds what stands in front of the text of a line.
+/// Appends what stands in front of the text of a line.
 pub(crate) fn push_start(out: &mut String, place: Place<'_>) -> Result<(), AllocError>
     ensures { OnOk result (string_bytes out.new ≡ string_bytes out.old ++ (place.entry.margin.now ++ (place.entry.path.now ++ codes " "))) }
 {
@@ -36,7 +36,7 @@ pub(crate) fn push_start(out: &mut String, place: Place<'_>) -> Result<(), Alloc
     out.push_str(" ")
 }
 
-/// Adds a line with this text.
+/// Appends a line with this text.
 #[tactic(auto, unfolding(crate::specs::Tree::line))]
 pub(crate) fn push_line(out: &mut String, place: Place<'_>, text: &str) -> Result<(), AllocError>
     ensures { OnOk result (string_bytes out.new ≡ string_bytes out.old ++ line place.entry.margin.now place.entry.path.now text.now) }
@@ -55,7 +55,7 @@ pub(crate) fn deeper_margin(alloc: Global, margin: &str) -> Result<String, Alloc
     Ok(inner)
 }
 
-/// The path of a field, as a text of its own: nothing is to be put back behind it.
+/// The path of a field, as a text of its own: nothing is to be put back after it.
 fn path_of_field(alloc: Global, path: &str, name: &str) -> Result<String, AllocError>
     ensures { IfOk result (λ inner. string_bytes inner ≡ field_path path.now name.now) }
 {
@@ -80,7 +80,7 @@ impl<'a> Place<'a> {
     ghost use Rattle.std.specs.Prelude.{◌≡◌, ◌++◌, string_bytes, OnOk};
     ghost use Rattle.ua_pair.specs.Tree.{deeper, element_path, field_path, lines};
 
-    /// Adds the lines of a field that is no structure.
+    /// Appends the lines of a field that is no structure.
     #[tactic(auto, using(crate::proofs::Behind::lines_behind))]
     pub(crate) fn push_field<T: Lines>(
         self,
@@ -100,7 +100,7 @@ impl<'a> Place<'a> {
         value.push_lines(alloc, out, inner)
     }
 
-    /// Adds the lines of a field that is a structure.
+    /// Appends the lines of a field that is a structure.
     pub(crate) fn push_part<T: Lines>(
         self,
         alloc: Global,
@@ -119,7 +119,7 @@ impl<'a> Place<'a> {
         inner.push_field(alloc, out, name, value)
     }
 
-    /// Adds the lines of an element.
+    /// Appends the lines of an element.
     #[tactic(auto, using(crate::proofs::Behind::lines_behind))]
     pub(crate) fn push_element<T: Lines>(
         self,
@@ -140,8 +140,8 @@ impl<'a> Place<'a> {
     }
 }
 
-/// Adds the lines of the fields of a structure in order, each by `push_field`, or by `push_part` where it is a
-/// structure.
+/// Appends the lines of the fields of a structure in order, each by `push_field`, or by `push_part`
+/// where it is a structure.
 macro_rules! push_fields {
     ($value:expr, $alloc:expr, $out:expr, $place:expr => $($push:ident $field:ident),+) => {{
         $($place.$push($alloc, $out, stringify!($field), &$value.$field)?;)+

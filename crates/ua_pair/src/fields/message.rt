@@ -43,7 +43,7 @@ impl Lines for OpenAnswer {
     }
 }
 
-/// Adds the lines of a message.
+/// Appends the lines of a message.
 #[tactic(auto, using(crate::proofs::Behind::lines_behind))]
 pub(crate) fn push_message<T: Lines>(
     alloc: Global,
@@ -61,8 +61,9 @@ pub(crate) fn push_message<T: Lines>(
     message.push_lines(alloc, out, place)
 }
 
-/// Adds the lines of a request, one for each of its fields, with two blanks in front and two more
-/// for each level, with the standard names of status codes or without. Where memory is refused, some of them may stand there.
+/// Appends the lines of a request, one for each of its fields, indented by two spaces and two more
+/// for each level, with or without the standard names of StatusCodes. If an allocation fails, some
+/// of them may have been appended.
 pub fn push_request_fields(
     alloc: Global,
     request: &Request,
@@ -74,7 +75,7 @@ pub fn push_request_fields(
     push_message(alloc, request, names, out)
 }
 
-/// Adds the lines of a response, as [`push_request_fields`] adds those of a request.
+/// Appends the lines of a response, as [`push_request_fields`] does for a request.
 pub fn push_response_fields(
     alloc: Global,
     response: &Response,
@@ -86,7 +87,7 @@ pub fn push_response_fields(
     push_message(alloc, response, names, out)
 }
 
-/// Adds the lines of a request of OpenSecureChannel, as [`push_request_fields`] does.
+/// Appends the lines of an OpenSecureChannel request, as [`push_request_fields`] does.
 pub fn push_open_request_fields(
     alloc: Global,
     request: &OpenRequest,
@@ -98,7 +99,7 @@ pub fn push_open_request_fields(
     push_message(alloc, request, names, out)
 }
 
-/// Adds the lines of a response of OpenSecureChannel, as [`push_request_fields`] does.
+/// Appends the lines of an OpenSecureChannel response, as [`push_request_fields`] does.
 pub fn push_open_response_fields(
     alloc: Global,
     response: &OpenResponse,
@@ -110,7 +111,8 @@ pub fn push_open_response_fields(
     push_message(alloc, response, names, out)
 }
 
-/// Adds the lines of the answer to a request of OpenSecureChannel: of the response, or of the fault.
+/// Appends the lines of the response to an OpenSecureChannel request: an OpenSecureChannel response
+/// or a ServiceFault.
 pub fn push_open_answer_fields(
     alloc: Global,
     answer: &OpenAnswer,
@@ -122,7 +124,7 @@ pub fn push_open_answer_fields(
     push_message(alloc, answer, names, out)
 }
 
-/// Adds the lines of a request of CloseSecureChannel, as [`push_request_fields`] does.
+/// Appends the lines of a CloseSecureChannel request, as [`push_request_fields`] does.
 pub fn push_close_request_fields(
     alloc: Global,
     request: &CloseRequest,

@@ -1,4 +1,4 @@
-//! The services of secure channels, as lines.
+//! The SecureChannel services, as lines.
 
 use crate::fields::lines::{Lines, Place, push_fields};
 use std::alloc::{AllocError, Global};

@@ -1,4 +1,4 @@
-//! The services of sessions, as lines.
+//! The Session services, as lines.
 
 use crate::fields::lines::{Lines, Place, push_fields};
 use std::alloc::{AllocError, Global};

@@ -10,8 +10,8 @@ use std::alloc::{AllocError, Global};
 use ua_builtin::{NodeId, Wire};
 use ua_texts::{push_encoded, push_escaped};
 
-/// Adds the text of a NodeId, control characters and backslashes escaped: a text from the network
-/// breaks no line.
+/// Appends the text of a NodeId, control characters and backslashes escaped: a text from the
+/// network breaks no line.
 pub(crate) fn push_node(alloc: Global, out: &mut String, node: &NodeId) -> Result<(), AllocError>
     ensures { OnOk result (string_bytes out.new ≡ string_bytes out.old ++ escaped (node_text node.now)) }
 {
@@ -19,7 +19,7 @@ pub(crate) fn push_node(alloc: Global, out: &mut String, node: &NodeId) -> Resul
     push_escaped(out, &text)
 }
 
-/// Adds the line of a value that is shown by its octets, a null one as `null`.
+/// Appends the line of a value that is shown by its bytes, a null one as `null`.
 #[tactic(auto, unfolding(crate::specs::Tree::line))]
 pub(crate) fn push_encoded_line<T: Wire>(
     alloc: Global,

@@ -5,25 +5,25 @@ use thiserror::Error;
 use ua_builtin::StatusCode;
 use ua_texts::{AnswerFault, ScriptFault};
 
-/// Why a script is not run, or not printed to its end; the text stands behind `ua: ` on standard
+/// Why a script is not run, or its output is incomplete; the text stands after `ua: ` on standard
 /// error.
 #[derive(Clone, Copy, PartialEq, Eq, Debug, Error)]
 pub enum LoopFault {
-    /// The line of this number, counted from 1, asks for nothing; or its request is the first that a
-    /// client does not ask.
+    /// The line with this number, counted from 1, asks for nothing; or its request is the first
+    /// that a client does not send.
     #[error("script line {0}")]
     ScriptLine(usize),
-    /// The lines leave no request id for the request that ends the session.
+    /// The lines leave no RequestId for the request that ends the session.
     #[error("connection Exhausted")]
     Exhausted,
-    /// A service failed, and why: the code of a ServiceFault, or of a reply that the server gave up.
+    /// A service failed: the StatusCode of a ServiceFault, or of a reply that the server aborted.
     #[error("service {code:08X}", code = .0.code)]
     Service(StatusCode),
     /// A reply is that of another service, or has another number of results than the one item that
     /// was asked for.
     #[error("connection UnknownResponse")]
     UnknownResponse,
-    /// Memory was refused.
+    /// An allocation failed.
     #[error("no memory")]
     NoMemory,
 }

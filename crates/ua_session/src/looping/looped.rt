@@ -20,27 +20,27 @@ use ua_exchange::{PairFault, Reply, Transcript, exchange};
 use ua_nodes::NodeTable;
 use ua_texts::ScriptLine;
 
-/// How many turns stand in front of those of the lines: they begin the session.
+/// The number of client operations that begin the session, before those of the lines.
 const OPENING_TURNS: usize = 2;
 
-/// What came of a script.
+/// The result of a script.
 #[derive(Drop)]
 pub struct Looped {
-    /// The octets that the client wrote.
+    /// The client-to-server bytes.
     pub up: Vec<u8>,
-    /// The octets that the server wrote.
+    /// The server-to-client bytes.
     pub down: Vec<u8>,
-    /// What is printed: the answers in front of the first fault; without one all of them, and how
-    /// many octets went each way.
+    /// The output: the answers before the first fault; without a fault all of them, and the number
+    /// of bytes in each direction.
     pub text: String,
     /// The first fault among the replies, if there is one.
     pub fault: Option<LoopFault>,
-    /// Whether any reply to a Read or a Write has a bad code: its own, or that of a result. Where there
-    /// is no fault, each such result is printed.
+    /// Whether any reply to a Read or a Write has a bad StatusCode: its own, or that of a result.
+    /// Where there is no fault, each such result is printed.
     pub has_bad: bool,
 }
 
-/// The place of the turn that is blamed.
+/// The index of the client operation that is to blame.
 fn turn_in(fault: PairFault) -> Option<usize>
     ensures { result ≡ place_in fault }
 {
@@ -51,7 +51,7 @@ fn turn_in(fault: PairFault) -> Option<usize>
     }
 }
 
-/// Why the turns of a script are not run.
+/// Why the client operations of a script are not run.
 fn stopped_by(fault: PairFault, lines: &[ScriptLine]) -> LoopFault
     ensures { IsRefusedFor (turns_of_script lines.now) fault → Stops lines.now result }
 {
@@ -64,8 +64,8 @@ fn stopped_by(fault: PairFault, lines: &[ScriptLine]) -> LoopFault
     }
 }
 
-/// Lets a client ask what the lines ask for, each end taking what the other wrote in pieces of this
-/// many octets.
+/// Lets a client send the requests of the lines, each end taking what the other wrote in fragments
+/// of this many bytes.
 fn converse(
     alloc: Global,
     nodes: NodeTable,
@@ -85,7 +85,7 @@ fn converse(
     }
 }
 
-/// Whether a reply has a bad code, its own or that of a result.
+/// Whether a reply has a bad StatusCode, its own or that of a result.
 fn is_bad(reply: &Reply) -> bool
     ensures { result ≡ is_bad_reply reply.now }
 {
@@ -107,15 +107,15 @@ fn are_bad(replies: &[Reply]) -> bool
     false
 }
 
-/// Lets a client ask what the lines of a script ask for of a server over these nodes, within one
-/// session, and gives what went over the line each way and what is printed of the replies. No clause
-/// mentions the cut: all is the same for each one.
+/// Lets a client send the requests of a script's lines to a server over these nodes, within one
+/// session, and returns the bytes in each direction and the output for the replies. No clause
+/// mentions the fragmentation: the result is the same for each value of `cut`.
 ///
-/// The session is begun by CreateSession and ActivateSession, and ended by CloseSession behind the
-/// lines. All is said at the moment 1970-01-01 00:00 UTC, on channel 1, and the server's address is
-/// `opc.tcp://localhost:4840`. Each end takes what the other wrote in pieces of at most so many octets
-/// as `cut` says; 0 counts as 1. Where `names` says so, the names of status codes stand behind them; where
-/// `plain` does, values are as people write them.
+/// CreateSession and ActivateSession begin the session, and CloseSession ends it after the lines.
+/// Every timestamp is 1970-01-01 00:00 UTC, the SecureChannelId is 1, and the server's address is
+/// `opc.tcp://localhost:4840`. Each end takes what the other wrote in fragments of at most `cut`
+/// bytes; 0 counts as 1. With `names` the names of StatusCodes stand after them; with `plain`
+/// values are written as people write them.
 pub fn run_lines(
     alloc: Global,
     nodes: NodeTable,

@@ -1,4 +1,4 @@
-//! What is printed of the replies to a script.
+//! The output for the replies to a script.
 
 ghost use Rattle.std.specs.Prelude.{◌≡◌, ◌++◌, ◌∷◌, [], ℕ, Bool, List, Option, Some, Ok, Err, drop, length, map, string_bytes, IfOk, IfErr, OnOk};
 ghost use Rattle.std.specs.List.{slice_get};
@@ -19,11 +19,11 @@ use ua_texts::{
     push_write_answers,
 };
 
-/// The place of the first reply to a line: the requests that begin the session have theirs in front
-/// of it.
+/// The index of the first reply to a line: the replies to the requests that begin the session come
+/// before it.
 const FIRST_REPLY: usize = 2;
 
-/// The response at a place among replies.
+/// The response at an index among replies.
 fn response_at(replies: &[Reply], place: usize) -> Result<&Response, LoopFault>
     ensures found { IfOk result (λ response. slice_get replies.now place ≡ Some (reply.Response response.now)) }
     ensures failed { IfErr result (λ fault. (names : Bool) (step : Option Step) → reply_told names step (slice_get replies.now place) ≡ Err fault) }
@@ -36,7 +36,7 @@ fn response_at(replies: &[Reply], place: usize) -> Result<&Response, LoopFault>
     }
 }
 
-/// That a service of the session is done, by the reply at a place.
+/// Checks that a service of the session succeeded, by the reply at an index.
 fn expect_done(replies: &[Reply], place: usize) -> Result<(), LoopFault>
     ensures { (people names : Bool) (text : List ℕ) → AddsTold people names (reply_told names None (slice_get replies.now place)) result text text }
 {
@@ -48,7 +48,7 @@ fn expect_done(replies: &[Reply], place: usize) -> Result<(), LoopFault>
     }
 }
 
-/// Adds the line of the answer to a step.
+/// Appends the line of the answer to a step.
 fn push_step(
     alloc: Global,
     out: &mut String,
@@ -68,13 +68,13 @@ fn push_step(
         Step::Write { node, .. } => {
             Ok(push_write_answers(alloc, out, slice::from_ref(node), response, lines)?)
         }
-        // Never: a renewal asks no request.
+        // Never: a renewal sends no request.
         Step::Renew => Err(LoopFault::UnknownResponse),
     }
 }
 
-/// Adds the lines of the answers to the lines of a script, from the third reply on, and expects of
-/// the reply behind them that the session is ended.
+/// Appends the lines of the answers to the lines of a script, from the third reply on, and expects
+/// the reply after them to tell that the session is ended.
 fn push_answers(
     alloc: Global,
     out: &mut String,
@@ -97,7 +97,7 @@ fn push_answers(
     expect_done(replies, place)
 }
 
-/// Adds how the server saw a connection end, with the name of a status code where names are wanted.
+/// Appends how the server saw a connection end, with the name of a StatusCode if `names` is set.
 pub fn push_end(out: &mut String, end: End, names: bool) -> Result<(), AllocError>
     ensures { OnOk result (string_bytes out.new ≡ string_bytes out.old ++ end_text names end) }
 {
@@ -112,7 +112,7 @@ pub fn push_end(out: &mut String, end: End, names: bool) -> Result<(), AllocErro
     }
 }
 
-/// Adds how many octets went each way, and how the connection ended.
+/// Appends the number of bytes in each direction, and how the connection ended.
 #[tactic(auto, unfolding(crate::specs::ScriptPrinted::totals_line))]
 fn push_totals(out: &mut String, transcript: &Transcript, names: bool) -> Result<(), AllocError>
     ensures { OnOk result (string_bytes out.new ≡ string_bytes out.old ++ totals_line names (length transcript.now.up.items) (length transcript.now.down.items) transcript.now.end) }
@@ -124,9 +124,9 @@ fn push_totals(out: &mut String, transcript: &Transcript, names: bool) -> Result
     out.push_str("\n")
 }
 
-/// Adds what is told of the replies to the lines of a script, up to the first fault, and behind them
-/// what went each way, with the names of status codes where they are wanted, and with values as people
-/// write them where this is.
+/// Appends the output for the replies to the lines of a script, up to the first fault, and after it
+/// the number of bytes in each direction, with the names of StatusCodes and with values as people
+/// write them where these are asked for.
 pub fn push_transcript(
     alloc: Global,
     out: &mut String,

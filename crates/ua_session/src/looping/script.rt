@@ -1,4 +1,4 @@
-//! What a script asks, as the turns of a client.
+//! The requests of a script, as client operations.
 
 ghost use Rattle.std.specs.Prelude.{◌≡◌, ◌+◌, ◌∷◌, [], min, IfOk, IfErr};
 ghost use Rattle.ua_channel.specs.ClientAsks.{no_id};
@@ -19,7 +19,7 @@ use ua_services::session_requests::{
 use ua_texts::{ScriptLine, Step, parse_script};
 use ua_variant::Variant;
 
-/// The moment of all that is said: 1970-01-01 00:00 UTC.
+/// The timestamp of everything that is sent: 1970-01-01 00:00 UTC.
 pub const MOMENT: DateTime = DateTime {
     ticks: 116_444_736_000_000_000,
 };
@@ -27,11 +27,11 @@ pub const MOMENT: DateTime = DateTime {
 /// The port in the server's address.
 const PORT: u16 = 4840;
 
-/// The request id of the first line: the OPN has 1, and the requests that begin the session 2 and 3.
+/// The RequestId of the first line: the OPN has 1, and the requests that begin the session 2 and 3.
 const FIRST_ID: u32 = 4;
 
-/// The lines of a script that ask for something, each with its number. Its form is that of
-/// `ua_texts::parse_script`.
+/// Parses a script: returns the lines that ask for something, each with its number. The form is
+/// that of `ua_texts::parse_script`.
 pub fn parse_lines(alloc: Global, text: &str) -> Result<Vec<ScriptLine>, LoopFault>
     ensures lines { IfOk result (λ lines. AsksFor text.now lines.items) }
     ensures fault { IfErr result (λ fault. Unread text.now fault) }
@@ -46,7 +46,7 @@ fn token() -> NodeId
     NodeId::new(2, Identifier::Numeric(1))
 }
 
-/// Where the requests behind so many lines stand: their RequestHandle, which is their request id.
+/// The RequestHandle, which is the RequestId, of the request after so many lines.
 fn handle_behind(count: usize) -> u32
     ensures { result ≡ min (count + 4) no_id }
 {
@@ -83,7 +83,7 @@ fn write_to(
     Ok(write_request(token(), MOMENT, handle, items))
 }
 
-/// The turn of a step, whose request has this RequestHandle.
+/// The client operation of a step, whose request has this RequestHandle.
 fn step_turn(alloc: Global, step: &Step, handle: u32) -> Result<Turn, AllocError>
     ensures { IfOk result (λ turn. turn ≡ turn_of_step handle step.now) }
 {
@@ -94,7 +94,7 @@ fn step_turn(alloc: Global, step: &Step, handle: u32) -> Result<Turn, AllocError
     }
 }
 
-/// The turns that begin the session.
+/// The client operations that begin the session.
 fn opening_turns(alloc: Global) -> Result<Vec<Turn>, AllocError>
     ensures { IfOk result (λ turns. turns.items ≡ opening) }
 {
@@ -106,7 +106,7 @@ fn opening_turns(alloc: Global) -> Result<Vec<Turn>, AllocError>
     Ok(turns)
 }
 
-/// The turns of a session in which the lines of a script are run.
+/// The client operations of a session in which the lines of a script are run.
 pub fn script_turns(alloc: Global, lines: &[ScriptLine]) -> Result<Vec<Turn>, AllocError>
     ensures { IfOk result (λ turns. turns.items ≡ turns_of_script lines.now) }
 {
