@@ -28,12 +28,12 @@ use Rattle.ua_server.specs.declared.step.StepFault.{StepFault}
 
 -- ---- a sensor
 
--- where a reading was refused, this holds of the reason
+-- if a reading was rejected, this holds of the reason
 abbrev pub IfSetFault : (SetFault → Type 0) → SensorFault → Type 0
 IfSetFault P (sensor_fault.Set fault) = P fault
 IfSetFault P (sensor_fault.Step fault) = Unit {0}
 
--- where the step behind it failed, this
+-- if the step after it failed, this holds of the fault
 abbrev pub IfStepFault : (StepFault → Type 0) → SensorFault → Type 0
 IfStepFault P (sensor_fault.Set fault) = Unit {0}
 IfStepFault P (sensor_fault.Step fault) = P fault
@@ -42,16 +42,17 @@ IfStepFault P (sensor_fault.Step fault) = P fault
 abbrev pub reading_set : NodeId → Course → Reading → ConnectionEvent
 reading_set sensor c reading = Became (after_set sensor reading c.state.nodes) c.state.made
 
--- these are the events of a connection beside a sensor, from this course on: each of the readings is set, in turn, and behind it frames tell
--- something, which is answered at this moment
+-- these are the events of a connection beside a sensor, from this course on: each of the readings
+-- is set, in turn, and after it frames tell something, which is answered at this time
 abbrev pub AreOfSensor : NodeId → DateTime → ℕ → Course → List Reading → List ConnectionEvent → Type 0
 AreOfSensor sensor moment channel c [] events = events ≡ []
 AreOfSensor sensor moment channel c (reading ∷ readings) events =
     (told : List Told) × (later : List ConnectionEvent) × (events ≡ (reading_set sensor c reading ∷ heard_at moment told) ++ later)
     × AreOfSensor sensor moment channel (course_over channel c (reading_set sensor c reading ∷ heard_at moment told)) readings later
 
--- a connection that stood behind these octets and events was served beside a sensor: events of the first readings came behind them, of all of
--- them where the connection goes on; so many of the octets were taken; what was added is what is sent over these events
+-- a connection in the state after these bytes and events was served beside a sensor: events of the
+-- first readings came after them, of all of them if the connection goes on; this many of the bytes
+-- were taken; what was added is what is sent over these events
 pub record ServesSensor (sensor : NodeId) (moment : DateTime) (readings : List Reading) (old : ServerChannel) (before : List ℕ) (hs : List ConnectionEvent) (first : State) (octets out_before : List ℕ) (sensed : Sensed) (new : ServerChannel) (out : List ℕ) (now : State) : Type 0 where
   pub used : List Reading
   pub unused : List Reading
@@ -64,8 +65,8 @@ pub record ServesSensor (sensor : NodeId) (moment : DateTime) (readings : List R
   pub state_is : (course_over (channel_of old) (start first []) (hs ++ events)).state ≡ now
   pub comes_to : OverBy sensed.end new (channel_of old) (before ++ take sensed.taken octets) added hs events first now now
 
--- a connection that stood behind these octets and events stands behind these octets more, of which frames came behind each of these readings,
--- and what was added is what is sent over that
+-- a connection in the state after these bytes and events has the state after these further bytes,
+-- of which frames came after each of these readings, and what was added is what is sent over that
 pub record StandsBesideSensor (sensor : NodeId) (moment : DateTime) (used : List Reading) (channel : ℕ) (new : ServerChannel) (before : List ℕ) (hs : List ConnectionEvent) (first : State) (taken : List ℕ) (out_before out : List ℕ) (now : State) : Type 0 where
   pub events : List ConnectionEvent
   pub are : AreOfSensor sensor moment channel (course_over channel (start first []) hs) used events
@@ -74,7 +75,8 @@ pub record StandsBesideSensor (sensor : NodeId) (moment : DateTime) (used : List
   pub stands : StandsOver new (before ++ taken) (hs ++ events) first now
   pub sent : output_over channel (start first []) (hs ++ events) ≡ output_over channel (start first []) hs ++ added
 
--- a reading was refused: those in front of it were set, and the nodes as they then are do not take it
+-- a reading was rejected: those before it were set, and the nodes in their state then do not take
+-- it
 pub record RefusesReading (sensor : NodeId) (moment : DateTime) (readings : List Reading) (channel : ℕ) (new : ServerChannel) (before : List ℕ) (hs : List ConnectionEvent) (first : State) (octets out_before out : List ℕ) (now : State) (fault : SetFault) : Type 0 where
   pub used : List Reading
   pub reading : Reading
@@ -86,7 +88,7 @@ pub record RefusesReading (sensor : NodeId) (moment : DateTime) (readings : List
 
 -- ---- a gateway
 
--- the answer of the step in what a gateway made of it
+-- the outcome of the step in what a gateway made of it
 abbrev pub step_in : Result Step SetpointFault → Result Step StepFault
 step_in (Ok step) = Ok step
 step_in (Err (setpoint.Step fault)) = Err fault
@@ -94,7 +96,8 @@ step_in (Err (setpoint.NotHandedOn step)) = Ok step
 
 -- ---- two connections
 
--- the first connection takes a step behind these events, and the second one behind these and what the first one's frames told
+-- the first connection takes a step after these events, and the second one after these and what the
+-- first one's frames told
 pub record BothStep (channels : ℕ → ℕ) (limits other : Limits) (moment : DateTime) (piece rest : List ℕ) (one two : Result Step StepFault) (x : ServerChannel) (mine : Option Session) (y : ServerChannel) (theirs : Option Session) (octets others : List ℕ) (es : List SharedEvent) (begun before now : State) : Type 0 where
   pub between : State
   pub first : StepAmong limits channels 0 moment piece one x mine octets es begun before between

@@ -1,4 +1,4 @@
--- What comes of octets that a program serves.
+-- The outcome for bytes that a program serves.
 use Rattle.std.specs.Prelude.{◌≡◌, ◌++◌, List, ℕ, Option, Some, None}
 use Rattle.ua_wire.specs.Format.{Extends}
 use Rattle.ua_server.specs.State.{State}
@@ -8,19 +8,20 @@ use Rattle.ua_loopback.specs.Says.{services_after, server_output}
 use Rattle.ua_loopback.specs.declared.stage.Stage.{Stage}
 use Rattle.ua_loopback.specs.declared.stage.Stage.TheVariants.{Going, Ended}
 
--- how far a connection is, by how it ended, if it did
+-- the stage of a connection, by how it ended, if it did
 abbrev pub stage_of : Option Ending → Stage
 stage_of None = Going
 stage_of (Some end) = Ended end
 
--- to octets that are to be sent back these were added: what the server says of all octets that came is what it said of those before, and then these
+-- these were added to bytes that are to be sent back: the response to all bytes that came is the
+-- response to those before, and then these
 pub record Answers (b : Beginning) (before all : List ℕ) (out_before out : List ℕ) : Type 0 where
   pub more : List ℕ
   pub said_is : server_output b all ≡ server_output b before ++ more
   pub added_is : out ≡ out_before ++ more
 
--- memory was refused: the services are what a front of all octets that came leaves, and what was added is what the server says of a front of
--- that, which has all octets that came before
+-- an allocation failed: the services are in the state that a prefix of all bytes that came leaves,
+-- and what was added is the response to a prefix of that, which has all bytes that came before
 pub record BreaksOff (b : Beginning) (before all : List ℕ) (out_before out : List ℕ) (services : State) : Type 0 where
   pub taken : List ℕ
   pub taken_front : Extends taken all

@@ -1,4 +1,5 @@
--- What a client does that opens a connection, begins a session, writes values, reads values, and closes.
+-- What a client does that opens a connection, begins a session, writes values, reads values, and
+-- closes.
 use Rattle.std.specs.Prelude.{◌∷◌, List, [], Option, Ok, ℕ}
 use Rattle.ua_builtin.specs.declared.date_time.DateTime.{DateTime}
 use Rattle.ua_builtin.specs.declared.node_id.NodeId.{NodeId}
@@ -13,8 +14,9 @@ use Rattle.ua_client.specs.Session.{BeginsSession}
 use Rattle.ua_client.specs.declared.client.Client.{Client}
 use Rattle.ua_client.specs.declared.reply.Reply.{Reply}
 
--- each of these was done over the line where the one before it left the client and the line; the replies are those to the Write and to the Read,
--- in the session whose AuthenticationToken the server gave
+-- each of these was done over the transport in the state in which the one before it left the client
+-- and the transport; the replies are those to the Write and to the Read, in the session whose
+-- AuthenticationToken the server gave
 pub record Talk (limits : Limits) (url : Option (List ℕ)) (moment : DateTime) (writes : List WriteValue) (reads : List ReadValueId) (before after : Option Traffic) (replies : List Reply) : Type 0 where
   pub opened : Client
   pub behind_open : Option Traffic

@@ -1,4 +1,5 @@
--- DateTimes (OPC 10000-6, 5.2.2.5): 1601-01-01 00:00:01 UTC, 10,000,000 ticks, is 80 96 98 00 00 00 00 00.
+-- DateTimes (OPC 10000-6, 5.2.2.5): 1601-01-01 00:00:01 UTC, 10,000,000 ticks, is
+-- 80 96 98 00 00 00 00 00.
 use Rattle.std.specs.Prelude.{ℤ}
 use Rattle.std.specs.Int.{w64}
 use Rattle.ua_wire.specs.Format.{Flat}

@@ -1,5 +1,6 @@
--- ExtensionObjects (OPC 10000-6, 5.2.2.15): a structure of any type, kept as its octets.
--- The node 321 and the ByteString 07 are 01 00 41 01 01 01 00 00 00 07; without a body it ends in 00.
+-- ExtensionObjects (OPC 10000-6, 5.2.2.15): a structure of any type, kept as its bytes.
+-- The node 321 and the ByteString 07 are 01 00 41 01 01 01 00 00 00 07; without a body it ends in
+-- 00.
 use Rattle.std.specs.Prelude.{◌≡◌, ℕ, List, [], ◌∷◌, Bool, true, Some, None, cond, nat_eq, Option}
 use Rattle.ua_wire.specs.Exact.{◌>>=◌, image_read}
 use Rattle.ua_wire.specs.Number.{number_at}
@@ -21,30 +22,30 @@ EncodesBody Absent b = b ≡ 0x00 ∷ []
 EncodesBody (ByteString v) b = (octets : List ℕ) × (b ≡ 0x01 ∷ octets) × counted.encodes v octets
 EncodesBody (Xml v) b = (octets : List ℕ) × (b ≡ 0x02 ∷ octets) × xml_element.encodes v octets
 
--- the body can be written
+-- the body can be encoded
 abbrev pub body_fits : ExtensionBody → Bool
 body_fits Absent = true
 body_fits (ByteString v) = counted.encodable v
 body_fits (Xml v) = xml_element.encodable v
 
--- what is written for the body
+-- the canonical encoding of the body
 abbrev pub body_octets : ExtensionBody → List ℕ
 body_octets Absent = 0x00 ∷ []
 body_octets (ByteString v) = 0x01 ∷ counted.canonical v
 body_octets (Xml v) = 0x02 ∷ xml_element.canonical v
 
--- behind the octet for the kind of body; there are no others than 0x00, 0x01 and 0x02
+-- after the byte for the kind of body; there are no others than 0x00, 0x01 and 0x02
 abbrev pub behind_kind : ℕ → List ℕ → Option (ExtensionBody × List ℕ)
 behind_kind kind octets =
     cond (nat_eq kind 0x00) (Some (Absent, octets))
     (cond (nat_eq kind 0x01) (image_read ByteString counted.decode octets)
     (cond (nat_eq kind 0x02) (image_read Xml xml_element.decode octets) None))
 
--- the body that octets begin with
+-- the body at the start of bytes
 abbrev pub body_at : List ℕ → Option (ExtensionBody × List ℕ)
 body_at octets = number_at 1 octets >>= λ kind. behind_kind kind.0 kind.1
 
--- an octet for the kind of body, and the body
+-- a byte for the kind of body, and the body
 abbrev pub body : Flat ExtensionBody
 body = record {
   encodes = EncodesBody;
@@ -59,10 +60,10 @@ body = record {
 abbrev pub extension : NodeId × ExtensionBody → ExtensionObject
 extension p = record { type_id = p.0; body = p.1 }
 
--- the object that holds nothing: the null NodeId, and no body
+-- the empty ExtensionObject: the null NodeId, and no body
 abbrev pub null_object : ExtensionObject
 null_object = extension (null_id, Absent)
 
--- the NodeId of the type's encoding, an octet for the kind of body, and the body
+-- the NodeId of the type's encoding, a byte for the kind of body, and the body
 unfoldable pub extension_object : Flat ExtensionObject
 extension_object = made extension (λ v. (v.type_id, v.body)) (both node_id body)

@@ -7,7 +7,7 @@ use Rattle.ua_wire.specs.Join.{nothing, both, made}
 use Rattle.ua_builtin.specs.Flags.{has, flag_bit, flagged_text, EncodesFlagged}
 use Rattle.ua_builtin.specs.declared.localized_text.LocalizedText.{LocalizedText}
 
--- ---- which octets encode it
+-- ---- which bytes encode it
 
 -- a mask of 0x01 for the locale and 0x02 for the text, and what is flagged, in that order
 pub record EncodesLocalizedText (v : LocalizedText) (b : List ℕ) : Type 0 where
@@ -25,7 +25,7 @@ pub record EncodesLocalizedText (v : LocalizedText) (b : List ℕ) : Type 0 wher
 abbrev pub mask_of : LocalizedText → ℕ
 mask_of v = flag_bit 0x01 (is_some v.locale) + flag_bit 0x02 (is_some v.text)
 
--- both texts can be written
+-- both texts can be encoded
 abbrev pub localized_text_fits : LocalizedText → Bool
 localized_text_fits v = (flagged_text (is_some v.locale)).encodable v.locale && (flagged_text (is_some v.text)).encodable v.text
 
@@ -39,11 +39,11 @@ localized_text_octets v = number_octets 1 (mask_of v) ++ ((flagged_text (is_some
 abbrev pub localized : Option (List ℕ) × Option (List ℕ) → LocalizedText
 localized p = record { locale = p.0; text = p.1 }
 
--- behind the mask: the locale where 0x01 is set, then the text where 0x02 is; no other bit may be set
+-- after the mask: the locale if 0x01 is set, then the text if 0x02 is; no other bit may be set
 abbrev pub behind_mask : ℕ → Flat LocalizedText
 behind_mask mask = cond (nat_lt 0x03 mask) nothing (made localized (λ v. (v.locale, v.text)) (both (flagged_text (has mask 0x01)) (flagged_text (has mask 0x02))))
 
--- a mask octet, and the flagged texts
+-- a mask byte, and the flagged texts
 unfoldable pub localized_text : Flat LocalizedText
 localized_text = record {
   encodes = EncodesLocalizedText;

@@ -1,5 +1,6 @@
 -- NodeIds (OPC 10000-6, 5.2.2.9): what names a node, and the forms in which it is encoded.
--- The node 72 of the namespace 0 is 00 48; "Hot" of the namespace 1 is 03 01 00 03 00 00 00 48 6F 74.
+-- The node 72 of the namespace 0 is 00 48; "Hot" of the namespace 1 is
+-- 03 01 00 03 00 00 00 48 6F 74.
 use Rattle.std.specs.Prelude.{◌≡◌, ◌<◌, ◌^◌, ℕ, List, [], ◌∷◌, ◌++◌, Bool, true, false, ◌&&◌, cond, Option, None, nat_eq, nat_lt}
 use Rattle.ua_wire.specs.Exact.{then_read}
 use Rattle.ua_wire.specs.Number.{number_at, number_octets}
@@ -20,7 +21,7 @@ node n i = record { namespace = n; identifier = i }
 abbrev pub null_id : NodeId
 null_id = node 0 (Numeric 0)
 
--- ---- which octets encode it
+-- ---- which bytes encode it
 
 -- 0x00, and the id as Byte; the namespace is 0
 pub record TwoOctet (v : NodeId) (b : List ℕ) : Type 0 where
@@ -77,7 +78,7 @@ pub record OpaqueForm (v : NodeId) (b : List ℕ) : Type 0 where
   pub id_encoded : counted.encodes id back
   pub octets : b ≡ 0x05 ∷ (number_octets 2 namespace ++ back)
 
--- the octets encode the NodeId in one of the six forms
+-- the bytes encode the NodeId in one of the six forms
 pub data EncodesNodeId (v : NodeId) (b : List ℕ) : Type 0 where
   two_octet : TwoOctet v b → EncodesNodeId v b
   four_octet : FourOctet v b → EncodesNodeId v b
@@ -130,7 +131,7 @@ text_of (Text t) = t
 text_of (Global g) = None
 text_of (Opaque b) = None
 
--- the Guid that is the identifier, and one without octets for any other identifier
+-- the Guid that is the identifier, and one without bytes for any other identifier
 abbrev pub guid_of : Identifier → Guid
 guid_of (Numeric n) = record { uuid = [] }
 guid_of (Text t) = record { uuid = [] }
@@ -154,7 +155,7 @@ is_short v = nat_eq v.namespace 0 && is_numeric v.identifier
 abbrev pub two_octets : Flat NodeId
 two_octets = image (λ n. node 0 (Numeric n)) (λ v. number_of v.identifier) is_short (number 1)
 
--- forms 0x01 and 0x02: namespace and id, of so many octets
+-- forms 0x01 and 0x02: namespace and id, of this many bytes
 abbrev pub numeric : ℕ → ℕ → Flat NodeId
 numeric m n = image (λ p. node p.0 (Numeric p.1)) (λ v. (v.namespace, number_of v.identifier)) (λ v. is_numeric v.identifier) (both (number m) (number n))
 
@@ -170,7 +171,7 @@ by_guid = image (λ p. node p.0 (Global p.1)) (λ v. (v.namespace, guid_of v.ide
 abbrev pub opaque : Flat NodeId
 opaque = image (λ p. node p.0 (Opaque p.1)) (λ v. (v.namespace, octets_of v.identifier)) (λ v. is_opaque v.identifier) (both (number 2) counted)
 
--- what stands behind the form octet, for each form from 0x00 to 0x05; there is no other
+-- what follows the form byte, for each form from 0x00 to 0x05; there is no other
 abbrev pub in_form : ℕ → Flat NodeId
 in_form form =
     cond (nat_eq form 0x00) two_octets
@@ -186,13 +187,14 @@ shortest_form namespace number =
     cond (nat_eq namespace 0 && nat_lt number 256) 0x00
     (cond (nat_lt namespace 256 && nat_lt number 65536) 0x01 0x02)
 
--- the form that is written: for a number the first that fits, else the one of the identifier's kind
+-- the form in the canonical encoding: for a number the first that fits, else the one of the
+-- identifier's kind
 abbrev pub form_of : NodeId → ℕ
 form_of v =
     cond (is_numeric v.identifier) (shortest_form v.namespace (number_of v.identifier))
     (cond (is_textual v.identifier) 0x03 (cond (is_guid v.identifier) 0x04 0x05))
 
--- the form octet, and what it says
+-- the form byte, and what follows it
 unfoldable pub node_id : Flat NodeId
 node_id = record {
   encodes = EncodesNodeId;

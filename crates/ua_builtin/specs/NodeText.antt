@@ -13,12 +13,12 @@ use Rattle.ua_builtin.specs.declared.node_id.Identifier.TheVariants.{Numeric, Te
 
 -- ---- the text of a NodeId (OPC 10000-6, 5.3.1.10)
 
--- the octets, and none for null
+-- the bytes, and none for null
 abbrev pub list_of : Option (List ℕ) → List ℕ
 list_of None = []
 list_of (Some v) = v
 
--- the octet of `;`
+-- the byte of `;`
 abbrev pub semicolon : ℕ
 semicolon = 59
 
@@ -26,14 +26,16 @@ semicolon = 59
 abbrev pub namespace_text : ℕ → List ℕ
 namespace_text n = cond (nat_eq n 0) [] (codes "ns=" ++ (decimal n ++ semicolon ∷ []))
 
--- a number in decimal, a text as it stands, a Guid hyphenated in lower case, octets in base64; null as if it were empty
+-- a number in decimal, a text unchanged, a Guid hyphenated in lower case, bytes in base64; null as
+-- if it were empty
 abbrev pub identifier_text : Identifier → List ℕ
 identifier_text (Numeric n) = codes "i=" ++ decimal n
 identifier_text (Text t) = codes "s=" ++ list_of t
 identifier_text (Global g) = codes "g=" ++ hyphenated_text lower g.uuid
 identifier_text (Opaque b) = codes "b=" ++ encode_of standard (list_of b)
 
--- the text of a NodeId: that of its namespace, and behind it that of its identifier (OPC 10000-6, 5.3.1.10)
+-- the text of a NodeId: that of its namespace, and after it that of its identifier (OPC 10000-6,
+-- 5.3.1.10)
 abbrev pub node_text : NodeId → List ℕ
 node_text v = namespace_text v.namespace ++ identifier_text v.identifier
 
@@ -49,11 +51,12 @@ pub record IsDecimal (bound n : ℕ) (digits : List ℕ) : Type 0 where
 abbrev pub IsGuidText : List ℕ → Guid → Type 0
 IsGuidText text g = (length text ≡ 36) × (parsed text ≡ Some g.uuid)
 
--- the text is the base64 of octets
+-- the text is the base64 of bytes
 abbrev pub IsBase64 : List ℕ → List ℕ → Type 0
 IsBase64 text octets = (text ≡ encode_of standard octets) × IsBytes octets
 
--- the text names the identifier: `i=` and a number, `s=` and any text, `g=` and a hyphenated Guid in either case, or `b=` and octets in base64
+-- the text names the identifier: `i=` and a number, `s=` and any text, `g=` and a hyphenated Guid
+-- in either case, or `b=` and bytes in base64
 abbrev pub NamesIdentifier : Identifier → List ℕ → Type 0
 NamesIdentifier (Numeric n) text = (digits : List ℕ) × (text ≡ codes "i=" ++ digits) × IsDecimal (2 ^ 32) n digits
 NamesIdentifier (Text t) text = (rest : List ℕ) × (text ≡ codes "s=" ++ rest) × (t ≡ Some rest)
@@ -87,12 +90,12 @@ filled v = record { namespace = v.namespace; identifier = filled_identifier v.id
 
 -- ---- the parts of a text
 
--- what stands behind a prefix, or that the text doesn't begin with it
+-- what follows a prefix, or that the text does not begin with it
 abbrev pub IsBehind : List ℕ → List ℕ → Option (List ℕ) → Type 0
 IsBehind prefix text None = (rest : List ℕ) → text ≡ prefix ++ rest → ⊥
 IsBehind prefix text (Some rest) = text ≡ prefix ++ rest
 
--- no octet is a semicolon
+-- no byte is a semicolon
 abbrev pub HasNoSemicolon : List ℕ → Type 0
 HasNoSemicolon text = (i : ℕ) → i < length text → get_or text i 0 ≡ semicolon → ⊥
 
@@ -101,7 +104,7 @@ abbrev pub IsCutAtSemicolon : List ℕ → Option (List ℕ × List ℕ) → Typ
 IsCutAtSemicolon text None = (front back : List ℕ) → HasNoSemicolon front → text ≡ front ++ semicolon ∷ back → ⊥
 IsCutAtSemicolon text (Some p) = (text ≡ p.0 ++ semicolon ∷ p.1) × ((front back : List ℕ) → HasNoSemicolon front → text ≡ front ++ semicolon ∷ back → (p.0 ≡ front) × (p.1 ≡ back))
 
--- a text names a NodeId of this namespace where the rest names its identifier, and no other NodeId
+-- a text names a NodeId of this namespace if the rest names its identifier, and no other NodeId
 pub record IsRest (namespace : ℕ) (rest text : List ℕ) : Type 0 where
   pub names : (i : Identifier) → NamesIdentifier i rest → NamesNode (node namespace i) text
   pub alone : (v : NodeId) → NamesNode v text → (v.namespace ≡ namespace) × NamesIdentifier v.identifier rest

@@ -8,7 +8,8 @@ use Rattle.ua_builtin.specs.declared.status_code.StatusCode.{StatusCode}
 abbrev pub of_code : ℕ → StatusCode
 of_code n = record { code = n }
 
--- the top two bits are the severity: 00 good, 01 uncertain, 10 bad, and 11, which is reserved, counts as bad too (OPC 10000-4, 7.39)
+-- the top two bits are the severity: 00 good, 01 uncertain, 10 bad, and 11, which is reserved,
+-- counts as bad too (OPC 10000-4, 7.39)
 abbrev pub is_bad : StatusCode → Bool
 is_bad s = leb 0x8000_0000 s.code
 

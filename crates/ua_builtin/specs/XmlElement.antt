@@ -5,10 +5,10 @@ use Rattle.ua_wire.specs.Join.{made}
 use Rattle.ua_wire.specs.Counted.{counted}
 use Rattle.ua_builtin.specs.declared.xml_element.XmlElement.{XmlElement}
 
--- the XmlElement of these octets, or the null one
+-- the XmlElement of these bytes, or the null one
 abbrev pub of_octets : Option (List ℕ) → XmlElement
 of_octets b = record { octets = b }
 
--- an Int32 count and that many octets, which are not looked at; a negative count is null
+-- an Int32 count and that many bytes, which are not inspected; a negative count is null
 unfoldable pub xml_element : Flat XmlElement
 xml_element = made of_octets (λ x. x.octets) counted

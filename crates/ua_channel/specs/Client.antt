@@ -1,4 +1,4 @@
--- Where a client's channel stands after octets and asks, and what it answers when it is asked.
+-- The state of a client's channel after bytes and operations, and the outcome of its operations.
 use Rattle.std.specs.Prelude.{◌≡◌, ℕ, ◌≤◌, ◌+◌, ◌*◌, Bool, false, length, List, [], Option, Some, None, MatchOption, Result}
 use Rattle.std.specs.List.{AllByRecursion}
 use Rattle.ua_builtin.specs.Reasons.{first_reason}
@@ -34,45 +34,46 @@ client_limits x = x.end.rules.limits
 abbrev pub url_of : ClientChannel → Option (List ℕ)
 url_of x = x.address.url
 
--- the sequence number that is sent next behind the first OPN, whose number is 1
+-- the SequenceNumber that is sent next after the first OPN, whose number is 1
 abbrev pub client_next : ClientChannel → ℕ
 client_next x = x.end.numbers.next
 
--- how far the channel is
+-- the phase of the channel
 abbrev pub phase_of : ClientChannel → Phase
 phase_of x = x.end.phase
 
--- the most octets that the channel may hold
+-- the most bytes that the channel may hold
 abbrev pub client_bound : ClientChannel → ℕ
 client_bound x = x.end.bound
 
--- the same channel but for where it stands: its limits and its URL
+-- the same channel apart from its state: its limits and its URL
 pub record SameClient (a b : ClientChannel) : Type 0 where
   pub limits : client_limits a ≡ client_limits b
   pub url : url_of a ≡ url_of b
 
 -- ---- memory
 
--- the most octets that a client with these limits may hold: 8192 before the ACK; then a frame, of what the server sends, and 4 unfinished
--- messages
+-- the most bytes that a client with these limits may hold: 8192 before the ACK; then an incomplete
+-- frame, of the size that the server sends, and 4 unfinished messages
 abbrev pub client_bound_behind : Limits → Option Ack → ℕ
 client_bound_behind limits None = 8192
 client_bound_behind limits (Some a) = a.send_buffer_size + 4 * limits.max_message_size
 
--- the octets that are held: of a frame that is not whole, and of the messages that are unfinished
+-- the bytes that are held: of an incomplete frame, and of the unfinished messages
 abbrev pub held_octets : List Frame → List ℕ → ℕ
 held_octets frames rest = length rest + open_octets (received frames).messages
 
 -- ---- phases
 
--- a phase is that of a client with these limits where this was received and asked
+-- a phase is that of a client with these limits after these bytes and operations
 abbrev pub InPhase : Limits → Phase → Received → List Asking → Type 0
 InPhase limits Waiting before asked = (before ≡ nothing_received) × (asked ≡ [])
 InPhase limits (Agreed a) before asked = (before ≡ record nothing_received { ack = Some a.ack }) × (asked ≡ [])
 InPhase limits (Open t) before asked = Talks limits t before asked
 InPhase limits Done before asked = ⊥
 
--- a client, as an end of a connection: frames are judged by what was asked, too; none is the last, and the server may refuse
+-- a client, as an end of a connection: frames are judged by the operations, too; none is the last,
+-- and the server may reject
 abbrev pub client_side : Side ClientRules Phase Event
 client_side = record {
   Key = List Placed;
@@ -89,13 +90,14 @@ client_side = record {
   peer = λ code. Some (peers code);
 }
 
--- ---- after octets and asks
+-- ---- after bytes and asks
 
--- the rules of a channel that asked so
+-- the rules of a channel with these operations
 abbrev pub client_rules_of : ClientChannel → List Placed → Rules ClientTold Why
 client_rules_of x asks = client_rules (client_limits x) asks
 
--- a channel is where these asks and octets leave it: these are the frames of the octets, and this is the rest
+-- the state of a channel is that after these operations and bytes: these are the frames of the
+-- bytes, and this is the rest
 abbrev pub ClientStands : ClientChannel → List Placed → List ℕ → List Frame → List ℕ → Type 0
 ClientStands x asks octets frames rest = EndStands client_side x.end asks octets frames rest
 
@@ -103,23 +105,26 @@ ClientStands x asks octets frames rest = EndStands client_side x.end asks octets
 abbrev pub IsClientDone : ClientChannel → Type 0
 IsClientDone x = EndDone client_side x.end
 
--- it goes on after these asks and octets, whose frames told this
+-- the channel goes on after these operations and bytes, whose frames told this
 abbrev pub ClientGoes : ClientChannel → List Placed → List ℕ → List ClientTold → Type 0
 ClientGoes x asks octets told = EndGoes client_side x.end asks octets told
 
--- the last of the frames of these octets is the one that tells this, after what the others told, and nothing stands behind it
+-- the last of the frames of these bytes is the one that tells this, after what the others told, and
+-- nothing follows it
 abbrev pub ClientGoesTelling : ClientChannel → List Placed → List ℕ → List ClientTold → ClientTold → Type 0
 ClientGoesTelling x asks octets told e = EndTells client_side x.end asks octets told e
 
--- it goes on after these asks and octets, of which the last frame ends a message in these parts
+-- the channel goes on after these operations and bytes, of which the last frame ends a message in
+-- these parts
 abbrev pub EndsReply : ClientChannel → List Placed → List ℕ → List (List ℕ) → Type 0
 EndsReply x asks octets parts = EndMessage client_side x.end asks octets parts
 
--- it ended after these asks and octets, whose good frames told this, and what stands behind them is refused for this
+-- the channel ended after these operations and bytes, whose good frames told this, and what follows
+-- them is rejected for this reason
 abbrev pub ClientEnded : ClientChannel → List Placed → List ℕ → List ClientTold → Why → Type 0
 ClientEnded x asks octets told why = EndStops client_side x.end asks octets told why
 
--- memory was refused where these octets end, behind the good frames that told this
+-- an allocation failed at the end of these bytes, after the good frames that told this
 abbrev pub ClientStarvedAt : ClientChannel → List Placed → List ℕ → List ClientTold → Type 0
 ClientStarvedAt x asks octets told = EndStarves client_side x.end asks octets told
 
@@ -134,24 +139,24 @@ talking_in other = None
 abbrev pub IsNotOpen : Phase → Type 0
 IsNotOpen p = MatchOption (talking_in p) (Unit {0}) (λ (t : Talking). ⊥)
 
--- why what is asked is not asked: no channel is open, else the first of the reasons that what runs has
+-- why an operation is refused: no channel is open, else the first reason of the open channel
 abbrev pub refusal_in : Option Talking → (Talking → List (AskFault × Bool)) → Option AskFault
 refusal_in None reasons = Some NotOpen
 refusal_in (Some t) reasons = first_reason (reasons t)
 
--- why a call of this body is not asked after so many more calls in this phase
+-- why a call with this body is refused after this many more calls in this phase
 abbrev pub ask_refusal : Phase → ℕ → List ℕ → Option AskFault
 ask_refusal p more body = refusal_in (talking_in p) (λ (t : Talking). ask_reasons t more body)
 
--- the octets of a call of this body, its request id, and the number that is sent next
+-- the bytes of a call with this body, its RequestId, and the number that is sent next
 abbrev pub IsCall : Phase → ℕ → List ℕ → ℕ → List ℕ → ℕ → Type 0
 IsCall p number body id out next = MatchOption (talking_in p) ⊥ (λ (t : Talking). Calls t number body id out next)
 
--- why a renewal is not asked in this phase
+-- why a renewal is refused in this phase
 abbrev pub renew_refusal : Phase → Option AskFault
 renew_refusal p = refusal_in (talking_in p) renew_reasons
 
--- the octets of a renewal, its request id, and the number that is sent next
+-- the bytes of a renewal, its RequestId, and the number that is sent next
 abbrev pub IsRenewal : Phase → ℕ → DateTime → ℕ → List ℕ → ℕ → Type 0
 IsRenewal p number moment id out next = MatchOption (talking_in p) ⊥ (λ (t : Talking). Renews t number moment id out next)
 
@@ -159,7 +164,7 @@ IsRenewal p number moment id out next = MatchOption (talking_in p) ⊥ (λ (t : 
 abbrev pub close_refusal : Phase → Option AskFault
 close_refusal p = refusal_in (talking_in p) (λ (t : Talking). [])
 
--- the octets of the close
+-- the bytes of the close
 abbrev pub IsClosing : Phase → ℕ → DateTime → List ℕ → Type 0
 IsClosing p number moment out = MatchOption (talking_in p) ⊥ (λ (t : Talking). out ≡ closing_octets t number moment)
 
@@ -169,30 +174,32 @@ IsClosing p number moment out = MatchOption (talking_in p) ⊥ (λ (t : Talking)
 abbrev pub HasNoChannel : ClientChannel → Type 0
 HasNoChannel x = IsNotOpen (phase_of x)
 
--- why a channel does not ask a call of this body after so many more calls
+-- why a channel refuses a call with this body after this many more calls
 abbrev pub call_refused : ClientChannel → ℕ → List ℕ → Option AskFault
 call_refused x more body = ask_refusal (phase_of x) more body
 
--- why it does not ask a renewal
+-- why a channel refuses a renewal
 abbrev pub renewal_refused : ClientChannel → Option AskFault
 renewal_refused x = renew_refusal (phase_of x)
 
--- why it is not closed
+-- why a channel refuses to be closed
 abbrev pub closing_refused : ClientChannel → Option AskFault
 closing_refused x = close_refusal (phase_of x)
 
--- what it judges of any body of this length, without memory
+-- how a channel judges any body of this length, without allocating
 abbrev pub JudgesLength : ClientChannel → ℕ → ℕ → Result (Unit {0}) AskFault → Type 0
 JudgesLength x more len result = JudgesBy (call_refused x more) len result
 
--- the octets of its call of this body, with this number first; the request id, and the number that is sent next
+-- the bytes of its call with this body, with this SequenceNumber first; the RequestId, and the
+-- number that is sent next
 abbrev pub SendsCall : ClientChannel → ℕ → List ℕ → ℕ → List ℕ → ℕ → Type 0
 SendsCall x number body id out next = IsCall (phase_of x) number body id out next
 
--- the octets of its renewal, with this number; the request id, and the number that is sent next
+-- the bytes of its renewal, with this SequenceNumber; the RequestId, and the number that is sent
+-- next
 abbrev pub SendsRenewal : ClientChannel → ℕ → DateTime → ℕ → List ℕ → ℕ → Type 0
 SendsRenewal x number moment id out next = IsRenewal (phase_of x) number moment id out next
 
--- the octets of its close, with this number
+-- the bytes of its close, with this SequenceNumber
 abbrev pub SendsClosing : ClientChannel → ℕ → DateTime → List ℕ → Type 0
 SendsClosing x number moment out = IsClosing (phase_of x) number moment out

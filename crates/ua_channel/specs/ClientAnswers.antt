@@ -1,4 +1,4 @@
--- What a client's channel answers to a piece.
+-- The outcome of a client's channel for a fragment.
 use Rattle.std.specs.Prelude.{◌≡◌, ℕ, ◌≤◌, ◌<◌, length, take, List, ◌++◌, Option, Some, None, Result, Ok, Err}
 use Rattle.std.specs.List.{concat}
 use Rattle.ua_builtin.specs.declared.date_time.DateTime.{DateTime}
@@ -27,7 +27,7 @@ pub record IsOpened (new : ClientChannel) (asks : List Placed) (octets : List �
   pub token : ℕ
   pub goes : ClientGoesTelling new asks octets before (told.Opened channel token)
 
--- what is answered at an event, where the octets end with its frame and the frames before it told this
+-- the outcome for an event, if the bytes end with its frame and the frames before it told this
 abbrev pub Tells : DateTime → ClientEvent → ClientChannel → List Placed → List ℕ → List ClientTold → Type 0
 Tells moment event.NeedMore new asks octets before = ⊥
 Tells moment (event.Send sent) new asks octets before = SendsOpen moment sent.items new asks octets before
@@ -37,23 +37,24 @@ Tells moment (event.Aborted id code) new asks octets before = ClientGoesTelling 
 Tells moment (event.Failed code peer) new asks octets before = ClientEnded new asks octets before (record { code = code.code; peer = peer })
 Tells moment (event.Renewed token) new asks octets before = ClientGoesTelling new asks octets before (told.Renewed token)
 
--- what is answered to a piece, after asks and octets that told this
+-- the outcome for a fragment, after operations and bytes that told this
 abbrev pub ClientAnswers : DateTime → List ℕ → Result (ℕ × ClientEvent) ClientTakeFault → ClientChannel → List Placed → List ℕ → List ClientTold → Type 0
 ClientAnswers moment piece (Ok (n, event.NeedMore)) new asks octets before = (n ≡ length piece) × ClientGoes new asks (octets ++ piece) before
 ClientAnswers moment piece (Ok (n, e)) new asks octets before = Tells moment e new asks (octets ++ take n piece) before
 ClientAnswers moment piece (Err OutOfMemory) new asks octets before = IsClientDone new
 ClientAnswers moment piece (Err Closed) new asks octets before = ⊥
 
--- the parts of the message that is handed out, if one is
+-- the parts of the message that is returned, if one is
 abbrev pub parts_handed : ClientEvent → Option (List (List ℕ))
 parts_handed (event.Answered id message) = Some message
 parts_handed other = None
 
--- a message, where one is handed out behind these octets, comes in the parts in which its chunks brought it
+-- a message, if one is returned after these bytes, comes in the parts in which its chunks brought
+-- it
 abbrev pub ComesInParts : Option (List (List ℕ)) → ClientChannel → List Placed → List ℕ → Type 0
 ComesInParts parts new asks octets = HandsOutParts client_side parts new.end asks octets
 
--- what is taken is within the piece, and is something unless the piece is empty
+-- what is taken is within the fragment, and is something unless the fragment is empty
 abbrev pub ClientProgress : {A : Type 0} → List ℕ → Result (ℕ × A) ClientTakeFault → Type 0
 ClientProgress piece (Ok (n, e)) = (n ≤ length piece) × (0 < length piece → 0 < n)
 ClientProgress piece (Err fault) = Unit {0}

@@ -14,7 +14,7 @@ use Rattle.ua_opening.specs.SecureChannel.{open_request, close_request}
 use Rattle.ua_opening.specs.declared.secure_channel.OpenRequest.{OpenRequest}
 use Rattle.ua_channel.specs.ServerSends.{opening_frame}
 
--- how long a token is asked to live, in milliseconds: an hour
+-- the requested lifetime of a token, in milliseconds: an hour
 abbrev pub token_lifetime : ℕ
 token_lifetime = 3600000
 
@@ -33,19 +33,21 @@ hello_to limits url = record {
 abbrev pub hello_frame : Hello → Frame
 hello_frame h = record { kind = Hel; flag = 70; body = hello.canonical h }
 
--- the OPN frame of a request on a channel, with this number and request id, under the policy None (OPC 10000-6, 6.7.2)
+-- the OPN frame of a request on a channel, with this SequenceNumber and RequestId, under the policy
+-- None (OPC 10000-6, 6.7.2)
 abbrev pub open_frame : ℕ → ℕ → ℕ → OpenRequest → Frame
 open_frame channel number id r = opening_frame channel number id ((message 446 open_request).canonical r)
 
--- the first OPN, on no channel yet: it issues a token, under the request id 1 and with the number 1
+-- the first OPN, on no channel yet: it issues a token, under the RequestId 1 and with the
+-- SequenceNumber 1
 abbrev pub first_open : DateTime → Frame
 first_open moment = open_frame 0 1 1 (open_request_of (pos 0) moment 0 token_lifetime)
 
--- the OPN that renews the token of a channel, with this number and request id
+-- the OPN that renews the token of a channel, with this SequenceNumber and RequestId
 abbrev pub renewal_frame : ℕ → ℕ → ℕ → DateTime → Frame
 renewal_frame channel number id moment = open_frame channel number id (open_request_of (pos 1) moment 0 token_lifetime)
 
--- the CLO frame of a channel under a token, with this number and request id
+-- the CLO frame of a channel under a token, with this SequenceNumber and RequestId
 abbrev pub close_frame : ℕ → ℕ → ℕ → ℕ → DateTime → Frame
 close_frame channel token number id moment = record {
   kind = Clo;
@@ -61,7 +63,8 @@ AreSized size [] = ⊥
 AreSized size (f ∷ []) = frame_size f ≤ size
 AreSized size (f ∷ (g ∷ fs)) = (frame_size f ≡ size) × AreSized size (g ∷ fs)
 
--- these octets are whole frames, each but the last of so many octets, and the last of at most so many
+-- these bytes are whole frames, each but the last of this many bytes, and the last of at most this
+-- many
 pub record AreFramesOf (size : ℕ) (octets : List ℕ) : Type 0 where
   pub frames : List Frame
   pub whole : octets ≡ frames_octets frames

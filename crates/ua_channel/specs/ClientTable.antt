@@ -1,4 +1,4 @@
--- Which frames a client refuses (the table of refusals), which come next, and a client's rules.
+-- Which frames a client rejects (the table of reasons), which come next, and a client's rules.
 use Rattle.std.specs.Prelude.{ℕ, ◌==◌, nat_lt, Bool, true, false, ◌||◌, not, is_none, List, [], ◌∷◌, Option, Some, None}
 use Rattle.ua_frame.specs.declared.ack.Ack.{Ack}
 use Rattle.ua_frame.specs.declared.error.ErrorFrame.{ErrorFrame}
@@ -22,17 +22,17 @@ pub use Rattle.ua_channel.specs.Refusals.{aborts_unreadably, breaks_order, has_o
 
 -- ---- tests of what a frame carries, false where it carries no such thing
 
--- of an Acknowledge
+-- a property of an Acknowledge
 abbrev pub of_ack : (Ack → Bool) → Option Ack → Bool
 of_ack test None = false
 of_ack test (Some a) = test a
 
--- of the sequence number and the request id of an OPN
+-- a property of the SequenceNumber and the RequestId of an OPN
 abbrev pub of_numbers : (ℕ × ℕ → Bool) → Option (ℕ × ℕ) → Bool
 of_numbers test None = false
 of_numbers test (Some numbers) = test numbers
 
--- of the response of an OPN
+-- a property of the response of an OPN
 abbrev pub of_response : (OpenResponse → Bool) → Option OpenAnswer → Bool
 of_response test None = false
 of_response test (Some (Open r)) = test r
@@ -40,15 +40,16 @@ of_response test (Some (Fault f)) = false
 
 -- ---- the reasons
 
--- an ACK, an ERR or the security header of an OPN is unreadable
+-- an ACK, an ERR or the security header of an OPN cannot be decoded
 abbrev pub is_unreadable_for_client : Content → Bool
 is_unreadable_for_client (Acks ack) = is_none ack
 is_unreadable_for_client (Fails error) = is_none error
 is_unreadable_for_client (Opens o) = is_none o.security
 is_unreadable_for_client other = false
 
--- a size is below 8192, or above what the Hello of a client with these limits allows: the server receives at most what the client
--- sends, and sends at most what the client receives (OPC 10000-6, 7.1.2.4)
+-- a size is below 8192, or above what the Hello of a client with these limits allows: the server
+-- receives at most what the client sends, and sends at most what the client receives (OPC 10000-6,
+-- 7.1.2.4)
 abbrev pub is_outside : Limits → Ack → Bool
 is_outside limits a =
     nat_lt a.receive_buffer_size 8192
@@ -61,12 +62,12 @@ abbrev pub has_other_sizes : Limits → Content → Bool
 has_other_sizes limits (Acks ack) = of_ack (is_outside limits) ack
 has_other_sizes limits other = false
 
--- an OPN whose sequence header or body is unreadable
+-- an OPN whose sequence header or body cannot be decoded
 abbrev pub has_no_answer : Content → Bool
 has_no_answer (Opens o) = is_none (answer_in o)
 has_no_answer other = false
 
--- the ServiceResult of an answer
+-- the ServiceResult of a response
 abbrev pub result_of : Option OpenAnswer → ℕ
 result_of None = 0
 result_of (Some (Open r)) = r.response_header.service_result.code
@@ -77,13 +78,13 @@ abbrev pub opening_code : Content → ℕ
 opening_code (Opens o) = result_of (answer_in o)
 opening_code other = 0
 
--- the answer is a ServiceFault, or a response whose ServiceResult has its top bit set (OPC 10000-4, 7.39)
+-- the response is a ServiceFault, or its ServiceResult has its top bit set (OPC 10000-4, 7.39)
 abbrev pub is_bad : Option OpenAnswer → Bool
 is_bad None = false
 is_bad (Some (Open r)) = is_bad_code r.response_header.service_result
 is_bad (Some (Fault f)) = true
 
--- an OPN with such an answer
+-- an OPN with such a response
 abbrev pub has_bad_answer : Content → Bool
 has_bad_answer (Opens o) = is_bad (answer_in o)
 has_bad_answer other = false
@@ -93,24 +94,25 @@ abbrev pub is_other : Option ℕ → ℕ → Bool
 is_other None channel = false
 is_other (Some n) channel = not (channel == n)
 
--- a MSG on another channel, or an OPN that answers for another one
+-- a MSG on another channel, or an OPN whose response names another one
 abbrev pub is_on_other_channel_for_client : Received → Content → Bool
 is_on_other_channel_for_client before (Opens o) = of_response (λ r. is_other (channel_in (responses before.openings)) r.channel_id) (answer_in o)
 is_on_other_channel_for_client before (Sends c) = is_other (channel_in (responses before.openings)) c.channel
 is_on_other_channel_for_client before other = false
 
--- a MSG under a token that is not held, or an OPN that brings one which is
+-- a MSG under a token that is not held, or an OPN that brings one that is held already
 abbrev pub has_other_token_for_client : Received → Content → Bool
 has_other_token_for_client before (Opens o) = of_response (λ r. is_in r.token_id (held_tokens before)) (answer_in o)
 has_other_token_for_client before (Sends c) = not (is_in c.token (held_tokens before))
 has_other_token_for_client before other = false
 
--- the request id of an OPN is waited for: the first one answers under 1, a later one the renewal that is unanswered
+-- the RequestId of an OPN is expected: the first OPN answers under 1, a later one the renewal that
+-- is unanswered
 abbrev pub is_awaited : List OpenResponse → List ℕ → List Asking → ℕ → Bool
 is_awaited [] opened asked id = id == 1
 is_awaited (r ∷ rs) opened asked id = is_in id (pending_renewals opened asked)
 
--- the request id is not pending, where this was asked before
+-- the RequestId is not pending after these operations
 abbrev pub is_unasked : Received → List Asking → Content → Bool
 is_unasked before asked (Opens o) = of_numbers (λ n. not (is_awaited (responses before.openings) (opened_ids before.openings) asked n.1)) o.numbers
 is_unasked before asked (Sends c) = not (is_in c.request (pending_calls before.messages asked))
@@ -131,10 +133,11 @@ abbrev pub is_error : Content → Bool
 is_error (Fails error) = true
 is_error other = false
 
--- the reasons, in the order in which they are judged, behind those of the header: the client's own, BadDecodingError,
--- BadTcpNotEnoughResources, BadSecurityPolicyRejected, BadDecodingError, the ServiceResult, BadTcpSecureChannelUnknown,
--- BadSecureChannelTokenUnknown, BadSequenceNumberInvalid, BadDecodingError, BadTcpNotEnoughResources, BadResponseTooLarge twice,
--- BadUnknownResponse; and last that the server refused, with its code
+-- the reasons, in the order in which they are judged, after those of the header: the client's own,
+-- BadDecodingError, BadTcpNotEnoughResources, BadSecurityPolicyRejected, BadDecodingError, the
+-- ServiceResult, BadTcpSecureChannelUnknown, BadSecureChannelTokenUnknown,
+-- BadSequenceNumberInvalid, BadDecodingError, BadTcpNotEnoughResources, BadResponseTooLarge twice,
+-- BadUnknownResponse; and last that the server rejected, with its code
 abbrev pub client_reasons : Limits → Received → List Asking → Content → List (Why × Bool)
 client_reasons limits before asked c =
     (ours 0x8007_0000, is_unreadable_for_client c)
@@ -155,15 +158,15 @@ client_reasons limits before asked c =
 
 -- ---- which frames come next
 
--- ACK and ERR of at most 8192 octets
+-- ACK and ERR of at most 8192 bytes
 abbrev pub ack_gate : Gate
 ack_gate = gate_with (gate_with (closed_gate 8192) kind.Ack) kind.Err
 
--- OPN and ERR of at most so many octets
+-- OPN and ERR of at most this many bytes
 abbrev pub answer_gate : ℕ → Gate
 answer_gate size = gate_with (gate_with (closed_gate size) Opn) kind.Err
 
--- OPN, MSG and ERR of at most so many octets
+-- OPN, MSG and ERR of at most this many bytes
 abbrev pub reply_gate : ℕ → Gate
 reply_gate size = gate_with (gate_with (gate_with (closed_gate size) Opn) Msg) kind.Err
 
@@ -177,11 +180,12 @@ abbrev pub client_gate_behind : Option Ack → List OpenResponse → Gate
 client_gate_behind None rs = ack_gate
 client_gate_behind (Some a) rs = gate_agreed a.send_buffer_size rs
 
--- an ACK first, then an OPN, then OPN and MSG, and ERR always; behind the ACK of at most what the server sends
+-- an ACK first, then an OPN, then OPN and MSG, and ERR always; after the ACK of at most the size
+-- that the server sends
 abbrev pub client_gate : Received → Gate
 client_gate before = client_gate_behind before.ack (responses before.openings)
 
--- the rules of a client with these limits that asked so
+-- the rules of a client with these limits and operations
 abbrev pub client_rules : Limits → List Placed → Rules ClientTold Why
 client_rules limits asks = record {
   gate = λ before. client_gate (received before);

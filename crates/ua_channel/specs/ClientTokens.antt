@@ -1,4 +1,4 @@
--- What the openings that a client received have brought: the channel, and its tokens.
+-- What the OPNs that a client received brought: the channel, and its tokens.
 use Rattle.std.specs.Prelude.{ℕ, ◌==◌, ◌&&◌, not, if◌then◌else◌, List, [], ◌∷◌, Option, Some, None, map}
 use Rattle.std.specs.List.{flat_map}
 use Rattle.ua_opening.specs.Open.{answer_read}
@@ -11,22 +11,22 @@ use Rattle.ua_channel.specs.Received.{Received}
 
 -- ---- what an OPN answers
 
--- the answer behind a sequence header, if there is one
+-- the response after a sequence header, if there is one
 abbrev pub answer_behind : Option (ℕ × ℕ) → List ℕ → Option OpenAnswer
 answer_behind None body = None
 answer_behind (Some numbers) body = answer_read body
 
--- the answer of an OPN whose sequence header and body read
+-- the response of an OPN whose sequence header and body can be decoded
 unfoldable pub answer_in : Opening → Option OpenAnswer
 answer_in o = answer_behind o.numbers o.body
 
--- the response, if the answer is one
+-- the OpenSecureChannel response, if it is one
 abbrev pub response_listed : Option OpenAnswer → List OpenResponse
 response_listed None = []
 response_listed (Some (Open r)) = r ∷ []
 response_listed (Some (Fault f)) = []
 
--- the request id of an OPN, if its sequence header reads
+-- the RequestId of an OPN, if its sequence header can be decoded
 abbrev pub id_listed : Option (ℕ × ℕ) → List ℕ
 id_listed None = []
 id_listed (Some numbers) = numbers.1 ∷ []
@@ -35,7 +35,7 @@ id_listed (Some numbers) = numbers.1 ∷ []
 unfoldable pub responses : List Opening → List OpenResponse
 responses os = flat_map (λ o. response_listed (answer_in o)) os
 
--- the request ids of these openings
+-- the RequestIds of these openings
 unfoldable pub opened_ids : List Opening → List ℕ
 opened_ids os = flat_map (λ o. id_listed o.numbers) os
 
@@ -50,16 +50,17 @@ channel_in (r ∷ rs) = Some r.channel_id
 unfoldable pub tokens_of : List OpenResponse → List ℕ
 tokens_of rs = map (λ (r : OpenResponse). r.token_id) rs
 
--- from the last place of n on, and nothing where it has none
+-- the list from the last occurrence of n on, empty if n does not occur
 abbrev pub from_last : ℕ → List ℕ → List ℕ
 from_last n [] = []
 from_last n (m ∷ ms) = if m == n && not (is_in n ms) then m ∷ ms else from_last n ms
 
--- from the last one used on, and all where none was used
+-- the list from the last one used on, all if none was used
 abbrev pub held_by : Option ℕ → List ℕ → List ℕ
 held_by None tokens = tokens
 held_by (Some n) tokens = from_last n tokens
 
--- the tokens that are held, in the order in which they came: from the last one that the server used to the newest
+-- the tokens that are held, in the order in which they were received: from the last one that the
+-- server used to the newest
 unfoldable pub held_tokens : Received → List ℕ
 held_tokens before = held_by before.used (tokens_of (responses before.openings))

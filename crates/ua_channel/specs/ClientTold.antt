@@ -11,8 +11,8 @@ use Rattle.ua_channel.specs.Content.{Content}
 use Rattle.ua_channel.specs.Content.Content.{Acks, Opens, Sends}
 use Rattle.ua_channel.specs.Received.{Received}
 
--- what a frame tells a client: an ACK, after which the OPN is to be sent; the channel and its first token; the reply to a call; a
--- call that the server gave up, with its code; a further token
+-- what a frame tells a client: an ACK, after which the OPN is to be sent; the channel and its first
+-- token; the reply to a call; a call that the server aborted, with its code; a further token
 pub data ClientTold : Type 0 where
   Agreed : (ack : Ack) → ClientTold
   Opened : (channel token : ℕ) → ClientTold
@@ -20,16 +20,16 @@ pub data ClientTold : Type 0 where
   GaveUp : (id : ℕ) (code : StatusCode) → ClientTold
   Renewed : (token : ℕ) → ClientTold
 
--- why a client's connection ends: a status code, and whether it is the peer's own
+-- why a client's connection ends: a StatusCode, and whether it is the peer's own
 pub record Why : Type 0 where
   pub code : ℕ
   pub peer : Bool
 
--- the client refuses
+-- the client rejects
 abbrev pub ours : ℕ → Why
 ours code = record { code = code; peer = false }
 
--- the server refused
+-- the server rejected
 abbrev pub peers : ℕ → Why
 peers code = record { code = code; peer = true }
 
@@ -48,7 +48,7 @@ abbrev pub told_ack : Option Ack → List ClientTold
 told_ack None = []
 told_ack (Some a) = Agreed a ∷ []
 
--- what a frame that carries this tells after what was received
+-- what a frame with this content tells after what was received
 abbrev pub client_tells : Received → Content → List ClientTold
 client_tells before (Acks ack) = told_ack ack
 client_tells before (Opens o) = map (told_response (responses before.openings)) (response_listed (answer_in o))

@@ -1,4 +1,4 @@
--- What one frame carries, as far as it reads: a function of the frame.
+-- The content of one frame (UA TCP message), as far as it can be decoded: a function of the frame.
 use Rattle.std.specs.Prelude.{ℕ, List, Option, Some, None}
 use Rattle.ua_frame.specs.declared.ack.Ack.{Ack}
 use Rattle.ua_frame.specs.declared.error.ErrorFrame.{ErrorFrame}
@@ -16,31 +16,33 @@ use Rattle.ua_chunk.specs.Opening.{SecurityHeader, policy_header}
 
 -- ---- OPN
 
--- what an OPN carries (OPC 10000-6, 6.7.2): its security header; behind it the sequence number and the request id; and the octets
--- behind these, the body of a request at a server and of an answer at a client
+-- the content of an OPN (OPC 10000-6, 6.7.2): its security header; after it the SequenceNumber and
+-- the RequestId; and the bytes after these, the body of a request at a server and of a response at
+-- a client
 pub record Opening : Type 0 where
   pub security : Option SecurityHeader
   pub numbers : Option (ℕ × ℕ)
   pub body : List ℕ
 
--- the opening behind a security header, by the sequence number and the request id that the octets behind it begin with
+-- the content after a security header, by the SequenceNumber and the RequestId at the start of the
+-- bytes after it
 abbrev pub opening_numbered : SecurityHeader → List ℕ → Option ((ℕ × ℕ) × List ℕ) → Opening
 opening_numbered header octets None = record { security = Some header; numbers = None; body = octets }
 opening_numbered header octets (Some found) = record { security = Some header; numbers = Some found.0; body = found.1 }
 
--- the opening, by the security header that octets begin with
+-- the content, by the security header at the start of bytes
 abbrev pub opening_secured : List ℕ → Option (SecurityHeader × List ℕ) → Opening
 opening_secured octets None = record { security = None; numbers = None; body = octets }
 opening_secured octets (Some found) = opening_numbered found.0 found.1 (sequence_header.decode found.1)
 
--- what an OPN frame with this body carries
+-- the content of an OPN frame with this body
 unfoldable pub opening_of : List ℕ → Opening
 opening_of body = opening_secured body (policy_header.decode body)
 
 -- ---- any frame
 
--- what a frame carries: a Hello, an Acknowledge or an Error, if its body is one; an opening; a chunk of a message; the chunk of a
--- close; or nothing that reads
+-- the content of a frame: a Hello, an Acknowledge or an Error, if its body is one; an OPN; a chunk
+-- of a message; the chunk of a close; or nothing that can be decoded
 pub data Content : Type 0 where
   Greets : (hello : Option Hello) → Content
   Acks : (ack : Option Ack) → Content
@@ -60,7 +62,7 @@ abbrev pub closes : Option Chunk → Content
 closes None = Nothing
 closes (Some c) = Closes c
 
--- what a frame of this kind carries
+-- the content of a frame of this kind
 abbrev pub content_by : Kind → Frame → Content
 content_by Hel f = Greets (hello_in f.body)
 content_by kind.Ack f = Acks (whole_of ack f.body)
@@ -69,6 +71,6 @@ content_by Opn f = Opens (opening_of f.body)
 content_by Msg f = sends (chunk_in f)
 content_by Clo f = closes (chunk_in f)
 
--- what a frame carries, by its kind
+-- the content of a frame, by its kind
 unfoldable pub content : Frame → Content
 content f = content_by f.kind f

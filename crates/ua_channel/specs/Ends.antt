@@ -1,4 +1,4 @@
--- Either end of a connection, by its rules, and where it stands after octets.
+-- Either end of a connection, by its rules, and its state after bytes.
 use Rattle.std.specs.Prelude.{◌≡◌, ◌⊎◌, ℕ, ◌≤◌, length, Bool, List, [], ◌∷◌, ◌++◌, Option, Some, None}
 use Rattle.ua_frame.specs.declared.frame.Frame.{Frame}
 use Rattle.ua_frame.specs.After.{AllAfter}
@@ -11,35 +11,38 @@ use Rattle.ua_channel.specs.Received.{received}
 use Rattle.ua_channel.specs.Stops.{StopsAt}
 use Rattle.ua_channel.specs.declared.end_core.EndCore.{EndCore}
 
--- an end whose rules R are, where P is how far a connection has come, and E is what a frame comes to
+-- an end whose rules R are, where P is the progress of a connection, and E is the outcome for a
+-- frame
 pub record Side (R P E : Type 0) : Type 1 where
-  -- by what else frames are judged: of a client, what it asked
+  -- by what else frames are judged: the operations of a client
   pub Key : Type 0
-  -- what frames tell, and why they are refused
+  -- what frames tell, and why they are rejected
   pub Told : Type 0
   pub Why : Type 0
-  -- which frames come next, which are refused, what they tell, and which is the last
+  -- which frames come next, which are rejected, what they tell, and which is the last
   pub rules : R → Key → Rules Told Why
-  -- all that they are judged by was done by the time that so many octets had come
+  -- all by which they are judged was done by the time that this many bytes had been received
   pub placed : Key → ℕ → Type 0
-  -- behind these frames a connection has come so far
+  -- after these frames a connection has this progress
   pub holds : R → Key → P → List Frame → Type 0
-  -- and at most so many octets are held
+  -- and at most this many bytes are held
   pub bound : R → List Frame → ℕ
-  -- a connection that has come so far has ended
+  -- a connection with this progress has ended
   pub done : P → Type 0
-  -- what it tells that a frame comes to this, whether that frame is the last, and the parts of the message that it hands out
+  -- what is told for a frame with this outcome, whether that frame is the last, and the parts of
+  -- the message that is returned
   pub tells : E → Told
   pub closes : E → Bool
   pub parts : E → Option (List (List ℕ))
-  -- why a frame is refused that says that the other end refuses with this code, where one may
+  -- the reason for an ERR frame by which the other end rejects with this code, if one may
   pub peer : ℕ → Option Why
 
 -- the rules of an end
 abbrev pub rules_by : {R P E : Type 0} (S : Side R P E) (x : EndCore R P) (k : S.Key) → Rules S.Told S.Why
 rules_by S x k = S.rules x.rules k
 
--- an end is where these octets leave it: these are their frames, and this is the rest, of a frame that is not whole
+-- the state of an end is that after these bytes: these are their frames, and this is the rest, of
+-- an incomplete frame
 pub record EndStands {R P E : Type 0} (S : Side R P E) (x : EndCore R P) (k : S.Key) (octets : List ℕ) (frames : List Frame) (rest : List ℕ) : Type 0 where
   pub run : Run (rules_by S x k) octets frames rest Going
   pub placed : S.placed k (length octets)
@@ -52,14 +55,15 @@ pub record EndDone {R P E : Type 0} (S : Side R P E) (x : EndCore R P) : Type 0 
   pub phase : S.done x.phase
   pub empty : x.reader.held ≡ []
 
--- it goes on after these octets, whose frames told this
+-- the end goes on after these bytes, whose frames told this
 pub record EndGoes {R P E : Type 0} (S : Side R P E) (x : EndCore R P) (k : S.Key) (octets : List ℕ) (told : List S.Told) : Type 0 where
   pub frames : List Frame
   pub rest : List ℕ
   pub stands : EndStands S x k octets frames rest
   pub told_is : events (rules_by S x k) frames ≡ told
 
--- it goes on after these octets, of which the last octet is that of a frame that tells this, after what the frames before it told
+-- the end goes on after these bytes, of which the last byte is that of a frame that tells this,
+-- after what the frames before it told
 pub record EndTells {R P E : Type 0} (S : Side R P E) (x : EndCore R P) (k : S.Key) (octets : List ℕ) (told : List S.Told) (e : S.Told) : Type 0 where
   pub frames : List Frame
   pub frame : Frame
@@ -67,14 +71,14 @@ pub record EndTells {R P E : Type 0} (S : Side R P E) (x : EndCore R P) (k : S.K
   pub told_is : events (rules_by S x k) frames ≡ told
   pub tells : (rules_by S x k).tells frames frame ≡ e ∷ []
 
--- it goes on after these octets, of which the last frame ends a message in these parts
+-- the end goes on after these bytes, of which the last frame ends a message in these parts
 pub record EndMessage {R P E : Type 0} (S : Side R P E) (x : EndCore R P) (k : S.Key) (octets : List ℕ) (parts : List (List ℕ)) : Type 0 where
   pub frames : List Frame
   pub frame : Frame
   pub stands : EndStands S x k octets (frames ++ frame ∷ []) []
   pub ends : EndsIn (received frames).messages (content frame) parts
 
--- it ended at the last octet of these, that of the last frame, and their frames told this
+-- the end ended at the last byte of these, that of the last frame, and their frames told this
 pub record EndOver {R P E : Type 0} (S : Side R P E) (x : EndCore R P) (k : S.Key) (octets : List ℕ) (told : List S.Told) : Type 0 where
   pub done : EndDone S x
   pub frames : List Frame
@@ -82,7 +86,8 @@ pub record EndOver {R P E : Type 0} (S : Side R P E) (x : EndCore R P) (k : S.Ke
   pub told_is : events (rules_by S x k) frames ≡ told
   pub bound_is : x.bound ≡ S.bound x.rules frames
 
--- it refused for this what stands behind the good frames of these octets: a header at its eighth octet, or a frame at its last
+-- the end rejected for this reason what follows the good frames of these bytes: a header at its
+-- eighth byte, or a frame at its last
 pub record EndStops {R P E : Type 0} (S : Side R P E) (x : EndCore R P) (k : S.Key) (octets : List ℕ) (told : List S.Told) (why : S.Why) : Type 0 where
   pub done : EndDone S x
   pub frames : List Frame
@@ -92,8 +97,9 @@ pub record EndStops {R P E : Type 0} (S : Side R P E) (x : EndCore R P) (k : S.K
   pub told_is : events (rules_by S x k) frames ≡ told
   pub bound_is : x.bound ≡ S.bound x.rules frames
 
--- memory was refused where these octets end, behind the good frames that told this: of the next frame they have a header with nothing wrong,
--- up to its eighth octet, or more of the frame, at most all of it
+-- an allocation failed at the end of these bytes, after the good frames that told this: of the next
+-- frame they have a header with nothing wrong, up to its eighth byte, or more of the frame, at most
+-- all of it
 pub record EndStarves {R P E : Type 0} (S : Side R P E) (x : EndCore R P) (k : S.Key) (octets : List ℕ) (told : List S.Told) : Type 0 where
   pub done : EndDone S x
   pub frames : List Frame
@@ -105,7 +111,8 @@ pub record EndStarves {R P E : Type 0} (S : Side R P E) (x : EndCore R P) (k : S
   pub sound : header_fault ((rules_by S x k).gate frames) rest ≡ None
   pub within : (length rest ≡ 8) ⊎ (length rest ≤ size_of rest)
 
--- a message, where one is handed out behind these octets, comes in the parts in which its chunks brought it
+-- a message, if one is returned after these bytes, comes in the parts in which its chunks brought
+-- it
 abbrev pub HandsOutParts : {R P E : Type 0} (S : Side R P E) → Option (List (List ℕ)) → EndCore R P → (k : S.Key) → List ℕ → Type 0
 HandsOutParts S None x k octets = Unit {0}
 HandsOutParts S (Some parts) x k octets = EndMessage S x k octets parts

@@ -1,15 +1,16 @@
--- The definitions, in the order in which they are best read: what one frame carries, and what the frames so far have brought.
+-- The definitions, in the order in which they are best read: the content of one frame, and what the
+-- frames so far have brought.
 pub mod Content
 pub mod Received
--- Why either end refuses a frame, and where octets stop at what is refused.
+-- Why either end rejects a frame, and where bytes stop at what is rejected.
 pub mod Refusals
 pub mod Stops
--- In which parts either end hands out a message.
+-- In which parts either end returns a message.
 pub mod MessageParts
--- Where either end stands after octets, by its rules.
+-- The state of either end after bytes, by its rules.
 pub mod Ends
--- A server: what it agrees to, what frames tell it, which it refuses, and which come next; what it sends; where it stands, and what
--- it answers.
+-- A server: what it agrees to, what frames tell it, which it rejects, and which come next; what it
+-- sends; its state, and its responses.
 pub mod Agreement
 pub mod ServerTold
 pub mod ServerRefusals
@@ -18,7 +19,8 @@ pub mod ServerSends
 pub mod ServerPlaces
 pub mod ServerStands
 pub mod ServerAnswers
--- a client: what it asked; its tokens, its table of refusals and its rules; where it stands, what it sends and answers
+-- a client: its operations; its tokens, its table of reasons and its rules; its state, what it
+-- sends and its outcomes
 pub mod Asks
 pub mod ClientTokens
 pub mod ClientTold
@@ -27,9 +29,10 @@ pub mod ClientSends
 pub mod ClientAsks
 pub mod Client
 pub mod ClientAnswers
--- The line under a connection, and moments.
+-- The transport under a connection, and timestamps.
 pub mod Line
 pub mod MemoryLine
 pub mod Moments
--- What the parts of both ends make of asks, frames and pieces: words that no public contract cites.
+-- What the parts of both ends make of operations, frames and fragments: definitions that no public
+-- contract cites.
 pub mod inside

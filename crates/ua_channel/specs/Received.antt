@@ -1,4 +1,5 @@
--- What the frames so far have brought: each word a filter, a map or a last one over the whole list of frames.
+-- What the frames so far have brought: each definition is a filter, a map or the last element of
+-- the whole list of frames.
 use Rattle.std.specs.Prelude.{ℕ, List, [], ◌∷◌, ◌++◌, Bool, true, false, Option, Some, None}
 use Rattle.std.specs.List.{flat_map}
 use Rattle.ua_frame.specs.declared.ack.Ack.{Ack}
@@ -8,7 +9,7 @@ use Rattle.ua_chunk.specs.declared.chunk.Chunk.{Chunk}
 use Rattle.ua_channel.specs.Content.{Opening, Content, content}
 use Rattle.ua_channel.specs.Content.Content.{Greets, Acks, Fails, Opens, Sends, Closes, Nothing}
 
--- the last of a list, or what stood before it
+-- the last of a list, or else this
 abbrev pub latest_behind : {A : Type 0} → Option A → List A → Option A
 latest_behind a [] = a
 latest_behind a (x ∷ xs) = latest_behind (Some x) xs
@@ -54,12 +55,12 @@ abbrev pub closings_in : Content → List Chunk
 closings_in (Closes c) = c ∷ []
 closings_in other = []
 
--- the sequence number of an OPN, if it reads
+-- the SequenceNumber of an OPN, if it can be decoded
 abbrev pub number_listed : Option (ℕ × ℕ) → List ℕ
 number_listed None = []
 number_listed (Some n) = n.0 ∷ []
 
--- the sequence number of an OPN, a MSG or a CLO
+-- the SequenceNumber of an OPN, a MSG or a CLO
 abbrev pub numbers_in : Content → List ℕ
 numbers_in (Opens o) = number_listed o.numbers
 numbers_in (Sends c) = c.sequence ∷ []
@@ -82,7 +83,7 @@ hellos fs = flat_map (λ f. hellos_in (content f)) fs
 unfoldable pub acks : List Frame → List Ack
 acks fs = flat_map (λ f. acks_in (content f)) fs
 
--- the openings of the OPNs: at a server each has one token issued, at a client each brings one
+-- the OPNs: at a server each has one token issued, at a client each brings one
 unfoldable pub openings : List Frame → List Opening
 openings fs = flat_map (λ f. openings_in (content f)) fs
 
@@ -94,7 +95,7 @@ messages fs = flat_map (λ f. chunks_in (content f)) fs
 unfoldable pub closings : List Frame → List Chunk
 closings fs = flat_map (λ f. closings_in (content f)) fs
 
--- the sequence numbers of the OPNs, MSGs and CLOs
+-- the SequenceNumbers of the OPNs, MSGs and CLOs
 unfoldable pub numbers : List Frame → List ℕ
 numbers fs = flat_map (λ f. numbers_in (content f)) fs
 
@@ -112,14 +113,14 @@ pub record Received : Type 0 where
   pub openings : List Opening
   -- the last token that a MSG or a CLO used
   pub used : Option ℕ
-  -- the last sequence number
+  -- the last SequenceNumber
   pub last : Option ℕ
   -- the chunks of messages, in order
   pub messages : List Chunk
   -- whether a CLO came
   pub closed : Bool
 
--- what these lists come to
+-- the result of these lists
 abbrev pub received_of : List Hello → List Ack → List Opening → List ℕ → List ℕ → List Chunk → List Chunk → Received
 received_of hs ks os ts ns cs ds = record {
   hello = latest hs;
@@ -146,12 +147,12 @@ abbrev pub or_before : {A : Type 0} → Option A → Option A → Option A
 or_before before None = before
 or_before before (Some a) = Some a
 
--- the sequence number of an OPN, if it reads, else the last one before
+-- the SequenceNumber of an OPN, if it can be decoded, else the last one before
 abbrev pub number_or : Option ℕ → Option (ℕ × ℕ) → Option ℕ
 number_or before None = before
 number_or before (Some n) = Some n.0
 
--- what was received, with a frame more that carries this
+-- what was received, with one more frame with this content
 abbrev pub after : Received → Content → Received
 after before (Greets hello) = record before { hello = or_before before.hello hello }
 after before (Acks ack) = record before { ack = or_before before.ack ack }

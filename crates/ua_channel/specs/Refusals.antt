@@ -1,4 +1,5 @@
--- Why either end refuses a frame, whoever sent it: words of the tables of refusals of both ends.
+-- Why either end rejects a frame, whoever sent it: definitions of the tables of reasons of both
+-- ends.
 use Rattle.std.specs.Prelude.{ℕ, nat_lt, length, Bool, false, ◌&&◌, not, [], ◌∷◌, ◌++◌, Option, Some, None}
 use Rattle.ua_frame.specs.declared.limits.Limits.{Limits}
 use Rattle.ua_chunk.specs.Abort.{is_readable_abort}
@@ -14,12 +15,12 @@ use Rattle.ua_channel.specs.Received.{Received}
 
 -- ---- tests of what an OPN carries, false where it carries no such thing
 
--- the security header is so
+-- a property of the security header
 abbrev pub of_header : (SecurityHeader → Bool) → Option SecurityHeader → Bool
 of_header test None = false
 of_header test (Some h) = test h
 
--- the sequence number is so
+-- a property of the SequenceNumber
 abbrev pub of_number : (ℕ → Bool) → Option (ℕ × ℕ) → Bool
 of_number test None = false
 of_number test (Some n) = test n.0
@@ -31,14 +32,14 @@ abbrev pub has_other_policy : Content → Bool
 has_other_policy (Opens o) = of_header (λ h. not (is_none_policy (policy_of h))) o.security
 has_other_policy other = false
 
--- the sequence number does not follow the last one
+-- the SequenceNumber does not follow the last one
 abbrev pub breaks_order : Received → Content → Bool
 breaks_order before (Opens o) = of_number (λ n. not (may_follow before.last n)) o.numbers
 breaks_order before (Sends c) = not (may_follow before.last c.sequence)
 breaks_order before (Closes c) = not (may_follow before.last c.sequence)
 breaks_order before other = false
 
--- the body of an abort does not read
+-- the body of an abort cannot be decoded
 abbrev pub aborts_unreadably : Content → Bool
 aborts_unreadably (Sends c) = is_abort_flag c.flag && not (is_readable_abort c.body)
 aborts_unreadably other = false
@@ -48,7 +49,7 @@ abbrev pub opens_too_many : Received → Content → Bool
 opens_too_many before (Sends c) = nat_lt most_open (length (open_ids (before.messages ++ c ∷ [])))
 opens_too_many before other = false
 
--- the message has more octets than a receiver with these limits takes
+-- the message has more bytes than a receiver with these limits takes
 abbrev pub has_too_many_octets : Limits → Received → Content → Bool
 has_too_many_octets limits before (Sends c) = not (is_abort_flag c.flag) && passes limits.max_message_size (length (joined (gathered before.messages c)))
 has_too_many_octets limits before other = false

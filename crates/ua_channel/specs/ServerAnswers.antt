@@ -1,4 +1,4 @@
--- What a server's channel answers to octets.
+-- The outcome of a server's channel for bytes.
 use Rattle.std.specs.Prelude.{◌≡◌, ℕ, ◌<◌, ◌≤◌, length, take, List, [], ◌∷◌, ◌++◌, Option, Some, None, Result, Ok, Err}
 use Rattle.std.specs.List.{concat}
 use Rattle.ua_builtin.specs.declared.date_time.DateTime.{DateTime}
@@ -18,20 +18,21 @@ use Rattle.ua_channel.specs.ServerTold.{Told as told}
 
 -- ---- what comes with an event
 
--- these octets are sent at what the last frame told
+-- these bytes are sent for what the last frame told
 pub record SendsOctets (channel number : ℕ) (moment : DateTime) (sent : List ℕ) (new : ServerChannel) (octets : List ℕ) (before : List Told) : Type 0 where
   pub said : Told
   pub are_sent : AreSent channel number moment said sent
   pub goes : GoesTelling new octets before said
   pub counted : next_of new ≡ counted_by said number
 
--- the last frame ends the message with these parts, under this request id
+-- the last frame ends the message with these parts, under this RequestId
 pub record Asks (id : ℕ) (parts : List (List ℕ)) (new : ServerChannel) (octets : List ℕ) (before : List Told) : Type 0 where
   pub token : ℕ
   pub goes : GoesTelling new octets before (told.Asked id token (concat parts))
 
--- where the channel stands with an event, after octets whose frames but the last told this, and what the event hands out; the channel
--- and the number of its next chunk are given, and the moment of an OPN response
+-- the state of the channel with an event, after bytes whose frames but the last told this, and what
+-- the event returns; the channel and the number of its next chunk are given, and the time of an OPN
+-- response
 abbrev pub EventHandedOut : ℕ → ℕ → DateTime → ServerEvent → ServerChannel → List ℕ → List Told → Type 0
 EventHandedOut channel number moment NeedMore new octets before = Goes new octets before × (next_of new ≡ number)
 EventHandedOut channel number moment (Send sent) new octets before = SendsOctets channel number moment sent.items new octets before
@@ -39,34 +40,37 @@ EventHandedOut channel number moment (Asked id message) new octets before = Asks
 EventHandedOut channel number moment (Aborted id) new octets before = GoesTelling new octets before (told.GaveUp id) × (next_of new ≡ number)
 EventHandedOut channel number moment event.Closed new octets before = ClosedAt new octets (before ++ told.Closed ∷ [])
 
--- the parts of the message that is handed out, if one is
+-- the parts of the message that is returned, if one is
 abbrev pub parts_asked : ServerEvent → Option (List (List ℕ))
 parts_asked (Asked id message) = Some message
 parts_asked other = None
 
--- a message, where one is handed out behind these octets, comes in the parts in which its chunks brought it
+-- a message, if one is returned after these bytes, comes in the parts in which its chunks brought
+-- it
 abbrev pub AsksInParts : Option (List (List ℕ)) → ServerChannel → List ℕ → Type 0
 AsksInParts parts new octets = HandsOutParts server_side parts new.end tt octets
 
--- how many octets of a piece are taken with an event: all where nothing came, else some
+-- how many bytes of a fragment are taken with an event: all if nothing came, else some
 abbrev pub Counts : List ℕ → ℕ → ServerEvent → Type 0
 Counts piece n NeedMore = n ≡ length piece
 Counts piece n other = (0 < n) × (n ≤ length piece)
 
--- what is answered to a piece, after octets whose frames told this, with the number of octets that were taken: at a refusal up to the end of
--- the frame that is refused, or to the eighth octet of the header that is
+-- the outcome for a fragment, after bytes whose frames told this, with the number of bytes that
+-- were taken: for a rejection up to the end of the rejected frame, or to the eighth byte of the
+-- rejected header
 abbrev pub AnswersAt : ℕ → ℕ → DateTime → List ℕ → ℕ → Result ServerEvent ChannelFault → ServerChannel → List ℕ → List Told → Type 0
 AnswersAt channel number moment piece n (Ok e) new octets before = Counts piece n e × EventHandedOut channel number moment e new (octets ++ take n piece) before
 AnswersAt channel number moment piece n (Err (Refused code err)) new octets before = (n ≤ length piece) × RefusedAt new (octets ++ take n piece) before code.code × (err ≡ frame_octets (err_frame code))
 AnswersAt channel number moment piece n (Err OutOfMemory) new octets before = (n ≤ length piece) × IsDone new
 AnswersAt channel number moment piece n (Err Closed) new octets before = ⊥
 
--- the same where a fault does not say how many octets were taken: some number of them was
+-- the same if a fault does not tell how many bytes were taken: some number of them was
 abbrev pub ServerAnswers : ℕ → ℕ → DateTime → List ℕ → Result (ℕ × ServerEvent) ChannelFault → ServerChannel → List ℕ → List Told → Type 0
 ServerAnswers channel number moment piece (Ok (n, e)) new octets before = AnswersAt channel number moment piece n (Ok e) new octets before
 ServerAnswers channel number moment piece (Err fault) new octets before = (n : ℕ) × AnswersAt channel number moment piece n (Err fault) new octets before
 
--- what is taken is within the piece, and is something, where no fault comes, unless the piece is empty
+-- what is taken is within the fragment, and is something, if no fault comes, unless the fragment is
+-- empty
 abbrev pub Progress : {A E : Type 0} → List ℕ → ℕ → Result A E → Type 0
 Progress piece n (Ok e) = (n ≤ length piece) × (0 < length piece → 0 < n)
 Progress piece n (Err fault) = n ≤ length piece

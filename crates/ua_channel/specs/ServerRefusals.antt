@@ -1,4 +1,5 @@
--- Which frames a server refuses: the table of refusals, behind those of the header (OPC 10000-6, 6.7 and 7.1).
+-- Which frames a server rejects: the table of reasons, after those of the header (OPC 10000-6, 6.7
+-- and 7.1).
 use Rattle.std.specs.Prelude.{ℕ, ◌==◌, nat_lt, nat_le, pos, Bool, false, ◌&&◌, not, is_none, if◌then◌else◌, List, [], ◌∷◌, Option, Some, None}
 use Rattle.std.proofs.Common.{int_eq}
 use Rattle.ua_frame.specs.declared.limits.Limits.{Limits}
@@ -14,7 +15,7 @@ pub use Rattle.ua_channel.specs.Refusals.{of_header, of_number, aborts_unreadabl
 
 -- ---- a test of what a frame carries, false where it carries no such thing
 
--- the request is so
+-- a property of the request
 abbrev pub of_request : (OpenRequest → Bool) → Option OpenRequest → Bool
 of_request test None = false
 of_request test (Some r) = test r
@@ -26,27 +27,29 @@ abbrev pub or_first : Option ℕ → ℕ
 or_first None = 1
 or_first (Some token) = token
 
--- the last token that was used; the first one where none was
+-- the last token that was used; the first one if none was
 abbrev pub last_used : Received → ℕ
 last_used before = or_first before.used
 
--- a token that is taken: one from the last used to the newest issued (OPC 10000-6, 6.7.1: the old token is taken until the new one is used)
+-- a token that is accepted: one from the last used to the newest issued (OPC 10000-6, 6.7.1: the
+-- old token is accepted until the new one is used)
 abbrev pub is_taken : Received → ℕ → Bool
 is_taken before token = nat_le (last_used before) token && nat_le token (issued before)
 
--- the type of request that an OPN must have: 0, Issue, the first one; 1, Renew, each later one (OPC 10000-4, 5.6.2)
+-- the type of request that an OPN must have: 0, Issue, the first one; 1, Renew, each later one (OPC
+-- 10000-4, 5.6.2)
 abbrev pub type_wanted : ℕ → ℕ
 type_wanted count = if count == 0 then 0 else 1
 
 -- ---- the reasons, in the order of the table
 
--- the body of a HEL, or the security header of an OPN, does not read
+-- the body of a HEL, or the security header of an OPN, cannot be decoded
 abbrev pub is_unreadable : Content → Bool
 is_unreadable (Greets hello) = is_none hello
 is_unreadable (Opens o) = is_none o.security
 is_unreadable other = false
 
--- a HEL whose URL has 4096 octets or more
+-- a HEL whose URL has 4096 bytes or more
 abbrev pub has_long_url : Content → Bool
 has_long_url (Greets hello) = is_so is_url_long hello
 has_long_url other = false
@@ -56,7 +59,7 @@ abbrev pub has_small_buffer : Content → Bool
 has_small_buffer (Greets hello) = is_so is_buffer_small hello
 has_small_buffer other = false
 
--- an OPN whose sequence header or body does not read
+-- an OPN whose sequence header or body cannot be decoded
 abbrev pub is_opening_unreadable : Content → Bool
 is_opening_unreadable (Opens o) = is_none (request_of o)
 is_opening_unreadable other = false
@@ -78,7 +81,7 @@ is_on_other_channel channel before (Sends c) = not (c.channel == channel)
 is_on_other_channel channel before (Closes c) = not (c.channel == channel)
 is_on_other_channel channel before other = false
 
--- a MSG or a CLO under a token that is not taken
+-- a MSG or a CLO under a token that is not accepted
 abbrev pub has_other_token : Received → Content → Bool
 has_other_token before (Sends c) = not (is_taken before c.token)
 has_other_token before (Closes c) = not (is_taken before c.token)
@@ -89,10 +92,12 @@ abbrev pub has_no_token_left : Received → Content → Bool
 has_no_token_left before (Opens o) = issued before == 4294967295
 has_no_token_left before other = false
 
--- why a server with these limits, on this channel, refuses a frame that carries this after what was received, in the order in which it
--- is judged: Bad_DecodingError, Bad_TcpEndpointUrlInvalid, Bad_TcpNotEnoughResources, Bad_SecurityPolicyRejected, Bad_DecodingError,
--- Bad_RequestTypeInvalid, Bad_SecurityModeRejected, Bad_TcpSecureChannelUnknown, Bad_SecureChannelTokenUnknown,
--- Bad_SequenceNumberInvalid, Bad_DecodingError, Bad_TcpNotEnoughResources, Bad_RequestTooLarge twice, Bad_TcpNotEnoughResources
+-- why a server with these limits, on this channel, rejects a frame with this content after what was
+-- received, in the order in which it is judged: Bad_DecodingError, Bad_TcpEndpointUrlInvalid,
+-- Bad_TcpNotEnoughResources, Bad_SecurityPolicyRejected, Bad_DecodingError, Bad_RequestTypeInvalid,
+-- Bad_SecurityModeRejected, Bad_TcpSecureChannelUnknown, Bad_SecureChannelTokenUnknown,
+-- Bad_SequenceNumberInvalid, Bad_DecodingError, Bad_TcpNotEnoughResources, Bad_RequestTooLarge
+-- twice, Bad_TcpNotEnoughResources
 abbrev pub server_reasons : Limits → ℕ → Received → Content → List (ℕ × Bool)
 server_reasons limits channel before c =
     (0x8007_0000, is_unreadable c)

@@ -1,4 +1,5 @@
--- The rules of a server: which frames come next, which are refused, what they tell, and which is the last.
+-- The rules of a server: which frames come next, which are rejected, what they tell, and which is
+-- the last.
 use Rattle.std.specs.Prelude.{ℕ, ◌==◌, if◌then◌else◌, Option, Some, None}
 use Rattle.ua_frame.specs.declared.gate.Gate.{Gate}
 use Rattle.ua_frame.specs.declared.hello.Hello.{Hello}
@@ -13,16 +14,17 @@ use Rattle.ua_channel.specs.Received.{Received, received}
 use Rattle.ua_channel.specs.ServerRefusals.{server_reasons}
 use Rattle.ua_channel.specs.ServerTold.{Told, issued, server_tells}
 
--- the largest frame that a server with these limits takes: 8192 octets before the ACK, then the agreed size (OPC 10000-6, 7.1.2.3)
+-- the largest frame that a server with these limits takes: 8192 bytes before the ACK, then the
+-- agreed size (OPC 10000-6, 7.1.2.3)
 abbrev pub receive_size : Limits → Option Hello → ℕ
 receive_size limits None = 8192
 receive_size limits (Some h) = (ack_to h limits).receive_buffer_size
 
--- OPN frames of at most so many octets
+-- OPN frames of at most this many bytes
 abbrev pub opening_gate : ℕ → Gate
 opening_gate size = gate_with (closed_gate size) Opn
 
--- OPN, MSG and CLO frames of at most so many octets
+-- OPN, MSG and CLO frames of at most this many bytes
 abbrev pub running_gate : ℕ → Gate
 running_gate size = gate_with (gate_with (gate_with (closed_gate size) Opn) Msg) Clo
 
@@ -39,7 +41,8 @@ server_gate_behind limits (Some h) count = gate_greeted (receive_size limits (So
 abbrev pub server_gate : Limits → Received → Gate
 server_gate limits before = server_gate_behind limits before.hello (issued before)
 
--- the rules of a server with these limits on this channel; a CLO is the last frame that is looked at
+-- the rules of a server with these limits on this channel; a CLO is the last frame that is looked
+-- at
 abbrev pub server_rules : Limits → ℕ → Rules Told ℕ
 server_rules limits channel = record {
   gate = λ before. server_gate limits (received before);

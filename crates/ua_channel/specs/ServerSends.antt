@@ -24,7 +24,8 @@ use Rattle.ua_channel.specs.ServerTold.{Told, Agreed, Opened}
 
 -- ---- at the opening
 
--- the OPN frame on a channel with this sequence number, request id and body, under the policy None (OPC 10000-6, 6.7.2)
+-- the OPN frame on a channel with this SequenceNumber, RequestId and body, under the policy None
+-- (OPC 10000-6, 6.7.2)
 abbrev pub opening_frame : ℕ → ℕ → ℕ → List ℕ → Frame
 opening_frame channel number id body = record {
   kind = Opn;
@@ -32,38 +33,40 @@ opening_frame channel number id body = record {
   body = policy_header.canonical (channel, (Some none_policy, (None, None))) ++ (sequence_header.canonical (number, id) ++ body);
 }
 
--- the OPN frame that answers under this request id: its token and lifetime, made at the moment, without a nonce (OPC 10000-4, 5.6.2)
+-- the OPN frame of the response under this RequestId: its token and lifetime, created at this time,
+-- without a nonce (OPC 10000-4, 5.6.2)
 abbrev pub opened_frame : ℕ → ℕ → ℕ → ℕ → ℕ → ℕ → DateTime → Frame
 opened_frame channel number id handle token lifetime moment =
     opening_frame channel number id ((message 449 open_response).canonical (open_response_of moment handle channel token lifetime))
 
--- the octets that are sent at what a frame told: an ACK, or the OPN frame of an answer
+-- the bytes that are sent for what a frame told: an ACK, or the OPN frame of a response
 abbrev pub AreSent : ℕ → ℕ → DateTime → Told → List ℕ → Type 0
 AreSent channel number moment (Agreed a) octets = octets ≡ frame_octets (ack_frame a.ack)
 AreSent channel number moment (Opened id handle token lifetime) octets = octets ≡ frame_octets (opened_frame channel number id handle token lifetime moment)
 AreSent channel number moment other octets = ⊥
 
--- the number of the next chunk behind what is sent at this
+-- the number of the next chunk after what is sent for this
 abbrev pub counted_by : Told → ℕ → ℕ
 counted_by (Opened id handle token lifetime) number = next_number number
 counted_by other number = number
 
 -- ---- replies
 
--- the octets of a reply, and the number behind them: the chunks of its body, or where the client takes no such body one abort with the
--- code Bad_ResponseTooLarge (OPC 10000-6, 6.7.3)
+-- the bytes of a reply, and the number after them: the chunks of its body, or if the client takes
+-- no such body one abort with the code Bad_ResponseTooLarge (OPC 10000-6, 6.7.3)
 abbrev pub replied_by : Option CutFault → Lane → List ℕ → ℕ → ℕ → List ℕ × ℕ
 replied_by None lane body number id = (chunks_octets (chunks_of lane body number id), number_after number (pieces lane.room body))
 replied_by (Some fault) lane body number id = (frame_octets (frame_of (abort_chunk lane number id (of_code 0x80B9_0000))), next_number number)
 
--- the octets of a reply with this body, number and request id, and the number behind them
+-- the bytes of a reply with this body, SequenceNumber and RequestId, and the number after them
 abbrev pub replied : Lane → List ℕ → ℕ → ℕ → List ℕ × ℕ
 replied lane body number id = replied_by (cut_refusal lane body) lane body number id
 
--- a reply is these octets, and the number behind them is this
+-- a reply is these bytes, and the number after them is this
 abbrev pub IsReply : Lane → List ℕ → ℕ → ℕ → List ℕ → ℕ → Type 0
 IsReply lane body number id octets next = (octets ≡ (replied lane body number id).0) × (next ≡ (replied lane body number id).1)
 
--- where replies go at a server with these limits on this channel, once a client said a Hello: under the last token that it used
+-- the lane of replies of a server with these limits on this channel, once a client sent a Hello:
+-- under the last token that it used
 abbrev pub RepliesGo : Limits → ℕ → Received → Lane → Type 0
 RepliesGo limits channel before lane = (h : Hello) × (before.hello ≡ Some h) × (lane ≡ lane_of channel (last_used before) (agreement_of limits h))

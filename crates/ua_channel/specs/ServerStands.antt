@@ -1,4 +1,4 @@
--- Where a server's channel stands after octets.
+-- The state of a server's channel after bytes.
 use Rattle.std.specs.Prelude.{◌≡◌, ℕ, ◌+◌, ◌*◌, length, false, List, Option, Some, None, ◌<◌, ◌≤◌}
 use Rattle.ua_frame.specs.declared.frame.Frame.{Frame}
 use Rattle.ua_frame.specs.declared.hello.Hello.{Hello}
@@ -23,21 +23,21 @@ use Rattle.ua_chunk.specs.Assembling as assembling
 
 -- ---- what is held
 
--- the most octets that are held of a client that said this Hello, if it did: of a frame that is not whole 8192 before the ACK, then
--- the agreed size, and 4 unfinished messages of the greatest size
+-- the most bytes that are held of a client that sent this Hello, if it did: of an incomplete frame
+-- 8192 before the ACK, then the agreed size, and 4 unfinished messages of the greatest size
 abbrev pub bound_behind : Limits → Option Hello → ℕ
 bound_behind limits None = 8192
 bound_behind limits (Some h) = receive_size limits (Some h) + 4 * limits.max_message_size
 
--- the most octets that a server with these limits holds, after what was received
+-- the most bytes that a server with these limits holds, after what was received
 abbrev pub bound_after : Limits → Received → ℕ
 bound_after limits before = bound_behind limits before.hello
 
--- how many octets are held: those of a frame that is not whole, and those of unfinished messages
+-- how many bytes are held: those of an incomplete frame, and those of unfinished messages
 abbrev pub held_after : Received → List ℕ → ℕ
 held_after before rest = length rest + open_octets before.messages
 
--- an open channel of a server with these limits stands where this was received
+-- the state of an open channel of a server with these limits is that after what was received
 pub record Stays (limits : Limits) (r : Running) (before : Received) : Type 0 where
   pub hello : Hello
   pub hello_is : before.hello ≡ Some hello
@@ -52,7 +52,7 @@ pub record Stays (limits : Limits) (r : Running) (before : Received) : Type 0 wh
   pub chunks : chunk_limit r.assembler ≡ limits.max_chunk_count
   pub goes_on : before.closed ≡ false
 
--- a server with these limits agreed to this where this was received, and has no OPN yet
+-- a server with these limits agreed to this after what was received, and has no OPN yet
 pub record HasGreeted (limits : Limits) (a : Agreement) (before : Received) : Type 0 where
   pub hello : Hello
   pub before_is : before ≡ record nothing_received { hello = Some hello }
@@ -61,14 +61,15 @@ pub record HasGreeted (limits : Limits) (a : Agreement) (before : Received) : Ty
 
 -- ---- phases
 
--- a phase is that of a server with these limits where this was received
+-- a phase is that of a server with these limits after what was received
 abbrev pub InServerPhase : Limits → Phase → Received → Type 0
 InServerPhase limits Waiting before = before ≡ nothing_received
 InServerPhase limits (Greeted a) before = HasGreeted limits a before
 InServerPhase limits (Open r) before = Stays limits r before
 InServerPhase limits Done before = ⊥
 
--- a server, as an end of a connection: frames are judged by those before them alone, and no client refuses
+-- a server, as an end of a connection: frames are judged by those before them alone, and no client
+-- rejects
 abbrev pub server_side : Side ServerRules Phase Event
 server_side = record {
   Key = Unit {0};
@@ -98,7 +99,7 @@ HasNoToken Done = Unit {0}
 abbrev pub limits_of : ServerChannel → Limits
 limits_of x = x.end.rules.limits
 
--- the id of a server's channel
+-- the SecureChannelId of a server's channel
 abbrev pub channel_of : ServerChannel → ℕ
 channel_of x = x.end.rules.channel
 
@@ -106,7 +107,7 @@ channel_of x = x.end.rules.channel
 abbrev pub next_of : ServerChannel → ℕ
 next_of x = x.end.numbers.next
 
--- the most octets that a server's channel holds
+-- the most bytes that a server's channel holds
 abbrev pub bound_of : ServerChannel → ℕ
 bound_of x = x.end.bound
 
@@ -118,7 +119,8 @@ IsWithoutToken x = HasNoToken x.end.phase
 abbrev pub rules_of : ServerChannel → Rules Told ℕ
 rules_of x = server_rules (limits_of x) (channel_of x)
 
--- a channel is where these octets leave it: these are their frames, and this is the rest, of a frame that is not whole
+-- the state of a channel is that after these bytes: these are their frames, and this is the rest,
+-- of an incomplete frame
 abbrev pub ChannelStands : ServerChannel → List ℕ → List Frame → List ℕ → Type 0
 ChannelStands x octets frames rest = EndStands server_side x.end tt octets frames rest
 
@@ -126,26 +128,27 @@ ChannelStands x octets frames rest = EndStands server_side x.end tt octets frame
 abbrev pub IsDone : ServerChannel → Type 0
 IsDone x = EndDone server_side x.end
 
--- it goes on after these octets, whose frames told this
+-- the channel goes on after these bytes, whose frames told this
 abbrev pub Goes : ServerChannel → List ℕ → List Told → Type 0
 Goes x octets told = EndGoes server_side x.end tt octets told
 
--- it goes on after these octets, of which the last octet is that of a frame that tells this, after what the frames before it told
+-- the channel goes on after these bytes, of which the last byte is that of a frame that tells this,
+-- after what the frames before it told
 abbrev pub GoesTelling : ServerChannel → List ℕ → List Told → Told → Type 0
 GoesTelling x octets told e = EndTells server_side x.end tt octets told e
 
--- it goes on after these octets, of which the last frame ends a message in these parts
+-- the channel goes on after these bytes, of which the last frame ends a message in these parts
 abbrev pub EndsMessage : ServerChannel → List ℕ → List (List ℕ) → Type 0
 EndsMessage x octets parts = EndMessage server_side x.end tt octets parts
 
--- it closed at the last octet of these, that of a CLO, and its frames told this
+-- the channel closed at the last byte of these, that of a CLO, and its frames told this
 abbrev pub ClosedAt : ServerChannel → List ℕ → List Told → Type 0
 ClosedAt x octets told = EndOver server_side x.end tt octets told
 
--- memory was refused where these octets end, behind the good frames that told this
+-- an allocation failed at the end of these bytes, after the good frames that told this
 abbrev pub StarvedAt : ServerChannel → List ℕ → List Told → Type 0
 StarvedAt x octets told = EndStarves server_side x.end tt octets told
 
--- it refused with this code what stands behind the good frames of these octets
+-- the channel rejected with this code what follows the good frames of these bytes
 abbrev pub RefusedAt : ServerChannel → List ℕ → List Told → ℕ → Type 0
 RefusedAt x octets told code = EndStops server_side x.end tt octets told code

@@ -16,27 +16,30 @@ use Rattle.ua_channel.specs.Received.{Received}
 pub data Told : Type 0 where
   -- a Hello that is agreed to: the ACK is to be sent
   Agreed : (agreement : Agreement) → Told
-  -- a token is issued: the OPN response is to be sent, under this request id, with this RequestHandle, token and lifetime
+  -- a token is issued: the OPN response is to be sent, under this RequestId, with this
+  -- RequestHandle, token and lifetime
   Opened : (id handle token lifetime : ℕ) → Told
-  -- a whole message under this request id; its last chunk used this token, under which a reply at this place goes out
+  -- a whole message under this RequestId; its last chunk used this token, under which a reply at
+  -- this place is sent
   Asked : (id token : ℕ) (octets : List ℕ) → Told
-  -- a message that its sender gave up
+  -- a message that its sender aborted
   GaveUp : (id : ℕ) → Told
   -- the channel is closed
   Closed : Told
 
 -- ---- OPN
 
--- the OpenSecureChannel request behind a sequence header, where that reads
+-- the OpenSecureChannel request after a sequence header, if that can be decoded
 abbrev pub request_behind : Option (ℕ × ℕ) → List ℕ → Option OpenRequest
 request_behind None body = None
 request_behind (Some numbers) body = body_of (message 446 open_request) body
 
--- the OpenSecureChannel request that an OPN carries, if its headers and its body read
+-- the OpenSecureChannel request that an OPN carries, if its headers and its body can be decoded
 unfoldable pub request_of : Opening → Option OpenRequest
 request_of o = request_behind o.numbers o.body
 
--- the lifetime of a token, in milliseconds: the one that was asked for, an hour where that is 0 (OPC 10000-4, 5.6.2)
+-- the lifetime of a token, in milliseconds: the requested one, an hour if that is 0 (OPC 10000-4,
+-- 5.6.2)
 abbrev pub lifetime_for : ℕ → ℕ
 lifetime_for asked = if asked == 0 then 3600000 else asked
 
@@ -58,7 +61,7 @@ told_under token (Aborted id code reason) = GaveUp id
 
 -- ---- any frame
 
--- what a frame that carries this tells a server with these limits, after what was received
+-- what a frame with this content tells a server with these limits, after what was received
 abbrev pub server_tells : Limits → Received → Content → List Told
 server_tells limits before (Greets (Some h)) = Agreed (agreement_of limits h) ∷ []
 server_tells limits before (Opens o) = opened_by (issued before + 1) o.numbers (request_of o)

@@ -1,4 +1,5 @@
--- What the parts of both ends make of asks, frames and pieces: words that only contracts within this crate cite.
+-- What the parts of both ends make of operations, frames and fragments: definitions that only
+-- contracts within this crate cite.
 pub mod StepFaults
 pub mod Parts
 pub mod Ends

@@ -1,4 +1,4 @@
--- What a server answers to calls and renewals that are unanswered, in the order in which it answers.
+-- The server's responses to unanswered calls and renewals, in the order in which it answers.
 use Rattle.std.specs.Prelude.{◌≡◌, ℕ, ◌<◌, ◌^◌, ◌++◌, List, [], ◌∷◌, length, IsTrue, IsFalse}
 use Rattle.ua_builtin.specs.DateTime.{date_time}
 use Rattle.ua_builtin.specs.declared.date_time.DateTime.{DateTime}
@@ -11,32 +11,33 @@ use Rattle.ua_channel_laws.specs.ClientReads.{AtClient, told_reply, with_answer,
 use Rattle.ua_channel.specs.ClientTold.{ClientTold, Renewed}
 use Rattle.ua_channel.specs.ServerSends.{opened_frame, replied}
 
--- the reply with this body to the call of this request id; or the OPN response to the renewal of this request id, with this RequestHandle,
--- token and lifetime, made at this moment
+-- the reply with this body to the call of this RequestId; or the OPN response to the renewal of
+-- this RequestId, with this RequestHandle, token and lifetime, created at this time
 pub data Answer : Type 0 where
   ReplyTo : (id : ℕ) (body : List ℕ) → Answer
   TokenFor : (id handle token lifetime : ℕ) (moment : DateTime) → Answer
 
--- ---- the octets, where replies go in this lane, with this sequence number next
+-- ---- the bytes, where replies go in this lane, with this SequenceNumber next
 
--- of one: the chunks of a reply, or the abort in its place where the client takes no such body; the OPN response
+-- the bytes of one: the chunks of a reply, or the abort in its place if the client takes no such
+-- body; the OPN response
 abbrev pub answer_octets : Lane → ℕ → Answer → List ℕ
 answer_octets lane number (ReplyTo id body) = (replied lane body number id).0
 answer_octets lane number (TokenFor id handle token lifetime moment) = frame_octets (opened_frame lane.channel number id handle token lifetime moment)
 
--- the sequence number behind it
+-- the SequenceNumber after it
 abbrev pub number_answered : Lane → ℕ → Answer → ℕ
 number_answered lane number (ReplyTo id body) = (replied lane body number id).1
 number_answered lane number (TokenFor id handle token lifetime moment) = next_number number
 
--- of all in order, numbered on
+-- the bytes of all in order, numbered consecutively
 abbrev pub answers_octets : Lane → ℕ → List Answer → List ℕ
 answers_octets lane number [] = []
 answers_octets lane number (a ∷ answers) = answer_octets lane number a ++ answers_octets lane (number_answered lane number a) answers
 
 -- ---- what they tell a client
 
--- each call its own reply, or that it was given up; a renewal its token
+-- each call is told its own reply, or that it was aborted; a renewal its token
 abbrev pub answer_told : Lane → Answer → ClientTold
 answer_told lane (ReplyTo id body) = told_reply (cut_refusal lane body) id body
 answer_told lane (TokenFor id handle token lifetime moment) = Renewed token
@@ -46,19 +47,19 @@ abbrev pub answers_told : Lane → List Answer → List ClientTold
 answers_told lane [] = []
 answers_told lane (a ∷ answers) = answer_told lane a ∷ answers_told lane answers
 
--- where the client is behind one
+-- the state of the client after one
 abbrev pub client_answered : Lane → AtClient → Answer → AtClient
 client_answered lane at (ReplyTo id body) = with_reply at lane.token id (replied lane body at.next id).1
 client_answered lane at (TokenFor id handle token lifetime moment) = with_answer at token (next_number at.next)
 
--- and behind all of them
+-- and after all of them
 abbrev pub client_answered_all : Lane → AtClient → List Answer → AtClient
 client_answered_all lane at [] = at
 client_answered_all lane at (a ∷ answers) = client_answered_all lane (client_answered lane at a) answers
 
 -- ---- which answers a server may give
 
--- this request id, RequestHandle, token, lifetime and moment can be written
+-- this RequestId, RequestHandle, token, lifetime and time can be encoded
 pub record CanIssue (id handle token lifetime : ℕ) (moment : DateTime) : Type 0 where
   pub id_small : id < 2 ^ 32
   pub handle_small : handle < 2 ^ 32
@@ -66,13 +67,14 @@ pub record CanIssue (id handle token lifetime : ℕ) (moment : DateTime) : Type 
   pub lifetime_small : lifetime < 2 ^ 32
   pub moment_fits : IsTrue (date_time.encodable moment)
 
--- one: the call is unanswered, its request id can be written, and the reply has octets; the renewal is the one that is unanswered, the client
--- does not hold the token, and what the response says can be written
+-- one: the call is unanswered, its RequestId can be encoded, and the reply has bytes; the renewal
+-- is the one that is unanswered, the client does not hold the token, and the content of the
+-- response can be encoded
 abbrev pub IsAnswerTo : AtClient → Answer → Type 0
 IsAnswerTo at (ReplyTo id body) = IsTrue (is_in id at.pending) × (id < 2 ^ 32) × (0 < length body)
 IsAnswerTo at (TokenFor id handle token lifetime moment) = (at.renewals ≡ id ∷ []) × IsFalse (is_in token at.tokens) × CanIssue id handle token lifetime moment
 
--- all in order, each where the client is behind those before it
+-- all in order, each in the state of the client after those before it
 abbrev pub AreAnswersTo : Lane → AtClient → List Answer → Type 0
 AreAnswersTo lane at [] = Unit {0}
 AreAnswersTo lane at (a ∷ answers) = IsAnswerTo at a × AreAnswersTo lane (client_answered lane at a) answers

@@ -1,8 +1,9 @@
--- Asks that were made earlier.
+-- Client operations at earlier places.
 use Rattle.std.specs.Prelude.{◌≡◌, ◌≤◌, List, [], ◌∷◌}
 use Rattle.ua_channel.specs.Asks.{Placed}
 
--- the first list has the asks of the second, in their order, each at its place or at an earlier one
+-- the first list has the operations of the second, in their order, each at its place or at an
+-- earlier one
 abbrev pub AreEarlier : List Placed → List Placed → Type 0
 AreEarlier [] [] = Unit {0}
 AreEarlier [] (b ∷ asks) = ⊥

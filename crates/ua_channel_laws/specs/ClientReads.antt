@@ -1,4 +1,4 @@
--- What a client reads of a server that keeps to the protocol, one message after the other.
+-- What a client decodes of a server that keeps to the protocol, one message after the other.
 use Rattle.std.specs.Prelude.{◌≡◌, ◌<◌, ◌≤◌, ◌+◌, ◌^◌, ◌==◌, ◌++◌, ◌∷◌, ℕ, List, [], IsTrue, Option, Some, None, not, length}
 use Rattle.std.specs.List.{AllByRecursion, filter}
 use Rattle.ua_builtin.specs.DateTime.{date_time}
@@ -22,7 +22,7 @@ use Rattle.ua_channel.specs.Received.{latest, nothing_received, received}
 
 -- ---- where a client is
 
--- a client with these limits reads these octets as an ACK that it agrees to, and was told this
+-- a client with these limits decodes these bytes as an ACK that it agrees to, and was told this
 pub record ClientAgrees (limits : Limits) (octets : List ℕ) (told : List ClientTold) (ack : Ack) : Type 0 where
   pub frames : List Frame
   pub run : Run (client_rules limits []) octets frames [] Going
@@ -31,7 +31,7 @@ pub record ClientAgrees (limits : Limits) (octets : List ℕ) (told : List Clien
   pub large : 8192 ≤ ack.send_buffer_size
   pub sized : ack.send_buffer_size < 2 ^ 32
 
--- where a client is between two messages of its server
+-- the state of a client between two messages of its server
 pub record AtClient : Type 0 where
   -- what the server acknowledged
   pub ack : Ack
@@ -41,15 +41,15 @@ pub record AtClient : Type 0 where
   pub tokens : List ℕ
   -- the newest of them, under which calls go
   pub newest : ℕ
-  -- the calls that are unanswered, by their request ids
+  -- the calls that are unanswered, by their RequestIds
   pub pending : List ℕ
-  -- the renewals that are unanswered, by their request ids
+  -- the renewals that are unanswered, by their RequestIds
   pub renewals : List ℕ
   -- the number of the next chunk
   pub next : ℕ
 
--- a client with these limits, that asked so, reads these octets as whole frames that are good, with no message unfinished behind them;
--- they told it this, and then it is here
+-- a client with these limits and operations decodes these bytes as whole frames that are good, with
+-- no message unfinished after them; they told it this, and then it has this state
 pub record ClientReads (limits : Limits) (asks : List Placed) (octets : List ℕ) (told : List ClientTold) (at : AtClient) : Type 0 where
   pub frames : List Frame
   pub run : Run (client_rules limits asks) octets frames [] Going
@@ -72,13 +72,15 @@ pub record ClientReads (limits : Limits) (asks : List Placed) (octets : List ℕ
 
 -- ---- what the client sends there
 
--- where its calls go: on the channel, under the newest token, in frames of the size that the server receives, within the server's limits
+-- the lane of its calls: on the channel, under the newest token, in frames of the size that the
+-- server receives, within the server's limits
 abbrev pub lane_from : AtClient → Lane
 lane_from at = call_lane at.ack at.channel at.newest
 
 -- ---- what a server may send next
 
--- a lane to the client: on its channel, under a token that it holds, in frames that it takes, within its limits of messages
+-- a lane to the client: on its channel, under a token that it holds, in frames that it takes,
+-- within its limits of messages
 pub record IsLaneBack (limits : Limits) (at : AtClient) (lane : Lane) : Type 0 where
   pub on : lane.channel ≡ at.channel
   pub held : IsTrue (is_in lane.token at.tokens)
@@ -89,8 +91,8 @@ pub record IsLaneBack (limits : Limits) (at : AtClient) (lane : Lane) : Type 0 w
   pub octets : lane.octets ≡ limits.max_message_size
   pub chunks : lane.chunks ≡ limits.max_chunk_count
 
--- an OPN response that can be written: on this channel, with this number and request id, this RequestHandle, token and lifetime, made at
--- this moment
+-- an OPN response that can be encoded: on this channel, with this SequenceNumber and RequestId,
+-- this RequestHandle, token and lifetime, created at this time
 pub record IsAnswered (channel number id handle token lifetime : ℕ) (moment : DateTime) : Type 0 where
   pub channel_small : channel < 2 ^ 32
   pub number_small : number ≤ 4294966272
@@ -100,34 +102,34 @@ pub record IsAnswered (channel number id handle token lifetime : ℕ) (moment : 
   pub lifetime_small : lifetime < 2 ^ 32
   pub moment_fits : IsTrue (date_time.encodable moment)
 
--- what a reply of this body under this request id tells, by why its body is not cut, if it is not: the reply, or that it was given up
--- with Bad_ResponseTooLarge
+-- what a reply with this body under this RequestId tells, given the reason why its body is not
+-- split, if there is one: the reply, or that it was aborted with Bad_ResponseTooLarge
 abbrev pub told_reply : Option CutFault → ℕ → List ℕ → ClientTold
 told_reply None id body = told.Answered id body
 told_reply (Some fault) id body = told.GaveUp id (of_code 0x80B9_0000)
 
 -- ---- where the client then is
 
--- behind the first OPN response, with this number next
+-- after the first OPN response, with this number next
 abbrev pub opened_at : Ack → ℕ → ℕ → ℕ → AtClient
 opened_at a channel token next = record { ack = a; channel = channel; tokens = token ∷ []; newest = token; pending = []; renewals = []; next = next }
 
--- the others of these request ids
+-- the others of these RequestIds
 abbrev pub without_id : ℕ → List ℕ → List ℕ
 without_id id ids = filter (λ (j : ℕ). not (j == id)) ids
 
--- with a call more that is unanswered
+-- with one more call that is unanswered
 abbrev pub with_call : AtClient → ℕ → AtClient
 with_call at id = record at { pending = at.pending ++ id ∷ [] }
 
--- with a renewal more that is unanswered
+-- with one more renewal that is unanswered
 abbrev pub with_renewal : AtClient → ℕ → AtClient
 with_renewal at id = record at { renewals = at.renewals ++ id ∷ [] }
 
--- behind a reply under this token to this call, with this number next
+-- after a reply under this token to this call, with this number next
 abbrev pub with_reply : AtClient → ℕ → ℕ → ℕ → AtClient
 with_reply at token id next = record at { tokens = from_last token at.tokens; pending = without_id id at.pending; next = next }
 
--- behind the answer to the one renewal, which brings this token, with this number next
+-- after the response to the one renewal, which brings this token, with this number next
 abbrev pub with_answer : AtClient → ℕ → ℕ → AtClient
 with_answer at token next = record at { tokens = at.tokens ++ token ∷ []; newest = token; renewals = []; next = next }

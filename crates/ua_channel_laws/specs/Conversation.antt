@@ -1,4 +1,5 @@
--- Conversations: the frames that one end may receive of another that keeps to the protocol, or the beginning of them.
+-- Conversations: the frames (UA TCP messages) that one end may receive of another that keeps to the
+-- protocol, or the beginning of them.
 use Rattle.std.specs.Prelude.{◌⊎◌, ◌≡◌, ◌≤◌, ◌==◌, ◌||◌, ◌++◌, ℕ, pos, List, [], ◌∷◌, Option, Some, None, IsTrue, IsFalse, true, false, length, map}
 use Rattle.std.specs.List.{AllByRecursion}
 use Rattle.std.specs.Ordering.{int_eq}
@@ -27,7 +28,8 @@ use Rattle.ua_channel.specs.ServerTold.{issued, request_of}
 
 -- ---- frames of any conversation
 
--- a frame as its header says: a size that it can name, no less than the least of the kind, and a flag of the kind
+-- a frame as its header tells: a size that the header can name, at least the minimum of the kind,
+-- and a flag of the kind
 pub record IsFramed (f : Frame) : Type 0 where
   pub sized : IsSized f
   pub flag : IsTrue (has_flag f.kind f.flag)
@@ -38,8 +40,9 @@ abbrev pub AreOrdered : Option ℕ → List ℕ → Type 0
 AreOrdered last [] = Unit {0}
 AreOrdered last (n ∷ ns) = IsTrue (may_follow last n) × AreOrdered (Some n) ns
 
--- messages within these limits: each abort reads, at most 4 messages are unfinished at a time, and what has come of a message has no more
--- octets and no more chunks than the limits say; an abort counts for neither
+-- messages within these limits: each abort can be decoded, at most 4 messages are unfinished at a
+-- time, and what came of a message has no more bytes and no more chunks than the limits allow; an
+-- abort counts for neither
 pub record FitMessages (limits : Limits) (cs : List Chunk) : Type 0 where
   pub aborts_read : AllByRecursion (λ (c : Chunk). c.flag ≡ A → IsTrue (is_readable_abort c.body)) cs
   pub few_open : FewOpen [] cs
@@ -48,7 +51,7 @@ pub record FitMessages (limits : Limits) (cs : List Chunk) : Type 0 where
 
 -- ---- what comes at a server
 
--- behind the first OPN come OPNs and MSGs, and a CLO is the last; of octets each MSG and CLO carries a chunk
+-- after the first OPN come OPNs and MSGs, and a CLO is the last; each MSG and CLO carries a chunk
 abbrev pub IsOrderOpen : List Content → Type 0
 IsOrderOpen [] = Unit {0}
 IsOrderOpen (Opens o ∷ cs) = IsOrderOpen cs
@@ -57,7 +60,7 @@ IsOrderOpen (Closes c ∷ cs) = cs ≡ []
 IsOrderOpen (Nothing ∷ cs) = IsOrderOpen cs
 IsOrderOpen (other ∷ cs) = ⊥
 
--- behind the HEL comes an OPN
+-- after the HEL comes an OPN
 abbrev pub IsOrderGreeted : List Content → Type 0
 IsOrderGreeted [] = Unit {0}
 IsOrderGreeted (Opens o ∷ cs) = IsOrderOpen cs
@@ -69,15 +72,17 @@ IsServerOrder [] = Unit {0}
 IsServerOrder (Greets hello ∷ cs) = IsOrderGreeted cs
 IsServerOrder (other ∷ cs) = ⊥
 
--- a Hello that a server agrees to: its URL has fewer than 4096 octets, and both its sizes are at least 8192
+-- a Hello that a server agrees to: its URL has fewer than 4096 bytes, and both its sizes are at
+-- least 8192
 pub record IsGoodHello (hello : Option Hello) : Type 0 where
   pub said : Hello
   pub reads : hello ≡ Some said
   pub url : IsFalse (is_url_long said)
   pub sizes : IsFalse (is_buffer_small said)
 
--- an opening on this channel where so many tokens were issued: under the policy None, with a request that reads, of the type Issue first
--- and Renew then, of the mode None, a later one on the channel, and there is a token left
+-- an OPN on this channel after this many tokens were issued: under the policy None, with a request
+-- that can be decoded, of the type Issue first and Renew then, of the mode None, a later one on the
+-- channel, and there is a token left
 pub record IsGoodRequest (channel count : ℕ) (o : Opening) : Type 0 where
   pub header : SecurityHeader
   pub security_is : o.security ≡ Some header
@@ -89,12 +94,13 @@ pub record IsGoodRequest (channel count : ℕ) (o : Opening) : Type 0 where
   pub on : IsTrue (count == 0 || channel_of header == channel)
   pub left : IsFalse (count == 4294967295)
 
--- a chunk of a message or of the close: on this channel, under a token that is taken at its place
+-- a chunk of a message or of the close: on this channel, under a token that is accepted at its
+-- place
 pub record IsGoodChunk (channel : ℕ) (before : Received) (c : Chunk) : Type 0 where
   pub on : IsTrue (c.channel == channel)
   pub taken : IsTrue (is_taken before c.token)
 
--- what a frame that comes behind these may carry, but for its number and its message
+-- what a frame that comes after these may carry, apart from its SequenceNumber and its message
 abbrev pub MayCarry : ℕ → Received → Content → Type 0
 MayCarry channel before (Greets hello) = IsGoodHello hello
 MayCarry channel before (Opens o) = IsGoodRequest channel (issued before) o
@@ -106,33 +112,37 @@ MayCarry channel before other = Unit {0}
 pub record ServerConversation (limits : Limits) (channel : ℕ) (frames : List Frame) : Type 0 where
   -- a HEL, an OPN, then OPNs and MSGs, and at most one CLO, the last
   pub order : IsServerOrder (map content frames)
-  -- each frame is as its header says
+  -- each frame is as its header tells
   pub framed : AllByRecursion IsFramed frames
-  -- none is larger than what the server receives at its place
+  -- none is larger than the server receives at its place
   pub fits : AllAfter (λ before f. frame_size f ≤ receive_size limits (received before).hello) frames
-  -- the Hello agrees, each opening is good, and each chunk has this channel and a token that is taken
+  -- the Hello is acceptable, each OPN is good, and each chunk has this channel and a token that is
+  -- accepted
   pub carries : AllAfter (λ before f. MayCarry channel (received before) (content f)) frames
   -- all numbers are in order
   pub ordered : AreOrdered None (numbers frames)
-  -- the messages are within the limits, at most 4 of them unfinished at a time, and each abort reads
+  -- the messages are within the limits, at most 4 of them unfinished at a time, and each abort can
+  -- be decoded
   pub messages_fit : FitMessages limits (messages frames)
 
--- ---- octets without a wrong frame
+-- ---- bytes without a wrong frame
 
--- these octets are the frames of a conversation that goes on, and behind them less than a frame, with nothing wrong in its header
+-- these bytes are the frames of a conversation that goes on, and after them less than a frame, with
+-- nothing wrong in its header
 pub record Continues (limits : Limits) (channel : ℕ) (octets : List ℕ) (frames : List Frame) (rest : List ℕ) : Type 0 where
   pub whole : octets ≡ frames_octets frames ++ rest
   pub converses : ServerConversation limits channel frames
   pub goes_on : (received frames).closed ≡ false
   pub partial : IsPartial (server_gate limits (received frames)) rest
 
--- these octets are the frames of a conversation that a CLO ends, and any octets behind them
+-- these bytes are the frames of a conversation that a CLO ends, and any bytes after them
 pub record HasEnded (limits : Limits) (channel : ℕ) (octets : List ℕ) (frames : List Frame) (rest : List ℕ) : Type 0 where
   pub whole : octets ≡ frames_octets frames ++ rest
   pub converses : ServerConversation limits channel frames
   pub closed : (received frames).closed ≡ true
 
--- these octets are a conversation at a server with these limits on this channel, or the beginning of one: it goes on, or a CLO ended it
+-- these bytes are a conversation at a server with these limits on this channel, or the beginning of
+-- one: it goes on, or a CLO ended it
 pub record IsConversation (limits : Limits) (channel : ℕ) (octets : List ℕ) : Type 0 where
   pub frames : List Frame
   pub rest : List ℕ

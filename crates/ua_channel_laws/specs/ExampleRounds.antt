@@ -1,4 +1,5 @@
--- Rounds that there may be, of a server and a client with the least limits, on the channel 7 and without a URL.
+-- Example rounds of a server and a client with the least limits, on the channel 7 and without a
+-- URL.
 use Rattle.std.specs.Prelude.{List, [], ◌∷◌, None}
 use Rattle.std.proofs.Math.Nat.{le_refl}
 use Rattle.ua_builtin.specs.Status.{of_code}
@@ -14,7 +15,7 @@ use Rattle.ua_channel_laws.specs.Rounds.{BothEnds, Round}
 use Rattle.ua_channel_laws.specs.ServerReads.{greeted_at, with_token}
 use Rattle.ua_channel.specs.ServerTold.{Told, Asked, Opened}
 
--- messages of one chunk and one octet
+-- messages of one chunk and one byte
 abbrev pub least_limits : Limits
 least_limits = record {
   receive_buffer_size = 8192;
@@ -27,12 +28,13 @@ least_limits = record {
   takes_chunks = le_refl 1;
 }
 
--- behind the opening
+-- after the opening
 abbrev pub behind_opening : BothEnds
 behind_opening = record { server = with_token (greeted_at (hello_to least_limits None)); client = opened_at (ack_to (hello_to least_limits None) least_limits) 7 1 2; id = 2 }
 
--- calls 2 and 3 and a renewal, 4, of which none is answered; a call, 5, while the renewal is unanswered, and then the reply to 3 and the token for
--- 4; a call, 6, and then a reply to 2 that has two octets, where the client takes one, and those to 6 and 5
+-- calls 2 and 3 and a renewal, 4, of which none is answered; a call, 5, while the renewal is
+-- unanswered, and then the reply to 3 and the token for 4; a call, 6, and then a reply to 2 that
+-- has two bytes, where the client takes one, and those to 6 and 5
 abbrev pub example_rounds : DateTime → DateTime → List Round
 example_rounds asked answered =
     record { outgoing = CallWith (10 ∷ []) ∷ (CallWith (11 ∷ []) ∷ (RenewalAt asked ∷ [])); answers = [] }
@@ -43,6 +45,6 @@ example_rounds asked answered =
 abbrev pub example_told : List Told
 example_told = Asked 2 1 (10 ∷ []) ∷ (Asked 3 1 (11 ∷ []) ∷ (Opened 4 0 2 3600000 ∷ (Asked 5 1 (12 ∷ []) ∷ (Asked 6 2 (13 ∷ []) ∷ []))))
 
--- the call 2 is given up, with Bad_ResponseTooLarge
+-- the call 2 is aborted, with Bad_ResponseTooLarge
 abbrev pub example_heard : List ClientTold
 example_heard = Answered 3 (20 ∷ []) ∷ (Renewed 2 ∷ (GaveUp 2 (of_code 0x80B9_0000) ∷ (Answered 6 (23 ∷ []) ∷ (Answered 5 (24 ∷ []) ∷ []))))

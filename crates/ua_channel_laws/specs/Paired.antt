@@ -1,4 +1,4 @@
--- What became of a client's calls: each with what the server's chunks deliver under its request id.
+-- The outcomes of a client's calls: each with what the server's chunks deliver under its RequestId.
 use Rattle.std.specs.Prelude.{ℕ, Bool, true, false, List, [], ◌∷◌, Option, Some, None, map}
 use Rattle.std.specs.List.{filter}
 use Rattle.ua_chunk.specs.declared.chunk.Chunk.{Chunk}
@@ -15,28 +15,28 @@ abbrev pub first : {A : Type 0} → List A → Option A
 first [] = None
 first (x ∷ xs) = Some x
 
--- all that chunks deliver under a request id
+-- all that chunks deliver under a RequestId
 abbrev pub delivered_under : ℕ → List Chunk → List Item
 delivered_under id cs = filter (is_item_of id) (delivered cs)
 
--- a request id with the first that chunks deliver under it, if they deliver something
+-- a RequestId with the first that chunks deliver under it, if they deliver something
 abbrev pub with_first : List Chunk → ℕ → ℕ × Option Item
 with_first cs id = (id, first (delivered_under id cs))
 
--- a request id with all that chunks deliver under it
+-- a RequestId with all that chunks deliver under it
 abbrev pub with_all : List Chunk → ℕ → ℕ × List Item
 with_all cs id = (id, delivered_under id cs)
 
--- a pair of a request id and an item, or none, with the item as a list
+-- a pair of a RequestId and an item, or none, with the item as a list
 abbrev pub as_list : ℕ × Option Item → ℕ × List Item
 as_list p = (p.0, listed p.1)
 
--- each call that was asked, by its request id, with what chunks deliver under that, if they do: a whole message, or the code with which
--- it was given up
+-- each call, by its RequestId, with what chunks deliver under that, if they do: a whole message, or
+-- the code with which it was aborted
 unfoldable pub paired : List Asking → List Chunk → List (ℕ × Option Item)
 paired asked cs = map (with_first cs) (calls asked)
 
--- it is told of a call: the reply to it, or that the server gave it up
+-- it is told of a call: the reply to it, or that the server aborted it
 abbrev pub is_of_call : ClientTold → Bool
 is_of_call (Answered id octets) = true
 is_of_call (GaveUp id code) = true

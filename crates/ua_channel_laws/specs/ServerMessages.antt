@@ -6,7 +6,8 @@ use Rattle.ua_chunk.specs.Item.Item.{Whole, Aborted}
 use Rattle.ua_channel.specs.ServerTold.{Told}
 use Rattle.ua_channel.specs.ServerTold.Told.{Asked, GaveUp}
 
--- the message that this tells of, if it does: its request id, and its octets unless its sender gave it up
+-- the message that this tells of, if it does: its RequestId, and its bytes unless its sender
+-- aborted it
 abbrev pub message_in : Told → List (ℕ × Option (List ℕ))
 message_in (Asked id token octets) = (id, Some octets) ∷ []
 message_in (GaveUp id) = (id, None) ∷ []
@@ -16,7 +17,7 @@ message_in other = []
 abbrev pub messages_in : List Told → List (ℕ × Option (List ℕ))
 messages_in told = flat_map message_in told
 
--- what chunks deliver, so written
+-- what chunks deliver, in this form
 abbrev pub message_of : Item → ℕ × Option (List ℕ)
 message_of (Whole id octets) = (id, Some octets)
 message_of (Aborted id code reason) = (id, None)

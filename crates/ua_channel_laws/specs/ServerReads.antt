@@ -1,4 +1,4 @@
--- What a server reads of a client that keeps to the protocol, one message after the other.
+-- What a server decodes of a client that keeps to the protocol, one message after the other.
 use Rattle.std.specs.Prelude.{◌≡◌, ◌<◌, ◌≤◌, ◌+◌, ◌^◌, ℕ, List, [], IsTrue, IsFalse, Some, length}
 use Rattle.ua_frame.specs.Run.{Going, Over, Run, events}
 use Rattle.ua_frame.specs.declared.frame.Frame.{Frame}
@@ -14,19 +14,19 @@ use Rattle.ua_channel.specs.ServerRefusals.{last_used}
 use Rattle.ua_channel.specs.ServerRules.{receive_size, server_rules}
 use Rattle.ua_channel.specs.ServerTold.{Told, issued}
 
--- where a server is between two messages of its client
+-- the state of a server between two messages of its client
 pub record AtServer : Type 0 where
-  -- what the client said
+  -- the client's Hello
   pub hello : Hello
   -- how many tokens were issued: they are 1, 2, 3, .. up to this
   pub issued : ℕ
-  -- the last token that was used; the first one where none was
+  -- the last token that was used; the first one if none was
   pub used : ℕ
   -- the number of the next chunk
   pub next : ℕ
 
--- a server with these limits on this channel reads these octets as whole frames that are good, with no message unfinished behind them;
--- they told it this, and then it is here
+-- a server with these limits on this channel decodes these bytes as whole frames that are good,
+-- with no message unfinished after them; they told it this, and then it has this state
 pub record ServerReads (limits : Limits) (channel : ℕ) (octets : List ℕ) (told : List Told) (at : AtServer) : Type 0 where
   pub frames : List Frame
   pub run : Run (server_rules limits channel) octets frames [] Going
@@ -50,19 +50,19 @@ pub record ServerCloses (limits : Limits) (channel : ℕ) (octets : List ℕ) (t
 
 -- ---- what a client may send next
 
--- a token that the server takes here: from the last one used to the newest issued
+-- a token that the server accepts here: from the last one used to the newest issued
 pub record IsTakenAt (at : AtServer) (token : ℕ) : Type 0 where
   pub not_before : at.used ≤ token
   pub issued : token ≤ at.issued
 
--- a lane to the server: on its channel, under a token that it takes, in frames that it takes
+-- a lane to the server: on its channel, under a token that it accepts, in frames that it accepts
 pub record IsLaneTo (limits : Limits) (channel : ℕ) (at : AtServer) (lane : Lane) : Type 0 where
   pub on : lane.channel ≡ channel
   pub taken : IsTakenAt at lane.token
   pub some : 0 < lane.room
   pub fits : 24 + lane.room ≤ receive_size limits (Some at.hello)
 
--- a body that a receiver with these limits takes in chunks of so many octets
+-- a body that a receiver with these limits takes in chunks of this many bytes
 pub record IsBodyFor (limits : Limits) (room : ℕ) (body : List ℕ) : Type 0 where
   pub some : 0 < length body
   pub octets_fit : IsFalse (passes limits.max_message_size (length body))
@@ -70,14 +70,14 @@ pub record IsBodyFor (limits : Limits) (room : ℕ) (body : List ℕ) : Type 0 w
 
 -- ---- where the server then is
 
--- behind the HEL
+-- after the HEL
 abbrev pub greeted_at : Hello → AtServer
 greeted_at h = record { hello = h; issued = 0; used = 1; next = 1 }
 
--- with a token more
+-- with one more token
 abbrev pub with_token : AtServer → AtServer
 with_token at = record at { issued = at.issued + 1; next = next_number at.next }
 
--- behind a message of this body
+-- after a message of this body
 abbrev pub with_message : AtServer → Lane → List ℕ → AtServer
 with_message at lane body = record at { used = lane.token; next = number_after at.next (pieces lane.room body) }

@@ -1,4 +1,4 @@
--- How an assembler stands.
+-- The state of an assembler.
 use Rattle.std.specs.Prelude.{◌≡◌, ◌≤◌, ◌+◌, ℕ, min, nat_lt, true, false, ◌&&◌, not, length, Option, List, [], ◌∷◌, ◌++◌}
 use Rattle.std.specs.List.{concat}
 use Rattle.ua_builtin.specs.Reasons.{first_reason}
@@ -20,7 +20,7 @@ use Rattle.ua_chunk.specs.Open.{open_ids}
 use Rattle.ua_chunk.specs.Refusal.{passes, most_open, OpenWithin}
 use Rattle.ua_chunk.specs.Sequence.{may_follow}
 
--- the assembler is where these chunks leave it, and goes on
+-- the state of the assembler is that after these chunks, and it goes on
 pub record Stands (a : Assembler) (cs : List Chunk) : Type 0 where
   pub goes_on : a.closed ≡ false
   pub unfinished : a.pending ≡ kept_messages cs
@@ -32,7 +32,7 @@ pub record IsClosed (a : Assembler) : Type 0 where
   pub closed : a.closed ≡ true
   pub empty : a.pending ≡ []
 
--- the most octets that a message may have, 0 for any number
+-- the most bytes that a message may have, 0 for any number
 abbrev pub octet_limit : Assembler → ℕ
 octet_limit a = a.octets
 
@@ -40,7 +40,7 @@ octet_limit a = a.octets
 abbrev pub chunk_limit : Assembler → ℕ
 chunk_limit a = a.chunks
 
--- the last sequence number, if there was one
+-- the last SequenceNumber, if there was one
 abbrev pub last_number : Assembler → Option ℕ
 last_number a = a.last
 
@@ -51,7 +51,7 @@ pub record SameLimits (a b : Assembler) : Type 0 where
 
 -- ---- a chunk whose message was taken out, where the assembler has the others
 
--- why it is refused
+-- why it is rejected
 abbrev pub refusal_kept : Assembler → Pending → Chunk → Option AssembleFault
 refusal_kept a m c = first_reason (
     (Sequence, not (may_follow a.last c.sequence))
@@ -65,7 +65,8 @@ refusal_kept a m c = first_reason (
 abbrev pub added : Pending → Chunk → Pending
 added m c = record { request = m.request; chunks = min (m.chunks + 1) 4294967295; message = m.message ++ filled (c.body ∷ []) }
 
--- what it delivers, by its flag: an F the octets of the message with its body, a C nothing, an A its code and reason if it reads
+-- what the chunk completes, by its flag: an F the bytes of the message with its body, a C nothing,
+-- an A its code and reason if they can be decoded
 abbrev pub given_kept_by : Flag → Pending → Chunk → List Item
 given_kept_by F m c = Whole c.request (concat (m.message ++ filled (c.body ∷ []))) ∷ []
 given_kept_by C m c = []
@@ -75,7 +76,8 @@ given_kept_by A m c = aborted c.request (abort_of c.body)
 abbrev pub given_kept : Pending → Chunk → List Item
 given_kept m c = given_kept_by c.flag m c
 
--- what of its message stays unfinished, by its flag: a C leaves the message with its body, an F or an A nothing
+-- what of its message stays unfinished, by its flag: a C leaves the message with its body, an F or
+-- an A nothing
 abbrev pub put_back_by : Flag → Pending → Chunk → List Pending
 put_back_by F m c = []
 put_back_by C m c = added m c ∷ []

@@ -1,4 +1,5 @@
--- The parts of a message, wherever they stand: one alone in the message itself, or several in memory of their own.
+-- The parts of a message, wherever they are stored: one alone in the message itself, or several in
+-- memory of their own.
 use Rattle.std.specs.Prelude.{ℕ, List, [], ◌∷◌}
 use Rattle.ua_chunk.specs.declared.held_parts.HeldParts.{HeldParts}
 use Rattle.ua_chunk.specs.declared.held_parts.HeldParts.TheVariants.{None, One, Several}

@@ -5,7 +5,8 @@ use Rattle.ua_chunk.specs.declared.pending.Pending.{Pending}
 use Rattle.ua_chunk.specs.Gathered.{unfinished, bodies}
 use Rattle.ua_chunk.specs.Open.{open_ids}
 
--- what is kept of these chunks of a request id: their bodies as they came; the count stops at its type's greatest number
+-- what is kept of these chunks of a RequestId: their bodies in order; the count stops at its type's
+-- greatest number
 abbrev pub kept : ℕ → List Chunk → Pending
 kept id cs = record { request = id; chunks = min (length cs) 4294967295; message = bodies cs }
 

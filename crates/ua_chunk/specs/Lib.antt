@@ -1,5 +1,6 @@
--- The definitions, in the order in which they are best read: how frames carry chunks, their numbers, the messages that they
--- are of, which are refused; cutting; merged messages; and last how an assembler stands and keeps what is unfinished.
+-- The definitions, in the order in which they are best read: how frames carry chunks, their
+-- numbers, the messages that they are of, which are rejected; splitting; merged messages; and last
+-- the state of an assembler, and how it keeps what is unfinished.
 pub mod Flag
 pub mod Layout
 pub mod Opening

@@ -13,18 +13,18 @@ abbrev pub without : {X : Type 0} → (X → Bool) → List X → List X
 without p [] = []
 without p (x ∷ xs) = if p x then xs else x ∷ without p xs
 
--- nothing has come under this request id
+-- nothing has come under this RequestId
 abbrev pub nothing_of : ℕ → Pending
 nothing_of id = record { request = id; chunks = 0; message = [] }
 
--- the message has this request id
+-- the message has this RequestId
 abbrev pub is_under : ℕ → Pending → Bool
 is_under id m = m.request == id
 
--- what has come under a request id
+-- what came under a RequestId
 abbrev pub message_of : ℕ → List Pending → Pending
 message_of id ms = first_of (is_under id) (nothing_of id) ms
 
--- the octets of all these messages
+-- the bytes of all these messages
 abbrev pub octets_in : List Pending → ℕ
 octets_in ms = sum_by (λ m. length (concat m.message)) ms

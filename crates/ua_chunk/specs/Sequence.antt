@@ -1,5 +1,6 @@
--- Sequence numbers of chunks (OPC 10000-6, 6.7.2.4): each is the one before it and 1, up to 4294966271 (FF FF FB FF, the greatest
--- UInt32 less 1024); above that a sender starts again at a number below 1024, and does so at the latest at the greatest UInt32.
+-- SequenceNumbers of chunks (OPC 10000-6, 6.7.2.4): each is the one before it plus 1, up to
+-- 4294966271 (FF FF FB FF, the greatest UInt32 less 1024); above that a sender starts again at a
+-- number below 1024, and does so at the latest at the greatest UInt32.
 use Rattle.std.specs.Prelude.{ℕ, ◌+◌, ◌==◌, nat_lt, Bool, true, ◌&&◌, ◌||◌, if◌then◌else◌, Option, Some, None, List, [], ◌∷◌}
 use Rattle.ua_chunk.specs.declared.chunk.Chunk.{Chunk}
 

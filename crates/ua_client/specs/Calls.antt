@@ -1,4 +1,5 @@
--- What a client's calls come to: groups of 64, the last of which may have fewer, each judged whole, written and then answered.
+-- The outcomes of a client's calls: groups of 64, the last of which may have fewer, each judged as
+-- a whole, written and then answered.
 use Rattle.std.specs.Prelude.{◌≡◌, ◌⊎◌, ◌+◌, ◌<◌, ◌≤◌, ◌++◌, ℕ, List, [], ◌∷◌, map, length, is_none, true, false, Option, Some, None, Result, Ok, Err}
 use Rattle.std.specs.List.{AllByRecursion, list_any}
 use Rattle.ua_wire.specs.Format.{Extends}
@@ -24,41 +25,45 @@ use Rattle.ua_client.specs.declared.reply.Reply.{Reply}
 
 -- ---- what is asked
 
--- what is asked once these requests are asked there
+-- the client's operations after these requests are called there
 abbrev pub asked_at : ClientPlace → List Request → List Placed
 asked_at s requests = s.asks ++ calls_at (length s.octets) (id_at s) (bodies_of requests)
 
--- the chunks of the bodies of requests that are asked there
+-- the chunks of the bodies of requests that are called there
 abbrev pub sent_at : ClientPlace → List Request → List ℕ
 sent_at s requests = calls_octets (lane_behind s.before) s.number (id_at s) (bodies_of requests)
 
--- why a group of requests is not asked there, if it is not: the first reason against the first of them that has one
+-- why a group of requests is not called there, if it is not: the first reason against the first of
+-- them that has one
 abbrev pub refusal_at : ClientPlace → List Request → Option ClientFault
 refusal_at s requests = first_reason (group_reasons s.before.ack (id_at s) requests)
 
--- a group of requests was asked there, as nothing was against it, and its chunks were sent
+-- a group of requests was called there, as nothing was against it, and its chunks were sent
 abbrev pub IsSentAt : List Request → ClientPlace → List ℕ → Type 0
 IsSentAt requests s sent = (refusal_at s requests ≡ None) × (sent ≡ sent_at s requests)
 
 -- ---- waiting for replies
 
--- behind these octets a client that asked so goes on, and more was told
+-- after these bytes a client with these operations goes on, and more was told
 abbrev pub ClientGoesOn : ClientChannel → List Placed → List ℕ → List ClientTold → (List ClientTold → Type 0) → Type 0
 ClientGoesOn x asks octets told P = (heard : List ClientTold) × ClientGoes x asks octets (told ++ heard) × P (told ++ heard)
 
--- behind these octets the connection of a client that asked so ended, for this reason, and more was told before
+-- after these bytes the connection of a client with these operations ended, for this reason, and
+-- more was told before
 abbrev pub EndsOn : ClientChannel → List Placed → List ℕ → List ClientTold → Why → (List ClientTold → Type 0) → Type 0
 EndsOn x asks octets told why P = (heard : List ClientTold) × ClientEnded x asks octets (told ++ heard) why × P (told ++ heard)
 
--- memory was refused behind these octets, whose frames told this: to the channel, or to what it told
+-- an allocation failed after these bytes, whose frames told this: in the channel, or for what it
+-- told
 abbrev pub LacksMemory : ClientChannel → List Placed → List ℕ → List ClientTold → Type 0
 LacksMemory x asks octets told = Starved x asks octets told ⊎ ClientGoes x asks octets told
 
--- octets are whole frames, each of a size that a header can name, behind which nothing stands
+-- bytes are whole frames, each of a size that a header can name, followed by nothing
 abbrev pub AreFrames : List ℕ → Type 0
 AreFrames octets = (frames : List Frame) × (octets ≡ frames_octets frames) × AllByRecursion IsSized frames
 
--- the last that was told is the last reply to these requests that was waited for, and nothing stands behind its frame
+-- the last that was told is the last expected reply to these requests, and nothing follows its
+-- frame
 pub record LastCame (x : ClientChannel) (requests : List Request) (id : ℕ) (asks : List Placed) (octets : List ℕ) (told : List ClientTold) : Type 0 where
   pub before : List ClientTold
   pub last : ClientTold
@@ -66,7 +71,8 @@ pub record LastCame (x : ClientChannel) (requests : List Request) (id : ℕ) (as
   pub awaited : AreAwaited requests id before
   pub tells : ClientGoesTelling x asks octets before last
 
--- what became of the replies to calls of these requests, whose request ids are counted from the first: all came, or a front of them
+-- the outcome for the replies to calls of these requests, whose RequestIds are counted from the
+-- first: all came, or a prefix of them
 abbrev pub CollectsAt : {A : Type 0} → List (Option Reply) → List Request → ℕ → Connection → Option Traffic → Result A ClientFault → List Placed → List ℕ → List ClientTold → Type 0
 CollectsAt slots requests first new after (Ok found) asks octets told =
     ClientGoesOn (channel_of new) asks octets told (λ all. AreSlots requests first all slots × (list_any is_none slots ≡ false) × LastCame (channel_of new) requests first asks octets all)
@@ -84,12 +90,12 @@ CollectsAt slots requests first new after (Err other) asks octets told = ⊥
 abbrev pub none_for : List Request → List (Option Reply)
 none_for requests = map (λ (r : Request). None) requests
 
--- nothing was told yet of calls of these requests, whose request ids are counted from the first
+-- nothing was told yet of calls of these requests, whose RequestIds are counted from the first
 abbrev pub AreUntold : List Request → ℕ → List ClientTold → Type 0
 AreUntold [] id told = Unit {0}
 AreUntold (request ∷ requests) id told = (told_of id told ≡ []) × AreUntold requests (id + 1) told
 
--- the octets up to the last reply that was waited for, or up to a fault
+-- the bytes up to the last expected reply, or up to a fault
 pub record Collects {A : Type 0} (slots : List (Option Reply)) (requests : List Request) (first : ℕ) (old new : Connection) (before after : Option Traffic) (reads left : ℕ) (result : Result A ClientFault) : Type 0 where
   pub moves : MovesConnection old new [] before after
   pub keeps : Keeps old new
@@ -99,20 +105,20 @@ pub record Collects {A : Type 0} (slots : List (Option Reply)) (requests : List 
 
 -- ---- a group of calls
 
--- a group of calls is answered, against which there was nothing: behind these octets a client that stood here stands there, and these are
--- the replies
+-- a group of calls is answered, against which there was nothing: after these bytes a client in this
+-- state is in that state, and these are the replies
 pub record Answered (requests : List Request) (s t : ClientPlace) (taken : List ℕ) (replies : List Reply) : Type 0 where
   pub judged : refusal_at s requests ≡ None
   pub asks : t.asks ≡ asked_at s requests
   pub octets : t.octets ≡ s.octets ++ taken
-  -- nothing was taken behind the frame of the last reply
+  -- nothing was taken after the frame of the last reply
   pub whole : AreFrames t.octets
   pub heard : List ClientTold
   pub told : t.told ≡ s.told ++ heard
   pub number : t.number ≡ numbers_behind (lane_behind s.before) s.number (bodies_of requests)
   pub replies_are : AreReplies requests (id_at s) t.told replies
 
--- a group of calls is not asked here, or is not answered
+-- a group of calls is refused here, or is not answered
 abbrev pub BreaksAt : List Request → ClientPlace → Connection → List ℕ → List ℕ → ClientFault → Type 0
 BreaksAt requests s new sent taken (fault.Peer code) = IsSentAt requests s sent × EndsOn (channel_of new) (asked_at s requests) (s.octets ++ taken) s.told (peers code.code) (AreAwaited requests (id_at s))
 BreaksAt requests s new sent taken (fault.Refused code) = IsSentAt requests s sent × EndsOn (channel_of new) (asked_at s requests) (s.octets ++ taken) s.told (ours code.code) (AreAwaited requests (id_at s))
@@ -129,16 +135,16 @@ BreaksAt requests s new sent taken fault.NotWritable = (sent ≡ []) × (taken �
 BreaksAt requests s new sent taken fault.Exhausted = (sent ≡ []) × (taken ≡ []) × StandsAt (channel_of new) s × (refusal_at s requests ≡ Some fault.Exhausted)
 BreaksAt requests s new sent taken other = ⊥
 
--- ---- groups of calls, one behind another
+-- ---- groups of calls, one after another
 
--- behind a group of calls that was asked here a channel of this client stands there, where the last reply came
+-- after a group of calls a channel of this client has that state, in which the last reply came
 pub record StandsBehind (client x : ClientChannel) (requests : List Request) (s t : ClientPlace) : Type 0 where
   pub same : SameClient x client
   pub at : StandsAt x t
   pub came : LastCame x requests (id_at s) t.asks t.octets t.told
 
--- groups of calls of a client are answered, each asked where those before it left the client, so that a channel of it stands behind each: what
--- was sent and taken, and the replies
+-- groups of calls of a client are answered, each called in the state that those before it left, so
+-- that its channel has a state after each: what was sent and taken, and the replies
 pub data Rounds (client : ClientChannel) (s : ClientPlace) : List (List Request) → ClientPlace → List ℕ → List ℕ → List Reply → Type 0 where
   NoRound : Rounds client s [] s [] [] []
   OneRound : {groups : List (List Request)} {m t : ClientPlace} {sent taken part : List ℕ} {replies added : List Reply} (group : List Request) (x : ClientChannel)
@@ -152,7 +158,7 @@ abbrev pub all_of : List (List Request) → List Request
 all_of [] = []
 all_of (group ∷ groups) = group ++ all_of groups
 
--- each group has a call and at most 64, and each but the last just 64
+-- each group has a call and at most 64, and each but the last exactly 64
 abbrev pub AreGroups : List (List Request) → Type 0
 AreGroups [] = Unit {0}
 AreGroups (group ∷ groups) = (0 < length group) × (length group ≤ 64) × (0 < length groups → length group ≡ 64) × AreGroups groups
@@ -164,18 +170,18 @@ pub record AnsweredAll (requests : List Request) (s : ClientPlace) (x : ClientCh
   pub sized : AreGroups groups
   pub behind : ClientPlace
   pub at : StandsAt x behind
-  -- a settled place stays so
+  -- if the state was settled, it is settled again
   pub settled : IsSettled s → IsSettled behind
   pub rounds : Rounds x s groups behind sent taken replies
 
--- behind groups that are answered, the next one is not
+-- after groups that are answered, the next one is not
 pub record BrokenAll (requests : List Request) (s : ClientPlace) (new : Connection) (sent taken : List ℕ) (f : ClientFault) : Type 0 where
   pub groups : List (List Request)
   pub group : List Request
   pub others : List Request
   pub parts : requests ≡ all_of groups ++ (group ++ others)
   pub sized : AreGroups (groups ++ group ∷ [])
-  -- where more requests stand behind it, it has just 64
+  -- if more requests follow it, it has exactly 64
   pub full : 0 < length others → length group ≡ 64
   pub behind : ClientPlace
   pub settled : IsSettled s → IsSettled behind
@@ -189,7 +195,7 @@ pub record BrokenAll (requests : List Request) (s : ClientPlace) (new : Connecti
   pub rounds : Rounds (channel_of new) s groups behind sent_before taken_before replies
   pub breaks : BreaksAt group behind new sent_then taken_then f
 
--- what becomes of requests that are called there
+-- the outcome of requests that are called there
 abbrev pub AllAt : {A : Type 0} → (A → List Reply) → List Request → ClientPlace → Connection → List ℕ → List ℕ → Result A ClientFault → Type 0
 AllAt view requests s new sent taken (Ok found) = AnsweredAll requests s (channel_of new) sent taken (view found)
 AllAt view requests s new sent taken (Err f) = BrokenAll requests s new sent taken f

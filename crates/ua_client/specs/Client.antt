@@ -1,4 +1,4 @@
--- A client: when it is done, where it stands, how it is opened and closed.
+-- A client: when it is done, its state, how it is opened and closed.
 use Rattle.std.specs.Prelude.{◌≡◌, ℕ, Bool, true, false, List, [], Option, Some, None, Result, Ok, Err}
 use Rattle.ua_builtin.specs.declared.date_time.DateTime.{DateTime}
 use Rattle.ua_frame.specs.Frames.{frame_octets}
@@ -35,7 +35,8 @@ IsDone x = x.is_done ≡ true
 abbrev pub IsReady : Client → Type 0
 IsReady x = x.is_done ≡ false
 
--- a client is done after this fault: after all but those of calls that were not asked, and that of a service that failed
+-- a client is done after this fault: after all faults except those of calls that were refused, and
+-- that of a service that failed
 abbrev pub ends : ClientFault → Bool
 ends (fault.Service code) = false
 ends fault.TooLarge = false
@@ -44,14 +45,14 @@ ends fault.Exhausted = false
 ends fault.TooManyTokens = false
 ends other = true
 
--- a client behind a call: it may be called again, but for a fault after which it is done
+-- a client after a call: it may be called again, except after a fault after which it is done
 abbrev pub IsLeft : {A : Type 0} → Result A ClientFault → Client → Type 0
 IsLeft (Ok found) x = x.is_done ≡ false
 IsLeft (Err f) x = x.is_done ≡ ends f
 
 -- ---- opening
 
--- a connection of which nothing was sent and nothing came, to the server of a URL
+-- a connection over which nothing was sent and nothing came, to the server of a URL
 pub record IsFresh (limits : Limits) (url : Option (List ℕ)) (x : Connection) : Type 0 where
   pub goes : ClientGoes (channel_of x) [] [] []
   pub untaken : untaken_of x ≡ []
@@ -72,22 +73,23 @@ pub record OpensClient (limits : Limits) (url : Option (List ℕ)) (moment : Dat
   pub opens : Opens moment begun last before after result
   pub over : IsOver result last
 
--- nothing was done, since memory was refused
+-- nothing was done, since an allocation failed
 abbrev pub OpensNothing : Option Traffic → Option Traffic → Result Client ClientFault → Type 0
 OpensNothing before after result = (result ≡ Err fault.OutOfMemory) × (after ≡ before)
 
 -- ---- closing
 
--- the CLO of a channel at this moment, behind what was received and asked, with this sequence number (OPC 10000-6, 7.1.4)
+-- the CLO of a channel at this time, after what was received and requested, with this
+-- SequenceNumber (OPC 10000-6, 7.1.4)
 abbrev pub closing_by : Option Lane → ℕ → ℕ → DateTime → List ℕ
 closing_by None number id moment = []
 closing_by (Some lane) number id moment = frame_octets (close_frame lane.channel lane.token number id moment)
 
--- the CLO of a client that stands there
+-- the CLO of a client in this state
 abbrev pub closing_at : ClientPlace → DateTime → List ℕ
 closing_at s moment = closing_by (lane_behind s.before) s.number (id_at s) moment
 
--- what a close writes: the CLO, or behind a fault a part of it, or none of it
+-- what a close writes: the CLO, or after a fault a part of it, or none of it
 abbrev pub ClosesAt : {A : Type 0} → ClientPlace → DateTime → List ℕ → Result A ClientFault → Type 0
 ClosesAt s moment sent (Ok done) = sent ≡ closing_at s moment
 ClosesAt s moment sent (Err fault.Write) = IsPart sent (closing_at s moment)

@@ -1,4 +1,5 @@
--- What a client hears: what it reads from its line, what of that its channel takes, and what that tells.
+-- What a client receives: what it reads from its transport, what of that its channel takes, and
+-- what that tells.
 use Rattle.std.specs.Prelude.{◌≡◌, ◌⊎◌, ◌+◌, ◌*◌, ◌<◌, ◌≤◌, ◌++◌, ℕ, Bool, true, false, cond, List, [], length, Option, Some, None, Result, Ok, Err, IfOk, IfErr}
 use Rattle.std.specs.List.{concat}
 use Rattle.ua_wire.specs.Format.{Extends}
@@ -31,7 +32,7 @@ use Rattle.ua_client.specs.declared.fault.ClientFault.TheVariants as fault
 abbrev pub channel_of : Connection → ClientChannel
 channel_of x = x.channel
 
--- what was read from the line and is not taken yet
+-- what was read from the transport and is not taken yet
 abbrev pub untaken_of : Connection → List ℕ
 untaken_of x = x.piece
 
@@ -42,43 +43,44 @@ pub record Keeps (old new : Connection) : Type 0 where
 
 -- ---- faults of the line
 
--- the line failed
+-- the transport failed
 abbrev pub is_line_fault : ClientFault → Bool
 is_line_fault fault.Read = true
 is_line_fault fault.Write = true
 is_line_fault other = false
 
--- the count of a line's failures behind a call of a client: Read and Write are one failure more, and nothing else is one
+-- the count of a transport's failures after a call of a client: Read and Write are one failure
+-- more, and nothing else is one
 abbrev pub failures_behind : {A : Type 0} → ℕ → Result A ClientFault → ℕ
 failures_behind before (Ok found) = before
 failures_behind before (Err f) = cond (is_line_fault f) (one_more before) before
 
--- what became of several calls, without which of them the fault is of
+-- the outcome of several calls, without the one that the fault names
 abbrev pub fault_alone : {A : Type 0} → Result A CallsFault → Result A ClientFault
 fault_alone (Ok found) = Ok found
 fault_alone (Err c) = Err c.fault
 
--- why a channel failed: the server refused, or this end did
+-- why a channel failed: the server rejected, or this end did
 abbrev pub failure_of : StatusCode → Bool → ClientFault
 failure_of code peer = cond peer (fault.Peer code) (fault.Refused code)
 
--- what a fault of the channel comes to
+-- the error that results from an error of the channel
 abbrev pub of_take_fault : ClientTakeFault → ClientFault
 of_take_fault take_fault.Closed = fault.Closed
 of_take_fault take_fault.OutOfMemory = fault.OutOfMemory
 
--- ---- octets
+-- ---- bytes
 
--- the most octets of a piece
+-- the most bytes of a fragment
 abbrev pub most_octets : ℕ
 most_octets = 4096
 
--- no more are untaken than a piece has
+-- there are at most as many untaken bytes as a fragment has
 abbrev pub IsWithinPiece : Connection → Type 0
 IsWithinPiece x = length (untaken_of x) ≤ most_octets
 
--- between two moments these octets were taken, of those that were untaken and those that were read; what was untaken was taken before
--- anything was read
+-- between two times these bytes were taken, of those that were untaken and those that were read;
+-- what was untaken was taken before anything was read
 pub record MovesConnection (old new : Connection) (sent : List ℕ) (before after : Option Traffic) : Type 0 where
   pub got : List ℕ
   pub taken : List ℕ
@@ -89,7 +91,7 @@ pub record MovesConnection (old new : Connection) (sent : List ℕ) (before afte
 
 -- ---- what is told
 
--- an event as what was told; where something is to be sent, it is the OPN of this moment
+-- an event as what was told; if something is to be sent, it is the OPN of this time
 abbrev pub Says : DateTime → ClientEvent → ClientTold → Type 0
 Says moment event.NeedMore t = ⊥
 Says moment (event.Send sent) t = (sent.items ≡ frame_octets (first_open moment)) × ((ack : Ack) × (t ≡ Agreed ack))
@@ -99,13 +101,14 @@ Says moment (event.Aborted id code) t = t ≡ GaveUp id code
 Says moment (event.Failed code peer) t = ⊥
 Says moment (event.Renewed token) t = t ≡ Renewed token
 
--- an event was told, and its frame is the last of these octets
+-- an event was told, and its frame is the last of these bytes
 abbrev pub TellsEvent : DateTime → ClientEvent → ClientChannel → List Placed → List ℕ → List ClientTold → Type 0
 TellsEvent moment e new asks octets told = (t : ClientTold) × Says moment e t × ClientGoesTelling new asks octets told t
 
--- ---- where nothing more is told
+-- ---- if nothing more is told
 
--- memory was refused behind these asks and octets, of which no frame is wrong and whose frames told this; the channel is done
+-- an allocation failed after these operations and bytes, of which no frame is wrong and whose
+-- frames told this; the channel is done
 pub record Starved (x : ClientChannel) (asks : List Placed) (octets : List ℕ) (told : List ClientTold) : Type 0 where
   pub done : IsClientDone x
   pub frames : List Frame
@@ -113,8 +116,9 @@ pub record Starved (x : ClientChannel) (asks : List Placed) (octets : List ℕ) 
   pub run : Run (client_rules_of x asks) octets frames rest Going
   pub told_is : events (client_rules_of x asks) frames ≡ told
 
--- how a channel stands behind these asks and octets, whose frames told this, where hearing broke off: the connection ended at what is
--- wrong behind them, or memory was refused, or the channel goes on
+-- the state of a channel after these operations and bytes, whose frames told this, when receiving
+-- broke off: the connection ended at what is wrong after them, or an allocation failed, or the
+-- channel goes on
 abbrev pub BreaksOff : ClientFault → ClientChannel → List Placed → List ℕ → List ClientTold → Type 0
 BreaksOff (fault.Peer code) x asks octets told = ClientEnded x asks octets told (peers code.code)
 BreaksOff (fault.Refused code) x asks octets told = ClientEnded x asks octets told (ours code.code)
@@ -126,7 +130,7 @@ BreaksOff other x asks octets told = ⊥
 
 -- ---- one call of the channel
 
--- what is answered where nothing, or an event, was told at the end of these octets
+-- the outcome if nothing, or an event, was told at the end of these bytes
 abbrev pub ListensAt : DateTime → Result (Option ClientEvent) ClientFault → ClientChannel → List Placed → List ℕ → List ClientTold → Type 0
 ListensAt moment (Ok None) new asks octets told = ClientGoes new asks octets told
 ListensAt moment (Ok (Some e)) new asks octets told = TellsEvent moment e new asks octets told
@@ -143,7 +147,7 @@ is_channel_fault fault.OutOfMemory = true
 is_channel_fault fault.Closed = true
 is_channel_fault other = false
 
--- how much is left untaken: nothing where nothing was told, and less than before at an event
+-- how much is left untaken: nothing if nothing was told, and less than before at an event
 abbrev pub LeavesLess : Connection → Connection → Result (Option ClientEvent) ClientFault → Type 0
 LeavesLess old new (Ok None) = untaken_of new ≡ []
 LeavesLess old new (Ok (Some e)) = 0 < length (untaken_of old) → length (untaken_of new) < length (untaken_of old)
@@ -165,12 +169,13 @@ pub record Listens (old new : Connection) (moment : DateTime) (result : Result (
 abbrev pub most_reads : ℕ
 most_reads = 0xFFFF_FFFF_FFFF_FFFF
 
--- what may still be done with so many reads left: each brings at most 4096 octets, and each octet at most one event
+-- the most that may still be done with this many reads left: each brings at most 4096 bytes, and
+-- each byte at most one event
 abbrev pub effort : ℕ → Connection → ℕ
 effort reads x = 4097 * reads + length (untaken_of x)
 
--- what became of a read: something is untaken, and no more reads were made than octets came; no reads were left; nothing came, which
--- is the end of the input; or the line failed
+-- the outcome of a read: something is untaken, and no more reads were made than bytes came; no
+-- reads were left; nothing came, which is the end of the input; or the transport failed
 abbrev pub FillsAt : {A : Type 0} → ℕ → ℕ → List ℕ → Connection → Option Traffic → Result A ClientFault → Type 0
 FillsAt reads left got new after (Ok found) = (0 < length (untaken_of new)) × (reads ≤ left + length got)
 FillsAt reads left got new after (Err fault.TooLong) = (untaken_of new ≡ []) × (reads ≡ 0)
@@ -178,7 +183,8 @@ FillsAt reads left got new after (Err fault.Ended) = (untaken_of new ≡ []) × 
 FillsAt reads left got new after (Err fault.Read) = untaken_of new ≡ []
 FillsAt reads left got new after (Err other) = ⊥
 
--- where all is taken, the next piece was read, behind so many reads that were left before and after
+-- if all is taken, the next fragment was read, after this many reads that were left before and
+-- after
 pub record Fills {A : Type 0} (old new : Connection) (before after : Option Traffic) (reads left : ℕ) (result : Result A ClientFault) : Type 0 where
   pub got : List ℕ
   pub untaken : untaken_of new ≡ untaken_of old ++ got
@@ -191,12 +197,12 @@ pub record Fills {A : Type 0} (old new : Connection) (before after : Option Traf
 
 -- ---- up to an event
 
--- what is answered where an event was told at the end of these octets, or a fault came behind them
+-- the outcome if an event was told at the end of these bytes, or a fault came after them
 abbrev pub HearsAt : DateTime → Result ClientEvent ClientFault → ClientChannel → List Placed → List ℕ → List ClientTold → Type 0
 HearsAt moment (Ok e) new asks octets told = TellsEvent moment e new asks octets told
 HearsAt moment (Err f) new asks octets told = BreaksOff f new asks octets told
 
--- the faults of hearing: those of the channel, and those of a read
+-- the faults of receiving: those of the channel, and those of a read
 abbrev pub is_hearing_fault : ClientFault → Bool
 is_hearing_fault (fault.Peer code) = true
 is_hearing_fault (fault.Refused code) = true
@@ -207,8 +213,9 @@ is_hearing_fault fault.Ended = true
 is_hearing_fault fault.TooLong = true
 is_hearing_fault other = false
 
--- where something is answered, no more reads were made than octets came; where reading stopped all is taken: at too many reads at least
--- as many octets came as there were reads to make, and at the end of the input a line that tells its octets has none to come
+-- if there is an outcome, no more reads were made than bytes came; if reading stopped all is taken:
+-- at too many reads at least as many bytes came as there were reads to make, and at the end of the
+-- input a transport that tells its bytes has none to come
 abbrev pub StopsAt : {A : Type 0} → ℕ → ℕ → List ℕ → Connection → Option Traffic → Result A ClientFault → Type 0
 StopsAt reads left got new after (Ok found) = reads ≤ left + length got
 StopsAt reads left got new after (Err fault.TooLong) = (untaken_of new ≡ []) × (reads ≤ length got)
@@ -216,7 +223,7 @@ StopsAt reads left got new after (Err fault.Read) = untaken_of new ≡ []
 StopsAt reads left got new after (Err fault.Ended) = (untaken_of new ≡ []) × IsAtEnd after
 StopsAt reads left got new after (Err other) = Unit {0}
 
--- the octets up to an event, or up to a fault
+-- the bytes up to an event, or up to a fault
 pub record Hears (old new : Connection) (moment : DateTime) (before after : Option Traffic) (reads left : ℕ) (result : Result ClientEvent ClientFault) : Type 0 where
   pub moves : MovesConnection old new [] before after
   pub keeps : Keeps old new

@@ -1,4 +1,4 @@
--- What is kept of calls that are not all answered, and which of them the fault names.
+-- The replies that are kept of calls that are not all answered, and the call that the fault names.
 use Rattle.std.specs.Prelude.{◌≡◌, ◌⊎◌, ◌+◌, ℕ, List, [], ◌++◌, length, take, Option, Some, None, Result, Ok, Err}
 use Rattle.ua_channel.specs.Client.{SameClient}
 use Rattle.ua_channel.specs.ClientTold.{ClientTold, ours, peers}
@@ -17,7 +17,7 @@ use Rattle.ua_client.specs.declared.reply.Reply.{Reply}
 
 -- ---- the request that a fault names
 
--- a client is closed, which names this request
+-- a client is closed, and the fault names this request
 abbrev pub closed_at : ℕ → CallsFault
 closed_at n = record { request = n; fault = fault.Closed }
 
@@ -26,14 +26,16 @@ abbrev pub named : {A : Type 0} → ℕ → Result A ClientFault → Result A Ca
 named n (Ok found) = Ok found
 named n (Err f) = Err (record { request = n; fault = f })
 
--- a group is refused there for its request at this place: there is no reason against those before it, and this is the first against it
+-- a group is refused there for its request at this place: there is no reason against those before
+-- it, and this is the first against it
 abbrev pub IsRefusedFor : List Request → ClientPlace → ClientFault → ℕ → Type 0
 IsRefusedFor requests s f n = (refusal_at s (take n requests) ≡ None) × (refusal_at s (take (n + 1) requests) ≡ Some f)
 
 -- ---- a group of calls
 
--- which replies are kept of a group that is not answered, and which of its requests is named: those that came up to the first that is
--- missing, which is named; none of a group that is not asked or not written, and named is the request for which it is refused, else the first
+-- which replies are kept of a group that is not answered, and which of its requests is named: those
+-- that came up to the first that is missing, which is named; none of a group that is refused or not
+-- written, and named is the request for which it is refused, else the first
 abbrev pub KeepsAt : List Request → ClientPlace → Connection → List ℕ → ClientFault → ℕ → List Reply → Type 0
 KeepsAt requests s new taken (fault.Peer code) n kept = (n ≡ length kept) × EndsOn (channel_of new) (asked_at s requests) (s.octets ++ taken) s.told (peers code.code) (IsFront IsUntold kept requests (id_at s))
 KeepsAt requests s new taken (fault.Refused code) n kept = (n ≡ length kept) × EndsOn (channel_of new) (asked_at s requests) (s.octets ++ taken) s.told (ours code.code) (IsFront IsUntold kept requests (id_at s))
@@ -50,7 +52,7 @@ KeepsAt requests s new taken fault.NotWritable n kept = IsRefusedFor requests s 
 KeepsAt requests s new taken fault.Exhausted n kept = IsRefusedFor requests s fault.Exhausted n × (kept ≡ [])
 KeepsAt requests s new taken other n kept = ⊥
 
--- what becomes of a group of calls that is asked here, with the replies that are added
+-- the outcome of a group of calls here, with the replies that are added
 abbrev pub GroupAt : {A : Type 0} → List Request → ClientPlace → Connection → List ℕ → List ℕ → Result A CallsFault → List Reply → Type 0
 GroupAt requests s new sent taken (Ok done) added = (sent ≡ sent_at s requests) × ((t : ClientPlace) × StandsAt (channel_of new) t × LastCame (channel_of new) requests (id_at s) t.asks t.octets t.told × Answered requests s t taken added)
 GroupAt requests s new sent taken (Err c) added = BreaksAt requests s new sent taken c.fault × KeepsAt requests s new taken c.fault c.request added
@@ -67,18 +69,19 @@ pub record CallsGroup {A : Type 0} (requests : List Request) (old new : Connecti
 
 -- ---- all calls
 
--- behind groups that are answered, the next one is not: these replies are added, and the fault names this request
+-- after groups that are answered, the next one is not: these replies are added, and the fault names
+-- this request
 pub record BrokenInto (requests : List Request) (s : ClientPlace) (new : Connection) (sent taken : List ℕ) (c : CallsFault) (added : List Reply) : Type 0 where
   pub broken : BrokenAll requests s new sent taken c.fault
   -- of the group that is not answered these are kept, and this request of it is named
   pub kept : List Reply
   pub place : ℕ
   pub keeps : KeepsAt broken.group broken.behind new broken.taken_then c.fault place kept
-  -- all replies to the groups before it stand in front of them
+  -- they are added after all replies to the groups before it
   pub added_is : added ≡ broken.replies ++ kept
   pub request_is : c.request ≡ length (all_of broken.groups) + place
 
--- what becomes of requests that are called there, with the replies that are added
+-- the outcome of requests that are called there, with the replies that are added
 abbrev pub IntoAt : {A : Type 0} → List Request → ClientPlace → Connection → List ℕ → List ℕ → Result A CallsFault → List Reply → Type 0
 IntoAt requests s new sent taken (Ok done) added = AnsweredAll requests s (channel_of new) sent taken added
 IntoAt requests s new sent taken (Err c) added = BrokenInto requests s new sent taken c added

@@ -1,5 +1,6 @@
--- The definitions, in the order in which they are best read: what goes over the line, what is told of a call, what is heard, where a
--- client stands, what its calls come to, and how it begins a session.
+-- The definitions, in the order in which they are best read: what goes over the transport, what is
+-- told of a call, what is received, the state of a client, the outcomes of its calls, and how it
+-- begins a session.
 pub mod Carried
 pub mod Told
 pub mod Hearing

@@ -1,4 +1,5 @@
--- How a client opens its connection: it sends the HEL, behind the ACK the OPN, and waits until the channel is open
+-- How a client opens its connection: it sends the HEL, after the ACK the OPN, and waits until the
+-- channel is open
 -- (OPC 10000-6, 6.7 and 7.1).
 use Rattle.std.specs.Prelude.{◌≡◌, ◌⊎◌, ◌++◌, ℕ, Bool, true, false, List, [], ◌∷◌, Option, Result, Ok, Err, IfErr}
 use Rattle.std.specs.List.{list_any}
@@ -37,13 +38,13 @@ is_opened (Answered id octets) = false
 is_opened (GaveUp id code) = false
 is_opened (Renewed token) = false
 
--- more was told, and nothing of it is what is waited for
+-- more was told, and nothing of it is expected
 pub record GoesWithout (wanted : ClientTold → Bool) (x : ClientChannel) (asks : List Placed) (octets : List ℕ) (told : List ClientTold) : Type 0 where
   pub heard : List ClientTold
   pub none : list_any wanted heard ≡ false
   pub goes : ClientGoes x asks octets (told ++ heard)
 
--- more was told, and the last of it is the first that is waited for; nothing stands behind its frame
+-- more was told, and the last of it is the first that is expected; nothing follows its frame
 pub record GoesUntil (wanted : ClientTold → Bool) (x : ClientChannel) (asks : List Placed) (octets : List ℕ) (told : List ClientTold) : Type 0 where
   pub heard : List ClientTold
   pub none : list_any wanted heard ≡ false
@@ -51,19 +52,19 @@ pub record GoesUntil (wanted : ClientTold → Bool) (x : ClientChannel) (asks : 
   pub is_wanted : wanted last ≡ true
   pub tells : ClientGoesTelling x asks octets (told ++ heard) last
 
--- more was told, and nothing of it is what is waited for, when the connection ended
+-- more was told, and nothing of it is expected, when the connection ended
 pub record EndsWithout (wanted : ClientTold → Bool) (x : ClientChannel) (asks : List Placed) (octets : List ℕ) (told : List ClientTold) (why : Why) : Type 0 where
   pub heard : List ClientTold
   pub none : list_any wanted heard ≡ false
   pub ended : ClientEnded x asks octets (told ++ heard) why
 
--- more was told, and nothing of it is what is waited for, when memory was refused
+-- more was told, and nothing of it is expected, when an allocation failed
 pub record StarvesWithout (wanted : ClientTold → Bool) (x : ClientChannel) (asks : List Placed) (octets : List ℕ) (told : List ClientTold) : Type 0 where
   pub heard : List ClientTold
   pub none : list_any wanted heard ≡ false
   pub starved : Starved x asks octets (told ++ heard)
 
--- what is answered where something is waited for
+-- the outcome when something is expected
 abbrev pub WaitsAt : {A : Type 0} → (ClientTold → Bool) → (A → Type 0) → Result A ClientFault → ClientChannel → List Placed → List ℕ → List ClientTold → Type 0
 WaitsAt wanted P (Ok found) new asks octets told = GoesUntil wanted new asks octets told × P found
 WaitsAt wanted P (Err (fault.Peer code)) new asks octets told = EndsWithout wanted new asks octets told (peers code.code)
@@ -74,7 +75,7 @@ WaitsAt wanted P (Err fault.TooLong) new asks octets told = GoesWithout wanted n
 WaitsAt wanted P (Err fault.OutOfMemory) new asks octets told = StarvesWithout wanted new asks octets told
 WaitsAt wanted P (Err other) new asks octets told = ⊥
 
--- the octets up to what is waited for, or up to a fault
+-- the bytes up to what is expected, or up to a fault
 pub record Waits {A : Type 0} (wanted : ClientTold → Bool) (P : A → Type 0) (old new : Connection) (before after : Option Traffic) (reads left : ℕ) (result : Result A ClientFault) : Type 0 where
   pub moves : MovesConnection old new [] before after
   pub keeps : Keeps old new
@@ -82,7 +83,7 @@ pub record Waits {A : Type 0} (wanted : ClientTold → Bool) (P : A → Type 0) 
   pub faults : IfErr result (λ f. is_hearing_fault f ≡ true)
   pub stops : StopsAt reads left moves.got new after result
 
--- whatever is answered
+-- whatever the outcome
 abbrev pub any_done : Unit {0} → Type 0
 any_done done = Unit {0}
 
@@ -92,33 +93,34 @@ any_done done = Unit {0}
 abbrev pub hello_octets : Limits → Option (List ℕ) → List ℕ
 hello_octets limits url = frame_octets (hello_frame (hello_to limits url))
 
--- the OPN at this moment (OPC 10000-6, 6.7.2)
+-- the OPN at this time (OPC 10000-6, 6.7.2)
 abbrev pub open_octets : DateTime → List ℕ
 open_octets moment = frame_octets (first_open moment)
 
--- the channel of this connection is open: an ACK was told, and nothing more until the last of the frames told so; nothing stands behind it
+-- the channel of this connection is open: an ACK was told, and nothing more until the last of the
+-- frames told that it is open; nothing follows it
 pub record IsOpened (x : ClientChannel) (octets : List ℕ) : Type 0 where
   pub ack : Ack
   pub channel : ℕ
   pub token : ℕ
   pub tells : ClientGoesTelling x [] octets (Agreed ack ∷ []) (Opened channel token)
 
--- the wait broke off: the HEL was sent and nothing was told; or the OPN was sent too, and nothing but the ACK was told, so that nothing
--- that was told opened the channel
+-- the wait broke off: the HEL was sent and nothing was told; or the OPN was sent too, and nothing
+-- but the ACK was told, so that nothing that was told opened the channel
 abbrev pub BreaksWaiting : List ℕ → List ℕ → ClientChannel → List ℕ → List ℕ → ClientFault → Type 0
 BreaksWaiting hello opening new sent taken f =
     ((sent ≡ hello) × BreaksOff f new [] taken [])
     ⊎ ((sent ≡ hello ++ opening) × ((ack : Ack) × BreaksOff f new [] taken (Agreed ack ∷ [])))
 
--- a write failed: a part of the HEL was sent, and nothing was taken; or the HEL and a part of the OPN, behind the ACK, which is all that was
--- taken
+-- a write failed: a part of the HEL was sent, and nothing was taken; or the HEL and a part of the
+-- OPN, after the ACK, which is all that was taken
 abbrev pub BreaksSending : List ℕ → List ℕ → ClientChannel → List ℕ → List ℕ → Type 0
 BreaksSending hello opening new sent taken =
     (IsPart sent hello × (taken ≡ []))
     ⊎ ((part : List ℕ) × (sent ≡ hello ++ part) × IsPart part opening × ((ack : Ack) × ClientGoesTelling new [] taken [] (Agreed ack)))
 
--- a connection was not opened: the line failed to write; or memory was refused for the HEL, when nothing was sent and taken; or the wait
--- broke off
+-- a connection was not opened: the transport failed to write; or an allocation failed for the HEL,
+-- when nothing was sent and taken; or the wait broke off
 abbrev pub BreaksOpening : List ℕ → List ℕ → ClientChannel → List ℕ → List ℕ → ClientFault → Type 0
 BreaksOpening hello opening new sent taken fault.Write = BreaksSending hello opening new sent taken
 BreaksOpening hello opening new sent taken fault.OutOfMemory = ((sent ≡ []) × (taken ≡ [])) ⊎ BreaksWaiting hello opening new sent taken fault.OutOfMemory
@@ -129,12 +131,12 @@ BreaksOpening hello opening new sent taken (fault.Peer code) = BreaksWaiting hel
 BreaksOpening hello opening new sent taken (fault.Refused code) = BreaksWaiting hello opening new sent taken (fault.Refused code)
 BreaksOpening hello opening new sent taken other = ⊥
 
--- what becomes of an opening
+-- the outcome of opening a connection
 abbrev pub OpensAt : {A : Type 0} → List ℕ → List ℕ → ClientChannel → List ℕ → List ℕ → Result A ClientFault → Type 0
 OpensAt hello opening new sent taken (Ok done) = (sent ≡ hello ++ opening) × IsOpened new taken
 OpensAt hello opening new sent taken (Err f) = BreaksOpening hello opening new sent taken f
 
--- a connection of which nothing was sent and nothing came is opened
+-- a connection over which nothing was sent and nothing came is opened
 pub record Opens {A : Type 0} (moment : DateTime) (old new : Connection) (before after : Option Traffic) (result : Result A ClientFault) : Type 0 where
   pub sent : List ℕ
   pub moves : MovesConnection old new sent before after

@@ -1,5 +1,5 @@
--- How a client renews the token of its channel: it sends an OPN, and waits until a further token came (OPC 10000-4, 5.6.2; OPC 10000-6,
--- 6.7.2).
+-- How a client renews the token of its channel: it sends an OPN, and waits until a further token
+-- came (OPC 10000-4, 5.6.2; OPC 10000-6, 6.7.2).
 use Rattle.std.specs.Prelude.{◌≡◌, ◌⊎◌, ◌<◌, ◌≤◌, ◌++◌, map, ℕ, Bool, true, false, List, [], ◌∷◌, length, Option, Some, None, Result, Ok, Err}
 use Rattle.std.specs.List.{AllByRecursion, filter, list_any}
 use Rattle.ua_builtin.specs.Reasons.{first_reason, renamed_reason}
@@ -38,18 +38,18 @@ is_renewed (Answered id octets) = false
 is_renewed (GaveUp id code) = false
 is_renewed (Renewed token) = true
 
--- a place is settled: the channel is open there, and all that was asked is answered: something was told of each call, and no fewer further
--- tokens came than were asked for
+-- a state is settled: the channel is open, and every operation is answered: something was told of
+-- each call, and no fewer further tokens came than were requested
 pub record IsSettled (s : ClientPlace) : Type 0 where
   pub opened : list_any is_opened s.told ≡ true
   pub answered : AllByRecursion (λ (id : ℕ). 0 < length (told_of id s.told)) (calls (asked_in s.asks))
   pub renewed : length (renewals (asked_in s.asks)) ≤ length (filter is_renewed s.told)
 
--- a channel stands somewhere, and its place is settled: which place that is no channel keeps
+-- a channel has a settled state; the channel itself does not keep which
 abbrev pub StandsSettled : ClientChannel → Type 0
 StandsSettled x = ∥ ((s : ClientPlace) × StandsAt x s × IsSettled s) ∥₁
 
--- a channel is open, and nothing that it asked is pending where it stands
+-- a channel is open, and none of its operations is pending
 pub record IsIdle (x : ClientChannel) (s : ClientPlace) : Type 0 where
   pub opened : HasNoChannel x → ⊥
   pub calls_answered : pending_calls s.before.messages (asked_in s.asks) ≡ []
@@ -57,30 +57,31 @@ pub record IsIdle (x : ClientChannel) (s : ClientPlace) : Type 0 where
 
 -- ---- why it is not asked
 
--- why a renewal is not asked there, in the order in which it is judged: the client holds 16 tokens, from the last one that the server
--- used to the newest; or all request ids were used
+-- why a renewal is refused there, in the order in which it is judged: the client holds 16 tokens,
+-- from the last one that the server used to the newest; or all RequestIds were used
 abbrev pub renewal_reasons : ClientPlace → List (ClientFault × Bool)
 renewal_reasons s = map (renamed_reason by_channel) (reasons_of_token (length (held_tokens s.before)) (id_at s))
 
--- why it is not asked there, if it is not
+-- why it is refused there, if it is
 abbrev pub renewal_refusal : ClientPlace → Option ClientFault
 renewal_refusal s = first_reason (renewal_reasons s)
 
--- for which of these reasons a renewal was not asked, if for one
+-- for which of these reasons a renewal was refused, if for one
 abbrev pub refused_by : {A : Type 0} → Result A ClientFault → Option ClientFault
 refused_by (Ok done) = None
 refused_by (Err fault.TooManyTokens) = Some fault.TooManyTokens
 refused_by (Err fault.Exhausted) = Some fault.Exhausted
 refused_by (Err other) = None
 
--- it was not asked, for one of these reasons
+-- it was refused, for one of these reasons
 abbrev pub IsRefusal : {A : Type 0} → Result A ClientFault → Type 0
 IsRefusal (Ok done) = ⊥
 IsRefusal (Err fault.TooManyTokens) = Unit {0}
 IsRefusal (Err fault.Exhausted) = Unit {0}
 IsRefusal (Err other) = ⊥
 
--- what a refusal of the channel comes to; an idle channel meets no other than these three
+-- the error that results from a refusal of the channel; an idle channel has no other than these
+-- three
 abbrev pub of_renew_fault : AskFault → ClientFault
 of_renew_fault ask_fault.TooManyTokens = fault.TooManyTokens
 of_renew_fault ask_fault.Exhausted = fault.Exhausted
@@ -89,17 +90,18 @@ of_renew_fault other = fault.Closed
 
 -- ---- what is asked
 
--- the OPN of a client that stands there
+-- the OPN of a client in this state
 abbrev pub renewal_at : ClientPlace → DateTime → List ℕ
 renewal_at s moment = renewal_by (lane_behind s.before) s.number (id_at s) moment
 
--- what is asked once a renewal is asked there, under the next request id
+-- the client's operations after a renewal there, under the next RequestId
 abbrev pub asks_renewed : ClientPlace → List Placed
 asks_renewed s = s.asks ++ (length s.octets, Renewal (id_at s)) ∷ []
 
 -- ---- what becomes of it
 
--- a renewal is answered: behind these octets, the last of which is the last of the frame that brought the token, the client stands there
+-- a renewal is answered: after these bytes, the last of which is the last of the frame that brought
+-- the token, the client has that state
 pub record IsRenewed (new : ClientChannel) (s t : ClientPlace) (taken : List ℕ) : Type 0 where
   pub at : StandsAt new t
   pub asks : t.asks ≡ asks_renewed s
@@ -110,16 +112,16 @@ pub record IsRenewed (new : ClientChannel) (s t : ClientPlace) (taken : List ℕ
   pub none_before : list_any is_renewed heard ≡ false
   pub tells : ClientGoesTelling new t.asks t.octets (s.told ++ heard) (Renewed token)
   pub told : t.told ≡ s.told ++ (heard ++ Renewed token ∷ [])
-  -- calls go out under it
+  -- calls are sent under it
   pub newest : latest (held_tokens t.before) ≡ Some token
-  -- a settled place stays so
+  -- if the state was settled, it is settled again
   pub settled : IsSettled s → IsSettled t
 
--- a renewal that was asked there is not answered
+-- a renewal that was requested there is not answered
 abbrev pub BreaksRenewing : ClientPlace → DateTime → ClientChannel → List ℕ → List ℕ → ClientFault → Type 0
 BreaksRenewing s moment new sent taken f = (sent ≡ renewal_at s moment) × WaitsAt is_renewed any_done (Err f) new (asks_renewed s) (s.octets ++ taken) s.told
 
--- what becomes of a renewal there: what was sent and taken, and where the channel then stands
+-- the outcome of a renewal there: what was sent and taken, and the state of the channel then
 abbrev pub RenewsAt : {A : Type 0} → ClientPlace → DateTime → ClientChannel → List ℕ → List ℕ → Result A ClientFault → Type 0
 RenewsAt s moment new sent taken (Ok done) = (sent ≡ renewal_at s moment) × ((t : ClientPlace) × IsRenewed new s t taken)
 RenewsAt s moment new sent taken (Err fault.Write) = IsPart sent (renewal_at s moment) × (taken ≡ [])
@@ -133,14 +135,14 @@ RenewsAt s moment new sent taken (Err (fault.Peer code)) = BreaksRenewing s mome
 RenewsAt s moment new sent taken (Err (fault.Refused code)) = BreaksRenewing s moment new sent taken (fault.Refused code)
 RenewsAt s moment new sent taken (Err other) = ⊥
 
--- a renewal of the token, at this moment, over a line
+-- a renewal of the token, at this time, over a transport
 pub record Renews {A : Type 0} (moment : DateTime) (old new : Connection) (before after : Option Traffic) (result : Result A ClientFault) : Type 0 where
   pub sent : List ℕ
   pub moves : MovesConnection old new sent before after
   pub same : SameClient (channel_of old) (channel_of new)
-  -- it is refused just for the first reason that holds where the client stands
+  -- it is refused exactly for the first reason that holds in the state of the client
   pub judged : (s : ClientPlace) → StandsAt (channel_of old) s → refused_by result ≡ renewal_refusal s
   pub answers : (s : ClientPlace) → StandsAt (channel_of old) s → RenewsAt s moment (channel_of new) sent moves.taken result
   pub stops : StopsAt most_reads most_reads moves.got new after result
 
--- ---- the client behind it
+-- ---- the client after it

@@ -1,4 +1,4 @@
--- The replies to a client's calls: each is what was told under the request id of its call.
+-- The replies to a client's calls: each is what was told under the RequestId of its call.
 use Rattle.std.specs.Prelude.{◌≡◌, ◌+◌, ◌<◌, ◌⊎◌, ◌++◌, ℕ, zero, suc, Bool, true, false, is_none, List, [], ◌∷◌, length, Option, Some, None, Result, Ok, Err}
 use Rattle.std.specs.List.{list_any}
 use Rattle.ua_channel.specs.ClientTold.{ClientTold}
@@ -17,7 +17,8 @@ use Rattle.ua_client.specs.declared.reply.Reply.TheVariants.{Response as Respond
 
 -- ---- responses
 
--- octets are the body of a response that answers a request of this kind: it is of the request's own kind, or a ServiceFault
+-- bytes are the body of a response that answers a request of this kind: it is of the request's own
+-- kind, or a ServiceFault
 -- (OPC 10000-4, 5.3)
 abbrev pub IsAnswer : RequestKind → List ℕ → Response → Type 0
 IsAnswer kind octets m = IsBody response m octets × Answers (kind_of_response m) kind
@@ -26,14 +27,14 @@ IsAnswer kind octets m = IsBody response m octets × Answers (kind_of_response m
 abbrev pub IsNoAnswer : RequestKind → List ℕ → Type 0
 IsNoAnswer kind octets = (m : Response) → IsAnswer kind octets m → ⊥
 
--- what octets are read as
+-- what bytes are decoded as
 abbrev pub ReadsAnswer : RequestKind → List ℕ → Result Response ClientFault → Type 0
 ReadsAnswer kind octets (Ok m) = IsAnswer kind octets m
 ReadsAnswer kind octets (Err fault.UnknownResponse) = IsNoAnswer kind octets
 ReadsAnswer kind octets (Err fault.OutOfMemory) = Unit {0}
 ReadsAnswer kind octets (Err other) = ⊥
 
--- octets are no answer, or memory was refused
+-- bytes are no answer, or an allocation failed
 abbrev pub is_reading_fault : ClientFault → Bool
 is_reading_fault fault.UnknownResponse = true
 is_reading_fault fault.OutOfMemory = true
@@ -41,12 +42,12 @@ is_reading_fault other = false
 
 -- ---- replies
 
--- the reply to a request of this kind, whose call has this request id, is this one that was told
+-- the reply to a request of this kind, whose call has this RequestId, is this one that was told
 abbrev pub IsReplyBy : RequestKind → ℕ → ClientTold → Reply → Type 0
 IsReplyBy kind id t (Responds m) = (octets : List ℕ) × (t ≡ Answered id octets) × IsAnswer kind octets m
 IsReplyBy kind id t (Aborted code) = t ≡ GaveUp id code
 
--- a message that was told under the request id of a call is no answer to its request
+-- a message that was told under the RequestId of a call is no answer to its request
 abbrev pub IsMisanswer : RequestKind → ℕ → ClientTold → Type 0
 IsMisanswer kind id t = (octets : List ℕ) × (t ≡ Answered id octets) × IsNoAnswer kind octets
 
@@ -54,7 +55,8 @@ IsMisanswer kind id t = (octets : List ℕ) × (t ≡ Answered id octets) × IsN
 abbrev pub IsReply : Request → ℕ → List ClientTold → Reply → Type 0
 IsReply request id told reply = (t : ClientTold) × (told_of id told ≡ t ∷ []) × IsReplyBy (kind_of request) id t reply
 
--- each reply is that of its own request, where the calls of the requests have request ids from this one on
+-- each reply is that of its own request, where the calls of the requests have RequestIds from this
+-- one on
 abbrev pub AreReplies : List Request → ℕ → List ClientTold → List Reply → Type 0
 AreReplies [] id told [] = Unit {0}
 AreReplies [] id told (reply ∷ replies) = ⊥
@@ -89,7 +91,8 @@ front_of (Some reply ∷ slots) = reply ∷ front_of slots
 
 -- ---- replies that are kept where one is missing
 
--- these are the replies to the first of the requests, and of the next one, whose reply is missing, this holds
+-- these are the replies to the first of the requests, and of the next one, whose reply is missing,
+-- this holds
 abbrev pub IsFront : (Request → ℕ → List ClientTold → Type 0) → List Reply → List Request → ℕ → List ClientTold → Type 0
 IsFront Misses replies [] id told = ⊥
 IsFront Misses [] (request ∷ requests) id told = Misses request id told
@@ -103,20 +106,20 @@ IsUntold request id told = told_of id told ≡ []
 abbrev pub LacksAnswer : Request → ℕ → List ClientTold → Type 0
 LacksAnswer request id told = (told_of id told ≡ []) ⊎ ((t : ClientTold) × (told_of id told ≡ t ∷ []) × IsMisanswer (kind_of request) id t)
 
--- nothing was told of its call but, maybe, the last of all that was told
+-- nothing was told of its call except, maybe, the last of all that was told
 abbrev pub IsUntoldBefore : Request → ℕ → List ClientTold → Type 0
 IsUntoldBefore request id told = (told_of id told ≡ []) ⊎ ((before : List ClientTold) × (last : ClientTold) × (told ≡ before ++ last ∷ []) × (told_of id before ≡ []))
 
 -- ---- the place of a reply
 
--- the request at a place of a list
+-- the request at an index of a list
 abbrev pub IsAt : List Request → ℕ → Request → Type 0
 IsAt [] n request = ⊥
 IsAt (r ∷ rs) zero request = request ≡ r
 IsAt (r ∷ rs) (suc n) request = IsAt rs n request
 
--- the last that was told is a message that is no answer to the request of its call, of which nothing was told before; and before it each of
--- the calls was answered, or nothing was told of it
+-- the last that was told is a message that is no answer to the request of its call, of which
+-- nothing was told before; and before it each of the calls was answered, or nothing was told of it
 pub record IsMisanswered (requests : List Request) (id : ℕ) (told : List ClientTold) : Type 0 where
   pub before : List ClientTold
   pub last : ClientTold
@@ -129,16 +132,17 @@ pub record IsMisanswered (requests : List Request) (id : ℕ) (told : List Clien
   pub untold : told_of (id + place) before ≡ []
   pub misanswers : IsMisanswer (kind_of request) (id + place) last
 
--- what was told is of none of so many calls from this request id on
+-- what was told is of none of this many calls from this RequestId on
 abbrev pub IsOfNone : ℕ → ℕ → ClientTold → Type 0
 IsOfNone first count t = (n : ℕ) → n < count → is_told_of (first + n) t ≡ false
 
--- the place of a request id among so many from the first on
+-- the index of a RequestId among this many from the first on
 abbrev pub IsPlace : ℕ → ℕ → ℕ → Option ℕ → Type 0
 IsPlace first id count None = (n : ℕ) → n < count → id ≡ first + n → ⊥
 IsPlace first id count (Some n) = (n < count) × (id ≡ first + n)
 
--- the reply that something told is to one of the requests, at its place; none where it is of none of their calls
+-- the reply that something told is to one of the requests, at its index; none if it is of none of
+-- their calls
 abbrev pub PlacesReply : List Request → ℕ → ClientTold → Result (Option (ℕ × Reply)) ClientFault → Type 0
 PlacesReply requests first t (Ok None) = IsOfNone first (length requests) t
 PlacesReply requests first t (Ok (Some (n, reply))) = (request : Request) × IsAt requests n request × IsReplyBy (kind_of request) (first + n) t reply
@@ -146,7 +150,7 @@ PlacesReply requests first t (Err fault.UnknownResponse) = (n : ℕ) × (request
 PlacesReply requests first t (Err fault.OutOfMemory) = Unit {0}
 PlacesReply requests first t (Err other) = ⊥
 
--- what became of the replies behind something more that was told
+-- the replies after something more that was told
 abbrev pub FillsSlots : List Request → ℕ → List ClientTold → List (Option Reply) → Result (Unit {0}) ClientFault → Type 0
 FillsSlots requests first told slots (Ok done) = AreSlots requests first told slots
 FillsSlots requests first told slots (Err fault.UnknownResponse) = IsMisanswered requests first told × IsFront LacksAnswer (front_of slots) requests first told

@@ -1,4 +1,5 @@
--- How a client begins a session: it asks CreateSession, and behind a good response ActivateSession (OPC 10000-4, 5.7.2 and 5.7.3).
+-- How a client begins a session: it calls CreateSession, and after a good response ActivateSession
+-- (OPC 10000-4, 5.7.2 and 5.7.3).
 use Rattle.std.specs.Prelude.{IsFalse, ◌≡◌, ◌⊎◌, ◌++◌, ◌||◌, cond, ℕ, Bool, true, false, List, [], ◌∷◌, Option, Some, None, Result, Ok, Err}
 use Rattle.ua_builtin.specs.Status.{is_bad}
 use Rattle.ua_builtin.specs.declared.date_time.DateTime.{DateTime}
@@ -28,16 +29,18 @@ use Rattle.ua_client.specs.declared.reply.Reply.TheVariants.{Response as Respond
 
 -- ---- what is asked
 
--- CreateSession, asked there at this moment of the server of this URL: its RequestHandle is its request id
+-- CreateSession, called there at this time for the server of this URL: its RequestHandle is its
+-- RequestId
 abbrev pub creating_at : Option (List ℕ) → DateTime → ClientPlace → Request
 creating_at url moment s = create_session url moment (id_at s)
 
--- ActivateSession, asked there at this moment under the token of the session, by the token policy with this PolicyId: its RequestHandle is
--- its request id
+-- ActivateSession, called there at this time under the token of the session, by the token policy
+-- with this PolicyId: its RequestHandle is its RequestId
 abbrev pub activating_at : Option (List ℕ) → NodeId → DateTime → ClientPlace → Request
 activating_at policy_id token moment s = activate_session_as policy_id token moment (id_at s)
 
--- a request that was made is the one to ask where the channel stands; one that was not cannot be encoded, or memory was refused
+-- a request that was made is the one to call in the state of the channel; one that was not cannot
+-- be encoded, or an allocation failed
 abbrev pub MakesRequest : (ClientPlace → Request) → ClientChannel → Result Request ClientFault → Type 0
 MakesRequest wanted x (Ok made) = (s : ClientPlace) → StandsAt x s → made ≡ wanted s
 MakesRequest wanted x (Err fault.NotWritable) = (s : ClientPlace) → StandsAt x s → IsFalse (request.encodable (wanted s))
@@ -51,7 +54,8 @@ abbrev pub is_fault : ResponseKind → Bool
 is_fault response_kind.ServiceFault = true
 is_fault other = false
 
--- by a response the service failed: it is a ServiceFault, whatever its code, or its ServiceResult is bad (OPC 10000-4, 5.3 and 7.34)
+-- the service failed by this response: it is a ServiceFault, whatever its code, or its
+-- ServiceResult is bad (OPC 10000-4, 5.3 and 7.34)
 abbrev pub is_failure : Response → Bool
 is_failure m = is_fault (kind_of m) || is_bad (header_of m).service_result
 
@@ -59,7 +63,8 @@ is_failure m = is_fault (kind_of m) || is_bad (header_of m).service_result
 abbrev pub response_failure : Response → Option StatusCode
 response_failure m = cond (is_failure m) (Some (header_of m).service_result) None
 
--- the code by which a service failed, if it did: that of the response, or why the server gave its answer up
+-- the code by which a service failed, if it did: that of the response, or that with which the
+-- server aborted its response
 abbrev pub reply_failure : Reply → Option StatusCode
 reply_failure (Responds m) = response_failure m
 reply_failure (Aborted code) = Some code
@@ -73,11 +78,11 @@ token_in other = None
 abbrev pub is_reply : Reply → Reply → Type 0
 is_reply found reply = found ≡ reply
 
--- it brings this token
+-- the reply brings this token
 abbrev pub brings_token : NodeId → Reply → Type 0
 brings_token token reply = token_in reply ≡ Some token
 
--- whatever it brings
+-- whatever the reply brings
 abbrev pub brings_any : Unit {0} → Reply → Type 0
 brings_any done reply = Unit {0}
 
@@ -91,13 +96,15 @@ LacksToken reply f = (f ≡ fault.UnknownResponse) × (token_in reply ≡ None)
 
 -- ---- a service
 
--- a request that was called there by itself is answered: what was sent and taken, where the channel of the client then stands, and the reply
+-- a request that was called there by itself is answered: what was sent and taken, the state of the
+-- channel of the client then, and the reply
 pub record IsReplied (x : ClientChannel) (request : Request) (s t : ClientPlace) (sent taken : List ℕ) (reply : Reply) : Type 0 where
   pub sent_is : sent ≡ sent_at s (request ∷ [])
   pub came : LastCame x (request ∷ []) (id_at s) t.asks t.octets t.told
   pub answered : Answered (request ∷ []) s t taken (reply ∷ [])
 
--- the same, where the channel stands behind it, and the reply is such a one; a settled place stays so
+-- the same, with the state of the channel after it, and the reply has this property; if the state
+-- was settled, it is settled again
 pub record Replies (request : Request) (s : ClientPlace) (x : ClientChannel) (sent taken : List ℕ) (P : Reply → Type 0) : Type 0 where
   pub behind : ClientPlace
   pub at : StandsAt x behind
@@ -106,13 +113,13 @@ pub record Replies (request : Request) (s : ClientPlace) (x : ClientChannel) (se
   pub replied : IsReplied x request s behind sent taken reply
   pub says : P reply
 
--- what becomes of a request that is called there by itself: the reply, or a fault of the call
+-- the outcome of a request that is called there by itself: the reply, or a fault of the call
 abbrev pub CallsOneAt : Request → ClientPlace → Connection → List ℕ → List ℕ → Result Reply ClientFault → Type 0
 CallsOneAt request s new sent taken (Ok found) = Replies request s (channel_of new) sent taken (is_reply found)
 CallsOneAt request s new sent taken (Err f) = BreaksAt (request ∷ []) s new sent taken f
 
--- what becomes of a service whose request is called there by itself: a reply by which it did not fail, and what that brings; the code
--- of one by which it failed; or a fault of the call
+-- the outcome of a service whose request is called there by itself: a reply by which it did not
+-- fail, and what that brings; the code of one by which it failed; or a fault of the call
 abbrev pub ServesAt : {A : Type 0} → Request → (A → Reply → Type 0) → ClientPlace → Connection → List ℕ → List ℕ → Result A ClientFault → Type 0
 ServesAt request brings s new sent taken (Ok found) = Replies request s (channel_of new) sent taken (λ reply. (reply_failure reply ≡ None) × brings found reply)
 ServesAt request brings s new sent taken (Err (fault.Service code)) = Replies request s (channel_of new) sent taken (λ reply. reply_failure reply ≡ Some code)
@@ -120,7 +127,8 @@ ServesAt request brings s new sent taken (Err f) = BreaksAt (request ∷ []) s n
 
 -- ---- both services
 
--- CreateSession, asked there, brought a token; of what was sent and taken behind that, where a channel of this client then stood, this holds
+-- CreateSession, called there, brought a token; of what was sent and taken after that, if a channel
+-- of this client then had a state, this holds
 pub record BehindCreating (client : ClientChannel) (url : Option (List ℕ)) (moment : DateTime) (s : ClientPlace) (sent taken : List ℕ) (P : NodeId → ClientPlace → List ℕ → List ℕ → Type 0) : Type 0 where
   pub token : NodeId
   pub between : ClientPlace
@@ -140,19 +148,20 @@ pub record BehindCreating (client : ClientChannel) (url : Option (List ℕ)) (mo
   pub brought : brings_token token reply
   pub further : P token between sent_then taken_then
 
--- what becomes of ActivateSession by the token policy with this PolicyId, behind CreateSession, asked there
+-- the outcome of ActivateSession by the token policy with this PolicyId, after CreateSession,
+-- called there
 abbrev pub ActivatesBehind : Option (List ℕ) → Option (List ℕ) → DateTime → ClientPlace → Connection → List ℕ → List ℕ → (NodeId → Type 0) → Result (Unit {0}) ClientFault → Type 0
 ActivatesBehind url policy_id moment s new sent taken P result =
     BehindCreating (channel_of new) url moment s sent taken (λ token t sent_then taken_then. P token × ServesAt (activating_at policy_id token moment t) brings_any t new sent_then taken_then result)
 
--- what becomes of a session that is begun there: both services are done, and the first brought this token; or one of them was not, by
--- this fault, and it was the first, or the second behind the first
+-- the outcome of a session that is begun there: both services are done, and the first brought this
+-- token; or one of them was not, by this fault, and it was the first, or the second after the first
 abbrev pub BeginsAt : Option (List ℕ) → Option (List ℕ) → DateTime → ClientPlace → Connection → List ℕ → List ℕ → Result NodeId ClientFault → Type 0
 BeginsAt url policy_id moment s new sent taken (Ok token) = ActivatesBehind url policy_id moment s new sent taken (λ given. given ≡ token) (Ok tt)
 BeginsAt url policy_id moment s new sent taken (Err f) =
     ServesAt (creating_at url moment s) brings_token s new sent taken (Err f) ⊎ ActivatesBehind url policy_id moment s new sent taken (λ given. Unit {0}) (Err f)
 
--- the fault of a session that was not begun, without the token that was brought by then
+-- the fault of a session that was not begun, without the token that was received by then
 abbrev pub session_alone : {A : Type 0} → Result A SessionFault → Result A ClientFault
 session_alone (Ok found) = Ok found
 session_alone (Err c) = Err c.fault
@@ -161,18 +170,21 @@ session_alone (Err c) = Err c.fault
 abbrev pub session_closed : SessionFault
 session_closed = record { token = None; fault = fault.Closed }
 
--- a session that was to be begun there was not, by this fault: with no token it is the fault of CreateSession, with one that of
--- ActivateSession, behind CreateSession, which brought just this token
+-- a session that was to be begun there was not, by this fault: without a token it is the fault of
+-- CreateSession, with one that of ActivateSession, after CreateSession, which brought exactly this
+-- token
 abbrev pub FailsAt : Option (List ℕ) → Option (List ℕ) → DateTime → ClientPlace → Connection → List ℕ → List ℕ → Option NodeId → ClientFault → Type 0
 FailsAt url policy_id moment s new sent taken None f = ServesAt (creating_at url moment s) brings_token s new sent taken (Err f)
 FailsAt url policy_id moment s new sent taken (Some token) f = ActivatesBehind url policy_id moment s new sent taken (λ given. given ≡ token) (Err f)
 
--- the same of a session that is begun there, with the token of one that was created and not activated
+-- the same for a session that is begun there, with the token of one that was created and not
+-- activated
 abbrev pub TriesAt : Option (List ℕ) → Option (List ℕ) → DateTime → ClientPlace → Connection → List ℕ → List ℕ → Result NodeId SessionFault → Type 0
 TriesAt url policy_id moment s new sent taken (Ok token) = ActivatesBehind url policy_id moment s new sent taken (λ given. given ≡ token) (Ok tt)
 TriesAt url policy_id moment s new sent taken (Err c) = FailsAt url policy_id moment s new sent taken c.token c.fault
 
--- what was done over a line, by what that is to come to where the client stands, with so many reads left before and after
+-- what was done over a transport, by its outcome in the state of the client, with this many reads
+-- left before and after
 pub record Does {A : Type 0} (P : ClientPlace → List ℕ → List ℕ → Type 0) (old new : Connection) (before after : Option Traffic) (reads left : ℕ) (result : Result A ClientFault) : Type 0 where
   pub sent : List ℕ
   pub moves : MovesConnection old new sent before after
@@ -180,11 +192,11 @@ pub record Does {A : Type 0} (P : ClientPlace → List ℕ → List ℕ → Type
   pub answers : (s : ClientPlace) → StandsAt (channel_of old) s → P s sent moves.taken
   pub stops : StopsAt reads left moves.got new after result
 
--- the same, of a channel that is idle
+-- the same, for a channel that is idle
 abbrev pub DoesIdle : {A : Type 0} → (ClientPlace → List ℕ → List ℕ → Type 0) → Connection → Connection → Option Traffic → Option Traffic → ℕ → ℕ → Result A ClientFault → Type 0
 DoesIdle P old new before after reads left result = Does (λ s sent taken. IsIdle (channel_of old) s → P s sent taken) old new before after reads left result
 
--- a session is begun at this moment over a line, by the token policy with this PolicyId
+-- a session is begun at this time over a transport, by the token policy with this PolicyId
 abbrev pub BeginsSessionAs : Option (List ℕ) → DateTime → Connection → Connection → Option Traffic → Option Traffic → Result NodeId ClientFault → Type 0
 BeginsSessionAs policy_id moment old new before after result =
     Does (λ s sent taken. BeginsAt (url_of (channel_of old)) policy_id moment s new sent taken result) old new before after most_reads most_reads result

@@ -4,7 +4,7 @@ use Rattle.std.specs.List.{filter}
 use Rattle.ua_channel.specs.ClientTold.{ClientTold}
 use Rattle.ua_channel.specs.ClientTold.ClientTold.{Agreed, Opened, Answered, GaveUp, Renewed}
 
--- it is told of the call with this request id: the reply to it, or that the server gave it up
+-- it is told of the call with this RequestId: the reply to it, or that the server aborted it
 abbrev pub is_told_of : ℕ → ClientTold → Bool
 is_told_of id (Agreed ack) = false
 is_told_of id (Opened channel token) = false

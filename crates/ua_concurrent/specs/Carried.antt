@@ -1,4 +1,4 @@
--- The octets of a socket.
+-- The bytes of a socket.
 use Rattle.std.specs.Prelude.{ℕ, List, ◌++◌}
 
 -- what was read from a socket, and what was written to it, so far
@@ -6,10 +6,10 @@ pub record Carried : Type 0 where
   pub read : List ℕ
   pub written : List ℕ
 
--- the same where more was read
+-- the same with this read in addition
 abbrev pub with_read : List ℕ → Carried → Carried
 with_read more c = record { read = c.read ++ more; written = c.written }
 
--- the same where more was written
+-- the same with this written in addition
 abbrev pub with_written : List ℕ → Carried → Carried
 with_written more c = record { read = c.read; written = c.written ++ more }

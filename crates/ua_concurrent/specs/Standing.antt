@@ -1,4 +1,5 @@
--- Where connections over one table stand: what was read of each, what was sent to it, and the state that all of them leave.
+-- The states of connections over one table: what was read of each, what was sent to it, and the
+-- state that all of them leave.
 use Rattle.std.specs.Prelude.{◌≡◌, ℕ, ◌≤◌, ◌<◌, List, [], ◌++◌, Option, Some, slice_get}
 use Rattle.ua_frame.specs.Run.{Stopped, Over}
 use Rattle.ua_server.specs.History.{EndedAt}
@@ -16,10 +17,11 @@ use Rattle.ua_concurrent.specs.declared.outcome.Phase.TheVariants as phase
 abbrev pub own_id : ℕ → ℕ
 own_id k = k
 
--- Where a connection has come that stepped these octets and was sent these, where these events are those of all connections and of the
--- application, in the order in which they were handled. One server that handles every message in this order (`sent_to` of ua_server) sends it
--- just these octets; where the connection was refused the ERR frame stands behind them. Where an allocation failed in a step, the reply to the
--- last message that was handled may be lost; all before it is sent.
+-- The state of a connection that stepped these bytes and was sent these, where these events are
+-- those of all connections and of the application, in the order in which they were handled. One
+-- server that handles every message in this order (`sent_to` of ua_server) sends it exactly these
+-- bytes; if the connection was rejected the ERR frame follows them. If an allocation failed in a
+-- step, the reply to the last message that was handled may be lost; all before it is sent.
 abbrev pub HasCome : Phase → ℕ → Connection → List ℕ → List SharedEvent → State → State → List ℕ → Type 0
 HasCome phase.Going k c octets es first now sent = StandsAmong own_id k (channel_at c) (session_at c) octets es first now × (sent_to own_id k (opened first) es ≡ sent)
 HasCome phase.Closed k c octets es first now sent = EndedAt Over (channel_at c) octets (told_by k es) × (sent_to own_id k (opened first) es ++ last_words Over ≡ sent)
@@ -27,15 +29,17 @@ HasCome (phase.Refused code) k c octets es first now sent =
     EndedAt (Stopped code.code) (channel_at c) octets (told_by k es) × (sent_to own_id k (opened first) es ++ last_words (Stopped code.code) ≡ sent)
 HasCome phase.Starved k c octets es first now sent = (lost : List ℕ) × (sent_to own_id k (opened first) es ≡ sent ++ lost)
 
--- One conversation: what was read of its socket is what its connection stepped, each octet once and in order, and then the unread; what its
--- connection was sent is what was written, and then what waits.
+-- One conversation: what was read of its socket is what its connection stepped, each byte once and
+-- in order, and then the unread; what its connection was sent is what was written, and then what
+-- waits.
 pub record Stands {S : Type 0} (heard : S → Option Carried) (es : List SharedEvent) (first now : State) (t : Talk S) : Type 0 where
   pub octets : List ℕ
   pub written : List ℕ
   pub come : HasCome t.phase t.number t.connection octets es first now (written ++ t.waiting)
   pub carried : (c : Carried) → heard t.socket ≡ Some c → (c.read ≡ octets ++ t.unread) × (c.written ≡ written)
 
--- What one conversation did: more was handled, it stands behind that, and so does each other one.
+-- What one conversation did: more was handled, its state is that after it, and so is that of each
+-- other one.
 pub record Went {S : Type 0} (heard : S → Option Carried) (es : List SharedEvent) (first before now : State) (t : Talk S) : Type 0 where
   pub more : List SharedEvent
   pub state_is : (shared_over own_id (opened first) (es ++ more)).state ≡ now
@@ -51,19 +55,20 @@ pub record AreNumbered {S : Type 0} (last : ℕ) (places : List (Option (Talk S)
   pub within : (p : ℕ) (t : Talk S) → IsAt places p t → t.number ≤ last
   pub apart : (p q : ℕ) (t u : Talk S) → IsAt places p t → IsAt places q u → t.number ≡ u.number → p ≡ q
 
--- All conversations over the services, which were in the first state before any of them began and are in this one now: these events left it,
--- each conversation stands behind them, and those that are still to come have said nothing.
+-- All conversations over the services, which were in the first state before any of them began and
+-- are in this one now: these events left it, the state of each conversation is that after them, and
+-- those that are still to come have sent nothing.
 pub record StandTogether {S : Type 0} (heard : S → Option Carried) (es : List SharedEvent) (first now : State) (last : ℕ) (places : List (Option (Talk S))) : Type 0 where
   pub state_is : (shared_over own_id (opened first) es).state ≡ now
   pub numbered : AreNumbered last places
   pub each : (p : ℕ) (t : Talk S) → IsAt places p t → Stands heard es first now t
   pub unheard : (k : ℕ) → last < k → told_by k es ≡ []
 
--- They go on: more was handled, and all stand behind it.
+-- They go on: more was handled, and the state of all is that after it.
 pub record GoOn {S : Type 0} (heard : S → Option Carried) (es : List SharedEvent) (first now : State) (last : ℕ) (places : List (Option (Talk S))) : Type 0 where
   pub more : List SharedEvent
   pub stand : StandTogether heard (es ++ more) first now last places
 
--- of a socket that tells its octets nothing was read or written yet
+-- nothing was read or written yet of a socket that tells its bytes
 abbrev pub IsFresh : Option Carried → Type 0
 IsFresh heard = (c : Carried) → heard ≡ Some c → (c.read ≡ []) × (c.written ≡ [])

@@ -15,27 +15,29 @@ pub record Talk (S : Type 0) : Type 0 where
   pub socket : S
   pub connection : Connection
   pub phase : Phase
-  -- what became of it, once it is over
+  -- the outcome, once it is over
   pub outcome : Option (Result End Failure)
-  -- octets that were read and are not stepped yet, and those that were answered and are not written yet
+  -- bytes that were read and are not stepped yet, and those that were answered and are not written
+  -- yet
   pub unread : List ℕ
   pub waiting : List ℕ
 
--- octets are there
+-- bytes are there
 abbrev pub are_there : List ℕ → Bool
 are_there [] = false
 are_there (x ∷ xs) = true
 
--- the octets of the client go on
+-- the client's bytes go on
 abbrev pub is_going : Phase → Bool
 is_going phase.Going = true
 is_going phase.Closed = false
 is_going (phase.Refused code) = false
 is_going phase.Starved = false
 
--- A turn would do something, by what became of it, what waits, how far its octets are, what is unread, and whether the socket can be read and
--- written: none where it is over; what waits goes on once the socket can be written; else an end, and octets that are not stepped, go on at once;
--- else it goes on once the socket can be read.
+-- Whether a turn would do something, by the outcome, what waits, the phase of the client's bytes,
+-- what is unread, and whether the socket can be read and written: nothing if it is over; what waits
+-- goes on once the socket can be written; otherwise an end, and bytes that are not stepped, go on
+-- at once; otherwise it goes on once the socket can be read.
 abbrev pub ready_of : Option (Result End Failure) → List ℕ → Phase → List ℕ → Bool → Bool → Bool
 ready_of outcome waiting p unread readable writable =
     cond (is_some outcome) false (cond (are_there waiting) writable (cond (is_going p) (cond (are_there unread) true readable) true))
@@ -43,7 +45,7 @@ ready_of outcome waiting p unread readable writable =
 abbrev pub is_ready : {S : Type 0} → (S → Bool) → (S → Bool) → Talk S → Bool
 is_ready readable writable t = ready_of t.outcome t.waiting t.phase t.unread (readable t.socket) (writable t.socket)
 
--- what became of it, and its socket, once it is over
+-- the outcome, and its socket, once it is over
 abbrev pub released : {S : Type 0} → Talk S → Option (Released S)
 released t = option_map (λ outcome. record { number = t.number; outcome = outcome; socket = t.socket }) t.outcome
 

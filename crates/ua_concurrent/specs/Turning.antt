@@ -15,7 +15,7 @@ use Rattle.ua_concurrent.specs.declared.outcome.Failure.TheVariants as failure
 use Rattle.ua_concurrent.specs.declared.outcome.Phase.{Phase}
 use Rattle.ua_concurrent.specs.declared.outcome.Phase.TheVariants as phase
 
--- all that was read is stepped, all that was answered is written, and the octets go on
+-- all that was read is stepped, all that was answered is written, and the bytes go on
 abbrev pub IsIdle : {S : Type 0} → Talk S → Type 0
 IsIdle t = (t.phase ≡ phase.Going) × (t.unread ≡ []) × (t.waiting ≡ [])
 
@@ -23,19 +23,20 @@ IsIdle t = (t.phase ≡ phase.Going) × (t.unread ≡ []) × (t.waiting ≡ [])
 abbrev pub IsWhole : {S : Type 0} → Talk S → Type 0
 IsWhole t = (octets : List ℕ) (frames : List Frame) (rest : List ℕ) → Holds (channel_at t.connection) octets frames rest → IsClean frames rest
 
--- one is
+-- a frame or a message is unfinished
 abbrev pub IsWithin : {S : Type 0} → Talk S → Type 0
 IsWithin t = (octets : List ℕ) (frames : List Frame) (rest : List ℕ) → Holds (channel_at t.connection) octets frames rest → IsClean frames rest → ⊥
 
--- how a connection ends whose input does
+-- how a connection ends whose input ends
 abbrev pub Finishes : {S : Type 0} → End → Talk S → Type 0
 Finishes NoClose t = IsWhole t
 Finishes Cut t = IsWithin t
 Finishes Closed t = ⊥
 Finishes (Refused code) t = ⊥
 
--- What became of a connection: it closed or was refused, and all is written; its input ended where all was stepped and written, and no
--- frame and no message was unfinished, or one was; it could not be read, where all was stepped and written; it could not be written, and something waits; or an
+-- The outcome of a connection: it closed or was rejected, and all is written; its input ended when
+-- all was stepped and written, and no frame and no message was unfinished, or one was; it could not
+-- be read, when all was stepped and written; it could not be written, and something waits; or an
 -- allocation failed.
 abbrev pub CameTo : {S : Type 0} → Result End Failure → Talk S → Type 0
 CameTo (Ok NoClose) t = IsIdle t × IsWhole t
@@ -46,23 +47,23 @@ CameTo (Err failure.Read) t = IsIdle t
 CameTo (Err failure.Write) t = 0 < length t.waiting
 CameTo (Err failure.OutOfMemory) t = (t.phase ≡ phase.Starved) × (t.waiting ≡ [])
 
--- it is over where this came of it, if it is over
+-- it is over with this outcome, if it is over
 abbrev pub IsOver : {S : Type 0} → Option (Result End Failure) → Talk S → Type 0
 IsOver None t = Unit {0}
 IsOver (Some outcome) t = CameTo outcome t
 
--- of a socket that tells its octets nothing was read
+-- nothing was read of a socket that tells its bytes
 abbrev pub ReadsNothing : {S : Type 0} → (S → Option Carried) → Talk S → Talk S → Type 0
 ReadsNothing heard a b = (c : Carried) → heard a.socket ≡ Some c → (d : Carried) × (heard b.socket ≡ Some d) × (d.read ≡ c.read)
 
--- of a socket that tells its octets some were read, and no more than 4,096
+-- some bytes were read of a socket that tells its bytes, and no more than 4,096
 abbrev pub ReadsSome : {S : Type 0} → (S → Option Carried) → Talk S → Talk S → Type 0
 ReadsSome heard a b = (c : Carried) → heard a.socket ≡ Some c → (d : Carried) × (more : List ℕ)
     × (heard b.socket ≡ Some d) × (d.read ≡ c.read ++ more) × (0 < length more) × (length more ≤ 4096)
 
 -- ---- what its parts do
 
--- the most octets that are read at once
+-- the most bytes that are read at once
 abbrev pub most_read : ℕ
 most_read = 4096
 
@@ -74,7 +75,7 @@ pub record Wrote {S : Type 0} (heard : S → Option Carried) (a b : Talk S) : Ty
   pub is : b ≡ record a { socket = b.socket; waiting = drop count a.waiting }
   pub heard_is : heard b.socket ≡ option_map (with_written (take count a.waiting)) (heard a.socket)
 
--- a piece is read, where all that was read before is stepped
+-- a fragment is read, if all that was read before is stepped
 pub record Read {S : Type 0} (heard : S → Option Carried) (a b : Talk S) : Type 0 where
   pub piece : List ℕ
   pub some : 0 < length piece
@@ -108,7 +109,7 @@ Writes heard writable a b = Wrote heard a b ⊎ Stopped heard writable a b ⊎ F
 abbrev pub Reads : {S : Type 0} → (S → Option Carried) → (S → Bool) → Talk S → Talk S → Type 0
 Reads heard readable a b = Read heard a b ⊎ Finished heard a b ⊎ Stopped heard readable a b ⊎ Failed heard failure.Read a b
 
--- how far a connection is by how its step ended; no step ends where the input does
+-- the phase of a connection by how its step ended; no step ends where the input does
 abbrev pub phase_of : Option End → Phase
 phase_of None = phase.Going
 phase_of (Some (Refused code)) = phase.Refused code
@@ -116,20 +117,20 @@ phase_of (Some Closed) = phase.Closed
 phase_of (Some NoClose) = phase.Closed
 phase_of (Some Cut) = phase.Closed
 
--- what a step came to is kept: what it took is no longer unread, and what it answered waits behind what waits already; for want of memory the
--- answer is lost
+-- the outcome of a step is kept: what it took is no longer unread, and what it answered waits after
+-- what waits already; if an allocation failed the answer is lost
 abbrev pub Keeps : {S : Type 0} → Step → Talk S → Talk S → Type 0
 Keeps step a b = (b ≡ record a { phase = phase_of step.end; unread = drop step.taken a.unread; waiting = a.waiting ++ step.out.items })
     ⊎ (b ≡ record a { phase = phase.Starved; unread = drop step.taken a.unread })
 
--- octets were stepped: the octets of the client ended, or fewer are unread
+-- bytes were stepped: the client's bytes ended, or fewer are unread
 pub record Stepped {S : Type 0} (a b : Talk S) : Type 0 where
   pub number_is : b.number ≡ a.number
   pub socket_is : b.socket ≡ a.socket
   pub outcome_is : b.outcome ≡ a.outcome
   pub fewer : (is_going b.phase ≡ false) ⊎ (length b.unread < length a.unread)
 
--- the same with a write behind it
+-- the same with a write after it
 pub record Answered {S : Type 0} (heard : S → Option Carried) (a b : Talk S) : Type 0 where
   pub number_is : b.number ≡ a.number
   pub fewer : (is_going b.phase ≡ false) ⊎ (length b.unread < length a.unread)
@@ -138,8 +139,9 @@ pub record Answered {S : Type 0} (heard : S → Option Carried) (a b : Talk S) :
 
 -- ---- a turn
 
--- something moved: it is over now, or fewer octets wait, or fewer are unread, or the octets of the client ended, or some were read where the
--- socket tells it; or else the socket said that nothing can be moved now
+-- something moved: it is over now, or fewer bytes wait, or fewer are unread, or the client's bytes
+-- ended, or some were read if the socket tells it; or else the socket told that nothing can be
+-- moved now
 abbrev pub Moves : {S : Type 0} → (S → Option Carried) → (S → Bool) → (S → Bool) → Talk S → Talk S → Type 0
 Moves heard readable writable a b =
     (is_some b.outcome ≡ true) ⊎ (length b.waiting < length a.waiting) ⊎ (length b.unread < length a.unread) ⊎ (is_going b.phase ≡ false)
@@ -151,7 +153,8 @@ pub record Turned {S : Type 0} (heard : S → Option Carried) (readable writable
   pub moves : Moves heard readable writable a b
   pub over : IsOver b.outcome b
 
--- A turn: one that can do something does, and one that cannot is left as it is. While an answer waits nothing is read.
+-- A turn: one that can do something does, and one that cannot is left unchanged. While an answer
+-- waits nothing is read.
 pub record HadTurn {S : Type 0} (heard : S → Option Carried) (readable writable : S → Bool) (a b : Talk S) : Type 0 where
   pub number_is : b.number ≡ a.number
   pub idle : is_ready readable writable a ≡ false → b ≡ a

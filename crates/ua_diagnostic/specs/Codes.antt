@@ -4,7 +4,7 @@ use Rattle.std.proofs.Common.{ap, ◌∙◌}
 use Rattle.std.specs.Coded.{Coded, code_by, coded_list}
 use Rattle.ua_diagnostic.specs.Diagnostic.{DiagnosticFields, no_fields, DiagnosticData, innermost, around}
 
--- the fields of each level, the outermost first
+-- the fields of each nesting level, the outermost first
 abbrev pub diagnostic_levels : DiagnosticData → List DiagnosticFields
 diagnostic_levels (innermost f) = f ∷ []
 diagnostic_levels (around f d) = f ∷ diagnostic_levels d

@@ -1,4 +1,4 @@
--- The dimensions of an array: Int32 numbers behind their count (OPC 10000-6, 5.2.2.16).
+-- The dimensions of an array: Int32 numbers after their count (OPC 10000-6, 5.2.2.16).
 -- 2 rows of 3: 02 00 00 00 02 00 00 00 03 00 00 00
 use Rattle.std.specs.Prelude.{◌≡◌, ℕ, suc, zero, ◌*◌, ◌<◌, ◌⊎◌, Bool, true, false, cond, ◌&&◌, ◌||◌, leb, eqb, List, [], ◌∷◌, ◌++◌, length, Some}
 use lib.IntN.{ℤ, pos, negsuc}
@@ -13,25 +13,26 @@ abbrev pub product : List ℤ → ℕ
 product [] = 1
 product (d ∷ ds) = unsigned_abs d * product ds
 
--- ---- which octets encode them
+-- ---- which bytes encode them
 
 -- a dimension, an Int32 that is not negative
 abbrev pub IsSize : ℤ → List ℕ → Type 0
 IsSize (pos n) b = IsCount n b
 IsSize (negsuc n) b = ⊥
 
--- dimensions, one behind the other
+-- dimensions, one after the other
 abbrev pub EncodesSizes : List ℤ → List ℕ → Type 0
 EncodesSizes [] b = Nothing b
 EncodesSizes (d ∷ ds) b = Joins (IsSize d) (EncodesSizes ds) b
 
--- the dimensions of an array of n elements: where they are flagged, a count and as many numbers whose product is n, or a count of at most 0
+-- the dimensions of an array of n elements: where they are flagged, a count and as many numbers
+-- whose product is n, or a count of at most 0
 abbrev pub EncodesDims : Bool → ℕ → List ℤ → List ℕ → Type 0
 EncodesDims false n ds b = (ds ≡ []) × Nothing b
 EncodesDims true n [] b = IsNegative b ⊎ IsNumber 4 0 b
 EncodesDims true n (d ∷ ds) b = (product (d ∷ ds) ≡ n) × Joins (IsCount (length (d ∷ ds))) (EncodesSizes (d ∷ ds)) b
 
--- ---- which can be written, and how
+-- ---- which can be encoded, and how
 
 -- at most the greatest Int32
 abbrev pub is_count : ℕ → Bool
@@ -56,7 +57,7 @@ dims_encodable (d ∷ ds) n = is_count (length (d ∷ ds)) && are_sizes (d ∷ d
 abbrev pub null_count : List ℕ
 null_count = number_octets 4 minus_one
 
--- the octets that are written for dimensions, one behind the other
+-- the canonical encoding of dimensions, one after the other
 abbrev pub sizes_canonical : List ℤ → List ℕ
 sizes_canonical [] = []
 sizes_canonical (d ∷ ds) = number_octets 4 (unsigned_abs d) ++ sizes_canonical ds
@@ -66,7 +67,7 @@ abbrev pub has_dims : List ℤ → Bool
 has_dims [] = false
 has_dims (d ∷ ds) = true
 
--- the octets that are written: the count and the dimensions, or nothing where there are none
+-- the canonical encoding: the count and the dimensions, or nothing if there are none
 abbrev pub dims_canonical : List ℤ → List ℕ
 dims_canonical [] = []
 dims_canonical (d ∷ ds) = number_octets 4 (length (d ∷ ds)) ++ sizes_canonical (d ∷ ds)
@@ -90,7 +91,8 @@ sizes_at (suc n) octets = size_at octets >>= λ d. sizes_at n d.1 >>= λ ds. Som
 abbrev pub is_none_count : ℕ → Bool
 is_none_count m = is_negative m || eqb m 0
 
--- the dimensions of n elements: none unless flagged, none at a count of at most 0, else those whose product is n
+-- the dimensions of n elements: none unless flagged, none at a count of at most 0, else those whose
+-- product is n
 unfoldable pub dims_at : Bool → ℕ → Reader (List ℤ)
 dims_at f n octets = cond f (
     number_at 4 octets >>= λ m. cond (is_none_count m.0) (Some ([], m.1)) (sizes_at m.0 m.1 >>= λ ds. when (eqb (product ds.0) n) (Some ds)))
@@ -100,7 +102,8 @@ dims_at f n octets = cond f (
 unfoldable pub no_dims_at : Bool → Reader (List ℤ)
 no_dims_at f octets = cond f (number_at 4 octets >>= λ m. when (is_none_count m.0) (Some ([], m.1))) (Some ([], octets))
 
--- a count of dimensions that is not negative, and behind it fewer octets than as many dimensions take, which are 4 each
+-- a count of dimensions that is not negative, and after it fewer bytes than as many dimensions
+-- take, which are 4 each
 pub record IsOverlongDims (octets : List ℕ) : Type 0 where
   pub count : ℕ
   pub rest : List ℕ

@@ -1,9 +1,9 @@
--- The data that a DiagnosticInfo of the code stands for, and the one that stands for data.
+-- The data that a DiagnosticInfo of the code stands for, and the one that is for data.
 use Rattle.std.specs.Prelude.{◌≡◌, Option, Some, None}
 use Rattle.ua_diagnostic.specs.Diagnostic.{DiagnosticFields, no_fields, DiagnosticData, innermost, around, diagnostic_within}
 use Rattle.ua_diagnostic.specs.declared.diagnostic_info.DiagnosticInfo.{DiagnosticInfo}
 
--- the fields of a DiagnosticInfo of the code but its inner one
+-- the fields of a DiagnosticInfo of the code except its inner one
 abbrev pub diagnostic_fields_of : DiagnosticInfo → DiagnosticFields
 diagnostic_fields_of d = record {
   symbolic_id = d.symbolic_id;
@@ -18,7 +18,7 @@ diagnostic_fields_of d = record {
 abbrev pub diagnostic_of : DiagnosticInfo → DiagnosticData
 diagnostic_of d = diagnostic_within d.inner (diagnostic_fields_of d)
 
--- the DiagnosticInfo of the code with these fields, and with an inner one where there is one
+-- the DiagnosticInfo of the code with these fields, and with an inner one if there is one
 abbrev pub made_diagnostic : Option DiagnosticData → DiagnosticFields → DiagnosticInfo
 made_diagnostic i f = record {
   symbolic_id = f.symbolic_id;
@@ -30,16 +30,16 @@ made_diagnostic i f = record {
   inner = i;
 }
 
--- the DiagnosticInfo of the code that stands for the data
+-- the DiagnosticInfo of the code that is for the data
 abbrev pub diagnostic_value : DiagnosticData → DiagnosticInfo
 diagnostic_value (innermost f) = made_diagnostic None f
 diagnostic_value (around f d) = made_diagnostic (Some d) f
 
--- the DiagnosticInfo of the code that says nothing: no field is there
+-- the DiagnosticInfo of the code without any field
 abbrev pub no_diagnostics : DiagnosticInfo
 no_diagnostics = made_diagnostic None no_fields
 
--- a DiagnosticInfo within another value: one without any field where nothing is kept of it
+-- a DiagnosticInfo within another value: one without any field if nothing is kept of it
 abbrev pub or_innermost : Option DiagnosticData → DiagnosticData
 or_innermost None = innermost no_fields
 or_innermost (Some d) = d

@@ -1,4 +1,4 @@
--- What is said of each item of a list together with the items before it.
+-- A property of each item of a list together with the items before it.
 use Rattle.std.specs.Prelude.{List, [], ◌∷◌, ◌++◌}
 
 -- P holds of each item after the items before it, those of start among them

@@ -1,4 +1,4 @@
--- Frames as octets, and what a header says.
+-- Frames (UA TCP messages) as bytes, and what a header tells.
 use Rattle.std.specs.Prelude.{◌≡◌, ℕ, ◌+◌, ◌<◌, ◌≤◌, ◌^◌, ◌⊎◌, List, [], ◌∷◌, ◌++◌, Bool, true, false, ◌&&◌, not, nat_eq, nat_lt, IsTrue, Option, Some, None, find, length, slice_index, take, drop}
 use Rattle.std.specs.List.{flat_map, AllByRecursion}
 use Rattle.ua_builtin.specs.Number.{number_octets, number_at}
@@ -18,11 +18,12 @@ use Rattle.ua_builtin.specs.Reasons.{first_reason}
 abbrev pub frame_size : Frame → ℕ
 frame_size f = 8 + length f.body
 
--- the octets of a frame: its kind, its flag, its size as a UInt32, its body (OPC 10000-6, 7.1.2.2 and 6.7.2.2)
+-- the bytes of a frame: its kind, its flag, its size as a UInt32, its body (OPC 10000-6, 7.1.2.2
+-- and 6.7.2.2)
 unfoldable pub frame_octets : Frame → List ℕ
 frame_octets f = kind_octets f.kind ++ f.flag ∷ (number_octets 4 (frame_size f) ++ f.body)
 
--- the octets of frames, joined
+-- the bytes of frames, joined
 unfoldable pub frames_octets : List Frame → List ℕ
 frames_octets fs = flat_map frame_octets fs
 
@@ -30,7 +31,8 @@ frames_octets fs = flat_map frame_octets fs
 abbrev pub IsSized : Frame → Type 0
 IsSized f = frame_size f < 2 ^ 32
 
--- a gate lets a frame in: the kind is one of its kinds, the flag one of the kind's, the size within its largest and the kind's least
+-- the frame filter accepts a frame: the kind is one of its kinds, the flag one of the kind's, the
+-- size at most its largest and at least the kind's minimum
 pub record LetsIn (gate : Gate) (f : Frame) : Type 0 where
   pub kind : IsTrue (lets_in gate f.kind)
   pub flag : IsTrue (has_flag f.kind f.flag)
@@ -39,7 +41,7 @@ pub record LetsIn (gate : Gate) (f : Frame) : Type 0 where
 
 -- ---- headers
 
--- the three first octets are those of the kind
+-- the three first bytes are those of the kind
 abbrev pub names : List ℕ → Kind → Bool
 names octets k =
     nat_eq (slice_index octets 0) (slice_index (kind_octets k) 0)
@@ -58,12 +60,12 @@ kind_of octets = find (names octets) all_kinds
 abbrev pub flag_of : List ℕ → ℕ
 flag_of octets = slice_index octets 3
 
--- the number that was read, or 0 where none was
+-- the number that was read, or 0 if none was
 abbrev pub number_in : Option (ℕ × List ℕ) → ℕ
 number_in None = 0
 number_in (Some found) = found.0
 
--- the size that a header names: the number in its octets 4 to 7, and 0 where there are fewer
+-- the size in a header: the number in its bytes 4 to 7, and 0 if there are fewer
 unfoldable pub size_of : List ℕ → ℕ
 size_of octets = number_in (number_at 4 (take 4 (drop 4 octets)))
 
@@ -74,12 +76,12 @@ abbrev pub is_unknown : Option Kind → ℕ → Bool
 is_unknown None flag = true
 is_unknown (Some k) flag = not (has_flag k flag)
 
--- the gate doesn't take the kind
+-- the frame filter does not accept the kind
 abbrev pub is_out_of_place : Gate → Option Kind → Bool
 is_out_of_place gate None = false
 is_out_of_place gate (Some k) = not (lets_in gate k)
 
--- the size is below the least of the kind
+-- the size is below the minimum of the kind
 abbrev pub is_too_small : Option Kind → ℕ → Bool
 is_too_small None size = false
 is_too_small (Some k) size = nat_lt size (least_size k)
@@ -93,11 +95,12 @@ header_reasons gate k flag size =
     ∷ (TooSmall, is_too_small k size)
     ∷ []
 
--- what is wrong with a header where this gate stands
+-- what is wrong with a header under this frame filter
 unfoldable pub header_fault : Gate → List ℕ → Option FrameFault
 header_fault gate octets = first_reason (header_reasons gate (kind_of octets) (flag_of octets) (size_of octets))
 
--- the status code of what is wrong with a header: BadTcpMessageTypeInvalid, BadTcpMessageTooLarge, BadDecodingError
+-- the StatusCode of what is wrong with a header: BadTcpMessageTypeInvalid, BadTcpMessageTooLarge,
+-- BadDecodingError
 abbrev pub header_code : FrameFault → Option ℕ
 header_code UnknownType = Some 0x807E_0000
 header_code OutOfPlace = Some 0x807E_0000
@@ -112,20 +115,21 @@ IsPartial gate octets = (length octets < 8) ⊎ ((header_fault gate octets ≡ N
 
 -- ---- a stream by its sizes alone
 
--- octets that are as long as their header says
+-- bytes that are as long as their header tells
 pub record IsRawFrame (octets : List ℕ) : Type 0 where
   pub header : 8 ≤ length octets
   pub size : size_of octets ≡ length octets
 
--- what is left of a stream after its frames: less than a header, a size below a header's, or less than the size
+-- what is left of a stream after its frames: less than a header, a size below a header's, or less
+-- than the size
 abbrev pub IsRest : List ℕ → Type 0
 IsRest rest = (length rest < 8) ⊎ ((size_of rest < 8) ⊎ (length rest < size_of rest))
 
--- octets, joined
+-- bytes, joined
 unfoldable pub joined : List (List ℕ) → List ℕ
 joined parts = flat_map (λ (part : List ℕ). part) parts
 
--- the octets are these frames, joined, and then less than a frame (OPC 10000-6, 7.1)
+-- the bytes are these frames, joined, and then less than a frame (OPC 10000-6, 7.1)
 pub record Frames (octets : List ℕ) (frames : List (List ℕ)) (rest : List ℕ) : Type 0 where
   pub whole : octets ≡ joined frames ++ rest
   pub each : AllByRecursion IsRawFrame frames

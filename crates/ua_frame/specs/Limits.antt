@@ -2,7 +2,8 @@
 use Rattle.std.specs.Prelude.{◌≡◌, ℕ, ◌≤◌}
 use Rattle.ua_frame.specs.declared.limits.Limits.{Limits}
 
--- limits that one end may set: frames of at least 8192 octets (OPC 10000-6, 7.1.2.3), messages of at least an octet and a chunk
+-- limits that one end may set: frames of at least 8192 bytes (OPC 10000-6, 7.1.2.3), messages of at
+-- least a byte and a chunk
 pub record AreAllowed (receive send message chunks : ℕ) : Type 0 where
   pub receives : 8192 ≤ receive
   pub sends : 8192 ≤ send

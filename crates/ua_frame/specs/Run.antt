@@ -1,4 +1,4 @@
--- What a stream comes to, by any rules: its good frames, and how it goes on after them.
+-- The outcome of a stream under any rules: its good frames, and what follows them.
 use Rattle.std.specs.Prelude.{◌≡◌, ℕ, ◌≤◌, ◌⊎◌, List, ◌++◌, Bool, true, false, Option, Some, None, length}
 use Rattle.ua_frame.specs.declared.fault.FrameFault.{FrameFault}
 use Rattle.ua_frame.specs.declared.frame.Frame.{Frame}
@@ -7,20 +7,21 @@ use Rattle.ua_frame.specs.After.{AllAfter, each_after}
 use Rattle.ua_frame.specs.Frames.{frame_octets, frames_octets, IsSized, LetsIn, header_fault, header_code, IsPartial}
 use Rattle.ua_builtin.specs.Reasons.{first_reason}
 
--- the rules of one end of a connection, where E is what its frames tell, and X is why they are refused: a status code, or also whose it is
+-- the rules of one end of a connection, where E is what its frames tell, and X is why they are
+-- rejected: a StatusCode, or also which end rejects
 pub record Rules (E X : Type 0) : Type 0 where
   -- which frames may come after these
   pub gate : List Frame → Gate
-  -- why the next frame after these may be refused, in the order in which it is judged
+  -- why the next frame after these may be rejected, in the order in which it is judged
   pub reasons : List Frame → Frame → List (X × Bool)
-  -- why a header is refused that has something wrong of this status code
+  -- the reason for a header that is rejected with this StatusCode
   pub of_header : ℕ → X
   -- what the next frame after these tells
   pub tells : List Frame → Frame → List E
   -- whether these are the last that are looked at
   pub over : List Frame → Bool
 
--- why a frame after these is refused, if it is
+-- why a frame after these is rejected, if it is
 abbrev pub refusal : {E X : Type 0} → Rules E X → List Frame → Frame → Option X
 refusal R before f = first_reason (R.reasons before f)
 
@@ -35,13 +36,13 @@ pub record Fits {E X : Type 0} (R : Rules E X) (before : List Frame) (f : Frame)
 abbrev pub events : {E X : Type 0} → Rules E X → List Frame → List E
 events R fs = each_after R.tells fs
 
--- how a stream stands: it goes on, it is refused for a reason, it has ended
+-- the state of a stream: it goes on, it is rejected for a reason, it has ended
 pub data End (X : Type 0) : Type 0 where
   Going : End X
   Stopped : (why : X) → End X
   Over : End X
 
--- a header that is refused after these frames
+-- a header that is rejected after these frames
 pub record WrongHeader {E X : Type 0} (R : Rules E X) (before : List Frame) (rest : List ℕ) (why : X) : Type 0 where
   pub fault : FrameFault
   pub code : ℕ
@@ -50,7 +51,7 @@ pub record WrongHeader {E X : Type 0} (R : Rules E X) (before : List Frame) (res
   pub code_is : header_code fault ≡ Some code
   pub why_is : R.of_header code ≡ why
 
--- a frame that is refused after these
+-- a frame that is rejected after these
 pub record WrongFrame {E X : Type 0} (R : Rules E X) (before : List Frame) (rest : List ℕ) (why : X) : Type 0 where
   pub frame : Frame
   pub more : List ℕ
@@ -65,7 +66,7 @@ EndsIn R fs rest Going = (R.over fs ≡ false) × IsPartial (R.gate fs) rest
 EndsIn R fs rest (Stopped why) = (R.over fs ≡ false) × (WrongHeader R fs rest why ⊎ WrongFrame R fs rest why)
 EndsIn R fs rest Over = R.over fs ≡ true
 
--- the octets are these good frames, and what follows them ends so
+-- the bytes are these good frames, and what follows them ends in this way
 pub record Run {E X : Type 0} (R : Rules E X) (octets : List ℕ) (fs : List Frame) (rest : List ℕ) (end : End X) : Type 0 where
   pub whole : octets ≡ frames_octets fs ++ rest
   pub good : AllAfter (Fits R) fs

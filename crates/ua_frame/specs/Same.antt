@@ -5,13 +5,13 @@ use Rattle.ua_frame.specs.declared.frame.Frame.{Frame}
 use Rattle.ua_frame.specs.After.{AllAfter}
 use Rattle.ua_frame.specs.Run.{Rules, End, Going, Stopped, Over}
 
--- two ends judge a frame after these alike, whatever each is told by it
+-- two ends judge a frame after these alike, whatever it tells each of them
 pub record SameAt {E F X : Type 0} (R : Rules E X) (S : Rules F X) (before : List Frame) (f : Frame) : Type 0 where
   pub gate : R.gate before ≡ S.gate before
   pub over : R.over before ≡ S.over before
   pub reasons : R.reasons before f ≡ S.reasons before f
 
--- they judge each of these frames alike, and behind the last one they let the same frames in
+-- they judge each of these frames alike, and after the last one they accept the same frames
 pub record SameOn {E F X : Type 0} (R : Rules E X) (S : Rules F X) (fs : List Frame) : Type 0 where
   pub each : AllAfter (SameAt R S) fs
   pub gate : R.gate fs ≡ S.gate fs
@@ -23,7 +23,7 @@ pub record SameBehind {E F X : Type 0} (R : Rules E X) (S : Rules F X) (fs : Lis
   pub reasons : (f : Frame) → R.reasons fs f ≡ S.reasons fs f
   pub of_header : (code : ℕ) → R.of_header code ≡ S.of_header code
 
--- the same rules, with each reason by another name, as a status code alone of a code and whose it is
+-- the same rules, with each reason by another name, as a StatusCode alone of a code and whose it is
 abbrev pub renamed : {E X Y : Type 0} → (X → Y) → Rules E X → Rules E Y
 renamed name R = record {
   gate = R.gate;

@@ -1,4 +1,4 @@
--- A frame that isn't whole yet, as it is kept, and what a piece makes of it.
+-- An incomplete frame, as it is kept, and what a fragment makes of it.
 use Rattle.std.specs.Prelude.{◌≡◌, ℕ, ◌+◌, ◌<◌, ◌≤◌, ◌⊎◌, List, [], ◌++◌, Option, Some, None, Result, Ok, Err, length, take}
 use Rattle.ua_frame.specs.declared.fault.FrameFault.{FrameFault}
 use Rattle.ua_frame.specs.declared.fault.FrameFault.TheVariants.{OutOfMemory}
@@ -7,11 +7,11 @@ use Rattle.ua_frame.specs.declared.gate.Gate.{Gate}
 use Rattle.ua_frame.specs.declared.unfinished.Unfinished.{Unfinished}
 use Rattle.ua_frame.specs.Frames.{frame_octets, IsSized, LetsIn, header_fault, size_of, IsPartial}
 
--- the octets that are there
+-- the bytes that are present
 abbrev pub octets_of : Unfinished → List ℕ
 octets_of u = take u.have u.header ++ u.body.items
 
--- nothing stands behind a header that isn't whole; a whole one is good, and the frame that it begins isn't whole
+-- nothing follows an incomplete header; a complete one is good, and its frame is incomplete
 pub record IsKept (u : Unfinished) : Type 0 where
   pub eight : length u.header ≡ 8
   pub fits : u.have ≤ 8
@@ -19,7 +19,7 @@ pub record IsKept (u : Unfinished) : Type 0 where
   pub good : u.have ≡ 8 → header_fault u.gate u.header ≡ None
   pub part : u.have ≡ 8 → 8 + length u.body.items < size_of u.header
 
--- the octets that are there and the first n of a piece are a frame that the gate lets in
+-- the bytes that are there and the first n of a fragment are a frame that the frame filter accepts
 pub record Completes (gate : Gate) (old piece : List ℕ) (n : ℕ) (f : Frame) : Type 0 where
   pub some : 0 < n
   pub within : n ≤ length piece
@@ -27,12 +27,12 @@ pub record Completes (gate : Gate) (old piece : List ℕ) (n : ℕ) (f : Frame) 
   pub sized : IsSized f
   pub let_in : LetsIn gate f
 
--- a header is there: it is refused, or there is no memory for what follows it
+-- a header is there: it is rejected, or an allocation failed for what follows it
 pub record Fails (gate : Gate) (octets : List ℕ) (fault : FrameFault) : Type 0 where
   pub header : 8 ≤ length octets
   pub why : (header_fault gate octets ≡ Some fault) ⊎ ((fault ≡ OutOfMemory) × (header_fault gate octets ≡ None))
 
--- what a piece makes of the octets that are there, and the octets that then are
+-- what a fragment makes of the bytes that are there, and the bytes that are there then
 abbrev pub Makes : Gate → List ℕ → List ℕ → Result (ℕ × Option Frame) FrameFault → List ℕ → Type 0
 Makes gate old piece (Ok (n, None)) new = (n ≡ length piece) × (new ≡ old ++ piece) × IsPartial gate (old ++ piece)
 Makes gate old piece (Ok (n, Some f)) new = Completes gate old piece n f × (new ≡ [])

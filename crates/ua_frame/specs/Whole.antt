@@ -1,17 +1,18 @@
--- Values whose encoding is the whole of some octets.
+-- Values whose encoding is the whole of some bytes.
 use Rattle.std.specs.Prelude.{ℕ, List, [], ◌∷◌, Option, Some, None}
 use Rattle.ua_builtin.specs.Format.{Flat, Format, most_levels}
 
--- the value that was read, if no octets are left behind it
+-- the value that was read, if no bytes are left after it
 abbrev pub if_nothing_left : {A : Type 0} → Option (A × List ℕ) → Option A
 if_nothing_left None = None
 if_nothing_left (Some (v, [])) = Some v
 if_nothing_left (Some (v, x ∷ rest)) = None
 
--- the value whose encoding is the whole of the octets, if there is one
+-- the value whose encoding is the whole of the bytes, if there is one
 unfoldable pub whole_of : {A : Type 0} → Flat A → List ℕ → Option A
 whole_of f octets = if_nothing_left (f.decode octets)
 
--- the value of at most the most levels whose encoding is the whole of the octets, if there is one: 01 alone is a Boolean, and 01 00 is none
+-- the value with at most the greatest nesting depth whose encoding is the whole of the bytes, if
+-- there is one: 01 alone is a Boolean, and 01 00 is none
 unfoldable pub body_of : {A : Type 0} → Format A → List ℕ → Option A
 body_of f octets = if_nothing_left (f.decode most_levels octets)

@@ -12,6 +12,6 @@ use Rattle.ua_variant.specs.declared.values.Variant.TheVariants.{One}
 abbrev pub current_time_id : NodeId
 current_time_id = node 0 (Numeric 2258)
 
--- what it reads at a moment: that moment, which is its source time too, and no status
+-- its value at a time: that time, which is its source timestamp too, and no status
 abbrev pub current_time : DateTime → Reading
 current_time moment = record { value = One (moment_of moment); status = None; source_time = moment; source_picoseconds = None }

@@ -16,19 +16,20 @@ is_namespace_line line = starts_with nat_eq line (codes "# namespace")
 abbrev pub namespace_lines : List ℕ → List FileLine
 namespace_lines text = filter (λ line. is_namespace_line line.text) (numbered 1 (lines_of text))
 
--- an octet of a URI as a file names it: no space and no control character, and no comma, which parts the elements of an array's text
+-- a byte of a URI as a file names it: no space and no control character, and no comma, which
+-- separates the elements of an array's text
 abbrev pub is_of_uri : ℕ → Bool
 is_of_uri octet = nat_lt 32 octet && not (nat_eq octet 44)
 
--- a URI as a file names it: one octet or more, each of them one of a URI
+-- a URI as a file names it: one byte or more, each of them one of a URI
 abbrev pub is_uri : List ℕ → Bool
 is_uri uri = nat_lt 0 (length uri) && list_all is_of_uri uri
 
--- what stands in front of the URI of an index, as `# namespace 2 `
+-- what precedes the URI of an index, as `# namespace 2 `
 abbrev pub front_of : ℕ → List ℕ
 front_of index = codes "# namespace " ++ decimal index ++ codes " "
 
--- a line names a URI behind a front
+-- a line names a URI after a prefix
 pub record NamesBehind (front line uri : List ℕ) : Type 0 where
   pub line_is : line ≡ front ++ uri
   pub uri_is : is_uri uri ≡ true
@@ -39,7 +40,8 @@ NamesUri index line uri = NamesBehind (front_of index) line uri
 
 -- ---- all lines
 
--- the first index that a file names: 0 is the standard's namespace, and 1 the server's own (OPC 10000-5, 6.3.1)
+-- the first index that a file names: 0 is the standard's namespace, and 1 the server's own (OPC
+-- 10000-5, 6.3.1)
 abbrev pub first_index : ℕ
 first_index = 2
 
@@ -54,7 +56,8 @@ AreNamedFrom index (line ∷ lines) (uri ∷ uris) = NamesUri index line.text ur
 abbrev pub AreNamed : List FileLine → List (List ℕ) → Type 0
 AreNamed lines uris = AreNamedFrom first_index lines uris
 
--- the first line that does not name the next namespace: those before it name these, and it names none of the index behind them
+-- the first line that does not name the next namespace: those before it name these, and it names
+-- none of the index after them
 pub record IsFirstUnnamed (lines : List FileLine) (number : ℕ) : Type 0 where
   pub front : List FileLine
   pub line : List ℕ

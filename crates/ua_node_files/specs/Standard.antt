@@ -1,4 +1,5 @@
--- The nodes of namespace 0 that clients ask first (OPC 10000-5, 6.3.1, 6.3.3 and 6.3.11), as lines of a node file.
+-- The nodes of namespace 0 that clients ask first (OPC 10000-5, 6.3.1, 6.3.3 and 6.3.11), as lines
+-- of a node file.
 use Rattle.std.specs.Prelude.{ℕ, Bool, cond, List, [], ◌∷◌, ◌++◌, is_none, codes}
 use Rattle.std.specs.List.{flat_map}
 use Rattle.ua_builtin.specs.NodeId.{node}
@@ -13,7 +14,8 @@ pub record StandardLine : Type 0 where
 abbrev pub line_of : ℕ → List ℕ → StandardLine
 line_of number text = record { number = number; text = text }
 
--- the URIs of the server's NamespaceArray behind the first two, as an array's text goes on: each behind a comma
+-- the URIs of the server's NamespaceArray after the first two, as an array's text goes on: each
+-- after a comma
 abbrev pub more_uris : List (List ℕ) → List ℕ
 more_uris uris = flat_map (λ uri. codes "," ++ uri) uris
 
@@ -21,7 +23,7 @@ more_uris uris = flat_map (λ uri. codes "," ++ uri) uris
 abbrev pub server_array : StandardLine
 server_array = line_of 2254 (codes "i=2254\tr\tServerArray\tString[]\turn:ua:server")
 
--- the URIs of the namespaces: the standard's for index 0, the server's for 1, and these behind
+-- the URIs of the namespaces: the standard's for index 0, the server's for 1, and then these
 abbrev pub namespace_array : List (List ℕ) → StandardLine
 namespace_array uris = line_of 2255 (codes "i=2255\tr\tNamespaceArray\tString[]\thttp://opcfoundation.org/UA/,urn:ua:server" ++ more_uris uris)
 
@@ -59,10 +61,11 @@ standard_lines uris = server_lines uris ++ limit_lines
 abbrev pub lacks : Nodes → ℕ → Bool
 lacks nodes number = is_none (node_at nodes (node 0 (Numeric number)))
 
--- a line behind a text, where the nodes have none of its NodeId
+-- a line after a text, if the nodes have none of its NodeId
 abbrev pub added_line : Nodes → StandardLine → List ℕ
 added_line nodes line = cond (lacks nodes line.number) (codes "\n" ++ line.text) []
 
--- the text of a node file that writes these nodes, and behind it each standard line whose node they lack
+-- the text of a node file that writes these nodes, and after it each standard line whose node they
+-- lack
 abbrev pub standard_text : Nodes → List (List ℕ) → List ℕ → List ℕ
 standard_text nodes uris text = text ++ flat_map (added_line nodes) (standard_lines uris)

@@ -9,7 +9,7 @@ use Rattle.ua_nodes.specs.declared.attribute.Attribute.TheVariants as attribute
 use Rattle.ua_nodes.specs.declared.node.Access.{Access}
 use Rattle.ua_nodes.specs.declared.node.Variable.{Variable}
 
--- the attributes that a Variable has here, each behind its id
+-- the attributes that a Variable has here, each after its id
 abbrev pub attributes : List (ℕ × Attribute)
 attributes =
     (1, attribute.NodeId)
@@ -22,7 +22,7 @@ attributes =
     ∷ (18, attribute.UserAccessLevel)
     ∷ []
 
--- what stands in a list behind this number
+-- what follows this number in a list
 abbrev pub behind_number : {A : Type 0} → ℕ → List (ℕ × A) → Option A
 behind_number n [] = None
 behind_number n (x ∷ xs) = cond (nat_eq n x.0) (Some x.1) (behind_number n xs)
@@ -35,7 +35,7 @@ attribute_of n = behind_number n attributes
 abbrev pub is_attribute : ℕ → Bool
 is_attribute n = is_some (attribute_of n)
 
--- 1 where the value may be read and 2 where it may be written, added up (OPC 10000-3, 8.57)
+-- 1 if the value may be read and 2 if it may be written, added up (OPC 10000-3, 8.57)
 abbrev pub level : Bool → Bool → ℕ
 level false false = 0
 level true false = 1
@@ -54,7 +54,7 @@ single l = one (leaf l)
 abbrev pub type_node : ℕ → NodeId
 type_node kind = record { namespace = 0; identifier = Numeric kind }
 
--- what an attribute of a node is, which this NodeId names
+-- the value of an attribute of the node with this NodeId
 abbrev pub attribute_value : NodeId → Variable → Attribute → VariantData
 attribute_value id v attribute.NodeId = single (node_id id)
 attribute_value id v attribute.NodeClass = single (int32 (pos 2))

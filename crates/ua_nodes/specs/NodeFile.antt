@@ -1,4 +1,4 @@
--- Node files: the nodes that the lines of a text write, and why a line is refused.
+-- Node files: the nodes that the lines of a text define, and why a line is rejected.
 use Rattle.std.specs.Prelude.{◌≡◌, ◌≢◌, ℕ, suc, ◌<◌, Bool, true, false, not, ◌&&◌, cond, nat_eq, nat_lt, map, filter, List, [], ◌∷◌, ◌++◌, length, slice_index_or, Option, None, Some, IsSome, Result, Ok, Err, codes}
 use Rattle.std.specs.List.{slice_split, AllZip, IsDistinct}
 use Rattle.std.specs.Map.{keys_of}
@@ -27,7 +27,8 @@ pub record FileLine : Type 0 where
   pub number : ℕ
   pub text : List ℕ
 
--- the lines of a text: they end at each LF, the last one at the end; one CR at the end of a line is dropped
+-- the lines of a text: they end at each LF, the last one at the end; one CR at the end of a line is
+-- dropped
 abbrev pub lines_of : List ℕ → List (List ℕ)
 lines_of text = map strip_carriage_return (slice_split (λ b. nat_eq b 10) text)
 
@@ -47,15 +48,15 @@ node_lines text = filter (λ line. is_read line.text) (numbered 1 (lines_of text
 
 -- ---- the fields of a line
 
--- the fields: the pieces between the tabs
+-- the fields: the parts between the tabs
 abbrev pub fields : List ℕ → List (List ℕ)
 fields line = slice_split (λ b. nat_eq b 9) line
 
--- the field at a place
+-- the field at an index
 abbrev pub field : ℕ → List ℕ → List ℕ
 field i line = slice_index_or (fields line) i []
 
--- no field has more octets than a value
+-- no field has more bytes than a value
 abbrev pub is_short : List ℕ → Bool
 is_short text = nat_lt (length text) (suc most_octets)
 
@@ -82,7 +83,8 @@ name_denoted text = cond (nat_lt 0 (length text) && is_short text) (Some (Some t
 
 -- ---- the node of a line
 
--- a line writes a node: five fields give its NodeId, access, name, type and value; it has no status and no source time
+-- a line defines a node: five fields give its NodeId, access, name, type and value; it has no
+-- status and no source timestamp
 pub record WritesNode (line : List ℕ) (node : NodeId × Variable) : Type 0 where
   pub five : length (fields line) ≡ 5
   pub id : NamesId (field 0 line) node.0
@@ -94,8 +96,8 @@ pub record WritesNode (line : List ℕ) (node : NodeId × Variable) : Type 0 whe
   pub source_time : node.1.source_time ≡ None
   pub source_picoseconds : node.1.source_picoseconds ≡ None
 
--- a reason against a line behind lines that wrote these nodes: it hasn't five fields; a field denotes nothing; or a
--- line before it wrote a node of its NodeId
+-- a reason against a line after lines that defined these nodes: it does not have five fields; a
+-- field denotes nothing; or a line before it defined a node with its NodeId
 abbrev pub Holds : LineReason → Nodes → List ℕ → Type 0
 Holds Fields before line = length (fields line) ≢ 5
 Holds Node before line = (id : NodeId) → ¬ (NamesId (field 0 line) id)
@@ -122,12 +124,12 @@ pub record IsFirstReason (reason : LineReason) (before : Nodes) (line : List ℕ
 
 -- ---- a whole file
 
--- the lines write the nodes, each its own, and no two of one NodeId
+-- the lines define the nodes, each line its own, and no two of one NodeId
 pub record WriteNodes (lines : List FileLine) (nodes : Nodes) : Type 0 where
   pub each : AllZip (λ line node. WritesNode line.text node) lines nodes
   pub distinct : IsDistinct same_id (keys_of nodes)
 
--- the first bad line: those before it write nodes, and there is a reason against it
+-- the first bad line: those before it define nodes, and there is a reason against it
 pub record IsFirstBad (lines : List FileLine) (number : ℕ) (reason : LineReason) : Type 0 where
   pub front : List FileLine
   pub line : List ℕ
@@ -137,37 +139,38 @@ pub record IsFirstBad (lines : List FileLine) (number : ℕ) (reason : LineReaso
   pub good : WriteNodes front nodes
   pub bad : IsFirstReason reason nodes line
 
--- what a fault says of the lines
+-- what an error tells of the lines
 abbrev pub Refuses : List FileLine → LoadFault → Type 0
 Refuses lines (Line number reason) = IsFirstBad lines number reason
 Refuses lines OutOfMemory = Unit {0}
 
 -- ---- what functions answer for a line
 
--- what was read from a field is the NodeId that it names, unless memory ran out
+-- what was parsed from a field is the NodeId that it names, unless an allocation failed
 abbrev pub GivesId : List ℕ → Result NodeId LineFault → Type 0
 GivesId text (Ok id) = NamesId text id
 GivesId text (Err (Bad reason)) = (reason ≡ Node) × ((id : NodeId) → ¬ (NamesId text id))
 GivesId text (Err NoMemory) = Unit {0}
 
--- what was read from a field is the name, unless memory ran out
+-- what was parsed from a field is the name, unless an allocation failed
 abbrev pub GivesName : List ℕ → Result (Option (List ℕ)) LineFault → Type 0
 GivesName text (Ok name) = name_denoted text ≡ Some name
 GivesName text (Err (Bad reason)) = (reason ≡ Name) × (name_denoted text ≡ None)
 GivesName text (Err NoMemory) = Unit {0}
 
--- what was read from a line is the node that it writes, unless memory ran out
+-- what was parsed from a line is the node that it defines, unless an allocation failed
 abbrev pub GivesNode : List ℕ → Result Record LineFault → Type 0
 GivesNode line (Ok node) = WritesNode line (node.id, variable_of node)
 GivesNode line (Err (Bad reason)) = (before : Nodes) → IsFirstReason reason before line
 GivesNode line (Err NoMemory) = Unit {0}
 
--- what a line leaves of a table: it writes one node more, of another NodeId than those before, unless it is skipped
+-- what a line makes of a table: it adds one node, of another NodeId than those before, unless the
+-- line is skipped
 abbrev pub Adds : List ℕ → Nodes → Nodes → Type 0
 Adds line before after = (is_read line ≡ true → (node : NodeId × Variable) × WritesNode line node × (after ≡ before ++ node ∷ []) × IsDistinct same_id (keys_of after))
     × (is_read line ≡ false → after ≡ before)
 
--- what a fault says of a line
+-- what an error tells of a line
 abbrev pub RefusesLine : List ℕ → Nodes → LineFault → Type 0
 RefusesLine line before (Bad reason) = (is_read line ≡ true) × IsFirstReason reason before line
 RefusesLine line before NoMemory = Unit {0}

@@ -1,4 +1,4 @@
--- The answer to an item of a Read (OPC 10000-4, 5.11.2).
+-- The result of an item of a Read (OPC 10000-4, 5.11.2).
 use Rattle.std.specs.Prelude.{ℕ, Bool, true, false, not, ◌&&◌, ◌||◌, cond, nat_eq, nat_lt, leb, List, [], ◌∷◌, length, Option, None, Some, option_map, Result, Ok, Err, ℤ, pos, negsuc, codes}
 use Rattle.std.specs.Option.{is_some}
 use Rattle.std.specs.Str.{bytes_eq}
@@ -42,12 +42,12 @@ asks_range item = is_filled item.index_range
 abbrev pub is_array_attribute : Variable → ℕ → Bool
 is_array_attribute v attribute_id = nat_eq attribute_id 13 && v.array
 
--- no element stands at a place of the range: its first place is behind the last element
+-- the range is past the end: its first index is after the last element
 abbrev pub is_past : Option IndexRange → VariantData → Bool
 is_past None value = false
 is_past (Some r) value = leb (length (elements_of value)) r.first
 
--- why an item for this node is refused, in the order in which it is judged
+-- why an item for this node is rejected, in the order in which it is judged
 abbrev pub read_item_reasons : Variable → ReadValueId → List (StatusCode × Bool)
 read_item_reasons v item =
     (bad_attribute_id_invalid, not (is_attribute item.attribute_id))
@@ -57,25 +57,25 @@ read_item_reasons v item =
     ∷ (bad_index_range_no_data, is_past (asked_range item.index_range) v.value)
     ∷ []
 
--- an item is refused, or it asks for this attribute, and this range
+-- an item is rejected, or it requests this attribute, and this range
 abbrev pub judged : Option StatusCode → Option Attribute → Option IndexRange → Result (Attribute × Option IndexRange) StatusCode
 judged (Some code) a r = Err code
 judged None None r = Err bad_attribute_id_invalid
 judged None (Some a) r = Ok (a, r)
 
--- the times that a number in a Read request asks for (OPC 10000-4, 7.40)
+-- the timestamps that a number in a Read request asks for (OPC 10000-4, 7.40)
 abbrev pub stamps_numbered : ℤ → Option Stamps
 stamps_numbered (pos n) = cond (nat_eq n 0) (Some Source) (cond (nat_eq n 1) (Some Server) (cond (nat_eq n 2) (Some Both) (cond (nat_eq n 3) (Some Neither) None)))
 stamps_numbered (negsuc n) = None
 
--- the source time is asked for: by Source and by Both (OPC 10000-4, 7.40)
+-- whether the source timestamp is requested: by Source and by Both (OPC 10000-4, 7.40)
 abbrev pub gives_source : Stamps → Bool
 gives_source Source = true
 gives_source Server = false
 gives_source Both = true
 gives_source Neither = false
 
--- the server time is asked for: by Server and by Both (OPC 10000-4, 7.40)
+-- whether the server timestamp is requested: by Server and by Both (OPC 10000-4, 7.40)
 abbrev pub gives_server : Stamps → Bool
 gives_server Source = false
 gives_server Server = true
@@ -86,12 +86,12 @@ gives_server Neither = false
 abbrev pub refused : StatusCode → DataValueData
 refused code = bare (record { status = Some code; source_timestamp = None; source_picoseconds = None; server_timestamp = None; server_picoseconds = None })
 
--- what is there, if the test holds; else nothing
+-- the content, if the test holds; else nothing
 abbrev pub where_so : {A : Type 0} → Bool → Option A → Option A
 where_so test o = cond test o None
 
--- the status and times beside a value: the Value attribute has the stored status and, if asked for, the stored source
--- time; the moment is the server time, if asked for
+-- the status and timestamps beside a value: the Value attribute has the stored status and, if
+-- requested, the stored source timestamp; this time is the server timestamp, if requested
 abbrev pub stamps_of : Variable → Bool → Stamps → DateTime → DataFields
 stamps_of v is_value stamps moment = record {
   status = where_so is_value v.status;
@@ -101,27 +101,28 @@ stamps_of v is_value stamps moment = record {
   server_picoseconds = None;
 }
 
--- what is read of a node: an attribute, or of the Value the part at the places of a range
+-- what is read of a node: an attribute, or the part of the Value at the indexes of a range
 abbrev pub value_read : NodeId → Variable → Attribute → Option IndexRange → VariantData
 value_read id v a None = attribute_value id v a
 value_read id v a (Some r) = part_of r v.value
 
--- a value, where there is one, with its status and times
+-- a value, if there is one, with its status and timestamps
 abbrev pub with_stamps : Option VariantData → DataFields → DataValueData
 with_stamps None fields = bare fields
 with_stamps (Some value) fields = valued value fields
 
--- the answer for a node: the refusal where there is a reason, else what is read with its status and times
+-- the result for a node: the rejection if there is a reason, else what is read with its status and
+-- timestamps
 abbrev pub read_by : Option StatusCode → Variable → ReadValueId → Stamps → DateTime → DataValueData
 read_by (Some code) v item stamps moment = refused code
 read_by None v item stamps moment =
     with_stamps (option_map (λ a. value_read item.node_id v a (asked_range item.index_range)) (attribute_of item.attribute_id)) (stamps_of v (nat_eq item.attribute_id 13) stamps moment)
 
--- the answer to an item, by the node that it names
+-- the result of an item, by the node that it names
 abbrev pub read_answer : Option Variable → ReadValueId → Stamps → DateTime → DataValueData
 read_answer None item stamps moment = refused bad_node_id_unknown
 read_answer (Some v) item stamps moment = read_by (first_reason (read_item_reasons v item)) v item stamps moment
 
--- the octets that are written for the answer to an item
+-- the encoding of the result of an item
 abbrev pub answer_octets : Nodes → Stamps → DateTime → ReadValueId → List ℕ
 answer_octets nodes stamps moment item = data_value_canonical (read_answer (node_at nodes item.node_id) item stamps moment)

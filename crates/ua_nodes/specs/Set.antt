@@ -1,4 +1,4 @@
--- Readings that a program sets, and what they leave.
+-- Readings that a program sets, and what they change.
 use Rattle.std.specs.Prelude.{Bool, not, cond, List, [], ◌∷◌, Option, None, Some, is_none}
 use Rattle.std.specs.Map.{set_value}
 use Rattle.ua_builtin.specs.Reasons.{first_reason}
@@ -24,27 +24,29 @@ given_by r = record {
   server_picoseconds = None;
 }
 
--- why this is refused for the node, in the order in which it is judged; the access bits are a client's
+-- why this is rejected for the node, in the order in which it is judged; the access bits apply to
+-- clients
 abbrev pub set_reasons : Variable → DataValue → List (SetFault × Bool)
 set_reasons v given =
     (Mismatch, not (holds_type v.kind v.array given.value))
     ∷ (NotWritable, not (data_value_encodable (data_value_of given)))
     ∷ []
 
--- why a reading is refused, by the node that it is of, if it is
+-- why a reading is rejected, by the node that it is of, if it is
 abbrev pub set_refusal : Option Variable → Reading → Option SetFault
 set_refusal None r = Some Unknown
 set_refusal (Some v) r = first_reason (set_reasons v (given_by r))
 
--- the node with the value, status and source time of the reading, or as it was where that is refused
+-- the node with the value, status and source timestamp of the reading, or unchanged if that is
+-- rejected
 abbrev pub set_node : Variable → Reading → Variable
 set_node v r = cond (is_none (first_reason (set_reasons v (given_by r)))) (stored v (given_by r) r.source_time) v
 
--- the nodes with this reading of this one, which the NodeId names
+-- the nodes with this reading of the node with this NodeId
 abbrev pub with_reading : Option Variable → NodeId → Reading → Nodes → Nodes
 with_reading None id r nodes = nodes
 with_reading (Some v) id r nodes = set_value (same_id id) nodes (set_node v r)
 
--- what a reading of the node of a NodeId leaves
+-- the nodes after a reading of the node with this NodeId
 unfoldable pub after_set : NodeId → Reading → Nodes → Nodes
 after_set id r nodes = with_reading (node_at nodes id) id r nodes

@@ -1,4 +1,4 @@
--- Sound tables: whatever a Read of them answers can be written.
+-- Sound tables: each result of a Read of them can be encoded.
 use Rattle.std.specs.Prelude.{IsTrue, None, Bool, ◌&&◌, nat_lt}
 use Rattle.std.specs.List.{AllByRecursion}
 use Rattle.ua_builtin.specs.Counted.{text}
@@ -16,7 +16,7 @@ use Rattle.ua_nodes.specs.declared.node.Variable.{Variable}
 use Rattle.ua_nodes.specs.Table.{Nodes}
 use Rattle.ua_nodes.specs.Write.{is_of_type}
 
--- the status and source time that a node holds
+-- the status and source timestamp of a node
 abbrev pub held_fields : Variable → DataFields
 held_fields v = record {
   status = v.status;
@@ -26,19 +26,20 @@ held_fields v = record {
   server_picoseconds = None;
 }
 
--- what a node holds, as a DataValue
+-- the value of a node, as a DataValue
 abbrev pub held : Variable → DataValueData
 held v = valued v.value (held_fields v)
 
--- a node whose NodeId and name can be written, and whose value is one of its type, or an array of it without dimensions,
--- and can be written within a DataValue: it has at most 99 levels
+-- a node whose NodeId and name can be encoded, and whose value is one of its type, or an array of
+-- it without dimensions, and can be encoded within a DataValue: its nesting depth is at most 99
 pub record IsSoundNode (id : NodeId) (v : Variable) : Type 0 where
   pub id_fits : IsTrue (node_id.encodable id)
   pub name_fits : IsTrue (text.encodable v.name)
   pub of_type : IsTrue (is_of_type v.kind v.array v.value)
   pub value_fits : IsTrue (data_value_encodable (held v))
 
--- the test of it: the value leaves a level for the DataValue, and can be written, and so can the status and source time
+-- the test for it: the value leaves one level for the DataValue, and can be encoded, and so can the
+-- status and source timestamp
 abbrev pub is_sound_node : NodeId → Variable → Bool
 is_sound_node id v =
     node_id.encodable id && (text.encodable v.name && (is_of_type v.kind v.array v.value && (nat_lt (variant_depth v.value) most_levels && (variant_encodable v.value

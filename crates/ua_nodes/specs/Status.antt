@@ -17,7 +17,7 @@ bad_attribute_id_invalid = record { code = 0x8035_0000 }
 abbrev pub bad_index_range_invalid : StatusCode
 bad_index_range_invalid = record { code = 0x8036_0000 }
 
--- BadIndexRangeNoData: no element stands at a place of the index range
+-- BadIndexRangeNoData: no element has an index in the range
 abbrev pub bad_index_range_no_data : StatusCode
 bad_index_range_no_data = record { code = 0x8037_0000 }
 
@@ -33,7 +33,7 @@ bad_not_readable = record { code = 0x803A_0000 }
 abbrev pub bad_not_writable : StatusCode
 bad_not_writable = record { code = 0x803B_0000 }
 
--- BadWriteNotSupported: the way in which it is to be written is not supported
+-- BadWriteNotSupported: the requested way of writing is not supported
 abbrev pub bad_write_not_supported : StatusCode
 bad_write_not_supported = record { code = 0x8073_0000 }
 

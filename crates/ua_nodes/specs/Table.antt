@@ -7,11 +7,11 @@ use Rattle.ua_variant.specs.View.{variant_of}
 use Rattle.ua_nodes.specs.declared.node.Node.{Node}
 use Rattle.ua_nodes.specs.declared.node.Variable.{Variable}
 
--- two NodeIds mean the same
+-- whether two NodeIds are the same
 abbrev pub same_id : NodeId → NodeId → Bool
 same_id = ghosts.eq
 
--- the nodes of a table in the order in which they came, no two of one NodeId
+-- the nodes of a table in the order in which they were inserted, no two of one NodeId
 abbrev pub Nodes : Type 0
 Nodes = List (NodeId × Variable)
 

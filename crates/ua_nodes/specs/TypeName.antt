@@ -12,7 +12,7 @@ named_types =
     ∷ (11, codes "Double") ∷ (12, codes "String") ∷ (13, codes "DateTime") ∷ (14, codes "Guid")
     ∷ (15, codes "ByteString") ∷ (19, codes "StatusCode") ∷ []
 
--- the id that stands beside the name
+-- the id that is beside the name
 abbrev pub id_of : List (ℕ × List ℕ) → List ℕ → Option ℕ
 id_of [] name = None
 id_of (row ∷ rows) name = cond (bytes_eq name row.1) (Some row.0) (id_of rows name)
@@ -21,12 +21,12 @@ id_of (row ∷ rows) name = cond (bytes_eq name row.1) (Some row.0) (id_of rows 
 abbrev pub type_named : List ℕ → Option ℕ
 type_named = id_of named_types
 
--- what stands behind the name of an array's element type
+-- what follows the name of an array's element type
 abbrev pub array_mark : Bool → List ℕ
 array_mark true = codes "[]"
 array_mark false = []
 
--- the text without the array mark at its end, if it is there
+-- the text without the array mark at its end, if it has one
 abbrev pub unmarked : List ℕ → List ℕ
 unmarked text = take (length text - 2) text
 
@@ -38,7 +38,7 @@ typed array kind = (kind, array)
 abbrev pub type_denoted : List ℕ → Option (ℕ × Bool)
 type_denoted text = cond (ends_with nat_eq text (codes "[]")) (option_map (typed true) (type_named (unmarked text))) (option_map (typed false) (type_named text))
 
--- a text names the type, or an array of it: the type's name, and for an array `[]` behind it
+-- a text names the type, or an array of it: the type's name, and for an array `[]` after it
 pub record NamesType (text : List ℕ) (kind : ℕ) (array : Bool) : Type 0 where
   pub name : List ℕ
   pub parts : text ≡ name ++ array_mark array

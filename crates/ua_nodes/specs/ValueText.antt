@@ -17,7 +17,7 @@ use Rattle.ua_nodes.specs.declared.fault.ValueFault.TheVariants.{NotValue, OutOf
 
 -- ---- numbers
 
--- each octet is a digit; letters of either case are the digits from ten on
+-- each byte is a digit; letters of either case are the digits from ten on
 abbrev pub all_digits : ℕ → List ℕ → Bool
 all_digits radix [] = true
 all_digits radix (c ∷ cs) = nat_lt (digit_value c) radix && all_digits radix cs
@@ -30,7 +30,7 @@ is_numeral radix text = nat_lt 0 (length text) && all_digits radix text
 abbrev pub number_below : ℕ → ℕ → List ℕ → Option ℕ
 number_below radix bound text = cond (is_numeral radix text && nat_lt (digits_value radix text) bound) (Some (digits_value radix text)) None
 
--- an unsigned number of so many bits, in decimal digits
+-- an unsigned number of this many bits, in decimal digits
 abbrev pub unsigned_denoted : ℕ → List ℕ → Option ℕ
 unsigned_denoted bits text = number_below 10 (2 ^ bits) text
 
@@ -38,13 +38,14 @@ unsigned_denoted bits text = number_below 10 (2 ^ bits) text
 abbrev pub negative : ℕ → ℤ
 negative n = neg_ℤ (pos n)
 
--- a signed number of so many bits besides its sign: decimal digits, with `-` in front below zero
+-- a signed number of this many bits besides its sign: decimal digits, with `-` before them below
+-- zero
 abbrev pub signed_denoted : ℕ → List ℕ → Option ℤ
 signed_denoted bits text = cond (starts_with_minus text)
     (option_map negative (number_below 10 (2 ^ bits + 1) (drop 1 text)))
     (option_map pos (number_below 10 (2 ^ bits) text))
 
--- a pattern of bits: `0x` and just so many hexadecimal digits
+-- a bit pattern: `0x` and exactly this many hexadecimal digits
 abbrev pub pattern_denoted : ℕ → List ℕ → Option ℕ
 pattern_denoted digits text = cond (bytes_eq (take 2 text) (codes "0x") && nat_eq (length text) (digits + 2))
     (number_below 16 (16 ^ digits) (drop 2 text)) None
@@ -55,7 +56,7 @@ pattern_denoted digits text = cond (bytes_eq (take 2 text) (codes "0x") && nat_e
 abbrev pub boolean_denoted : List ℕ → Option Bool
 boolean_denoted text = cond (bytes_eq text (codes "true")) (Some true) (cond (bytes_eq text (codes "false")) (Some false) None)
 
--- octets in base64, padded, of the standard alphabet
+-- bytes in base64, padded, of the standard alphabet
 unfoldable pub octets_denoted : List ℕ → Option (List ℕ)
 octets_denoted text = result_ok (decode_of standard text)
 
@@ -63,8 +64,8 @@ octets_denoted text = result_ok (decode_of standard text)
 unfoldable pub guid_denoted : List ℕ → Option (List ℕ)
 guid_denoted text = cond (nat_eq (length text) 36) (parsed text) None
 
--- what a text denotes at the type of an id: numbers by their digits, Float, Double and StatusCode by their
--- patterns, a String as it stands
+-- what a text denotes at the type of an id: numbers by their digits, Float, Double and StatusCode
+-- by their bit patterns, a String unchanged
 abbrev pub leaf_denoted : ℕ → List ℕ → Option LeafData
 leaf_denoted kind text =
     cond (nat_eq kind 1) (option_map boolean (boolean_denoted text)) (
@@ -101,7 +102,7 @@ leaves_denoted kind (text ∷ texts) = leaf_denoted kind text >>= λ v. leaves_d
 abbrev pub has_text_form : ℕ → Bool
 has_text_form kind = (nat_lt 0 kind && nat_lt kind 16) || nat_eq kind 19
 
--- the longest text of a value, in octets
+-- the longest text of a value, in bytes
 abbrev pub most_octets : ℕ
 most_octets = 1073741824
 
@@ -109,7 +110,7 @@ most_octets = 1073741824
 abbrev pub scalar_denoted : ℕ → List ℕ → Option VariantData
 scalar_denoted kind text = option_map one (option_map leaf (leaf_denoted kind text))
 
--- an array: its elements' texts, parted by commas
+-- an array: its elements' texts, separated by commas
 abbrev pub array_denoted : ℕ → List ℕ → Option VariantData
 array_denoted kind text = option_map (λ vs. many kind (row vs) []) (leaves_denoted kind (elements text))
 
@@ -121,12 +122,12 @@ value_denoted kind array text =
 
 -- ---- what functions answer
 
--- what a function returned is what the text denotes, unless memory ran out
+-- what a function returned is what the text denotes, unless an allocation failed
 abbrev pub Denotes : {X A : Type 0} → (X → A) → Option A → Result X ValueFault → Type 0
 Denotes view denoted (Ok v) = denoted ≡ Some (view v)
 Denotes view denoted (Err NotValue) = denoted ≡ None
 Denotes view denoted (Err OutOfMemory) = Unit {0}
 
--- these elements in front of those that follow
+-- these elements before those that follow
 abbrev pub in_front : {A : Type 0} → List A → Option (List A) → Option (List A)
 in_front front back = option_map (λ vs. front ++ vs) back

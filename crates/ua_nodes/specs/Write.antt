@@ -1,4 +1,4 @@
--- The answers to the items of a Write, and what they leave (OPC 10000-4, 5.11.4).
+-- The results of the items of a Write, and what the items change (OPC 10000-4, 5.11.4).
 use Rattle.std.specs.Prelude.{ℕ, Bool, true, false, not, ◌&&◌, ◌||◌, cond, nat_eq, map, List, [], ◌∷◌, Option, None, Some, is_none}
 use Rattle.ua_builtin.specs.Reasons.{first_reason}
 use Rattle.ua_builtin.specs.declared.date_time.DateTime.{DateTime}
@@ -33,7 +33,8 @@ abbrev pub holds_type : ℕ → Bool → Option VariantData → Bool
 holds_type kind array None = false
 holds_type kind array (Some v) = is_of_type kind array v
 
--- the node could take a value of the type: one of its own type, and an array just where it holds arrays (OPC 10000-4, 5.11.4)
+-- whether the node could take a value of the type: one of its own type, and an array exactly if it
+-- has arrays (OPC 10000-4, 5.11.4)
 abbrev pub variable_takes : Option Variable → ValueType → Bool
 variable_takes None t = false
 variable_takes (Some v) t = cond t.array v.array (not v.array) && nat_eq t.kind v.kind
@@ -42,7 +43,7 @@ variable_takes (Some v) t = cond t.array v.array (not v.array) && nat_eq t.kind 
 abbrev pub nodes_take : Nodes → NodeId → ValueType → Bool
 nodes_take nodes id = variable_takes (node_at nodes id)
 
--- why an item for this node is refused, in the order in which it is judged
+-- why an item for this node is rejected, in the order in which it is judged
 abbrev pub write_item_reasons : Variable → WriteValue → List (StatusCode × Bool)
 write_item_reasons v item =
     (bad_attribute_id_invalid, not (is_attribute item.attribute_id))
@@ -51,31 +52,32 @@ write_item_reasons v item =
     ∷ (bad_type_mismatch, not (holds_type v.kind v.array item.value.value && data_value_encodable (data_value_of item.value)))
     ∷ []
 
--- the code of the reason that holds, or Good where none does
+-- the code of the reason that holds, or Good if none does
 abbrev pub good_or : Option StatusCode → StatusCode
 good_or None = good
 good_or (Some code) = code
 
--- the answer to an item, by the node that it names
+-- the result of an item, by the node that it names
 abbrev pub write_answer : Option Variable → WriteValue → StatusCode
 write_answer None item = bad_node_id_unknown
 write_answer (Some v) item = good_or (first_reason (write_item_reasons v item))
 
--- what is there, or else the other
+-- the content, or else the other
 abbrev pub or_else : {A : Type 0} → Option A → A → A
 or_else None x = x
 or_else (Some y) x = y
 
--- the source time given, or without one the moment
+-- the source timestamp given, or without one this time
 abbrev pub time_of : Option DateTime → DateTime → DateTime
 time_of t moment = or_else t moment
 
--- the picoseconds given, but none where no source time is given
+-- the picoseconds given, but none if no source timestamp is given
 abbrev pub picoseconds_of : Option DateTime → Option ℕ → Option ℕ
 picoseconds_of None p = None
 picoseconds_of (Some t) p = p
 
--- the node with this value and status, and with its source time and picoseconds, or without one the moment
+-- the node with this value and status, and with its source timestamp and picoseconds, or without
+-- one this time
 abbrev pub stored : Variable → DataValue → DateTime → Variable
 stored v given moment = record {
   name = v.name;
@@ -88,11 +90,11 @@ stored v given moment = record {
   source_picoseconds = picoseconds_of given.source_timestamp given.source_picoseconds;
 }
 
--- the node with what the item gives: its value, status and source time
+-- the node with what the item gives: its value, status and source timestamp
 abbrev pub written : Variable → WriteValue → DateTime → Variable
 written v item moment = stored v item.value moment
 
--- the item names the node and is not refused
+-- the item names the node and is not rejected
 abbrev pub is_good_for : NodeId × Variable → WriteValue → Bool
 is_good_for node item = same_id item.node_id node.0 && is_none (first_reason (write_item_reasons node.1 item))
 
@@ -106,20 +108,20 @@ abbrev pub last_good : NodeId × Variable → List WriteValue → Option WriteVa
 last_good node [] = None
 last_good node (item ∷ items) = later (cond (is_good_for node item) (Some item) None) (last_good node items)
 
--- the node with what the item gives, or as it was where there is no item
+-- the node with what the item gives, or unchanged if there is no item
 abbrev pub written_by : Variable → Option WriteValue → DateTime → Variable
 written_by v None moment = v
 written_by v (Some item) moment = written v item moment
 
--- what one item leaves
+-- the nodes after one item
 unfoldable pub after_item : WriteValue → DateTime → Nodes → Nodes
 after_item item moment nodes = map (λ node. (node.0, written_by node.1 (cond (is_good_for node item) (Some item) None) moment)) nodes
 
--- what the items leave: each node has the value, status and source time of the last item that is good for it, else
--- those from before
+-- the nodes after the items: each has the value, status and source timestamp of the last item that
+-- is good for it, else those from before
 unfoldable pub after_write : List WriteValue → DateTime → Nodes → Nodes
 after_write items moment nodes = map (λ node. (node.0, written_by node.1 (last_good node items) moment)) nodes
 
--- the answers to the items: each is its own function of the nodes before
+-- the results of the items: each depends on the nodes before the Write
 abbrev pub write_answers : Nodes → List WriteValue → List StatusCode
 write_answers nodes items = map (λ item. write_answer (node_at nodes item.node_id) item) items

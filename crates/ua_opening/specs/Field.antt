@@ -6,11 +6,11 @@ use Rattle.ua_builtin.specs.Join.{number}
 use Rattle.ua_builtin.specs.Counted.{text, counted}
 use Rattle.ua_builtin.specs.Signed.{signed}
 
--- a Byte: one octet (OPC 10000-6, 5.2.2.2)
+-- a Byte: one byte (OPC 10000-6, 5.2.2.2)
 abbrev pub byte : Format ℕ
 byte = flat (number 1)
 
--- a UInt32: four octets, the least first (OPC 10000-6, 5.2.2.2)
+-- a UInt32: four bytes, the least significant first (OPC 10000-6, 5.2.2.2)
 abbrev pub uint32 : Format ℕ
 uint32 = flat (number 4)
 
@@ -18,10 +18,10 @@ uint32 = flat (number 4)
 abbrev pub int32 : Format ℤ
 int32 = flat (signed w32)
 
--- a String: null, or a text in UTF-8 behind its count (OPC 10000-6, 5.2.2.4)
+-- a String: null, or a text in UTF-8 after its count (OPC 10000-6, 5.2.2.4)
 abbrev pub string : Format (Option (List ℕ))
 string = flat text
 
--- a ByteString: null, or octets behind their count (OPC 10000-6, 5.2.2.7)
+-- a ByteString: null, or bytes after their count (OPC 10000-6, 5.2.2.7)
 abbrev pub byte_string : Format (Option (List ℕ))
 byte_string = flat counted

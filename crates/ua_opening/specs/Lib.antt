@@ -7,5 +7,5 @@ pub mod Open
 pub mod Plain
 pub mod SecureChannel
 pub mod WrittenBack
--- Words that only contracts within this crate cite.
+-- Definitions that only contracts within this crate cite.
 pub mod inside

@@ -1,4 +1,4 @@
--- Messages: the NodeId of an encoding, and behind it the structure that it announces.
+-- Messages: the NodeId of an encoding, and after it the structure that it announces.
 use Rattle.std.specs.Prelude.{ℕ, List, [], ◌∷◌, ◌++◌, Bool, ◌&&◌, cond, nat_eq, Option, Some, None, Result, Ok, Err}
 use Rattle.ua_builtin.specs.Exact.{◌>>=◌, Follows, then_read, Image, image_read}
 use Rattle.ua_builtin.specs.Format.{Format, Within, most_levels}
@@ -28,7 +28,8 @@ standard n = record { namespace = 0; identifier = Numeric n }
 
 -- ---- messages of several kinds
 
--- a kind of message: the name and the number of its binary encoding (OPC 10000-6, A.3), the structure that it holds, how octets encode that, and the message that is made of it
+-- a kind of message: the name and the number of its binary encoding (OPC 10000-6, A.3), its
+-- structure, how bytes encode that, and the message that is made of it
 pub record Kind (V : Type 0) : Type 1 where
   pub name : List ℕ
   pub number : ℕ
@@ -41,7 +42,8 @@ abbrev pub with_number : {K : Type 0} → (K → ℕ) → ℕ → List K → Opt
 with_number number n [] = None
 with_number number n (k ∷ ks) = cond (nat_eq n (number k)) (Some k) (with_number number n ks)
 
--- the kinds of a message: the structure that each holds, and how octets encode it; the number of its encoding; how a message is made of its kind and structure
+-- the kinds of a message: the structure of each, and how bytes encode it; the number of its
+-- encoding; how a message is made of its kind and structure
 pub record Kinds (K V : Type 0) : Type 1 where
   pub structure : K → Type 0
   pub format : (k : K) → Format (structure k)
@@ -54,25 +56,26 @@ pub record Kinds (K V : Type 0) : Type 1 where
 abbrev pub announced : {K V : Type 0} → Kinds K V → NodeId → Option K
 announced kinds id = standard_number id >>= kinds.numbered
 
--- the octets encode the structure of this kind, and the message is made of it; where no kind was announced there is no message
+-- the bytes encode the structure of this kind, and the message is made of it; if no kind was
+-- announced there is no message
 abbrev pub OfKind : {K V : Type 0} → Kinds K V → Option K → V → List ℕ → Type 0
 OfKind kinds None v b = ⊥
 OfKind kinds (Some k) v b = Image (kinds.make k) (kinds.format k).encodes v b
 
--- the message of this kind that octets begin with, and the octets behind it
+-- the message of this kind at the start of bytes, and the bytes after it
 abbrev pub kind_at : {K V : Type 0} → Kinds K V → ℕ → Option K → List ℕ → Option (V × List ℕ)
 kind_at kinds levels None octets = None
 kind_at kinds levels (Some k) octets = image_read (kinds.make k) ((kinds.format k).decode levels) octets
 
--- the levels of a message: those of its structure
+-- the nesting depth of a message: that of its structure
 abbrev pub message_depth : {K V : Type 0} → Kinds K V → V → ℕ
 message_depth kinds v = (kinds.format (kinds.parts v).0).depth (kinds.parts v).1
 
--- how many values a message is: those of its structure
+-- the count of values of a message: that of its structure
 abbrev pub message_count : {K V : Type 0} → Kinds K V → V → ℕ
 message_count kinds v = (kinds.format (kinds.parts v).0).count (kinds.parts v).1
 
--- the NodeId that a writer puts in front
+-- the NodeId that precedes the encoding of the structure
 abbrev pub message_id : {K V : Type 0} → Kinds K V → V → NodeId
 message_id kinds v = standard (kinds.number (kinds.parts v).0)
 
@@ -82,15 +85,16 @@ message_encodable kinds v = node_id.encodable (message_id kinds v) && (kinds.for
 abbrev pub message_canonical : {K V : Type 0} → Kinds K V → V → List ℕ
 message_canonical kinds v = node_id.canonical (message_id kinds v) ++ (kinds.format (kinds.parts v).0).canonical (kinds.parts v).1
 
--- the octets encode the NodeId of a kind, and behind it the structure of that kind (OPC 10000-6, 5.2.9)
+-- the bytes encode the NodeId of a kind, and after it the structure of that kind (OPC 10000-6,
+-- 5.2.9)
 abbrev pub IsMessage : {K V : Type 0} → Kinds K V → V → List ℕ → Type 0
 IsMessage kinds = Follows node_id.encodes (λ id. OfKind kinds (announced kinds id))
 
--- the message that octets begin with, and the octets behind it
+-- the message at the start of bytes, and the bytes after it
 abbrev pub message_at : {K V : Type 0} → Kinds K V → ℕ → List ℕ → Option (V × List ℕ)
 message_at kinds levels = then_read node_id.decode (λ id. kind_at kinds levels (announced kinds id))
 
--- the NodeId of the encoding, and behind it the structure that it announces (OPC 10000-6, 5.2.9)
+-- the NodeId of the encoding, and after it the structure that it announces (OPC 10000-6, 5.2.9)
 abbrev pub message_of : {K V : Type 0} → Kinds K V → Format V
 message_of kinds = record {
   encodes = IsMessage kinds;
@@ -114,54 +118,57 @@ alone {A = A} number f = record {
   parts = λ v. (tt, v);
 }
 
--- the NodeId of the encoding, and behind it the structure
+-- the NodeId of the encoding, and after it the structure
 abbrev pub message : {A : Type 0} → ℕ → Format A → Format A
 message number f = message_of (alone number f)
 
 -- ---- bodies
 
--- the octets are an encoding of the message, of at most 100 levels, and nothing stands behind it (OPC 10000-6, 6.7.2)
+-- the bytes are an encoding of the message, of nesting depth at most 100, and nothing follows it
+-- (OPC 10000-6, 6.7.2)
 abbrev pub IsBody : {A : Type 0} → Format A → A → List ℕ → Type 0
 IsBody format m octets = Within format.encodes format.depth most_levels m octets
 
--- no message has these octets as its body
+-- no message has these bytes as its body
 abbrev pub IsNoBody : {A : Type 0} → Format A → List ℕ → Type 0
 IsNoBody {A = A} format octets = (m : A) → IsBody format m octets → ⊥
 
--- what was read, where no octets stand behind it
+-- what was decoded, if no bytes follow it
 abbrev pub if_last : {A : Type 0} → A → List ℕ → Option A
 if_last v [] = Some v
 if_last v (x ∷ rest) = None
 
--- the message whose body the octets are
+-- the message whose body the bytes are
 abbrev pub body_of : {A : Type 0} → Format A → List ℕ → Option A
 body_of format octets = format.decode most_levels octets >>= λ x. if_last x.0 x.1
 
--- the NodeId that a body begins with
+-- the NodeId at the start of a body
 abbrev pub id_of : List ℕ → Option NodeId
 id_of octets = node_id.decode octets >>= λ x. Some x.0
 
--- the RequestHandle of the RequestHeader that was read, or 0 where none was (OPC 10000-4, 7.33)
+-- the RequestHandle of the RequestHeader that was decoded, or 0 if none was (OPC 10000-4, 7.33)
 abbrev pub header_handle : Option (RequestHeader × List ℕ) → ℕ
 header_handle None = 0
 header_handle (Some x) = x.0.request_handle
 
--- the RequestHandle of the RequestHeader that octets begin with, or 0 where no header reads whole
+-- the RequestHandle of the RequestHeader at the start of bytes, or 0 if no header is decoded
+-- completely
 abbrev pub handle_behind : List ℕ → ℕ
 handle_behind octets = header_handle (request_header.decode most_levels octets)
 
--- the RequestHandle in the octets behind the NodeId that was read, or 0 where none was
+-- the RequestHandle in the bytes after the NodeId that was decoded, or 0 if none was
 abbrev pub id_handle : Option (NodeId × List ℕ) → ℕ
 id_handle None = 0
 id_handle (Some x) = handle_behind x.1
 
--- the RequestHandle of a body, whose header stands behind the NodeId; 0 where the header doesn't read whole
+-- the RequestHandle of a body, whose header follows the NodeId; 0 if the header is not decoded
+-- completely
 abbrev pub handle_of : List ℕ → ℕ
 handle_of octets = id_handle (node_id.decode octets)
 
 -- ---- what a reader answers
 
--- the message that was found, else the fault
+-- the message that was found, otherwise the error
 abbrev pub found_or : {A E : Type 0} → Option A → E → Result A E
 found_or None fault = Err fault
 found_or (Some m) fault = Ok m

@@ -1,4 +1,4 @@
--- The answer to an OpenSecureChannel request.
+-- The response to an OpenSecureChannel request.
 use Rattle.std.specs.Prelude.{ℕ, List, Option, Some, None}
 use Rattle.ua_opening.specs.Header.{service_fault}
 use Rattle.ua_opening.specs.SecureChannel.{open_response}
@@ -8,16 +8,16 @@ use Rattle.ua_opening.specs.declared.secure_channel.OpenResponse.{OpenResponse}
 use Rattle.ua_opening.specs.declared.open.OpenAnswer.{OpenAnswer}
 use Rattle.ua_opening.specs.declared.open.OpenAnswer.TheVariants.{Open, Fault}
 
--- the octets are the body of this answer: of an OpenSecureChannel response, or of a ServiceFault
+-- the bytes are the body of this answer: of an OpenSecureChannel response, or of a ServiceFault
 abbrev pub IsAnswer : OpenAnswer → List ℕ → Type 0
 IsAnswer (Open m) octets = IsBody (message 449 open_response) m octets
 IsAnswer (Fault m) octets = IsBody (message 397 service_fault) m octets
 
--- no answer has these octets as its body
+-- no answer has these bytes as its body
 abbrev pub IsNoAnswer : List ℕ → Type 0
 IsNoAnswer octets = (answer : OpenAnswer) → IsAnswer answer octets → ⊥
 
--- a fault, where there is one
+-- a fault, if there is one
 abbrev pub fault_found : Option ServiceFault → Option OpenAnswer
 fault_found None = None
 fault_found (Some m) = Some (Fault m)
@@ -27,6 +27,6 @@ abbrev pub answer_found : Option OpenResponse → Option ServiceFault → Option
 answer_found None fault = fault_found fault
 answer_found (Some m) fault = Some (Open m)
 
--- the answer whose body the octets are
+-- the answer whose body the bytes are
 abbrev pub answer_read : List ℕ → Option OpenAnswer
 answer_read octets = answer_found (body_of (message 449 open_response) octets) (body_of (message 397 service_fault) octets)

@@ -1,4 +1,5 @@
--- Headers, faults and the structures of secure channels with nothing in them but what they are made for.
+-- Headers, ServiceFaults and the structures of secure channels that contain only what they are made
+-- for.
 use Rattle.std.specs.Prelude.{ℕ, ℤ, pos, None}
 use Rattle.ua_builtin.specs.ExtensionObject.{null_object}
 use Rattle.ua_builtin.specs.NodeId.{null_id}
@@ -14,7 +15,8 @@ use Rattle.ua_opening.specs.declared.secure_channel.CloseRequest.{CloseRequest}
 use Rattle.ua_opening.specs.declared.secure_channel.OpenRequest.{OpenRequest}
 use Rattle.ua_opening.specs.declared.secure_channel.OpenResponse.{OpenResponse}
 
--- a header of a request that asks for no diagnostics, names no audit entry and no timeout, and adds nothing
+-- a header of a request that asks for no diagnostics, names no audit entry and no timeout, and has
+-- no AdditionalHeader
 abbrev pub request_header_of : NodeId → DateTime → ℕ → RequestHeader
 request_header_of token time handle = record {
   authentication_token = token;
@@ -26,7 +28,7 @@ request_header_of token time handle = record {
   additional_header = null_object;
 }
 
--- a header of a response without diagnostics and texts, that adds nothing
+-- a header of a response without diagnostics, texts and AdditionalHeader
 abbrev pub response_header_of : DateTime → ℕ → StatusCode → ResponseHeader
 response_header_of time handle code = record {
   timestamp = time;
@@ -44,13 +46,14 @@ empty_request_header = request_header_of null_id (record { ticks = pos 0 }) 0
 abbrev pub empty_response_header : ResponseHeader
 empty_response_header = response_header_of (record { ticks = pos 0 }) 0 (of_code 0)
 
--- a fault that says its code alone
+-- a ServiceFault with its StatusCode alone
 abbrev pub service_fault_of : DateTime → ℕ → StatusCode → ServiceFault
 service_fault_of time handle code = record { response_header = response_header_of time handle code }
 
 -- ---- secure channels
 
--- an OpenSecureChannel request of this type, 0 to issue a token and 1 to renew it: under no token, of version 0, with the mode 1, None, and no nonce
+-- an OpenSecureChannel request of this type, 0 to issue a token and 1 to renew it: under no token,
+-- of version 0, with the mode 1, None, and no nonce
 abbrev pub open_request_of : ℤ → DateTime → ℕ → ℕ → OpenRequest
 open_request_of kind time handle lifetime = record {
   request_header = request_header_of null_id time handle;
@@ -61,7 +64,7 @@ open_request_of kind time handle lifetime = record {
   requested_lifetime = lifetime;
 }
 
--- the good answer: of version 0, made at this moment, without a nonce
+-- the response that grants it: of version 0, created at this time, without a nonce
 abbrev pub open_response_of : DateTime → ℕ → ℕ → ℕ → ℕ → OpenResponse
 open_response_of time handle channel token lifetime = record {
   response_header = response_header_of time handle (of_code 0);

@@ -1,2 +1,2 @@
--- What stands at the end of headers: words that only contracts within this crate cite.
+-- What is at the end of headers: definitions that only contracts within this crate cite.
 pub mod HeaderEnds

@@ -2,7 +2,6 @@ mod Elements
 mod EncodingTable
 pub mod Behind
 mod Bodies
-mod Named
 mod OneLine
 mod Befores
 mod CutBacks

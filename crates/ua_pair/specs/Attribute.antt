@@ -1,4 +1,4 @@
--- The fields of what reads and writes attributes.
+-- The fields of the services Read and Write.
 use Rattle.std.specs.Prelude.{[], ◌∷◌, codes}
 use Rattle.std.specs.Fmt.{decimal}
 use Rattle.ua_structures.specs.declared.attribute.ReadRequest.{ReadRequest}

@@ -1,4 +1,5 @@
--- What of the frames before a frame counts for it: the chunks of messages, and the last sequence number.
+-- What the frames (UA TCP messages) before a frame contribute to its lines: the MessageChunks, and
+-- the last SequenceNumber.
 use Rattle.std.specs.Prelude.{ℕ, List, Option, None, option_map}
 use Rattle.std.specs.List.{filter_map, last_or}
 use Rattle.ua_frame.specs.declared.frame.Frame.{Frame}
@@ -9,7 +10,7 @@ use Rattle.ua_chunk.specs.declared.chunk.Chunk.{Chunk}
 use Rattle.ua_chunk.specs.Layout.{chunk_in}
 use Rattle.ua_chunk.specs.Opening.{opening_in}
 
--- the chunk of a message that a frame of this kind carries: only MSG frames carry one
+-- the MessageChunk that a frame of this kind carries: only MSG frames carry one
 abbrev pub message_chunk_by : Kind → Frame → Option Chunk
 message_chunk_by Hel f = None
 message_chunk_by Ack f = None
@@ -18,15 +19,15 @@ message_chunk_by Msg f = chunk_in f
 message_chunk_by Opn f = None
 message_chunk_by Clo f = None
 
--- the chunk of a message that a frame carries
+-- the MessageChunk that a frame carries
 abbrev pub message_chunk : Frame → Option Chunk
 message_chunk f = message_chunk_by f.kind f
 
--- the chunks of messages that these frames carry, in order
+-- the MessageChunks that these frames carry, in order
 unfoldable pub message_chunks : List Frame → List Chunk
 message_chunks fs = filter_map message_chunk fs
 
--- the sequence number of a frame of this kind: an OPN, a MSG and a CLO have one
+-- the SequenceNumber of a frame of this kind: an OPN, a MSG and a CLO have one
 abbrev pub sequence_by : Kind → Frame → Option ℕ
 sequence_by Hel f = None
 sequence_by Ack f = None
@@ -35,10 +36,10 @@ sequence_by Msg f = option_map (λ c. c.sequence) (chunk_in f)
 sequence_by Opn f = option_map (λ c. c.sequence) (opening_in f)
 sequence_by Clo f = option_map (λ c. c.sequence) (chunk_in f)
 
--- the sequence number of a frame
+-- the SequenceNumber of a frame
 abbrev pub sequence_of : Frame → Option ℕ
 sequence_of f = sequence_by f.kind f
 
--- the last sequence number of these frames, if they have one
+-- the last SequenceNumber of these frames, if they have one
 unfoldable pub last_sequence : List Frame → Option ℕ
 last_sequence fs = last_or None (filter_map sequence_of fs)

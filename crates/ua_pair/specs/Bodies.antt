@@ -1,4 +1,4 @@
--- The fields of a body: those of the message that it is.
+-- The fields of a body: those of the message that it encodes.
 use Rattle.std.specs.Prelude.{◌≡◌, ℕ, Bool, List, [], Option, Some, None}
 use Rattle.ua_builtin.specs.Exact.{◌>>=◌}
 use Rattle.ua_builtin.specs.Format.{Format, most_levels}
@@ -17,12 +17,13 @@ use Rattle.ua_pair.specs.declared.side.Side.TheVariants.{Client, Server}
 
 -- ---- by what reading gives
 
--- the lines of the message that was found, none where none was
+-- the lines of the message that was found, none if none was
 abbrev pub fields_found : {A : Type 0} → (A → List ℕ) → Option A → List ℕ
 fields_found fields None = []
 fields_found fields (Some m) = fields m
 
--- the lines of the message whose body the octets are; an answer to OpenSecureChannel is a response or a ServiceFault
+-- the lines of the message whose body the bytes are; the response to OpenSecureChannel may be a
+-- ServiceFault
 unfoldable pub body_fields : Bool → BodyKind → List ℕ → List ℕ
 body_fields names Request octets = fields_found (request_fields names) (body_of request octets)
 body_fields names Response octets = fields_found (response_fields names) (body_of response octets)
@@ -32,23 +33,26 @@ body_fields names CloseRequest octets = fields_found (close_request_fields names
 
 -- ---- the header alone
 
--- the value that stands behind the NodeId that octets begin with, whatever follows it
+-- the value after the NodeId at the start of the bytes, whatever follows it
 abbrev pub behind_id : {A : Type 0} → Format A → List ℕ → Option A
 behind_id format octets = node_id.decode octets >>= λ id. format.decode most_levels id.1 >>= λ value. Some value.0
 
--- the lines of the header of a message that this side sent, where it reads whole: a CloseSecureChannelRequest is a RequestHeader and no more, a ServiceFault a ResponseHeader (OPC 10000-4, 5.6.3 and 7.35)
+-- the lines of the header of a message that this side sent, if it is decoded completely: a
+-- CloseSecureChannelRequest is a RequestHeader and no more, a ServiceFault a ResponseHeader (OPC
+-- 10000-4, 5.6.3 and 7.35)
 abbrev pub header_fields : Bool → Side → List ℕ → List ℕ
 header_fields names Client octets = fields_found (close_request_fields names) (behind_id close_request octets)
 header_fields names Server octets = fields_found (service_fault_fields names) (behind_id service_fault octets)
 
--- ---- by what the octets encode
+-- ---- by what the bytes encode
 
--- the text is that of each value whose body the octets are, and empty where they are the body of none
+-- the text is that of each value whose body the bytes are, and empty if they are the body of none
 pub record AreFields {A : Type 0} (IsBodyOf : A → List ℕ → Type 0) (fields : A → List ℕ) (octets text : List ℕ) : Type 0 where
   pub some : (m : A) → IsBodyOf m octets → text ≡ fields m
   pub none : ((m : A) → IsBodyOf m octets → ⊥) → text ≡ []
 
--- the text has the lines of each message of this kind whose body the octets are, and is empty where they are the body of none
+-- the text has the lines of each message of this kind whose body the bytes are, and is empty if
+-- they are the body of none
 abbrev pub AreBodyFields : Bool → BodyKind → List ℕ → List ℕ → Type 0
 AreBodyFields names Request octets text = AreFields (IsBody request) (request_fields names) octets text
 AreBodyFields names Response octets text = AreFields (IsBody response) (response_fields names) octets text

@@ -1,4 +1,4 @@
--- The fields of what finds servers.
+-- The fields of the service GetEndpoints.
 use Rattle.std.specs.Prelude.{[], ◌∷◌, codes}
 use Rattle.ua_structures.specs.declared.discovery.ApplicationDescription.{ApplicationDescription}
 use Rattle.ua_structures.specs.declared.discovery.EndpointDescription.{EndpointDescription}

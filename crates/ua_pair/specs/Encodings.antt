@@ -1,4 +1,5 @@
--- The table of encodings: 79 requests and responses of the standard, by the numbers of their binary encodings (OPC 10000-6, A.3).
+-- The table of encodings: 79 requests and responses of the standard, by the numbers of their binary
+-- encodings (OPC 10000-6, A.3).
 use Rattle.std.specs.Prelude.{ℕ, List, [], ◌∷◌, codes}
 
 -- each number with the name of its structure, in the order of the numbers

@@ -1,4 +1,4 @@
--- The fields of the headers, and of the fault.
+-- The fields of the headers and of the ServiceFault.
 use Rattle.std.specs.Prelude.{[], ◌∷◌, codes}
 use Rattle.ua_opening.specs.declared.header.RequestHeader.{RequestHeader}
 use Rattle.ua_opening.specs.declared.header.ResponseHeader.{ResponseHeader}

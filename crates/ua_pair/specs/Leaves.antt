@@ -28,12 +28,12 @@ use Rattle.ua_texts.specs.Shown.{escaped, escaped_string, pattern_text, base64_t
 use Rattle.ua_texts.specs.Values.{boolean_text}
 use Rattle.ua_pair.specs.Tree.{Tree, same_text, text}
 
--- the text of a value, or `null` where there is none
+-- the text of a value, or `null` if there is none
 abbrev pub text_or_null : {A : Type 0} → (A → List ℕ) → Option A → List ℕ
 text_or_null shown None = codes "null"
 text_or_null shown (Some value) = shown value
 
--- a value that may not be there
+-- an optional value
 abbrev pub optional : {A : Type 0} → (A → List ℕ) → Option A → Tree
 optional shown value = same_text (text_or_null shown value)
 
@@ -51,7 +51,7 @@ signed n = same_text (signed_decimal n)
 abbrev pub boolean : Bool → Tree
 boolean b = same_text (boolean_text b)
 
--- a Double: `0x` and the sixteen digits of its pattern
+-- a Double: `0x` and the sixteen digits of its bit pattern
 abbrev pub double : DoubleBits → Tree
 double d = same_text (pattern_text 16 d.bits)
 
@@ -71,7 +71,7 @@ date_time_text t = signed_decimal t.ticks
 abbrev pub date_time : DateTime → Tree
 date_time t = same_text (date_time_text t)
 
--- a StatusCode: eight upper case digits, and where names are wanted the standard's name
+-- a StatusCode: eight upper case digits, and if names are wanted the standard's name
 abbrev pub status_code_text : Bool → StatusCode → List ℕ
 status_code_text names c = named_code names c.code
 
@@ -79,7 +79,7 @@ status_code_text names c = named_code names c.code
 abbrev pub status_code : StatusCode → Tree
 status_code c = text (λ names. status_code_text names c)
 
--- a StatusCode that may not be there
+-- an optional StatusCode
 abbrev pub optional_code : Option StatusCode → Tree
 optional_code value = text (λ names. text_or_null (status_code_text names) value)
 
@@ -87,13 +87,13 @@ optional_code value = text (λ names. text_or_null (status_code_text names) valu
 abbrev pub node_id : NodeId → Tree
 node_id id = same_text (escaped (node_text id))
 
--- ---- values that are shown by their octets
+-- ---- values that are shown by their bytes
 
--- the octets of a value's canonical encoding, as text; `null` for a null one
+-- the bytes of a value's canonical encoding, as text; `null` for a null one
 unfoldable pub encoded_text : {A : Type 0} → Format A → (A → Bool) → A → List ℕ
 encoded_text format is_null value = cond (is_null value) (codes "null") (written_text (format.encodable value) (format.canonical value))
 
--- a value by its octets
+-- a value by its bytes
 abbrev pub encoded : {A : Type 0} → Format A → (A → Bool) → A → Tree
 encoded format is_null value = same_text (encoded_text format is_null value)
 
@@ -126,15 +126,15 @@ is_absent (Xml x) = false
 abbrev pub is_null_object : ExtensionObject → Bool
 is_null_object x = is_null_id x.type_id && is_absent x.body
 
--- no id of a DiagnosticInfo is there
+-- whether no id of a DiagnosticInfo is present
 abbrev pub has_no_id : DiagnosticFields → Bool
 has_no_id f = is_none f.symbolic_id && is_none f.namespace_uri && is_none f.locale && is_none f.localized_text
 
--- no field of a DiagnosticInfo is there but perhaps its inner one
+-- whether no field of a DiagnosticInfo is present, except perhaps its inner one
 abbrev pub has_no_field : DiagnosticFields → Bool
 has_no_field f = has_no_id f && is_none f.additional_info && is_none f.inner_status_code
 
--- no field of a DiagnosticInfo is there
+-- whether no field of a DiagnosticInfo is present
 abbrev pub is_empty : DiagnosticData → Bool
 is_empty (innermost f) = has_no_field f
 is_empty (around f d) = false

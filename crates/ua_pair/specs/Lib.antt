@@ -1,5 +1,5 @@
--- The fields of messages: trees and their lines, the texts of values, the fields of each structure and message, the lines
--- of a body, and what is said of texts that stand in a line.
+-- The fields of messages: trees and their lines, the texts of values, the fields of each structure
+-- and message, the lines of a body, and properties of texts within a line.
 pub mod Tree
 pub mod Leaves
 pub mod Header
@@ -10,8 +10,9 @@ pub mod SecureChannel
 pub mod Messages
 pub mod Bodies
 pub mod Laws
--- The dissector, in the order in which its definitions are best read: the lines of frames, the names of messages, what of
--- the frames before counts, what one frame says, the reasons against it, and last the lines of a whole list of octets.
+-- The dissector, in the order in which its definitions are best read: the lines of frames (UA TCP
+-- messages), the names of messages, what the frames before one contribute, the lines of one frame,
+-- the reasons against it, and last the lines of a whole list of bytes.
 pub mod Lines
 pub mod Encodings
 pub mod Names

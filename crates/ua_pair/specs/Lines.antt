@@ -1,4 +1,6 @@
--- The lines that the dissector prints of frames and messages. P is the place where a frame begins in the octets, S its size, CODE a status code, with its standard name behind it where names are wanted.
+-- The lines that the dissector prints of frames (UA TCP messages) and messages. P is the offset of
+-- a frame in the bytes, S its size, CODE a StatusCode, followed by its standard name if names are
+-- wanted.
 use Rattle.std.specs.Prelude.{ℕ, Bool, ◌==◌, if◌then◌else◌, List, ◌++◌, codes}
 use Rattle.std.specs.Fmt.{decimal}
 use Rattle.ua_builtin.specs.declared.status_code.StatusCode.{StatusCode}
@@ -14,7 +16,8 @@ use Rattle.ua_texts.specs.Shown.{shown_string}
 
 -- ---- HEL, ACK and ERR
 
--- the numbers of a Hello and of an Acknowledge: version, receive and send buffer size, greatest message size and chunk count
+-- the numbers of a Hello and of an Acknowledge: version, receive and send buffer size, greatest
+-- message size and chunk count
 unfoldable pub numbers_text : ℕ → ℕ → ℕ → ℕ → ℕ → List ℕ
 numbers_text version receive send message chunks =
     codes " version " ++ decimal version
@@ -75,7 +78,7 @@ chunk_line name place size c =
 
 -- ---- messages
 
--- a message of so many octets under its request id: message I octets L NAME
+-- a message of this many bytes under its RequestId: message I octets L NAME
 unfoldable pub message_line : ℕ → ℕ → List ℕ → List ℕ
 message_line request size name =
     codes "message " ++ decimal request ++ codes " octets " ++ decimal size ++ codes " " ++ name ++ codes "\n"
@@ -86,10 +89,11 @@ aborted_line names request code = codes "message " ++ decimal request ++ codes "
 
 -- ---- the end
 
--- the frames end at this place, and so many octets are left of an unfinished one: end P, or rest N
+-- the frames end at this offset, and this many bytes are left of an unfinished one: end P, or rest
+-- N
 unfoldable pub rest_line : ℕ → ℕ → List ℕ
 rest_line place left = if left == 0 then codes "end " ++ decimal place ++ codes "\n" else codes "rest " ++ decimal left ++ codes "\n"
 
--- the frame at this place is refused: refused CODE at P
+-- the frame at this offset is rejected: refused CODE at P
 unfoldable pub refused_line : Bool → ℕ → ℕ → List ℕ
 refused_line names place code = codes "refused " ++ named_code names code ++ codes " at " ++ decimal place ++ codes "\n"

@@ -1,4 +1,5 @@
--- The fields of messages: of each kind of request and response, and of the messages of the secure channel.
+-- The fields of messages: of each kind of request and response, and of the messages of the secure
+-- channel.
 use Rattle.std.specs.Prelude.{ℕ, Bool, List, [], codes}
 use Rattle.ua_opening.specs.declared.header.ServiceFault.{ServiceFault as ServiceFaultMessage}
 use Rattle.ua_opening.specs.declared.open.OpenAnswer.{OpenAnswer}
@@ -50,7 +51,7 @@ open_response_tree m = structure (open_response_entries m)
 abbrev pub close_request_tree : CloseRequest → Tree
 close_request_tree m = structure (close_request_entries m)
 
--- the answer to a request of OpenSecureChannel: a response, or a fault
+-- the response to an OpenSecureChannel request: a response, or a fault
 abbrev pub open_answer_tree : OpenAnswer → Tree
 open_answer_tree (Open m) = open_response_tree m
 open_answer_tree (Fault m) = structure (service_fault_entries m)
@@ -61,7 +62,8 @@ service_fault_tree m = structure (service_fault_entries m)
 
 -- ---- their lines
 
--- the lines of a message, with the names of status codes or without: its fields have two blanks in front
+-- the lines of a message, with or without the names of StatusCodes: its fields are indented by two
+-- spaces
 abbrev pub message_lines : Bool → Tree → List ℕ
 message_lines names tree = lines names (codes "  ") [] tree
 
@@ -89,6 +91,6 @@ close_request_fields names m = message_lines names (close_request_tree m)
 abbrev pub service_fault_fields : Bool → ServiceFaultMessage → List ℕ
 service_fault_fields names m = message_lines names (service_fault_tree m)
 
--- the lines of an answer to a request of OpenSecureChannel
+-- the lines of a response to an OpenSecureChannel request
 abbrev pub open_answer_fields : Bool → OpenAnswer → List ℕ
 open_answer_fields names m = message_lines names (open_answer_tree m)

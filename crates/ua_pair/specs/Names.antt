@@ -25,19 +25,19 @@ use Rattle.ua_pair.specs.declared.fields.body.BodyKind.TheVariants as kind
 use Rattle.ua_pair.specs.declared.side.Side.{Side}
 use Rattle.ua_pair.specs.declared.side.Side.TheVariants.{Client, Server}
 
--- what the body of a MSG is read as
+-- how the body of a MSG is decoded
 abbrev pub message_kind : Side → BodyKind
 message_kind Client = kind.Request
 message_kind Server = kind.Response
 
--- what the body of an OPN is read as
+-- how the body of an OPN is decoded
 abbrev pub opening_kind : Side → BodyKind
 opening_kind Client = kind.OpenRequest
 opening_kind Server = kind.OpenResponse
 
 -- ---- requests
 
--- the name of what was read as a request: its kind, or why there is none
+-- the name of what was decoded as a request: its kind, or why there is none
 abbrev pub request_name_of : Result RequestKind RequestFault → List ℕ
 request_name_of (Ok kind) = request_kind_name kind
 request_name_of (Err (request_fault.Unsupported handle)) = codes "unsupported"
@@ -50,7 +50,7 @@ request_name octets = request_name_of (kind_alone (request_read octets))
 
 -- ---- responses
 
--- the name of what was read as a response: its kind, or why there is none
+-- the name of what was decoded as a response: its kind, or why there is none
 abbrev pub response_name_of : Result Response ResponseFault → List ℕ
 response_name_of (Ok m) = response_kind_name (response_kind_of m)
 response_name_of (Err response_fault.Unknown) = codes "unsupported"
@@ -61,61 +61,63 @@ response_name_of (Err response_fault.OutOfMemory) = []
 abbrev pub response_name : List ℕ → List ℕ
 response_name octets = response_name_of (response_read octets)
 
--- the name of a message of these octets
+-- the name of a message of these bytes
 abbrev pub message_name : Side → List ℕ → List ℕ
 message_name Client octets = request_name octets
 message_name Server octets = response_name octets
 
 -- ---- messages of no known kind
 
--- what was read as a request begins with a NodeId that announces none
+-- whether what was decoded as a request begins with a NodeId of no known kind
 abbrev pub is_unsupported_kind : Result RequestKind RequestFault → Bool
 is_unsupported_kind (Ok kind) = false
 is_unsupported_kind (Err (request_fault.Unsupported handle)) = true
 is_unsupported_kind (Err (request_fault.Unreadable handle)) = false
 is_unsupported_kind (Err request_fault.OutOfMemory) = false
 
--- a message that a client sent is of no known kind
+-- whether a message that a client sent is of no known kind
 abbrev pub is_unsupported_request : List ℕ → Bool
 is_unsupported_request octets = is_unsupported_kind (kind_alone (request_read octets))
 
--- what was read as a response begins with a NodeId that announces none
+-- whether what was decoded as a response begins with a NodeId of no known kind
 abbrev pub is_unknown : Result Response ResponseFault → Bool
 is_unknown (Ok m) = false
 is_unknown (Err response_fault.Unknown) = true
 is_unknown (Err response_fault.Unreadable) = false
 is_unknown (Err response_fault.OutOfMemory) = false
 
--- a message that a server sent is of no known kind
+-- whether a message that a server sent is of no known kind
 abbrev pub is_unsupported_response : List ℕ → Bool
 is_unsupported_response octets = is_unknown (response_read octets)
 
--- a message that this side sent is of no known kind
+-- whether a message that this side sent is of no known kind
 abbrev pub is_unsupported : Side → List ℕ → Bool
 is_unsupported Client octets = is_unsupported_request octets
 is_unsupported Server octets = is_unsupported_response octets
 
--- the name of the message whose encoding has this id, where the table has it
+-- the name of the message whose encoding has this NodeId, if the table has it
 abbrev pub name_of_encoding : NodeId → Option (List ℕ)
 name_of_encoding id = standard_number id >>= name_in encodings
 
--- the id of an encoding, and its name where the standard has one, each behind a blank: ` i=527 BrowseRequest`
+-- the NodeId of an encoding, and its standard name if it has one, each after a space:
+-- ` i=527 BrowseRequest`
 abbrev pub encoding_text : Option NodeId → List ℕ
 encoding_text None = []
 encoding_text (Some id) = codes " " ++ (escaped (node_text id) ++ name_part (name_of_encoding id))
 
--- what the line of a message calls it: its name, and where names are wanted, the encoding of one of no known kind
+-- the title of a message in its line: its name, and if names are wanted, the encoding of one of no
+-- known kind
 abbrev pub message_title : Bool → Side → List ℕ → List ℕ
 message_title names side octets = message_name side octets ++ cond (names && is_unsupported side octets) (encoding_text (id_of octets)) []
 
 -- ---- the bodies of OPN frames
 
--- the name of what was read as a request for a channel
+-- the name of what was decoded as an OpenSecureChannel request
 abbrev pub open_request_name : Option OpenRequest → List ℕ
 open_request_name None = codes "unreadable"
 open_request_name (Some m) = codes "OpenSecureChannelRequest"
 
--- the name of what was read as the answer to one
+-- the name of what was decoded as the response to one
 abbrev pub open_answer_name : Option OpenAnswer → List ℕ
 open_answer_name None = codes "unreadable"
 open_answer_name (Some (Open m)) = codes "OpenSecureChannelResponse"

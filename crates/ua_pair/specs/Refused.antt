@@ -1,5 +1,6 @@
--- Why a frame is refused behind others: the reasons in the order in which they are judged. The header of a frame is judged before:
--- its kind and flag are known, and its size is at most 16777216 and at least the least of its kind.
+-- The reasons for which a frame (UA TCP message) is rejected after others, in the order in which
+-- they are judged. The header of a frame is judged before: its kind and flag are known, and its
+-- size is at most 16777216 and at least the minimum of its kind.
 use Rattle.std.specs.Prelude.{ℕ, Bool, true, false, not, is_none, List, [], ◌∷◌, map, Option, Some, None}
 use Rattle.ua_builtin.specs.Reasons.{renamed_reason}
 use Rattle.ua_frame.specs.declared.frame.Frame.{Frame}
@@ -21,7 +22,7 @@ use Rattle.ua_pair.specs.declared.side.Side.{Side}
 use Rattle.ua_pair.specs.declared.side.Side.TheVariants.{Client, Server}
 use Rattle.ua_pair.specs.Before.{message_chunks, last_sequence, sequence_by}
 
--- the most octets of a message
+-- the most bytes of a message
 abbrev pub most_octets : ℕ
 most_octets = 16777216
 
@@ -29,13 +30,14 @@ most_octets = 16777216
 abbrev pub most_chunks : ℕ
 most_chunks = 4096
 
--- the code of a message above a limit: a client's messages are requests, BadRequestTooLarge, and a server's responses, BadResponseTooLarge
+-- the code of a message above a limit: a client's messages are requests, BadRequestTooLarge, and a
+-- server's responses, BadResponseTooLarge
 abbrev pub too_large_code : Side → ℕ
 too_large_code Client = 0x80B8_0000
 too_large_code Server = 0x80B9_0000
 
--- the code of each reason against a chunk: BadSequenceNumberInvalid, BadDecodingError, BadTcpNotEnoughResources, and that of a
--- message above a limit; the last two are no reasons
+-- the code of each reason against a MessageChunk: BadSequenceNumberInvalid, BadDecodingError,
+-- BadTcpNotEnoughResources, and that of a message above a limit; the last two are no reasons
 abbrev pub chunk_code : Side → AssembleFault → ℕ
 chunk_code side Sequence = 0x8088_0000
 chunk_code side Unreadable = 0x8007_0000
@@ -45,31 +47,34 @@ chunk_code side TooManyChunks = too_large_code side
 chunk_code side OutOfMemory = 0
 chunk_code side Closed = 0
 
--- a HEL, an ACK or an ERR is refused where its body does not read as one with nothing behind it: BadDecodingError (7.1.2.3 to 7.1.2.5)
+-- a HEL, an ACK or an ERR is rejected if its body is not decoded as one with nothing after it:
+-- BadDecodingError (7.1.2.3 to 7.1.2.5)
 abbrev pub greeting_reasons : {A : Type 0} → Option A → List (ℕ × Bool)
 greeting_reasons read = (0x8007_0000, is_none read) ∷ []
 
--- the headers of an OPN do not read
+-- whether the headers of an OPN cannot be decoded
 abbrev pub is_unreadable : Option OpenFault → Bool
 is_unreadable None = false
 is_unreadable (Some opening.Unreadable) = true
 is_unreadable (Some opening.Policy) = false
 is_unreadable (Some opening.OutOfMemory) = false
 
--- an OPN names another policy than None
+-- whether an OPN names another policy than None
 abbrev pub is_other_policy : Option OpenFault → Bool
 is_other_policy None = false
 is_other_policy (Some opening.Unreadable) = false
 is_other_policy (Some opening.Policy) = true
 is_other_policy (Some opening.OutOfMemory) = false
 
--- the number does not follow the last one, if there is one
+-- whether the SequenceNumber does not follow the last one, if there is one
 abbrev pub breaks_order : Option ℕ → Option ℕ → Bool
 breaks_order last None = false
 breaks_order last (Some number) = not (may_follow last number)
 
--- an OPN behind this last number: its headers do not read, BadDecodingError; it names another policy, BadSecurityPolicyRejected; its
--- number does not follow, BadSequenceNumberInvalid (6.7.2.3 and 6.7.2.4). The policy is judged before the sequence header behind it
+-- the reasons against an OPN after this last SequenceNumber: its headers cannot be decoded,
+-- BadDecodingError; it names another policy, BadSecurityPolicyRejected; its number does not follow,
+-- BadSequenceNumberInvalid (6.7.2.3 and 6.7.2.4). The policy is judged before the sequence header,
+-- which follows it
 abbrev pub opening_reasons : Option ℕ → Frame → List (ℕ × Bool)
 opening_reasons last f =
     (0x8007_0000, is_unreadable (open_refusal f.body))
@@ -77,12 +82,13 @@ opening_reasons last f =
     ∷ (0x8088_0000, breaks_order last (sequence_by Opn f))
     ∷ []
 
--- a chunk of a message behind these chunks and this last number: the reasons of an assembler with these limits
+-- the reasons against a MessageChunk after these chunks and this last SequenceNumber: those of an
+-- assembler with these limits
 abbrev pub chunk_reasons : Side → Option ℕ → List Chunk → Option Chunk → List (ℕ × Bool)
 chunk_reasons side last cs None = []
 chunk_reasons side last cs (Some c) = map (renamed_reason (chunk_code side)) (reasons most_octets most_chunks last cs c)
 
--- the reasons against a frame of this kind, behind this last number and these chunks
+-- the reasons against a frame of this kind, after this last SequenceNumber and these chunks
 abbrev pub reasons_by : Kind → Side → Option ℕ → List Chunk → Frame → List (ℕ × Bool)
 reasons_by Hel side last cs f = greeting_reasons (whole_of hello f.body)
 reasons_by Ack side last cs f = greeting_reasons (whole_of ack f.body)
@@ -91,6 +97,6 @@ reasons_by Msg side last cs f = chunk_reasons side last cs (chunk_in f)
 reasons_by Opn side last cs f = opening_reasons last f
 reasons_by Clo side last cs f = (0x8088_0000, breaks_order last (sequence_by Clo f)) ∷ []
 
--- the reasons against a frame behind these frames
+-- the reasons against a frame after these frames
 unfoldable pub frame_reasons : Side → List Frame → Frame → List (ℕ × Bool)
 frame_reasons side before f = reasons_by f.kind side (last_sequence before) (message_chunks before) f

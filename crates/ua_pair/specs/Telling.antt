@@ -1,4 +1,4 @@
--- How the teller of lines stands behind frames, and what becomes of one frame more.
+-- The state of the part that prints lines after frames, and what one more frame makes of it.
 use Rattle.std.specs.Prelude.{◌≡◌, ℕ, List, ◌++◌, Option, Some, None, Result, Ok, Err}
 use Rattle.ua_builtin.specs.Reasons.{first_reason}
 use Rattle.ua_builtin.specs.Status.{of_code}
@@ -19,7 +19,7 @@ use Rattle.ua_pair.specs.Before.{message_chunks, last_sequence}
 use Rattle.ua_pair.specs.Refused.{most_octets, most_chunks, chunk_code, reasons_by}
 use Rattle.ua_pair.specs.Told.{lines_by}
 
--- what a fault of the assembler comes to: a refusal by its code, else want of memory
+-- the error that results from an error of the assembler: a rejection with its code, or OutOfMemory
 abbrev pub chunk_fault : Side → AssembleFault → DissectFault
 chunk_fault side Sequence = Refused (of_code (chunk_code side Sequence))
 chunk_fault side Unreadable = Refused (of_code (chunk_code side Unreadable))
@@ -29,26 +29,28 @@ chunk_fault side TooManyChunks = Refused (of_code (chunk_code side TooManyChunks
 chunk_fault side assemble.OutOfMemory = OutOfMemory
 chunk_fault side Closed = OutOfMemory
 
--- what a fault in the headers of an OPN comes to: BadDecodingError, BadSecurityPolicyRejected, else want of memory
+-- the error that results from an error in the headers of an OPN: BadDecodingError,
+-- BadSecurityPolicyRejected, or OutOfMemory
 abbrev pub opening_fault : OpenFault → DissectFault
 opening_fault opening.Unreadable = Refused (of_code 0x8007_0000)
 opening_fault opening.Policy = Refused (of_code 0x8055_0000)
 opening_fault opening.OutOfMemory = OutOfMemory
 
--- the teller is where these frames leave it
+-- the state of the teller is that after these frames
 pub record TellerStands (t : Teller) (fs : List Frame) : Type 0 where
   pub messages : AssemblerStands t.assembler (message_chunks fs)
   pub last : last_number t.assembler ≡ last_sequence fs
   pub octets : octet_limit t.assembler ≡ most_octets
   pub chunks : chunk_limit t.assembler ≡ most_chunks
 
--- what becomes of a frame: it has no reason against it, and its lines were added; or it is refused for its first reason; or memory was refused
+-- the outcome for a frame: there is no reason against it, and its lines were appended; or it is
+-- rejected for its first reason; or an allocation failed
 abbrev pub Judges : Option ℕ → List ℕ → Result (Unit {0}) DissectFault → List ℕ → List ℕ → Type 0
 Judges why lines (Ok x) old new = (why ≡ None) × (new ≡ old ++ lines)
 Judges why lines (Err (Refused code)) old new = why ≡ Some code.code
 Judges why lines (Err OutOfMemory) old new = Unit {0}
 
--- what becomes of a frame of this kind at this place, behind these frames
+-- the outcome for a frame of this kind at this offset, after these frames
 abbrev pub JudgesKind : Kind → DissectOptions → List Frame → ℕ → Frame → Result (Unit {0}) DissectFault → List ℕ → List ℕ → Type 0
 JudgesKind k options before place f result old new =
     Judges (first_reason (reasons_by k options.side (last_sequence before) (message_chunks before) f)) (lines_by k options (message_chunks before) place f) result old new

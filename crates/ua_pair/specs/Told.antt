@@ -1,4 +1,4 @@
--- The lines of one frame behind others: its own, and those of the message which it delivers.
+-- The lines of one frame after others: its own, and those of the message that it completes.
 use Rattle.std.specs.Prelude.{ℕ, Bool, ◌&&◌, List, [], ◌++◌, cond, length, Option, Some, None, codes}
 use Rattle.std.specs.List.{flat_map}
 use Rattle.ua_frame.specs.declared.frame.Frame.{Frame}
@@ -22,38 +22,40 @@ use Rattle.ua_pair.specs.Before.{message_chunks}
 use Rattle.ua_pair.specs.Lines.{hello_line, ack_line, error_line, opening_line, chunk_line, message_line, aborted_line}
 use Rattle.ua_pair.specs.Names.{is_unsupported, message_kind, message_title, opening_kind, opening_name}
 
--- the line of what was read, or nothing where nothing was
+-- the line of what was decoded, or nothing if nothing was
 abbrev pub line_if : {A : Type 0} → (A → List ℕ) → Option A → List ℕ
 line_if line None = []
 line_if line (Some m) = line m
 
--- the lines of the fields of a body of this kind, where they are wanted
+-- the lines of the fields of a body of this kind, if they are wanted
 abbrev pub fields_of : DissectOptions → BodyKind → List ℕ → List ℕ
 fields_of options kind octets = cond options.fields (body_fields options.names kind octets) []
 
--- the lines of the header of a message, where fields are wanted and it is of no known kind
+-- the lines of the header of a message, if fields are wanted and it is of no known kind
 abbrev pub header_of : DissectOptions → Bool → List ℕ → List ℕ
 header_of options unsupported octets = cond (options.fields && unsupported) (header_fields options.names options.side octets) []
 
--- the lines of the fields of a message, or of the header of one of no known kind, which has no fields
+-- the lines of the fields of a message, or of the header of one of no known kind, which has no
+-- fields
 abbrev pub message_fields : DissectOptions → List ℕ → List ℕ
 message_fields options octets = fields_of options (message_kind options.side) octets ++ header_of options (is_unsupported options.side octets) octets
 
--- the lines of what a chunk delivers: that of the message, and those of its fields
+-- the lines of what a chunk completes: that of the message, and those of its fields
 abbrev pub item_lines : DissectOptions → Item → List ℕ
 item_lines options (Whole id octets) = message_line id (length octets) (message_title options.names options.side octets) ++ message_fields options octets
 item_lines options (Aborted id code reason) = aborted_line options.names id code
 
--- an OPN of this place and size: its line, that of its body, and those of its fields
+-- an OPN at this offset and of this size: its line, that of its body, and those of its fields
 abbrev pub opening_lines : DissectOptions → ℕ → ℕ → OpenChunk → List ℕ
 opening_lines options place size c =
     opening_line place size c ++ (message_line c.request (length c.body) (opening_name options.side c.body) ++ fields_of options (opening_kind options.side) c.body)
 
--- a MSG of this place and size behind these chunks: its line, and those of what it delivers
+-- a MSG at this offset and of this size after these chunks: its line, and those of what it
+-- completes
 abbrev pub chunk_lines : DissectOptions → List Chunk → ℕ → ℕ → Chunk → List ℕ
 chunk_lines options cs place size c = chunk_line (codes "MSG") place size c ++ flat_map (item_lines options) (given cs c)
 
--- the lines of a frame of this kind at this place, behind these chunks
+-- the lines of a frame of this kind at this offset, after these chunks
 abbrev pub lines_by : Kind → DissectOptions → List Chunk → ℕ → Frame → List ℕ
 lines_by Hel options cs place f = line_if (hello_line place (frame_size f)) (whole_of hello f.body)
 lines_by Acknowledge options cs place f = line_if (ack_line place (frame_size f)) (whole_of ack f.body)
@@ -62,10 +64,10 @@ lines_by Msg options cs place f = line_if (chunk_lines options cs place (frame_s
 lines_by Opn options cs place f = line_if (opening_lines options place (frame_size f)) (opening_in f)
 lines_by Clo options cs place f = line_if (chunk_line (codes "CLO") place (frame_size f)) (chunk_in f)
 
--- the place of the frame behind these: how many octets they have
+-- the offset of the frame after these: the number of their bytes
 abbrev pub place_behind : List Frame → ℕ
 place_behind fs = length (frames_octets fs)
 
--- the lines of a frame behind these frames
+-- the lines of a frame after these frames
 unfoldable pub frame_lines : DissectOptions → List Frame → Frame → List ℕ
 frame_lines options before f = lines_by f.kind options (message_chunks before) (place_behind before) f

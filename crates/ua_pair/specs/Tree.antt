@@ -4,7 +4,9 @@ use Rattle.std.specs.Fmt.{decimal}
 
 -- ---- trees
 
--- a field is a text, which may be another one where the names of status codes are wanted, an array, or a structure; an array is null or has trees as its elements, and a structure has named trees as its fields
+-- a field is a text, which may be another one if the names of StatusCodes are wanted, an array, or
+-- a structure; an array is null or has trees as its elements, and a structure has named trees as
+-- its fields
 mutual
   pub data Tree : Type 0 where
     text : (Bool → List ℕ) → Tree
@@ -23,7 +25,7 @@ mutual
     no_fields : Fields
     field : List ℕ → Tree → Fields → Fields
 
--- a text that is the same with names and without
+-- a text that is the same with and without names
 abbrev pub same_text : List ℕ → Tree
 same_text shown = text (λ names. shown)
 
@@ -53,15 +55,16 @@ count (element tree others) = 1 + count others
 
 -- ---- lines
 
--- a line: the blanks in front, the path of a field, a blank, and its text
+-- a line: the leading spaces, the path of a field, a space, and its text
 unfoldable pub line : List ℕ → List ℕ → List ℕ → List ℕ
 line margin path shown = margin ++ (path ++ (codes " " ++ (shown ++ codes "\n")))
 
--- the blanks in front, one level deeper
+-- the leading spaces, one level deeper
 abbrev pub deeper : List ℕ → List ℕ
 deeper margin = margin ++ codes "  "
 
--- the path of a field of the message is its name, as `request_header`, that of a field of a structure stands behind a dot, as `request_header.timestamp`
+-- the path of a field of the message is its name, as `request_header`; that of a field of a
+-- structure follows a dot, as `request_header.timestamp`
 abbrev pub field_path : List ℕ → List ℕ → List ℕ
 field_path [] name = name
 field_path (c ∷ path) name = (c ∷ path) ++ (codes "." ++ name)
@@ -70,13 +73,16 @@ field_path (c ∷ path) name = (c ∷ path) ++ (codes "." ++ name)
 abbrev pub element_path : List ℕ → ℕ → List ℕ
 element_path path index = path ++ (codes "[" ++ (decimal index ++ codes "]"))
 
--- the blanks in front of a field among fields with this margin: a structure has no line of its own, and its fields stand one level deeper
+-- the leading spaces of a field among fields with this margin: a structure has no line of its own,
+-- and its fields are one level deeper
 abbrev pub field_margin : List ℕ → Tree → List ℕ
 field_margin margin (text shown) = margin
 field_margin margin (array items) = margin
 field_margin margin (structure inner) = deeper margin
 
--- the lines of a tree with these blanks in front and under this path, with the names of status codes or without: a text on its line; an array's count on its line, or `null`, and its elements one level deeper; of a structure the lines of its fields, in their order
+-- the lines of a tree with these leading spaces and under this path, with or without the names of
+-- StatusCodes: a text on its line; an array's count on its line, or `null`, and its elements one
+-- level deeper; of a structure the lines of its fields, in their order
 abbrev mutual
   pub lines : Bool → List ℕ → List ℕ → Tree → List ℕ
   lines names margin path (text shown) = line margin path (shown names)
@@ -95,14 +101,14 @@ abbrev mutual
   field_lines names margin path no_fields = []
   field_lines names margin path (field name tree others) = lines names (field_margin margin tree) (field_path path name) tree ++ field_lines names margin path others
 
--- ---- the same behind a text
+-- ---- the same after a text
 
--- a text with the lines of these fields behind it, one field after the other
+-- a text followed by the lines of these fields, one field after the other
 abbrev pub with_fields : Bool → List ℕ → List ℕ → List ℕ → Fields → List ℕ
 with_fields names margin path start no_fields = start
 with_fields names margin path start (field name tree others) = with_fields names margin path (start ++ lines names (field_margin margin tree) (field_path path name) tree) others
 
--- a text with the lines of a tree behind it
+-- a text followed by the lines of a tree
 abbrev pub with_lines : Bool → List ℕ → List ℕ → List ℕ → Tree → List ℕ
 with_lines names margin path start (text shown) = start ++ line margin path (shown names)
 with_lines names margin path start (array items) = start ++ array_lines names margin path items

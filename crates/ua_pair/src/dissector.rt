@@ -17,7 +17,8 @@ use std::alloc::{AllocError, Global};
 use ua_builtin::StatusCode;
 use ua_frame::Frame;
 
-/// The most bytes that a dissector holds: those of a frame, and of four messages as many each.
+/// The most bytes that a dissector buffers: those of a UA TCP message of the greatest size, and as
+/// many of each of four messages.
 const MOST_HELD: usize = 83886080;
 
 /// The state of a dissector.

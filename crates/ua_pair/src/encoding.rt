@@ -23,14 +23,14 @@ fn encoding_name(number: u32) -> Option<&'static str>
     }
 }
 
-/// The numbers of the table, rising.
+/// The numbers of the table, in ascending order.
 fn known_numbers() -> &'static [u32]
     ensures { result.now ≡ map (λ row. row.0) encodings }
 {
     &ENCODING_NUMBERS
 }
 
-/// The name at a place of the table.
+/// The name at an index of the table.
 fn name_at(place: usize) -> Option<&'static str>
     ensures { option_map (λ name. name.now) result ≡ slice_get (map (λ row. row.1) encodings) place }
 {
@@ -44,7 +44,7 @@ fn name_of_id(id: &NodeId) -> Option<&'static str>
     encoding_name(standard_number(id)?)
 }
 
-/// Appends the id of an encoding, and its name where the standard has one, each after a blank.
+/// Appends the NodeId of an encoding, and its standard name if it has one, each after a space.
 fn push_id(alloc: Global, out: &mut String, id: &NodeId) -> Result<(), AllocError>
     ensures { OnOk result (string_bytes out.new ≡ string_bytes out.old ++ encoding_text (Some id.now)) }
 {

@@ -103,5 +103,5 @@ macro_rules! names_of {
 /// The numbers of the table.
 pub(crate) static ENCODING_NUMBERS: [u32; 79] = encodings!(numbers_of);
 
-/// The names of the table, one a line.
+/// The names of the table, one on each line.
 pub(crate) const ENCODING_NAMES: &str = encodings!(names_of);

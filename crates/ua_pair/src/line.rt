@@ -34,7 +34,7 @@ pub trait GreetingLine: Wire + Drop {
     ) -> Result<(), AllocError>
         ensures { OnOk result (string_bytes lines.new ≡ string_bytes lines.old ++ line names place size self.now) };
 
-    /// What is decoded from all of some bytes is what they encode.
+    /// What all of the bytes are decoded as is what they encode.
     ghost reads: { (octets : List ℕ) (read : Option Self) → IsWhole Self.format octets read → whole_of message octets ≡ read };
 }
 
@@ -221,7 +221,7 @@ pub fn push_chunk_line(
     push_newline(lines)
 }
 
-/// Appends the place, the name, the flag and the size of a MSG or a CLO frame.
+/// Appends the offset, the name, the flag and the size of a MSG or a CLO.
 fn push_chunk_head(
     lines: &mut String,
     name: &str,
@@ -239,7 +239,7 @@ fn push_chunk_head(
     push_number(lines, " ", size as u64)
 }
 
-/// Appends the line of a message of so many bytes, with its RequestId.
+/// Appends the line of a message of this many bytes, with its RequestId.
 pub fn push_message_line(
     lines: &mut String,
     request: u32,
@@ -270,7 +270,7 @@ pub fn push_aborted_line(
     push_newline(lines)
 }
 
-/// Appends the last line, where UA TCP messages end at this offset and so many bytes are left.
+/// Appends the last line, if the UA TCP messages end at this offset and this many bytes are left.
 pub fn push_rest_line(lines: &mut String, place: usize, left: usize) -> Result<(), AllocError>
     ensures { OnOk result (string_bytes lines.new ≡ string_bytes lines.old ++ rest_line place left) }
 {
@@ -281,7 +281,7 @@ pub fn push_rest_line(lines: &mut String, place: usize, left: usize) -> Result<(
     }
 }
 
-/// Appends the last line, where the UA TCP message at this offset is rejected.
+/// Appends the last line, if the UA TCP message at this offset is rejected.
 pub fn push_refused_line(
     lines: &mut String,
     names: bool,

@@ -87,7 +87,7 @@ pub fn message_title(
     Ok((title, unsupported))
 }
 
-/// The name of a request for a channel.
+/// The name of an OpenSecureChannel request.
 fn open_request_name<S: Source>(alloc: Global, src: &mut S) -> Result<&'static str, AllocError>
     ensures { IfOk result (λ name. name.now ≡ name_of_opening Client (S.octets src.old)) }
 {
@@ -101,7 +101,7 @@ fn open_request_name<S: Source>(alloc: Global, src: &mut S) -> Result<&'static s
     }
 }
 
-/// The name of an answer to a request for a channel.
+/// The name of a response to an OpenSecureChannel request.
 fn open_answer_kind(answer: &OpenAnswer) -> &'static str
     ensures { result.now ≡ open_answer_name (Some answer.now) }
 {
@@ -111,7 +111,7 @@ fn open_answer_kind(answer: &OpenAnswer) -> &'static str
     }
 }
 
-/// The name of the answer to a request for a channel.
+/// The name of the response to an OpenSecureChannel request.
 fn open_response_name<S: Source>(alloc: Global, src: &mut S) -> Result<&'static str, AllocError>
     ensures { IfOk result (λ name. name.now ≡ name_of_opening Server (S.octets src.old)) }
 {

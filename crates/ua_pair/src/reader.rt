@@ -9,10 +9,10 @@ use std::alloc::Global;
 use std::marker::Model;
 use ua_frame::{Frame, FrameFault, FrameReader, Gate};
 
-/// The most bytes of a frame.
+/// The most bytes of a UA TCP message.
 const LARGEST: u32 = 16777216;
 
-/// The gate that takes a frame of each kind.
+/// The frame filter that accepts a UA TCP message of each kind.
 fn every_frame() -> Gate
     ensures { result ≡ open_gate }
 {

@@ -9,8 +9,8 @@ use crate::options::DissectOptions;
 use crate::side::Side;
 use std::alloc::{AllocError, Global};
 
-/// Appends the lines of bytes, which are taken in one piece. After an error some of them may stand
-/// there.
+/// Appends the lines of bytes, which are taken at once. After an error some of them may have been
+/// appended.
 fn push_lines(
     alloc: Global,
     octets: &[u8],

@@ -54,8 +54,8 @@ pub fn frame_size(frame: &Frame) -> usize
     HEADER_LEN + frame.body.len()
 }
 
-/// Appends the line of a HEL, an ACK or an ERR of this body, which stands in a frame at this place,
-/// of this size.
+/// Appends the line of a HEL, an ACK or an ERR with this body, in a UA TCP message of this size at
+/// this offset.
 fn push_greeting<T: GreetingLine>(
     alloc: Global,
     body: &[u8],
@@ -73,7 +73,7 @@ fn push_greeting<T: GreetingLine>(
     Ok(())
 }
 
-/// What the body of a MSG of this side is read as.
+/// How the body of a MSG of this side is decoded.
 fn message_kind(side: Side) -> BodyKind
     ensures { result ≡ kind_of_message side }
 {
@@ -83,7 +83,7 @@ fn message_kind(side: Side) -> BodyKind
     }
 }
 
-/// What the body of an OPN of this side is read as.
+/// How the body of an OPN of this side is decoded.
 fn opening_kind(side: Side) -> BodyKind
     ensures { result ≡ kind_of_opening side }
 {
@@ -93,7 +93,7 @@ fn opening_kind(side: Side) -> BodyKind
     }
 }
 
-/// Appends the lines of the fields of a body of this kind, where they are wanted.
+/// Appends the lines of the fields of a body of this kind, if they are wanted.
 fn push_fields<S: Source>(
     alloc: Global,
     options: &DissectOptions,
@@ -110,7 +110,7 @@ fn push_fields<S: Source>(
     }
 }
 
-/// Appends the lines of the header of a message of no known kind, where fields are wanted.
+/// Appends the lines of the header of a message of no known kind, if fields are wanted.
 fn push_header(
     alloc: Global,
     options: &DissectOptions,
@@ -145,7 +145,7 @@ fn push_message(
     push_header(alloc, options, unsupported, message, lines)
 }
 
-/// Appends the lines of what a chunk delivers.
+/// Appends the lines of what a chunk completes.
 fn push_delivered(
     alloc: Global,
     options: &DissectOptions,

@@ -8,7 +8,7 @@ use Rattle.ryu.specs.Plain.{IsLaidOutNumber}
 use Rattle.ua_wire.specs.declared.double_bits.DoubleBits.{DoubleBits}
 use Rattle.ua_wire.specs.declared.float_bits.FloatBits.{FloatBits}
 
--- the patterns that the standard writes for what is no number
+-- the bit patterns that the standard writes for NaN
 abbrev pub float_nan : ℕ
 float_nan = 0xffc0_0000
 
@@ -17,16 +17,18 @@ double_nan = 0xfff8_0000_0000_0000
 
 -- ---- what a text denotes
 
--- the pattern of a float, if it is a number
+-- the bit pattern of a float, if it is a number
 abbrev pub number_bits : Format → Float → Option ℕ
 number_bits f x = cond (is_nan x) None (Some (to_bits f x))
 
--- the pattern of the number that is nearest to what the text writes, of two as near the one with an even pattern: `parse_float` of the crate
--- `fast_float`, which rounds the exact quotient of digits and powers of ten. It takes `21.5`, `+21.5`, `.5`, `5.`, `1e-05`, `Infinity`, `-inf`.
+-- the bit pattern of the number nearest to what the text denotes, of two as near the one with an
+-- even bit pattern: `parse_float` of the crate `fast_float`, which rounds the exact quotient of
+-- digits and powers of ten. It takes `21.5`, `+21.5`, `.5`, `5.`, `1e-05`, `Infinity`, `-inf`.
 abbrev pub nearest_bits : Format → List ℕ → Option ℕ
 nearest_bits f text = option_and_then (number_bits f) (parse_float f text)
 
--- the pattern that a text denotes: `NaN` the one for what is no number, any other text the number that is nearest
+-- the bit pattern that a text denotes: that of NaN for `NaN`, that of the nearest number for any
+-- other text
 unfoldable pub bits_denoted : Format → ℕ → List ℕ → Option ℕ
 bits_denoted f quiet text = cond (bytes_eq text (codes "NaN")) (Some quiet) (nearest_bits f text)
 
@@ -48,8 +50,9 @@ has_float_text bits = has_text binary32 float_nan bits
 abbrev pub has_double_text : ℕ → Bool
 has_double_text bits = has_text binary64 double_nan bits
 
--- the text of a float that is a number: a decimal that is nearest to just this number, as the crate `ryu` lays it out, with an exponent just where
--- more than so many digits would stand before the point, or more than so many zeros behind it; `Infinity` with its sign
+-- the text of a float that is a number: a decimal that is nearest to just this number, as the crate
+-- `ryu` lays it out, with an exponent exactly if more than this many digits would precede the
+-- point, or more than this many zeros follow it; `Infinity` with its sign
 abbrev pub IsNumberText : Format → ℕ → ℕ → Float → List ℕ → Type 0
 IsNumberText f digits most nan text = ⊥
 IsNumberText f digits most (inf negative) text = text ≡ sign_text negative ++ codes "Infinity"

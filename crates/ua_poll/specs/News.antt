@@ -9,7 +9,7 @@ use Rattle.ua_server.specs.Sharing.{SharedEvent, opened, shared_over}
 use Rattle.ua_server.specs.State.{State}
 use Rattle.ua_server.specs.declared.step.End.{End}
 
--- a connection came to this, or a peer that came is not served
+-- a connection resulted in this, or a peer that came is not served
 pub data News : Type 0 where
   Over : (number : ℕ) (outcome : Result End Failure) → News
   Missed : (why : NotTaken) → News
@@ -20,18 +20,20 @@ count_over [] = 0
 count_over (Over number outcome ∷ news) = suc (count_over news)
 count_over (Missed why ∷ news) = count_over news
 
--- it was told, one after the other, of so many connections that are over, and of peers that are not served
+-- this was told, one after the other: that this many connections are over, and that peers are not
+-- served
 pub record WasToldOf {E : Type 0} (notes : E → News → E → Type 0) (count : ℕ) (before after : E) : Type 0 where
   pub news : List News
   pub leads : Leads notes before news after
   pub count_is : count_over news ≡ count
 
--- what the serving of so many connections came to: all were told of, or no more than these
+-- the outcome of serving this many connections: all were told, or no more than these
 abbrev pub TellsOfAll : {T E : Type 0} → (E → News → E → Type 0) → ℕ → Result T PollFault → E → E → Type 0
 TellsOfAll notes total (Ok value) before after = WasToldOf notes total before after
 TellsOfAll notes total (Err fault) before after = (count : ℕ) × (count ≤ total) × WasToldOf notes count before after
 
--- one server that handles every message in the order of completion, and every change by the application between them, leaves the state so
+-- the state is left as by one server that handles every message in the order of completion, and
+-- every change by the application between them
 pub record LeavesAsOne (before after : State) : Type 0 where
   pub events : List SharedEvent
   pub state_is : (shared_over own_id (opened before) events).state ≡ after

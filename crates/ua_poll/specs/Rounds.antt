@@ -1,15 +1,16 @@
--- What a round tells, and what it leaves of the connections.
+-- What a round tells, and in which state it leaves the connections.
 use Rattle.std.specs.Prelude.{◌≡◌, ◌+◌, ℕ, List, Option, None}
 use Rattle.ua_concurrent.specs.Carried.{Carried}
 use Rattle.ua_poll.specs.News.{News, count_over}
 use Rattle.ua_poll.specs.declared.polled_socket.PolledSocket.{PolledSocket}
 use Rattle.ua_server.specs.Happening.{Leads}
 
--- sockets of a system do not tell their octets
+-- sockets of a system do not tell their bytes
 abbrev pub silent : PolledSocket → Option Carried
 silent socket = None
 
--- it was told, one after the other, of as many connections that are over as their count grew, and of peers that are not served
+-- this was told, one after the other: that as many connections are over as their count grew, and
+-- that peers are not served
 pub record Tells {E : Type 0} (notes : E → News → E → Type 0) (before_count after_count : ℕ) (before after : E) : Type 0 where
   pub news : List News
   pub leads : Leads notes before news after

@@ -1,4 +1,4 @@
--- What a server answers to a request at a moment, and the state that this leaves.
+-- What a server answers to a request at a time, and the state that this leaves.
 use Rattle.std.specs.Prelude.{ℕ, Option, Some, None}
 use Rattle.ua_builtin.specs.Reasons.{first_reason}
 use Rattle.ua_builtin.specs.Status.{of_code}
@@ -22,7 +22,8 @@ use Rattle.ua_server.specs.State.{State, begun, with_next_session}
 abbrev pub fault_of : ℕ → ℕ → DateTime → Response
 fault_of handle code moment = ServiceFault (service_fault_of moment handle (of_code code))
 
--- a fault where there is a reason, which leaves the state as it was; else what the service leaves and answers
+-- a ServiceFault if there is a reason, which leaves the state unchanged; else what the service
+-- leaves and answers
 abbrev pub unless : Option ℕ → State → DateTime → RequestHeader → State × Response → State × Response
 unless None s moment asking given = given
 unless (Some code) s moment asking given = (s, fault_of asking.request_handle code moment)
@@ -49,8 +50,8 @@ read_items s moment m = unless (first_reason (read_reasons s m)) s moment m.requ
 abbrev pub write_items : State → DateTime → WriteRequest → State × Response
 write_items s moment m = unless (first_reason (write_reasons s m)) s moment m.request_header (with_written s moment m, statuses_given s moment m)
 
--- the header of a request under a session, whose AuthenticationToken says which session it is (OPC 10000-4, 5.7.1); none of a request that needs
--- no session
+-- the header of a request under a session, whose AuthenticationToken tells which session it is (OPC
+-- 10000-4, 5.7.1); none of a request that needs no session
 abbrev pub session_header : Request → Option RequestHeader
 session_header (GetEndpoints m) = None
 session_header (CreateSession m) = None

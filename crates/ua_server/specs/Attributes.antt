@@ -1,4 +1,4 @@
--- The answers of Read and Write (OPC 10000-4, 5.11).
+-- The results of Read and Write (OPC 10000-4, 5.11).
 use Rattle.std.specs.Prelude.{ℕ, Bool, ◌&&◌, nat_eq, nat_lt, is_none, map, length, List, [], ◌∷◌, ◌++◌, Option, Some, None}
 use Rattle.ua_builtin.specs.declared.date_time.DateTime.{DateTime}
 use Rattle.ua_builtin.specs.declared.node_id.NodeId.{NodeId}
@@ -30,20 +30,22 @@ items_of (Some items) = items
 abbrev pub most_items : ℕ
 most_items = 1000
 
--- the most that a MaxAge may be, as the pattern of its Double: that of -0, above which stand the negative numbers, and those patterns of
--- no number that have the top bit
+-- the greatest MaxAge, as the bit pattern of its Double: that of -0, above which are the patterns
+-- of the negative numbers, and of the NaNs that have the top bit
 abbrev pub most_age : ℕ
 most_age = 0x8000_0000_0000_0000
 
--- why the items are not looked at, for how many they are: there are none, or more than 1000
+-- why the items are not looked at, by their number: there are none, or more than 1000
 abbrev pub count_reasons : ℕ → List (ℕ × Bool)
 count_reasons n = (bad_nothing_to_do, nat_eq n 0) ∷ (bad_too_many_operations, nat_lt most_items n) ∷ []
 
--- why a request with so many items under a session is refused before they are looked at: for its session, and then for how many they are
+-- why a request with this many items under a session is rejected before they are looked at: for its
+-- session, and then for their number
 abbrev pub items_reasons : State → RequestHeader → ℕ → List (ℕ × Bool)
 items_reasons s asking n = session_reasons s asking ++ count_reasons n
 
--- why a Read is refused, in the order in which it is judged (OPC 10000-4, 5.11.2): for its session, for the times, for the age, and for how many items it has
+-- why a Read is rejected, in the order in which it is judged (OPC 10000-4, 5.11.2): for its
+-- session, for the timestamps, for the age, and for the number of its items
 abbrev pub read_reasons : State → ReadRequest → List (ℕ × Bool)
 read_reasons s m =
     session_reasons s m.request_header
@@ -51,12 +53,12 @@ read_reasons s m =
     ∷ (bad_max_age_invalid, nat_lt most_age m.max_age.bits)
     ∷ count_reasons (length (items_of m.nodes_to_read)))
 
--- the times that are asked for; none where the number names none
+-- the timestamps that are requested; none if the number names none
 abbrev pub stamps_or : Option Stamps → Stamps
 stamps_or None = Neither
 stamps_or (Some stamps) = stamps
 
--- the DataValue of the code that stands for the data
+-- the DataValue of the code that is for the data
 abbrev pub data_value_with : Option VariantData → DataFields → DataValue
 data_value_with v f = record { value = v; status = f.status; source_timestamp = f.source_timestamp; source_picoseconds = f.source_picoseconds; server_timestamp = f.server_timestamp; server_picoseconds = f.server_picoseconds }
 
@@ -64,22 +66,24 @@ abbrev pub value_from : DataValueData → DataValue
 value_from (bare f) = data_value_with None f
 value_from (valued v f) = data_value_with (Some v) f
 
--- the answers to the items, each its own function of the nodes
+-- the results of the items, each its own function of the nodes
 abbrev pub read_answers : Nodes → List ReadValueId → Stamps → DateTime → List DataValue
 read_answers nodes items stamps moment = map (λ item. value_from (read_answer (node_at nodes item.node_id) item stamps moment)) items
 
 abbrev pub values_given : State → DateTime → ReadRequest → Response
 values_given s moment m = Read (values_of (good_header moment m.request_header) (read_answers s.nodes (items_of m.nodes_to_read) (stamps_or (stamps_numbered m.timestamps_to_return)) moment))
 
--- the node that the NodeId names could take a value of the type now: none could before a session is activated
+-- the node that the NodeId names could take a value of the type now: none could before a session is
+-- activated
 abbrev pub takes_now : State → NodeId → ValueType → Bool
 takes_now s id t = is_activated s.session && nodes_take s.nodes id t
 
--- why a Write is refused, in the order in which it is judged (OPC 10000-4, 5.11.4): for its session, and then for how many items it has
+-- why a Write is rejected, in the order in which it is judged (OPC 10000-4, 5.11.4): for its
+-- session, and then for the number of its items
 abbrev pub write_reasons : State → WriteRequest → List (ℕ × Bool)
 write_reasons s m = items_reasons s m.request_header (length (items_of m.nodes_to_write))
 
--- the state with what the items of a Write leave of its nodes
+-- the state with its nodes after the items of a Write
 abbrev pub with_written : State → DateTime → WriteRequest → State
 with_written s moment m = with_nodes s (after_write (items_of m.nodes_to_write) moment s.nodes)
 

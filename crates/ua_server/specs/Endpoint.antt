@@ -1,4 +1,4 @@
--- What a server says of itself (OPC 10000-4, 5.5.4 and 7.14).
+-- How a server describes itself (OPC 10000-4, 5.5.4 and 7.14).
 use Rattle.std.specs.Prelude.{ℕ, pos, List, [], ◌∷◌, Bool, true, false, ◌||◌, IsTrue, Option, Some, None, codes}
 use Rattle.std.specs.List.{list_any}
 use Rattle.std.specs.Str.{bytes_eq}
@@ -17,7 +17,7 @@ none_policy = codes "http://opcfoundation.org/UA/SecurityPolicy#None"
 abbrev pub transport_profile : List ℕ
 transport_profile = codes "http://opcfoundation.org/UA-Profile/Transport/uatcp-uasc-uabinary"
 
--- the one way to say who one is: not at all; its type is 0, Anonymous (OPC 10000-4, 7.42)
+-- the one token policy: without a name; its type is 0, Anonymous (OPC 10000-4, 7.42)
 abbrev pub anonymous : UserTokenPolicy
 anonymous = record {
   policy_id = Some (codes "anonymous");
@@ -27,7 +27,8 @@ anonymous = record {
   security_policy_uri = None;
 }
 
--- the one endpoint: a server that is found at its one address, with the security mode 1, None, and all else null
+-- the one endpoint: a server that is found at its one address, with the security mode 1, None, and
+-- all else null
 abbrev pub description_of : Endpoint → EndpointDescription
 description_of e = record {
   endpoint_url = e.url;
@@ -45,12 +46,12 @@ abbrev pub is_served : Option (List ℕ) → Bool
 is_served None = false
 is_served (Some profile) = bytes_eq profile transport_profile
 
--- profiles ask for the endpoint where there are none, or one of them is its own (OPC 10000-4, 5.5.4)
+-- profiles request the endpoint if there are none, or one of them is its own (OPC 10000-4, 5.5.4)
 abbrev pub are_served : Option (List (Option (List ℕ))) → Bool
 are_served None = true
 are_served (Some profiles) = has_none profiles || list_any is_served profiles
 
--- the texts of the endpoint can be written
+-- the texts of the endpoint can be encoded
 pub record Fits (e : Endpoint) : Type 0 where
   pub url : IsTrue (text.encodable e.url)
   pub application_uri : IsTrue (text.encodable e.application_uri)

@@ -1,19 +1,20 @@
--- What is asked of those beside a server, and told to them, one after the other.
+-- The timestamps that a server requests, and the requests that it tells a watcher, one after the
+-- other.
 use Rattle.std.specs.Prelude.{◌≡◌, ℤ, List, [], ◌∷◌, Option, Some, None}
 use Rattle.ua_server.specs.declared.watch.AnsweredRequest.{AnsweredRequest}
 
--- a moment was given, or a request was told
+-- a time was given, or a request was told
 pub data Event : Type 0 where
   Given : (ticks : ℤ) → Event
   Noted : (request : AnsweredRequest) → Event
 
--- the moments among them, as ticks
+-- the times among them, as ticks
 abbrev pub ticks_in : List Event → List ℤ
 ticks_in [] = []
 ticks_in (Given ticks ∷ events) = ticks ∷ ticks_in events
 ticks_in (Noted request ∷ events) = ticks_in events
 
--- the requests among them
+-- the requests that were told among them
 abbrev pub noted_in : List Event → List AnsweredRequest
 noted_in [] = []
 noted_in (Given ticks ∷ events) = noted_in events
@@ -33,7 +34,7 @@ abbrev pub IsTold : {W : Type 0} → (W → AnsweredRequest → W → Type 0) �
 IsTold notes before None after = after ≡ before
 IsTold notes before (Some request) after = notes before request after
 
--- one step of both: of the one who gives moments, and of the one who is told of requests
+-- one step of both: of the clock, and of the watcher
 abbrev pub Happens : {M W : Type 0} → (M → ℤ → M → Type 0) → (W → AnsweredRequest → W → Type 0) → M × W → Event → M × W → Type 0
 Happens gives notes before (Given ticks) after = gives before.0 ticks after.0 × (after.1 ≡ before.1)
 Happens gives notes before (Noted request) after = notes before.1 request after.1 × (after.0 ≡ before.0)

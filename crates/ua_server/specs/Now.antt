@@ -1,4 +1,5 @@
--- What a step answers by what stands: by the state of its services, the number of the chunk that it sends next and what was agreed to, whatever was before.
+-- The outcome of a step in terms of the current state: of its services, the number of the chunk
+-- that it sends next and the agreement, whatever was before.
 use Rattle.std.specs.Prelude.{◌≡◌, ℕ, Bool, false, List, [], ◌++◌, take, Option, None, Some, Result, Ok, Err}
 use Rattle.ua_builtin.specs.declared.date_time.DateTime.{DateTime}
 use Rattle.ua_frame.specs.Run.{Stopped}
@@ -23,12 +24,13 @@ use Rattle.ua_server.specs.declared.step.StepFault.{StepFault}
 use Rattle.ua_server.specs.declared.step.StepFault.TheVariants as step_fault
 use Rattle.ua_server.specs.declared.watch.AnsweredRequest.{AnsweredRequest}
 
--- how far a server is that stands so, and answers these at a moment
+-- the course of a server with this state, which answers at this time
 abbrev pub standing : State → ℕ → Option Agreement → List Told → DateTime → Course
 standing now number agreement more moment = record { state = now; number = number; moments = times_of_answers more moment; agreement = agreement }
 
--- it goes on: what was taken told that messages were given up, and then at most one thing more, which is answered; what is said of that, the
--- state that is left and the number of the chunk that is sent next are what is said of it, and left, from where it stands
+-- the connection goes on: what was taken told that messages were aborted, and then at most one
+-- thing more, which is answered; what is sent for it, the state that is left and the number of the
+-- chunk that is sent next are those from the current state
 pub record NowGoes (channel number : ℕ) (moment : DateTime) (piece : List ℕ) (n : ℕ) (out : List ℕ) (new : ServerChannel) (octets : List ℕ) (told : List Told) (before now : State) : Type 0 where
   pub quiet : List ℕ
   pub more : List Told
@@ -38,7 +40,8 @@ pub record NowGoes (channel number : ℕ) (moment : DateTime) (piece : List ℕ)
   pub state_is : now ≡ (course_after channel (standing before number (agreed_by told) more moment) more).state
   pub number_is : next_of new ≡ (course_after channel (standing before number (agreed_by told) more moment) more).number
 
--- by how the connection ended, if it did: then the services are as they were, and the last word of a refusal is the ERR frame
+-- by how the connection ended, if it did: then the services are unchanged, and the last bytes after
+-- a rejection are the ERR frame
 abbrev pub NowBy : ℕ → ℕ → DateTime → List ℕ → Option Ending → ℕ → List ℕ → ServerChannel → List ℕ → List Told → State → State → Type 0
 NowBy channel number moment piece None n out new octets told before now = NowGoes channel number moment piece n out new octets told before now
 NowBy channel number moment piece (Some ending.Closed) n out new octets told before now = ClosesAt piece n new octets told × (out ≡ []) × (now ≡ before)
@@ -46,7 +49,8 @@ NowBy channel number moment piece (Some (ending.Refused code)) n out new octets 
 NowBy channel number moment piece (Some ending.NoClose) n out new octets told before now = ⊥
 NowBy channel number moment piece (Some ending.Cut) n out new octets told before now = ⊥
 
--- what a step answers to a piece at a moment, by what stands behind octets that told this
+-- the outcome of a step for a fragment at a time, in terms of the current state after bytes that
+-- told this
 abbrev pub StepNow : Limits → ℕ → ℕ → DateTime → List ℕ → Result Step StepFault → ServerChannel → List ℕ → List Told → State → State → Type 0
 StepNow limits channel number moment piece (Ok step) new octets told before now = NowBy channel number moment piece step.end step.taken step.out.items new octets told before now
 StepNow limits channel number moment piece (Err step_fault.OutOfMemory) new octets told before now = StepBreaks limits channel moment piece new octets told before now
@@ -54,14 +58,14 @@ StepNow limits channel number moment piece (Err step_fault.Closed) new octets to
 
 -- ---- inside
 
--- the channel answered this to the first octets of the piece, behind messages that were given up
+-- the channel answered this to a prefix of the fragment, after messages that were aborted
 pub record NowBehind (old : ServerChannel) (moment : DateTime) (piece : List ℕ) (n : ℕ) (answer : Result ServerEvent ChannelFault) (mid : ServerChannel) (octets : List ℕ) (told : List Told) : Type 0 where
   pub limits : limits_of mid ≡ limits_of old
   pub channel : channel_of mid ≡ channel_of old
   pub quiet : List ℕ
   pub answers : AnswersAt (channel_of old) (next_of old) moment piece n answer mid octets (told ++ given_up quiet)
 
--- what is answered is told apart, and which request it is, if it is one
+-- what is answered is told separately, and which request it is, if it is one
 pub record NowTells (answered : Bool) (request : Option AnsweredRequest) (channel number : ℕ) (moment : DateTime) (piece : List ℕ) (n : ℕ) (out : List ℕ) (new : ServerChannel) (octets : List ℕ) (told : List Told) (before now : State) : Type 0 where
   pub goes : NowGoes channel number moment piece n out new octets told before now
   pub answered_is : answered ≡ has_some goes.more
@@ -72,7 +76,7 @@ abbrev pub AdvanceNowBy : Bool → Option AnsweredRequest → ℕ → ℕ → Da
 AdvanceNowBy answered request channel number moment piece None n out new octets told before now = NowTells answered request channel number moment piece n out new octets told before now
 AdvanceNowBy answered request channel number moment piece (Some end) n out new octets told before now = NowBy channel number moment piece (Some end) n out new octets told before now × (answered ≡ false)
 
--- what a step answers, with whether something was answered, and which request
+-- the outcome of a step, with whether something was answered, and which request
 abbrev pub AdvanceNow : Limits → ℕ → ℕ → DateTime → List ℕ → Result (Step × Bool × Option AnsweredRequest) StepFault → ServerChannel → List ℕ → List Told → State → State → Type 0
 AdvanceNow limits channel number moment piece (Ok found) new octets told before now = AdvanceNowBy found.1 found.2 channel number moment piece found.0.end found.0.taken found.0.out.items new octets told before now
 AdvanceNow limits channel number moment piece (Err f) new octets told before now = StepNow limits channel number moment piece (Err f) new octets told before now

@@ -1,4 +1,5 @@
--- The requests that a server answers, as they are told: what each one asked, and the code of its answer.
+-- The requests that a server answers, as it tells them to a watcher: the contents of each, and the
+-- code of its response.
 use Rattle.std.specs.Prelude.{ℕ, List, [], ◌∷◌, length, Option, Some, None, Result, Ok, Err}
 use Rattle.ua_builtin.specs.Status.{of_code}
 use Rattle.ua_builtin.specs.declared.date_time.DateTime.{DateTime}
@@ -23,33 +24,35 @@ use Rattle.ua_server.specs.declared.watch.AnsweredRequest.{AnsweredRequest}
 
 -- ---- one request
 
--- how many items it asks for: those of its array, where its service is one with items, else none
+-- the number of items of a request: those of its array, if its service is one with items, else none
 abbrev pub items_asked : Request → ℕ
 items_asked (Read m) = length (items_of m.nodes_to_read)
 items_asked (Write m) = length (items_of m.nodes_to_write)
 items_asked m = 0
 
--- the kind of what octets are read as, if they are a request
+-- the kind of what bytes are decoded as, if they are a request
 abbrev pub kind_asked : Result Request RequestFault → Option RequestKind
 kind_asked (Ok m) = Some (kind_of m)
 kind_asked (Err fault) = None
 
--- how many items it asks for
+-- the number of items of what bytes are decoded as
 abbrev pub count_asked : Result Request RequestFault → ℕ
 count_asked (Ok m) = items_asked m
 count_asked (Err fault) = 0
 
--- the code of an answer with this service result: where the client takes no such body, that of the abort, Bad_ResponseTooLarge (OPC 10000-6, 6.7.3)
+-- the code of a response with this ServiceResult: if the client takes no such body, that of the
+-- abort, Bad_ResponseTooLarge (OPC 10000-6, 6.7.3)
 abbrev pub code_by : Option CutFault → StatusCode → StatusCode
 code_by None code = code
 code_by (Some fault) code = of_code bad_response_too_large
 
--- the code of a response that goes there
+-- the code of a response in this lane
 abbrev pub code_at : Option Lane → Response → StatusCode
 code_at None r = (header_of r).service_result
 code_at (Some lane) r = code_by (cut_refusal lane (response.canonical r)) (header_of r).service_result
 
--- what is told of a message with these octets, which is answered there from this state at this moment
+-- what is told of a message with these bytes, which is answered in this lane from this state at
+-- this time
 abbrev pub request_answered : Option Lane → State → DateTime → List ℕ → AnsweredRequest
 request_answered lane s moment octets = record {
   kind = kind_asked (request_read octets);
@@ -67,7 +70,7 @@ request_at channel c (Asked id token octets) = Some (request_answered (lane_at c
 request_at channel c (GaveUp id) = None
 request_at channel c Closed = None
 
--- the requests with one in front, if there is one
+-- the requests with one before it, if there is one
 abbrev pub with_first : {A : Type 0} → Option A → List A → List A
 with_first None xs = xs
 with_first (Some x) xs = x ∷ xs
@@ -77,6 +80,6 @@ abbrev pub requests_of : ℕ → Course → List Told → List AnsweredRequest
 requests_of channel c [] = []
 requests_of channel c (t ∷ told) = with_first (request_at channel c t) (requests_of channel (say channel c t).1 told)
 
--- the requests that a server in this state answers of what it is told, at these moments
+-- the requests that a server in this state answers of what it is told, at these times
 unfoldable pub requests : ℕ → State → List Told → List DateTime → List AnsweredRequest
 requests channel s told moments = requests_of channel (start s moments) told

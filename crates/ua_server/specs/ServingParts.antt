@@ -1,4 +1,4 @@
--- What the parts of serving make of octets.
+-- What the parts of serving make of bytes.
 use Rattle.std.specs.Prelude.{◌≡◌, ℕ, ◌+◌, ◌<◌, ◌≤◌, ℤ, Bool, true, false, List, [], ◌++◌, cond, min, take, length, Option, Some, None, Result, Ok, Err}
 use Rattle.ua_builtin.specs.declared.date_time.DateTime.{DateTime}
 use Rattle.ua_frame.specs.declared.frame.Frame.{Frame}
@@ -27,7 +27,7 @@ use Rattle.ua_server.specs.declared.step.StepFault.{StepFault}
 
 -- ---- the end of the input
 
--- how a connection ends whose input does, by whether a frame or a message is unfinished
+-- how a connection ends whose input ends, by whether a frame or a message is unfinished
 abbrev pub Finishes : Ending → List Frame → List ℕ → Type 0
 Finishes ending.NoClose frames rest = IsClean frames rest
 Finishes ending.Cut frames rest = IsClean frames rest → ⊥
@@ -36,38 +36,38 @@ Finishes (ending.Refused code) frames rest = ⊥
 
 -- ---- what is read
 
--- the most octets that are read at once
+-- the most bytes that are read at once
 abbrev pub most_at_once : ℕ
 most_at_once = 4096
 
 -- ---- what is written
 
--- so many octets and so many more, up to the greatest number
+-- the sum of this many bytes and this many more, up to the greatest number
 abbrev pub counted : ℕ → ℕ → ℕ
 counted n more = min (n + more) greatest
 
--- octets were written and counted, all of them, or not the last
+-- bytes were written and counted, all of them, or not the last
 abbrev pub Says : List ℕ → Result (Unit {0}) ServeFault → Serving → Serving → Option Traffic → Option Traffic → Type 0
 Says octets (Ok u) old new before after = (new ≡ record old { written = counted old.written (length octets) }) × IfTrafficKnown (MovesTraffic [] octets) before after
 Says octets (Err f) old new before after = (n : ℕ) × (f ≡ fault.Write (counted old.written n)) × (n < length octets) × IfTrafficKnown (MovesTraffic [] (take n octets)) before after
 
--- an answer was made: the first one is the ACK, and those behind it use the moment that is kept
+-- an answer was made: the first one is the ACK, and those after it use the timestamp that is kept
 abbrev pub noted : Serving → Serving
 noted x = record x { moment = cond x.greeted None x.moment; greeted = true }
 
 -- ---- how far serving has come
 
--- the agreement is there
+-- there is an agreement
 abbrev pub is_there : Option Agreement → Bool
 is_there None = false
 is_there (Some a) = true
 
--- a moment is kept exactly where one that was asked for is left over behind these octets
+-- a timestamp is kept exactly if one that was requested is left over after these bytes
 abbrev pub IsKept : Limits → ℕ → List ℕ → Option DateTime → Type 0
 IsKept limits channel read None = IsUsedUp limits channel read
 IsKept limits channel read (Some moment) = IsUsedUp limits channel read → ⊥
 
--- where something is to be written, these moments were asked for up to the last word
+-- if something is to be written, these timestamps were requested up to the last answer
 abbrev pub AreAskedBy : List ℕ → Limits → ℕ → List ℕ → List Told → List DateTime → Type 0
 AreAskedBy out limits channel front told moments = 0 < length out → AreAsked limits channel front told moments
 
@@ -80,8 +80,9 @@ pub record Begins (x : Serving) (limits : Limits) (channel : ℕ) : Type 0 where
   pub not_greeted : x.greeted ≡ false
   pub none_written : x.written ≡ 0
 
--- a connection that is served goes on, beside an application: of what is said over the events these octets are written and these are not yet; and
--- of the moments given all are used, but the one that is kept, if there is one
+-- a connection that is served goes on, beside an application: of the output for the events these
+-- bytes are written and these are not yet; and of the timestamps given all are used, except the one
+-- that is kept, if there is one
 pub record Owes {A : Type 0} (changes : A → State → A → State → Type 0) (x : Serving) (limits : Limits) (channel : ℕ) (first : State × A) (read out written : List ℕ) (ticks : List Event) (now : State × A) : Type 0 where
   pub limits_is : limits_of (channel_in x.server) ≡ limits
   pub channel_is : channel_of (channel_in x.server) ≡ channel
@@ -98,11 +99,11 @@ pub record Owes {A : Type 0} (changes : A → State → A → State → Type 0) 
   pub last : LastSaid limits channel first.0 read out written history
   pub asked : AreAskedBy out limits channel last.front (told_in last.before ++ told_at last.word) (moments_in ticks)
 
--- all that is said is written
+-- all of the output is written
 abbrev pub Keeps : {A : Type 0} → (A → State → A → State → Type 0) → Serving → Limits → ℕ → State × A → List ℕ → List ℕ → List Event → State × A → Type 0
 Keeps changes x limits channel first read written ticks now = Owes changes x limits channel first read [] written ticks now
 
--- the connection ended, and of what is said these octets are not written yet
+-- the connection ended, and of the output these bytes are not written yet
 pub record Ends {A : Type 0} (changes : A → State → A → State → Type 0) (x : Serving) (end : Ending) (limits : Limits) (channel : ℕ) (first : State × A) (read out written : List ℕ) (ticks : List Event) (now : State × A) : Type 0 where
   pub count_is : x.written ≡ min (length written) greatest
   pub history : List ConnectionEvent
@@ -126,7 +127,8 @@ pub record FailsTelling {A : Type 0} (changes : A → State → A → State → 
   pub acts_first : ActsFirst false history
   pub fails : FailedOver f limits channel first.0 read written (moments_in ticks) (noted_in ticks) history now.0
 
--- what became of the first octets of a piece, by how the connection ended, if it did, before its answer is written
+-- the outcome for a prefix of a fragment, by how the connection ended, if it did, before its
+-- response is written
 abbrev pub AdvancesTo : {A : Type 0} → (A → State → A → State → Type 0) → Option Ending → Serving → Limits → ℕ → State × A → List ℕ → List ℕ → List ℕ → List Event → State × A → Type 0
 AdvancesTo changes None x limits channel first read out written ticks now = Owes changes x limits channel first read out written ticks now
 AdvancesTo changes (Some end) x limits channel first read out written ticks now = Ends changes x end limits channel first read out written ticks now
@@ -141,19 +143,19 @@ abbrev pub TurnsTo : {A : Type 0} → (A → State → A → State → Type 0) �
 TurnsTo changes None x limits channel first read written ticks now = Keeps changes x limits channel first read written ticks now
 TurnsTo changes (Some end) x limits channel first read written ticks now = EndsTelling changes end limits channel first read written ticks now
 
--- a step and its answer
+-- a step and its response
 abbrev pub Turns : {A : Type 0} → (A → State → A → State → Type 0) → Result (ℕ × Option Ending) ServeFault → Serving → Limits → ℕ → State × A → List ℕ → List ℕ → List ℕ → List Event → State × A → Type 0
 Turns changes (Ok turn) x limits channel first piece read written ticks now = TurnsTo changes turn.1 x limits channel first (read ++ take turn.0 piece) written ticks now
 Turns changes (Err f) x limits channel first piece read written ticks now = FailsTelling changes f limits channel first (read ++ piece) written ticks now
 
--- a whole piece, or the octets of it up to the end of the connection
+-- a whole fragment, or the bytes of it up to the end of the connection
 abbrev pub Handles : {A : Type 0} → (A → State → A → State → Type 0) → Result (Option Ending) ServeFault → Serving → Limits → ℕ → State × A → List ℕ → List ℕ → List Event → State × A → Type 0
 Handles changes (Ok end) x limits channel first read written ticks now = TurnsTo changes end x limits channel first read written ticks now
 Handles changes (Err f) x limits channel first read written ticks now = FailsTelling changes f limits channel first read written ticks now
 
 -- ---- what is exchanged
 
--- in between octets were read and written, moments given and requests told, of which this holds
+-- in between bytes were read and written, timestamps given and requests told, with this property
 pub record Exchanged {M : Type 0} (gives : M → Event → M → Type 0) (moments later : M) (read : List ℕ) (before after : Option Traffic) (P : List ℕ → List Event → Type 0) : Type 0 where
   pub written : List ℕ
   pub ticks : List Event
@@ -161,19 +163,19 @@ pub record Exchanged {M : Type 0} (gives : M → Event → M → Type 0) (moment
   pub given : Leads gives moments ticks later
   pub holds : P written ticks
 
--- moments were given, of which this holds
+-- timestamps were given, with this property
 pub record Asked {M : Type 0} (gives : M → ℤ → M → Type 0) (moments later : M) (P : List ℤ → Type 0) : Type 0 where
   pub ticks : List ℤ
   pub given : Gives gives moments ticks later
   pub holds : P ticks
 
--- moments were given and requests told, of which this holds
+-- timestamps were given and requests told, with this property
 pub record OfEventsBetween {M : Type 0} (step : M → Event → M → Type 0) (before later : M) (P : List Event → Type 0) : Type 0 where
   pub ticks : List Event
   pub given : Leads step before ticks later
   pub holds : P ticks
 
--- a line is read up to its end: so many reads handed out this, and it is answered
+-- a transport is read up to its end: this many reads returned this, and it is answered
 pub record Reads {M : Type 0} (gives : M → Event → M → Type 0) (moments later : M) (before after : Option Traffic) (reads : ℕ) (P : List ℕ → List ℕ → List Event → Type 0) : Type 0 where
   pub read : List ℕ
   pub enough : reads ≤ length read

@@ -1,4 +1,5 @@
--- The answers of the services of endpoints and sessions, and the states that they leave (OPC 10000-4, 5.5 and 5.7).
+-- The responses of the services of endpoints and sessions, and the states that they leave (OPC
+-- 10000-4, 5.5 and 5.7).
 use Rattle.std.specs.Prelude.{ℕ, ◌+◌, nat_eq, Bool, true, false, not, ◌&&◌, ◌||◌, List, [], ◌∷◌, ◌++◌, Option, Some, None, is_none}
 use Rattle.ua_builtin.specs.Status.{of_code}
 use Rattle.ua_builtin.specs.declared.date_time.DateTime.{DateTime}
@@ -28,17 +29,17 @@ good_header moment asking = response_header_of moment asking.request_handle (of_
 
 -- ---- requests under a session (OPC 10000-4, 5.7.1)
 
--- why a request under a session is refused for its token: these stand before any other reason
+-- why a request under a session is rejected for its token: these reasons come before any other
 abbrev pub token_reasons : State → RequestHeader → List (ℕ × Bool)
 token_reasons s asking = (bad_session_id_invalid, not (is_own asking.authentication_token s.session)) ∷ []
 
--- the same of a request that needs an activated session
+-- the same for a request that needs an activated session
 abbrev pub session_reasons : State → RequestHeader → List (ℕ × Bool)
 session_reasons s asking = token_reasons s asking ++ ((bad_session_not_activated, not (is_activated s.session)) ∷ [])
 
 -- ---- GetEndpoints (OPC 10000-4, 5.5.4)
 
--- the one endpoint, or none where other profiles are asked for
+-- the one endpoint, or none if other profiles are requested
 abbrev pub endpoints_for : Bool → EndpointDescription → List EndpointDescription
 endpoints_for true e = e ∷ []
 endpoints_for false e = []
@@ -55,23 +56,24 @@ endpoints_given s moment m = GetEndpoints (record {
 abbrev pub most_sessions : ℕ
 most_sessions = 4294967295
 
--- why no session is made: there is one, or as many were made as are made
+-- why no session is made: there is one, or the most sessions were made
 abbrev pub create_reasons : State → List (ℕ × Bool)
 create_reasons s = (bad_too_many_sessions, not (is_none s.session) || nat_eq s.made most_sessions) ∷ []
 
--- the next session, with the timeout that is asked for, the one endpoint, and the most octets of a request
+-- the next session, with the requested timeout, the one endpoint, and the most bytes of a request
 abbrev pub session_given : State → DateTime → CreateSessionRequest → Response
 session_given s moment m =
     CreateSession (session_of (good_header moment m.request_header) (session_id (s.made + 1)) (session_token (s.made + 1)) m.requested_session_timeout (Some (description_of s.endpoint ∷ [])) s.endpoint.message_limit)
 
 -- ---- ActivateSession (OPC 10000-4, 5.7.3)
 
--- octets that are an AnonymousIdentityToken, and nothing behind it
+-- bytes that are an AnonymousIdentityToken, and nothing after it
 abbrev pub is_token : Option (List ℕ) → Bool
 is_token None = false
 is_token (Some octets) = not (is_none (body_of anonymous_identity_token octets))
 
--- no identity, by the number of the type: i=0 without a body, or i=321 and an AnonymousIdentityToken (OPC 10000-4, 7.41.3)
+-- no identity, by the number of the type: i=0 without a body, or i=321 and an
+-- AnonymousIdentityToken (OPC 10000-4, 7.41.3)
 abbrev pub is_anonymous_by : Option ℕ → ExtensionBody → Bool
 is_anonymous_by None body = false
 is_anonymous_by (Some n) Absent = nat_eq n 0
@@ -81,7 +83,8 @@ is_anonymous_by (Some n) (Xml text) = false
 abbrev pub is_anonymous : ExtensionObject → Bool
 is_anonymous object = is_anonymous_by (standard_number object.type_id) object.body
 
--- why a session is not activated, in the order in which it is judged: for the token, and for an identity that is neither none nor anonymous
+-- why a session is not activated, in the order in which it is judged: for the token, and for an
+-- identity that is neither none nor anonymous
 abbrev pub activate_reasons : State → ActivateSessionRequest → List (ℕ × Bool)
 activate_reasons s m = token_reasons s m.request_header ++ ((bad_identity_token_rejected, not (is_anonymous m.user_identity_token)) ∷ [])
 

@@ -1,4 +1,5 @@
--- Several connections over one AddressSpace: what each client is sent, and the state that all of them leave.
+-- Several connections over one AddressSpace: what is sent to each client, and the state that all of
+-- them leave.
 use Rattle.std.specs.Prelude.{◌≡◌, ℕ, nat_eq, cond, List, [], ◌∷◌, ◌++◌, map, take, Option, None, Some, Result, Ok, Err}
 use Rattle.ua_builtin.specs.declared.date_time.DateTime.{DateTime}
 use Rattle.ua_frame.specs.Run.{End, Stopped, Over}
@@ -18,67 +19,73 @@ use Rattle.ua_server.specs.declared.step.Step.{Step}
 use Rattle.ua_server.specs.declared.step.StepFault.{StepFault}
 use Rattle.ua_server.specs.declared.step.StepFault.TheVariants as step_fault
 
--- ---- one server, which handles every message in the order in which the last octets of their frames were taken
+-- ---- one server, which handles every message in the order in which the last bytes of their frames were taken
 
--- an event of a server: a frame of a connection tells this, which is answered at the moment, if it is; or the application changed the nodes to
--- these. Each connection has a number of its own
+-- an event of a server: a frame of a connection tells this, which is answered at this time, if it
+-- is answered; or the application changed the nodes to these. Each connection has a number of its
+-- own
 pub data SharedEvent : Type 0 where
   At : (connection : ℕ) (t : Told) (moment : DateTime) → SharedEvent
   Changed : (nodes : Nodes) → SharedEvent
 
--- what a connection has of its own: its session, if there is one, the number of the chunk that it is sent next, and what was agreed to
+-- what a connection has of its own: its session, if there is one, the number of the chunk that is
+-- sent to it next, and its agreement
 pub record Own : Type 0 where
   pub session : Option Session
   pub number : ℕ
   pub agreement : Option Agreement
 
--- a server with several connections: the state, whose session is that of none of them, and what each connection has of its own
+-- a server with several connections: the state, whose session is that of none of them, and what
+-- each connection has of its own
 pub record SharedState : Type 0 where
   pub state : State
   pub own : ℕ → Own
 
--- before the first octet of any connection
+-- before the first byte of any connection
 abbrev pub opened : State → SharedState
 opened s = record { state = s; own = λ k. record { session = None; number = 1; agreement = None } }
 
--- how far a connection is: the state that all share, with its own session
+-- the course of a connection: the state that all share, with its own session
 abbrev pub course_at : SharedState → ℕ → Course
 course_at p k = record { state = with_session p.state (p.own k).session; number = (p.own k).number; moments = []; agreement = (p.own k).agreement }
 
--- the server where one connection has come so far; the others have what they had
+-- the server after one connection has this course; the others are unchanged
 abbrev pub with_course : SharedState → ℕ → Course → SharedState
 with_course p k c = record {
   state = with_changes p.state c.state.nodes c.state.made;
   own = λ j. cond (nat_eq j k) (record { session = c.state.session; number = c.number; agreement = c.agreement }) (p.own j);
 }
 
--- what the server answers to what a frame of a connection tells, and how far that connection is behind it
+-- what the server answers to what a frame of a connection tells, and the course of that connection
+-- after it
 abbrev pub answer_at : (ℕ → ℕ) → SharedState → ℕ → Told → DateTime → List ℕ × Course
 answer_at channels p k t moment = event_answer (channels k) (course_at p k) (Heard t moment)
 
--- the server behind an event; the connections have these SecureChannelIds
+-- the server after an event; the connections have these SecureChannelIds
 abbrev pub shared_by : (ℕ → ℕ) → SharedState → SharedEvent → SharedState
 shared_by channels p (At k t moment) = with_course p k (answer_at channels p k t moment).1
 shared_by channels p (Changed nodes) = record { state = with_nodes p.state nodes; own = p.own }
 
--- the server behind these events, in order
+-- the server after these events, in order
 abbrev pub shared_over : (ℕ → ℕ) → SharedState → List SharedEvent → SharedState
 shared_over channels p [] = p
 shared_over channels p (e ∷ es) = shared_over channels (shared_by channels p e) es
 
--- what a connection is sent at an event: the answer to what its own frame tells, nothing at the events of others
+-- what is sent to a connection for an event: the answer to what its own frame tells, nothing for
+-- the events of others
 abbrev pub sent_at : (ℕ → ℕ) → ℕ → SharedState → SharedEvent → List ℕ
 sent_at channels k p (At j t moment) = cond (nat_eq k j) (answer_at channels p j t moment).0 []
 sent_at channels k p (Changed nodes) = []
 
--- what a connection is sent over these events, in order
+-- what is sent to a connection over these events, in order
 abbrev pub sent_to : (ℕ → ℕ) → ℕ → SharedState → List SharedEvent → List ℕ
 sent_to channels k p [] = []
 sent_to channels k p (e ∷ es) = sent_at channels k p e ++ sent_to channels k (shared_by channels p e) es
 
 -- ---- the same as one connection sees it
 
--- an event as a connection sees it: what its own frame tells; else the nodes and the number of sessions made that the event leaves
+-- an event as a connection sees it: what its own frame tells; otherwise the nodes and the number of
+-- sessions made that the event leaves
 abbrev pub seen_as : (ℕ → ℕ) → ℕ → SharedState → SharedEvent → ConnectionEvent
 seen_as channels k p (At j t moment) = cond (nat_eq k j) (Heard t moment) (Became (answer_at channels p j t moment).1.state.nodes (answer_at channels p j t moment).1.state.made)
 seen_as channels k p (Changed nodes) = Became nodes p.state.made
@@ -94,14 +101,15 @@ told_by k [] = []
 told_by k (At j t moment ∷ es) = cond (nat_eq k j) (t ∷ told_by k es) (told_by k es)
 told_by k (Changed nodes ∷ es) = told_by k es
 
--- frames of one connection tell these, and all are answered at this moment
+-- frames of one connection tell these, and all are answered at this time
 abbrev pub at_moment : ℕ → DateTime → List Told → List SharedEvent
 at_moment k moment told = map (λ t. At k t moment) told
 
 -- ---- where one of several connections stands
 
--- a connection stands after these octets of its client and these events of all: the services were in the first state before any connection
--- began and are in this one now, this is its session, if there is one, and the chunk that it is sent next has the number that is due
+-- the state of a connection is that after these bytes of its client and these events of all: the
+-- services were in the first state before any connection began and are in this one now, this is its
+-- session, if there is one, and the chunk that is sent to it next has the number that is due
 pub record StandsAmong (channels : ℕ → ℕ) (k : ℕ) (x : ServerChannel) (session : Option Session) (octets : List ℕ) (es : List SharedEvent) (first now : State) : Type 0 where
   pub channel_is : channel_of x ≡ channels k
   pub goes : Goes x octets (told_by k es)
@@ -109,12 +117,14 @@ pub record StandsAmong (channels : ℕ → ℕ) (k : ℕ) (x : ServerChannel) (s
   pub session_is : ((shared_over channels (opened first) es).own k).session ≡ session
   pub number_is : ((shared_over channels (opened first) es).own k).number ≡ next_of x
 
--- the connection ended: nothing changed, and what it is sent over all events, with the ERR frame of a refusal, is what it was sent before and this
+-- the connection ended: nothing changed, and what is sent to it over all events, with the ERR frame
+-- of a rejection, is what was sent to it before and this
 abbrev pub EndsAmong : End ℕ → (ℕ → ℕ) → ℕ → ServerChannel → List ℕ → List ℕ → List SharedEvent → List SharedEvent → State → State → State → Type 0
 EndsAmong end channels k new octets out es more first before now =
     EndedAt end new octets (told_by k (es ++ more)) × (now ≡ before) × (sent_to channels k (opened first) (es ++ more) ++ last_words end ≡ sent_to channels k (opened first) es ++ out)
 
--- by how the connection ended, if it did: else it stands after all events, and what it is sent over them is what it was sent before and this
+-- by how the connection ended, if it did; otherwise its state is that after all events, and what is
+-- sent to it over them is what was sent to it before and this
 abbrev pub AmongBy : Option Ending → (ℕ → ℕ) → ℕ → ServerChannel → Option Session → List ℕ → List ℕ → List SharedEvent → List SharedEvent → State → State → State → Type 0
 AmongBy None channels k new session octets out es more first before now =
     StandsAmong channels k new session octets (es ++ more) first now × (sent_to channels k (opened first) (es ++ more) ≡ sent_to channels k (opened first) es ++ out)
@@ -123,22 +133,22 @@ AmongBy (Some (ending.Refused code)) channels k new session octets out es more f
 AmongBy (Some ending.NoClose) channels k new session octets out es more first before now = ⊥
 AmongBy (Some ending.Cut) channels k new session octets out es more first before now = ⊥
 
--- what came of a piece of the connection's octets; where an allocation failed the connection ended, and no more than its first whole message
--- was handled, whose reply is not sent
+-- the outcome for a fragment of the connection's bytes; if an allocation failed the connection
+-- ended, and no more than its first whole message was handled, whose reply is not sent
 abbrev pub ResultAmong : Limits → (ℕ → ℕ) → ℕ → List ℕ → Result Step StepFault → ServerChannel → Option Session → List ℕ → List SharedEvent → List SharedEvent → List Told → State → State → State → Type 0
 ResultAmong limits channels k piece (Ok step) new session octets es more told first before now = AmongBy step.end channels k new session (octets ++ take step.taken piece) step.out.items es more first before now
 ResultAmong limits channels k piece (Err step_fault.OutOfMemory) new session octets es more told first before now = IsDone new × IsHandled limits (channels k) piece octets (told_by k es) told
 ResultAmong limits channels k piece (Err step_fault.Closed) new session octets es more told first before now = ⊥
 
--- no other connection hears or is sent anything at the events, also one that ended or that has not begun; and each that stands before them
--- stands behind them
+-- the events tell and send nothing to any other connection, also none to one that ended or that has
+-- not begun; and the state of each is that after them
 abbrev pub OthersStand : (ℕ → ℕ) → ℕ → List SharedEvent → List SharedEvent → State → State → State → Type 0
 OthersStand channels k es more first before now =
     (j : ℕ) → (j ≡ k → ⊥) → (told_by j (es ++ more) ≡ told_by j es) × (sent_to channels j (opened first) (es ++ more) ≡ sent_to channels j (opened first) es)
     × ((x : ServerChannel) (session : Option Session) (octets : List ℕ) → StandsAmong channels j x session octets es first before → StandsAmong channels j x session octets (es ++ more) first now)
 
--- what a step of one connection at a moment adds to the events of all: what its frames tell at this moment, and nothing else; the state that
--- all events leave is the one that it leaves
+-- what a step of one connection at a time adds to the events of all: what its frames tell at this
+-- time, and nothing else; the state that all events leave is the one that it leaves
 pub record StepAmong (limits : Limits) (channels : ℕ → ℕ) (k : ℕ) (moment : DateTime) (piece : List ℕ) (result : Result Step StepFault) (new : ServerChannel) (session : Option Session) (octets : List ℕ) (es : List SharedEvent) (first before now : State) : Type 0 where
   pub told : List Told
   pub left_is : (shared_over channels (opened first) (es ++ at_moment k moment told)).state ≡ now

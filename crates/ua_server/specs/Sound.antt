@@ -1,11 +1,11 @@
--- Sound services: whatever they answer can be encoded.
+-- Sound services: each response of theirs can be encoded.
 use Rattle.std.specs.Prelude.{◌<◌, ◌^◌}
 use Rattle.ua_nodes.specs.Sound.{IsSound}
 use Rattle.ua_server.specs.Endpoint.{Fits}
 use Rattle.ua_server.specs.State.{State}
 
--- what a Read of the nodes answers and the texts of the endpoint can be encoded, and the limit of the endpoint and the number of sessions made
--- are numbers of 32 bits
+-- the results of a Read of the nodes and the texts of the endpoint can be encoded, and the limit of
+-- the endpoint and the number of sessions made are numbers of 32 bits
 pub record IsSoundState (s : State) : Type 0 where
   pub nodes : IsSound s.nodes
   pub endpoint : Fits s.endpoint

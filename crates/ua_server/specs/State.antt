@@ -1,4 +1,5 @@
--- The state of a server: its nodes, what it says of itself, how many sessions it made, and at most one session (OPC 10000-4, 5.7).
+-- The state of a server: its nodes, its description, how many sessions it made, and at most one
+-- session (OPC 10000-4, 5.7).
 use Rattle.std.specs.Prelude.{ℕ, ◌+◌, Bool, true, false, Option, Some, None}
 use Rattle.ua_builtin.specs.NodeId.{node}
 use Rattle.ua_builtin.specs.declared.node_id.NodeId.{NodeId}
@@ -7,7 +8,8 @@ use Rattle.ua_nodes.specs.Table.{Nodes, same_id}
 use Rattle.ua_server.specs.declared.endpoint.Endpoint.{Endpoint}
 use Rattle.ua_server.specs.declared.session.Session.{Session}
 
--- the nodes as a finite map, the endpoint, the number of sessions made, and the session, if there is one
+-- the nodes as a finite map, the endpoint, the number of sessions made, and the session, if there
+-- is one
 pub record State : Type 0 where
   pub nodes : Nodes
   pub endpoint : Endpoint
@@ -22,7 +24,7 @@ fresh nodes endpoint = record { nodes = nodes; endpoint = endpoint; made = 0; se
 abbrev pub begun : State → State
 begun s = record { nodes = s.nodes; endpoint = s.endpoint; made = s.made; session = None }
 
--- the state with a session more, that is not activated yet
+-- the state with one more session, which is not activated yet
 abbrev pub with_next_session : State → State
 with_next_session s = record { nodes = s.nodes; endpoint = s.endpoint; made = s.made + 1; session = Some (record { number = s.made + 1; activated = false }) }
 

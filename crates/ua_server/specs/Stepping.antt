@@ -1,4 +1,4 @@
--- Where a server stands after octets, and what a step answers.
+-- The state of a server after bytes, and the outcome of a step.
 use Rattle.std.specs.Prelude.{◌≡◌, ◌⊎◌, ℕ, ◌<◌, ◌≤◌, Bool, true, false, IsTrue, List, [], ◌∷◌, ◌++◌, map, replicate, take, length, Option, None, Some, Result, Ok, Err}
 use Rattle.ua_builtin.specs.declared.date_time.DateTime.{DateTime}
 use Rattle.ua_frame.specs.Run.{Going, Run, Stopped, Over, events}
@@ -27,8 +27,9 @@ use Rattle.ua_server.specs.declared.watch.AnsweredRequest.{AnsweredRequest}
 
 -- ---- where a server stands
 
--- a server stands after these octets, which told this: its services were in the first state as the connection began and are in this one
--- now, the chunk that it sends next has the number that is due, and each of the moments was used
+-- the state of a server is that after these bytes, which told this: its services were in the first
+-- state when the connection began and are in this one now, the chunk that it sends next has the
+-- number that is due, and each of the timestamps was used
 pub record ServerStands (x : ServerChannel) (octets : List ℕ) (told : List Told) (first : State) (moments : List DateTime) (now : State) : Type 0 where
   pub goes : Goes x octets told
   pub state_is : (state_after (channel_of x) first told moments).state ≡ now
@@ -37,22 +38,23 @@ pub record ServerStands (x : ServerChannel) (octets : List ℕ) (told : List Tol
 
 -- ---- what a step answers
 
--- these messages were given up
+-- these messages were aborted
 abbrev pub given_up : List ℕ → List Told
 given_up ids = map GaveUp ids
 
--- the moments that this uses: an OPN response and a reply use one each
+-- the timestamps that this uses: an OPN response and a reply use one each
 abbrev pub times_of_answers : List Told → DateTime → List DateTime
 times_of_answers more moment = replicate (used_in more) moment
 
--- where a step stops: nothing is answered, and the whole piece is taken; or the last octet is that of the frame that is answered
+-- where a step stops: nothing is answered, and the whole fragment is taken; or the last byte is
+-- that of the frame that is answered
 abbrev pub Stops : ServerChannel → List ℕ → List ℕ → ℕ → List ℕ → List Told → List Told → Type 0
 Stops new octets piece n out before [] = (n ≡ length piece) × (out ≡ [])
 Stops new octets piece n out before (t ∷ []) = (0 < n) × (n ≤ length piece) × IsTrue (is_answered t) × GoesTelling new (octets ++ take n piece) before t
 Stops new octets piece n out before (t ∷ (u ∷ more)) = ⊥
 
--- it goes on: what was taken told that messages were given up, and then at most one thing more, which is answered; what is said of that is
--- what it says
+-- the connection goes on: what was taken told that messages were aborted, and then at most one
+-- thing more, which is answered; what is sent for it is what the server sends
 pub record StepGoes (channel : ℕ) (moment : DateTime) (piece : List ℕ) (n : ℕ) (out : List ℕ) (new : ServerChannel) (octets : List ℕ) (told : List Told) (first : State) (moments : List DateTime) (now : State) : Type 0 where
   pub quiet : List ℕ
   pub more : List Told
@@ -60,7 +62,7 @@ pub record StepGoes (channel : ℕ) (moment : DateTime) (piece : List ℕ) (n : 
   pub stands : ServerStands new (octets ++ take n piece) ((told ++ given_up quiet) ++ more) first (moments ++ times_of_answers more moment) now
   pub out_is : output_of channel first ((told ++ given_up quiet) ++ more) Going (moments ++ times_of_answers more moment) ≡ output_of channel first told Going moments ++ out
 
--- it ended at the last octet of a CLO, without a word
+-- the connection ended at the last byte of a CLO, and nothing is sent
 pub record StepCloses (channel : ℕ) (piece : List ℕ) (n : ℕ) (out : List ℕ) (new : ServerChannel) (octets : List ℕ) (told : List Told) (first : State) (moments : List DateTime) (before now : State) : Type 0 where
   pub quiet : List ℕ
   pub some : (0 < n) × (n ≤ length piece)
@@ -70,7 +72,7 @@ pub record StepCloses (channel : ℕ) (piece : List ℕ) (n : ℕ) (out : List �
   pub silent : out ≡ []
   pub out_is : output_of channel first ((told ++ given_up quiet) ++ Closed ∷ []) Over moments ≡ output_of channel first told Going moments ++ out
 
--- it refused what stands there, and its last word is the ERR frame
+-- the server rejected what follows, and the last bytes that it sends are the ERR frame
 pub record StepRefuses (channel : ℕ) (code : ℕ) (piece : List ℕ) (n : ℕ) (out : List ℕ) (new : ServerChannel) (octets : List ℕ) (told : List Told) (first : State) (moments : List DateTime) (before now : State) : Type 0 where
   pub quiet : List ℕ
   pub within : n ≤ length piece
@@ -79,7 +81,8 @@ pub record StepRefuses (channel : ℕ) (code : ℕ) (piece : List ℕ) (n : ℕ)
   pub left_is : (state_after channel first (told ++ given_up quiet) moments).state ≡ now
   pub out_is : output_of channel first (told ++ given_up quiet) (Stopped code) moments ≡ output_of channel first told Going moments ++ out
 
--- within this piece, behind messages that were given up, ends a frame that tells of this whole message
+-- within this fragment, after messages that were aborted, ends a frame that tells of this whole
+-- message
 pub record EndsMessage (limits : Limits) (channel : ℕ) (piece : List ℕ) (octets : List ℕ) (told : List Told) (message : List ℕ) : Type 0 where
   pub n : ℕ
   pub within : n ≤ length piece
@@ -92,13 +95,14 @@ pub record EndsMessage (limits : Limits) (channel : ℕ) (piece : List ℕ) (oct
   pub told_is : events (server_rules limits channel) frames ≡ told ++ given_up quiet
   pub tells : (server_rules limits channel).tells frames frame ≡ Asked id token message ∷ []
 
--- the state that the first whole message of the piece leaves
+-- the state that the first whole message of the fragment leaves
 pub record LeftByMessage (limits : Limits) (channel : ℕ) (moment : DateTime) (piece : List ℕ) (octets : List ℕ) (told : List Told) (before now : State) : Type 0 where
   pub message : List ℕ
   pub ends : EndsMessage limits channel piece octets told message
   pub now_is : now ≡ (answered before moment message).0
 
--- it failed for want of memory: the state is as it was, or that which the first whole message of the piece leaves
+-- an allocation failed: the state is unchanged, or the one that the first whole message of the
+-- fragment leaves
 abbrev pub StepBreaks : Limits → ℕ → DateTime → List ℕ → ServerChannel → List ℕ → List Told → State → State → Type 0
 StepBreaks limits channel moment piece new octets told before now = IsDone new × ((now ≡ before) ⊎ LeftByMessage limits channel moment piece octets told before now)
 
@@ -110,7 +114,7 @@ StepBy channel moment piece (Some (ending.Refused code)) n out new octets told f
 StepBy channel moment piece (Some ending.NoClose) n out new octets told first moments before now = ⊥
 StepBy channel moment piece (Some ending.Cut) n out new octets told first moments before now = ⊥
 
--- what a step answers to a piece at a moment, where the server stands after octets
+-- the outcome of a step for a fragment at a time, from the state of the server after bytes
 abbrev pub StepAnswers : Limits → ℕ → DateTime → List ℕ → Result Step StepFault → ServerChannel → List ℕ → List Told → State → List DateTime → State → State → Type 0
 StepAnswers limits channel moment piece (Ok step) new octets told first moments before now = StepBy channel moment piece step.end step.taken step.out.items new octets told first moments before now
 StepAnswers limits channel moment piece (Err step_fault.OutOfMemory) new octets told first moments before now = StepBreaks limits channel moment piece new octets told before now
@@ -118,20 +122,21 @@ StepAnswers limits channel moment piece (Err step_fault.Closed) new octets told 
 
 -- ---- where a step leaves a server, whatever the state of its services
 
--- it goes on: what was taken told that messages were given up, and then at most one thing more, which is answered
+-- the connection goes on: what was taken told that messages were aborted, and then at most one
+-- thing more, which is answered
 pub record StandsOn (piece : List ℕ) (n : ℕ) (out : List ℕ) (new : ServerChannel) (octets : List ℕ) (told : List Told) : Type 0 where
   pub quiet : List ℕ
   pub more : List Told
   pub stops : Stops new octets piece n out (told ++ given_up quiet) more
   pub goes : Goes new (octets ++ take n piece) ((told ++ given_up quiet) ++ more)
 
--- it closed at the last octet of a CLO
+-- the connection closed at the last byte of a CLO
 pub record ClosesAt (piece : List ℕ) (n : ℕ) (new : ServerChannel) (octets : List ℕ) (told : List Told) : Type 0 where
   pub quiet : List ℕ
   pub some : (0 < n) × (n ≤ length piece)
   pub closed : ClosedAt new (octets ++ take n piece) ((told ++ given_up quiet) ++ Closed ∷ [])
 
--- it refused what stands there
+-- the server rejected what follows
 pub record RefusesAt (code : ℕ) (piece : List ℕ) (n : ℕ) (new : ServerChannel) (octets : List ℕ) (told : List Told) : Type 0 where
   pub quiet : List ℕ
   pub within : n ≤ length piece
@@ -145,19 +150,20 @@ StandsBy piece (Some (ending.Refused code)) n out new octets told = RefusesAt co
 StandsBy piece (Some ending.NoClose) n out new octets told = ⊥
 StandsBy piece (Some ending.Cut) n out new octets told = ⊥
 
--- where a step leaves a server that went on after octets which told this
+-- the state in which a step leaves a server that went on after bytes which told this
 abbrev pub StepStands : List ℕ → Result Step StepFault → ServerChannel → List ℕ → List Told → Type 0
 StepStands piece (Ok step) new octets told = StandsBy piece step.end step.taken step.out.items new octets told
 StepStands piece (Err step_fault.OutOfMemory) new octets told = IsDone new
 StepStands piece (Err step_fault.Closed) new octets told = ⊥
 
--- what a step takes is within the piece, and is something, where the connection goes on, unless the piece is empty
+-- what a step takes is within the fragment, and is something, if the connection goes on, unless the
+-- fragment is empty
 abbrev pub StepTakes : List ℕ → Step → Type 0
 StepTakes piece step = (step.taken ≤ length piece) × (step.end ≡ None → 0 < length piece → 0 < step.taken)
 
 -- ---- inside
 
--- a message was given up
+-- a message was aborted
 abbrev pub is_given_up : Result ServerEvent ChannelFault → Bool
 is_given_up (Ok (event.Aborted id)) = true
 is_given_up (Ok event.NeedMore) = false
@@ -166,12 +172,12 @@ is_given_up (Ok (event.Asked id message)) = false
 is_given_up (Ok event.Closed) = false
 is_given_up (Err f) = false
 
--- what is answered behind messages that were given up
+-- what is answered after messages that were aborted
 pub record AnswersBehind (channel number : ℕ) (moment : DateTime) (piece : List ℕ) (n : ℕ) (answer : Result ServerEvent ChannelFault) (new : ServerChannel) (octets : List ℕ) (before : List Told) : Type 0 where
   pub quiet : List ℕ
   pub answers : AnswersAt channel number moment piece n answer new octets (before ++ given_up quiet)
 
--- what is answered is told apart, and which request it is, if it is one
+-- what is answered is told separately, and which request it is, if it is one
 pub record Tells (answered : Bool) (request : Option AnsweredRequest) (channel : ℕ) (moment : DateTime) (piece : List ℕ) (n : ℕ) (out : List ℕ) (new : ServerChannel) (octets : List ℕ) (told : List Told) (first : State) (moments : List DateTime) (now : State) : Type 0 where
   pub goes : StepGoes channel moment piece n out new octets told first moments now
   pub answered_is : answered ≡ has_some goes.more
@@ -182,17 +188,17 @@ abbrev pub AdvanceBy : Bool → Option AnsweredRequest → ℕ → DateTime → 
 AdvanceBy answered request channel moment piece None n out new octets told first moments before now = Tells answered request channel moment piece n out new octets told first moments now
 AdvanceBy answered request channel moment piece (Some end) n out new octets told first moments before now = StepBy channel moment piece (Some end) n out new octets told first moments before now × (answered ≡ false)
 
--- what a step answers, with whether something was answered, and which request
+-- the outcome of a step, with whether something was answered, and which request
 abbrev pub Advances : Limits → ℕ → DateTime → List ℕ → Result (Step × Bool × Option AnsweredRequest) StepFault → ServerChannel → List ℕ → List Told → State → List DateTime → State → State → Type 0
 Advances limits channel moment piece (Ok found) new octets told first moments before now = AdvanceBy found.1 found.2 channel moment piece found.0.end found.0.taken found.0.out.items new octets told first moments before now
 Advances limits channel moment piece (Err f) new octets told first moments before now = StepAnswers limits channel moment piece (Err f) new octets told first moments before now
 
--- where it leaves a server, with whether something was answered
+-- the state in which it leaves a server, with whether something was answered
 abbrev pub AdvanceStands : List ℕ → Result (Step × Bool × Option AnsweredRequest) StepFault → ServerChannel → List ℕ → List Told → Type 0
 AdvanceStands piece (Ok found) new octets told = StandsBy piece found.0.end found.0.taken found.0.out.items new octets told
 AdvanceStands piece (Err f) new octets told = StepStands piece (Err f) new octets told
 
--- a reply to what was agreed is these octets, and the number behind them is this
+-- these bytes are a reply by the agreement, and the number after them is this
 abbrev pub IsReplyAt : ℕ → ℕ → Option Agreement → List ℕ → ℕ → ℕ → List ℕ → ℕ → Type 0
 IsReplyAt channel token agreement body number id octets next =
     (octets ≡ (replied_at (lane_at channel token agreement) body number id).0) × (next ≡ (replied_at (lane_at channel token agreement) body number id).1)

@@ -21,7 +21,8 @@ use Rattle.ua_server.specs.State.{State}
 abbrev pub is_good : StatusCode → Bool
 is_good code = nat_eq code.code 0
 
--- an item of a Write is stored just where its result is Good; it is judged by the nodes that the Write found
+-- an item of a Write is stored exactly if its result is Good; it is judged by the nodes before the
+-- Write
 abbrev pub is_stored : Nodes → WriteValue → Bool
 is_stored nodes item = is_good (write_answer (node_at nodes item.node_id) item)
 
@@ -29,7 +30,7 @@ is_stored nodes item = is_good (write_answer (node_at nodes item.node_id) item)
 abbrev pub stored_items : Nodes → List WriteValue → List WriteValue
 stored_items nodes items = filter (is_stored nodes) items
 
--- none of a Write that is refused as a whole
+-- none of a Write that is rejected as a whole
 abbrev pub unless_refused : Option ℕ → List WriteValue → List WriteValue
 unless_refused None items = items
 unless_refused (Some code) items = []
@@ -39,18 +40,18 @@ abbrev pub stored_by : State → Request → List WriteValue
 stored_by s (Write m) = unless_refused (first_reason (write_reasons s m)) (stored_items s.nodes (items_of m.nodes_to_write))
 stored_by s m = []
 
--- what octets store by what they are read as
+-- what bytes store by what they are decoded as
 abbrev pub stored_as : State → Result Request RequestFault → List WriteValue
 stored_as s (Ok m) = stored_by s m
 stored_as s (Err fault) = []
 
--- what the message with these octets stores
+-- what the message with these bytes stores
 abbrev pub stored_of : State → List ℕ → List WriteValue
 stored_of s octets = stored_as s (request_read octets)
 
 -- ---- inside
 
--- the results of a Write, where the response is that to one
+-- the results of a Write, if the response is that to one
 abbrev pub results_of : Response → Option (List StatusCode)
 results_of (WriteAnswer m) = m.results
 results_of m = None
@@ -65,7 +66,7 @@ abbrev pub begins_good : List StatusCode → Bool
 begins_good [] = false
 begins_good (code ∷ codes) = is_good code
 
--- the codes behind the first
+-- the codes after the first
 abbrev pub behind_code : List StatusCode → List StatusCode
 behind_code [] = []
 behind_code (code ∷ codes) = codes

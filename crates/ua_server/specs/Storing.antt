@@ -13,7 +13,8 @@ use Rattle.ua_server.specs.declared.watch.AnsweredRequest.{AnsweredRequest}
 
 -- ---- what is told
 
--- what is stored of one thing that the frames of a connection told: a whole message alone stores anything
+-- what is stored of one thing that the frames of a connection told: a whole message alone stores
+-- anything
 abbrev pub stored_at : State → Told → List WriteValue
 stored_at s (Agreed agreement) = []
 stored_at s (Opened id handle token lifetime) = []
@@ -28,7 +29,8 @@ stored_first s (t ∷ told) = stored_at s t
 
 -- ---- a step
 
--- it goes on behind messages that were given up, and at most one thing more, which is answered: what that stores is told, and nothing else
+-- it goes on after messages that were aborted, and at most one thing more, which is answered: what
+-- that stores is told, and nothing else
 abbrev pub StoresOn : List ℕ → ℕ → List ℕ → List WriteValue → ServerChannel → List ℕ → List Told → State → Type 0
 StoresOn piece n out written new octets told before = (on : StandsOn piece n out new octets told) × (written ≡ stored_first before on.more)
 
@@ -37,14 +39,14 @@ abbrev pub StoresBy : List ℕ → Option Ending → ℕ → List ℕ → List W
 StoresBy piece None n out written new octets told before = StoresOn piece n out written new octets told before
 StoresBy piece (Some end) n out written new octets told before = written ≡ []
 
--- which items a step tells of, where it goes on after octets that told this
+-- which items a step tells, if it goes on after bytes that told this
 abbrev pub StepStores : List ℕ → Result Step StepFault → ServerChannel → List ℕ → List Told → State → Type 0
 StepStores piece (Ok step) new octets told before = StoresBy piece step.end step.taken step.out.items step.written new octets told before
 StepStores piece (Err f) new octets told before = Unit {0}
 
 -- ---- inside
 
--- the same of a step that tells which request it answered
+-- the same for a step that tells which request it answered
 abbrev pub AdvanceStores : List ℕ → Result (Step × Bool × Option AnsweredRequest) StepFault → ServerChannel → List ℕ → List Told → State → Type 0
 AdvanceStores piece (Ok found) new octets told before = StoresBy piece found.0.end found.0.taken found.0.out.items found.0.written new octets told before
 AdvanceStores piece (Err f) new octets told before = Unit {0}

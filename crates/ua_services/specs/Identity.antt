@@ -6,11 +6,13 @@ use Rattle.ua_structures.specs.Session.{anonymous_identity_token}
 use Rattle.ua_structures.specs.declared.session.AnonymousIdentityToken.{AnonymousIdentityToken}
 use Rattle.ua_opening.specs.Message.{IsBody, standard}
 
--- the object of an AnonymousIdentityToken: the type i=321, and these octets as its body (OPC 10000-6, A.3)
+-- the object of an AnonymousIdentityToken: the type i=321, and these bytes as its body (OPC
+-- 10000-6, A.3)
 abbrev pub identity_object : List ℕ → ExtensionObject
 identity_object octets = record { type_id = standard 321; body = ByteString (Some octets) }
 
--- the object holds octets that are an encoding of the token, with nothing behind it (OPC 10000-4, 7.41.3)
+-- the object holds bytes that are an encoding of the token, with nothing after it (OPC 10000-4,
+-- 7.41.3)
 abbrev pub Carries : ExtensionObject → AnonymousIdentityToken → Type 0
 Carries object token = (octets : List ℕ) × (object ≡ identity_object octets) × IsBody anonymous_identity_token token octets
 

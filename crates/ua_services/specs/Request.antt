@@ -55,7 +55,7 @@ numbered n = with_number (λ k. (request_row k).number) n request_kinds
 abbrev pub request_kind_name : RequestKind → List ℕ
 request_kind_name k = (request_row k).name
 
--- the structure that a request of each kind holds
+-- the structure of a request of each kind
 abbrev pub Structure : RequestKind → Type 0
 Structure k = (request_row k).structure
 
@@ -68,7 +68,7 @@ request_parts (message.CloseSession m) = (kind.CloseSession, m)
 request_parts (message.Read m) = (kind.Read, m)
 request_parts (message.Write m) = (kind.Write, m)
 
--- the kinds of request, with what is known of each
+-- the kinds of request, with the properties of each
 abbrev pub requests : Kinds RequestKind Request
 requests = record {
   structure = Structure;
@@ -96,66 +96,72 @@ header_of (message.Write m) = m.request_header
 abbrev pub request_kind : NodeId → Option RequestKind
 request_kind = announced requests
 
--- the NodeId of the encoding, and behind it the structure that it announces (OPC 10000-6, 5.2.9)
+-- the NodeId of the encoding, and after it the structure that it announces (OPC 10000-6, 5.2.9)
 unfoldable pub request : Format Request
 request = message_of requests
 
--- the request of this kind that octets begin with behind its NodeId, and the octets behind it
+-- the request of this kind at the start of bytes after its NodeId, and the bytes after it
 unfoldable pub request_of_kind : RequestKind → ℕ → List ℕ → Option (Request × List ℕ)
 request_of_kind k levels = kind_at requests levels (Some k)
 
 -- ---- what a body is read as
 
--- the fault of octets that are no request, by the kind that their NodeId announces: Unsupported where it announces none
+-- the error for bytes that are no request, by the kind that their NodeId announces: Unsupported if
+-- it announces none
 abbrev pub misread_kind : ℕ → Option RequestKind → RequestFault
 misread_kind handle None = Unsupported handle
 misread_kind handle (Some k) = Unreadable handle
 
--- the same by the NodeId that they begin with, if they begin with one
+-- the same by the NodeId at the start of the bytes, if there is one
 abbrev pub misread_id : ℕ → Option NodeId → RequestFault
 misread_id handle None = Unreadable handle
 misread_id handle (Some id) = misread_kind handle (request_kind id)
 
--- the request whose body the octets are; else the fault that says why they are none, with their RequestHandle
+-- the request whose body the bytes are; otherwise the error that tells why they are none, with
+-- their RequestHandle
 unfoldable pub request_read : List ℕ → Result Request RequestFault
 request_read octets = found_or (body_of request octets) (misread_id (handle_of octets) (id_of octets))
 
--- of what was read, the kind of the request alone, or the fault
+-- of what was decoded, the kind of the request alone, or the error
 abbrev pub kind_alone : Result Request RequestFault → Result RequestKind RequestFault
 kind_alone (Ok m) = Ok (kind_of m)
 kind_alone (Err fault) = Err fault
 
--- ---- why octets are no request
+-- ---- why bytes are no request
 
--- they begin with a NodeId that announces none
+-- the bytes begin with a NodeId that announces no request
 abbrev pub AnnouncesNone : List ℕ → Type 0
 AnnouncesNone octets = (id : NodeId) × (id_of octets ≡ Some id) × (request_kind id ≡ None)
 
--- the fault of octets that are no request: they begin with a NodeId that announces none, or with one that announces a request that is not there, or with no NodeId; the number is their RequestHandle
+-- the error for bytes that are no request: they begin with a NodeId that announces none, or with
+-- one that announces a request that does not follow, or with no NodeId; the number is their
+-- RequestHandle
 abbrev pub Misread : List ℕ → RequestFault → Type 0
 Misread octets (Unsupported handle) = AnnouncesNone octets × IsNoBody request octets × (handle ≡ handle_of octets)
 Misread octets (Unreadable handle) = (AnnouncesNone octets → ⊥) × IsNoBody request octets × (handle ≡ handle_of octets)
 Misread octets OutOfMemory = Unit {0}
 
--- ---- behind the NodeId
+-- ---- after the NodeId
 
--- the fault of a request with this handle, where reading it failed
+-- the error of a request with this handle, if decoding it failed
 abbrev pub unread_with : ℕ → ReadFault → RequestFault
 unread_with handle NoValue = Unreadable handle
 unread_with handle ReadFault.OutOfMemory = OutOfMemory
 
--- the request of this kind that octets are behind its NodeId; else the fault that says that they are none
+-- the request of this kind that bytes are after its NodeId; otherwise the error that tells that
+-- they are none
 abbrev pub kind_read : (k : RequestKind) → List ℕ → Result Request RequestFault
 kind_read k octets = found_or (kind_at requests most_levels (Some k) octets >>= λ x. if_last x.0 x.1) (Unreadable (handle_behind octets))
 
 -- ---- what is kept of a request
 
--- of a Write its items, without the values that their nodes could not take; of others all (OPC 10000-4, 5.11.4)
+-- the items of a Write without the values that their nodes could not take; all of another request
+-- (OPC 10000-4, 5.11.4)
 abbrev pub thin_request : (NodeId → ValueType → Bool) → Request → Request
 thin_request takes (message.Write m) = message.Write (thinned_request takes m)
 thin_request takes m = m
 
--- what is kept of what was read, or the fault
+-- what is kept of what was decoded, or the error
 abbrev pub thin_read : (NodeId → ValueType → Bool) → Result Request RequestFault → Result Request RequestFault
 thin_read takes (Ok m) = Ok (thin_request takes m)
 thin_read takes (Err fault) = Err fault

@@ -56,7 +56,7 @@ numbered n = with_number (λ k. (response_row k).number) n response_kinds
 abbrev pub response_kind_name : ResponseKind → List ℕ
 response_kind_name k = (response_row k).name
 
--- the structure that a response of each kind holds
+-- the structure of a response of each kind
 abbrev pub Structure : ResponseKind → Type 0
 Structure k = (response_row k).structure
 
@@ -70,7 +70,7 @@ response_parts (message.Read m) = (kind.Read, m)
 response_parts (message.Write m) = (kind.Write, m)
 response_parts (message.ServiceFault m) = (kind.ServiceFault, m)
 
--- the kinds of response, with what is known of each
+-- the kinds of response, with the properties of each
 abbrev pub responses : Kinds ResponseKind Response
 responses = record {
   structure = Structure;
@@ -99,7 +99,7 @@ header_of (message.ServiceFault m) = m.response_header
 abbrev pub response_kind : NodeId → Option ResponseKind
 response_kind = announced responses
 
--- the kind of response that a request asks for
+-- the kind of response that a request expects
 abbrev pub own_answer : RequestKind → ResponseKind
 own_answer RequestKind.GetEndpoints = kind.GetEndpoints
 own_answer RequestKind.CreateSession = kind.CreateSession
@@ -108,50 +108,53 @@ own_answer RequestKind.CloseSession = kind.CloseSession
 own_answer RequestKind.Read = kind.Read
 own_answer RequestKind.Write = kind.Write
 
--- a response of this kind answers a request: it is the one that is asked for, or a fault (OPC 10000-4, 5.3)
+-- a response of this kind answers a request: it is of the expected kind, or a ServiceFault (OPC
+-- 10000-4, 5.3)
 abbrev pub Answers : ResponseKind → RequestKind → Type 0
 Answers response request = (response ≡ own_answer request) ⊎ (response ≡ kind.ServiceFault)
 
--- the NodeId of the encoding, and behind it the structure that it announces (OPC 10000-6, 5.2.9)
+-- the NodeId of the encoding, and after it the structure that it announces (OPC 10000-6, 5.2.9)
 unfoldable pub response : Format Response
 response = message_of responses
 
--- the response of this kind that octets begin with behind its NodeId, and the octets behind it
+-- the response of this kind at the start of bytes after its NodeId, and the bytes after it
 unfoldable pub response_of_kind : ResponseKind → ℕ → List ℕ → Option (Response × List ℕ)
 response_of_kind k levels = kind_at responses levels (Some k)
 
 -- ---- what a body is read as
 
--- the fault of octets that are no response, by the kind that their NodeId announces: Unknown where it announces none
+-- the error for bytes that are no response, by the kind that their NodeId announces: Unknown if it
+-- announces none
 abbrev pub misread_kind : Option ResponseKind → ResponseFault
 misread_kind None = Unknown
 misread_kind (Some k) = Unreadable
 
--- the same by the NodeId that they begin with, if they begin with one
+-- the same by the NodeId at the start of the bytes, if there is one
 abbrev pub misread_id : Option NodeId → ResponseFault
 misread_id None = Unreadable
 misread_id (Some id) = misread_kind (response_kind id)
 
--- the response whose body the octets are; else the fault that says why they are none
+-- the response whose body the bytes are; otherwise the error that tells why they are none
 unfoldable pub response_read : List ℕ → Result Response ResponseFault
 response_read octets = found_or (body_of response octets) (misread_id (id_of octets))
 
--- the response of this kind that octets are behind its NodeId; else the fault that says that they are none
+-- the response of this kind that bytes are after its NodeId; otherwise the error that tells that
+-- they are none
 abbrev pub kind_read : (k : ResponseKind) → List ℕ → Result Response ResponseFault
 kind_read k octets = found_or (kind_at responses most_levels (Some k) octets >>= λ x. if_last x.0 x.1) Unreadable
 
--- the fault of a response, where reading it failed
+-- the error of a response, if decoding it failed
 abbrev pub unread_by : ReadFault → ResponseFault
 unread_by NoValue = Unreadable
 unread_by ReadFault.OutOfMemory = OutOfMemory
 
--- ---- why octets are no response
+-- ---- why bytes are no response
 
--- they begin with a NodeId that announces none
+-- the bytes begin with a NodeId that announces no response
 abbrev pub AnnouncesNone : List ℕ → Type 0
 AnnouncesNone octets = (id : NodeId) × (id_of octets ≡ Some id) × (response_kind id ≡ None)
 
--- the fault of octets that are no response, parted as those of requests
+-- the error for bytes that are no response, with the same cases as for requests
 abbrev pub Misread : List ℕ → ResponseFault → Type 0
 Misread octets Unknown = AnnouncesNone octets × IsNoBody response octets
 Misread octets Unreadable = (AnnouncesNone octets → ⊥) × IsNoBody response octets

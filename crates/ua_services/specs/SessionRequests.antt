@@ -25,7 +25,7 @@ local_url port = codes "opc.tcp://localhost:" ++ decimal port
 abbrev pub get_endpoints : Option (List ℕ) → DateTime → ℕ → Request
 get_endpoints url moment handle = GetEndpoints (endpoints_of (request_header_of null_id moment handle) url)
 
--- a timeout of 120000 ms, as the pattern of a Double
+-- a timeout of 120000 ms, as the bit pattern of a Double
 abbrev pub session_timeout : DoubleBits
 session_timeout = record { bits = 0x40FD4C0000000000 }
 
@@ -34,11 +34,12 @@ abbrev pub create_session : Option (List ℕ) → DateTime → ℕ → Request
 create_session url moment handle =
     CreateSession (create_session_of (request_header_of null_id moment handle) (application_of (pos 1) (Some (codes "urn:ua:client")) (Some (codes "ua")) None) url (Some (codes "ua")) session_timeout)
 
--- the PolicyId of the token policy by which the program asks where it is told of no other
+-- the PolicyId of the token policy that the program uses if no other is given
 abbrev pub anonymous_id : Option (List ℕ)
 anonymous_id = Some (codes "anonymous")
 
--- the identity of a user without a name, by the token policy with this PolicyId (OPC 10000-4, 7.41.3)
+-- the identity of a user without a name, by the token policy with this PolicyId (OPC 10000-4,
+-- 7.41.3)
 abbrev pub anonymous_identity : Option (List ℕ) → ExtensionObject
 anonymous_identity policy_id = identity_object (anonymous_identity_token.canonical (record { policy_id = policy_id }))
 
@@ -54,7 +55,7 @@ activate_session token moment handle = activate_session_as anonymous_id token mo
 abbrev pub close_session : NodeId → DateTime → ℕ → Request
 close_session token moment handle = CloseSession (record { request_header = request_header_of token moment handle; delete_subscriptions = false })
 
--- a Read of these items, however old their values, with both times
+-- a Read of these items, whatever the age of their values, with both timestamps
 abbrev pub read : NodeId → DateTime → ℕ → List ReadValueId → Request
 read token moment handle items = Read (read_of (request_header_of token moment handle) items)
 
@@ -62,14 +63,15 @@ read token moment handle items = Read (read_of (request_header_of token moment h
 abbrev pub write : NodeId → DateTime → ℕ → List WriteValue → Request
 write token moment handle items = Write (write_of (request_header_of token moment handle) items)
 
--- an attribute of a node, by its id (OPC 10000-6, A.1), a part of it or the whole where the range is null
+-- an attribute of a node, by its id (OPC 10000-6, A.1), a part of it or the whole if the range is
+-- null
 abbrev pub attribute_of_node : NodeId → ℕ → Option (List ℕ) → ReadValueId
 attribute_of_node node attribute range = record (value_of_node node) { attribute_id = attribute; index_range = range }
 
--- a part of the Value of a node, attribute 13, or the whole where the range is null
+-- a part of the Value of a node, attribute 13, or the whole if the range is null
 abbrev pub part_of_node : NodeId → Option (List ℕ) → ReadValueId
 part_of_node node range = attribute_of_node node 13 range
 
--- a value alone, without status and times
+-- a value alone, without status and timestamps
 abbrev pub value_alone : VariantData → DataValue
 value_alone v = record { value = Some v; status = None; source_timestamp = None; source_picoseconds = None; server_timestamp = None; server_picoseconds = None }

@@ -5,5 +5,5 @@ pub mod Results
 pub mod Session
 pub mod Thin
 pub mod WrittenBack
--- Words that only contracts within this crate cite.
+-- Definitions that only contracts within this crate cite.
 pub mod inside

@@ -1,4 +1,4 @@
--- Structures with nothing in them but what they are made for.
+-- Structures that contain only what they are made for.
 use Rattle.std.specs.Prelude.{ℕ, ℤ, pos, List, Option, Some, None}
 use Rattle.ua_builtin.specs.declared.extension_object.ExtensionObject.{ExtensionObject}
 use Rattle.ua_builtin.specs.declared.node_id.NodeId.{NodeId}
@@ -31,7 +31,8 @@ value_of_node id = record { node_id = id; attribute_id = 13; index_range = None;
 abbrev pub value_for_node : NodeId → DataValue → WriteValue
 value_for_node id value = record { node_id = id; attribute_id = 13; index_range = None; value = value }
 
--- a Read of these items, however old their values, with the times of source and server: the number 2
+-- a Read of these items, whatever the age of their values, with the timestamps of source and
+-- server: the number 2
 abbrev pub read_of : RequestHeader → List ReadValueId → ReadRequest
 read_of header items = record { request_header = header; max_age = record { bits = 0 }; timestamps_to_return = pos 2; nodes_to_read = Some items }
 
@@ -46,13 +47,14 @@ empty_read = record { request_header = empty_request_header; max_age = record { 
 abbrev pub empty_read_response : ReadResponse
 empty_read_response = record { response_header = empty_response_header; results = None; diagnostic_infos = None }
 
--- no signature: neither an algorithm nor octets
+-- no signature: neither an algorithm nor bytes
 abbrev pub null_signature : SignatureData
 null_signature = record { algorithm = None; signature = None }
 
 -- ---- sessions
 
--- an application of this type, 0 for a server and 1 for a client, with this URI, name and addresses; the name has no locale, and all else is null
+-- an application of this type, 0 for a server and 1 for a client, with this URI, name and
+-- addresses; the name has no locale, and all else is null
 abbrev pub application_of : ℤ → Option (List ℕ) → Option (List ℕ) → Option (List (Option (List ℕ))) → ApplicationDescription
 application_of kind uri name urls = record {
   application_uri = uri;
@@ -68,7 +70,8 @@ application_of kind uri name urls = record {
 abbrev pub endpoints_of : RequestHeader → Option (List ℕ) → GetEndpointsRequest
 endpoints_of header url = record { request_header = header; endpoint_url = url; locale_ids = None; profile_uris = None }
 
--- a CreateSession request of this client, at this address, under this name, with this timeout: no limit of responses, and all else null
+-- a CreateSession request of this client, at this address, under this name, with this timeout: no
+-- limit of responses, and all else null
 abbrev pub create_session_of : RequestHeader → ApplicationDescription → Option (List ℕ) → Option (List ℕ) → DoubleBits → CreateSessionRequest
 create_session_of header client url name timeout = record {
   request_header = header;
@@ -82,7 +85,8 @@ create_session_of header client url name timeout = record {
   max_response_message_size = 0;
 }
 
--- the answer: the session's id and token, its timeout, the endpoints, and the most octets of a request; all else is null
+-- the response: the session's id and token, its timeout, the endpoints, and the most bytes of a
+-- request; all else is null
 abbrev pub session_of : ResponseHeader → NodeId → NodeId → DoubleBits → Option (List EndpointDescription) → ℕ → CreateSessionResponse
 session_of header id token timeout endpoints most = record {
   response_header = header;
@@ -108,16 +112,16 @@ activate_session_of header identity = record {
   user_token_signature = null_signature;
 }
 
--- the answer, with nulls alone
+-- the response, with nulls alone
 abbrev pub activated_of : ResponseHeader → ActivateSessionResponse
 activated_of header = record { response_header = header; server_nonce = None; results = None; diagnostic_infos = None }
 
 -- ---- the answers to Read and Write
 
--- the values that were read, without diagnostics
+-- the values of a Read response, without diagnostics
 abbrev pub values_of : ResponseHeader → List DataValue → ReadResponse
 values_of header values = record { response_header = header; results = Some values; diagnostic_infos = None }
 
--- what became of each item that was to be written, without diagnostics
+-- the result of each item of a Write, without diagnostics
 abbrev pub statuses_of : ResponseHeader → List StatusCode → WriteResponse
 statuses_of header codes = record { response_header = header; results = Some codes; diagnostic_infos = None }

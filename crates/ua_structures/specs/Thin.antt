@@ -1,5 +1,6 @@
 -- Items of a Write without the values that their nodes could not take (OPC 10000-4, 5.11.4).
--- of an item for a node of the type Int32 that holds an array of Variants, the node, the attribute and the range are kept, and a null Variant in the place of the array
+-- of an item for a node of the type Int32 that holds an array of Variants, the node, the attribute
+-- and the range are kept, and a null Variant in the place of the array
 use Rattle.std.specs.Prelude.{ℕ, Bool, true, false, cond, map, Option, Some, None, option_map}
 use Rattle.ua_builtin.specs.declared.node_id.NodeId.{NodeId}
 use Rattle.ua_variant.specs.Data.{VariantData, null, one, absent, many}
@@ -26,14 +27,15 @@ type_of (one s) = Some (scalar_type (kind_of s))
 type_of (absent k ds) = Some (array_type k)
 type_of (many k ss ds) = Some (array_type k)
 
--- a value of this type is kept where just these types are taken; a value without a type is kept
+-- a value of this type is kept if it is one of the types that are taken; a value without a type is
+-- kept
 abbrev pub is_kept : (ValueType → Bool) → Option ValueType → Bool
 is_kept takes None = true
 is_kept takes (Some t) = takes t
 
 -- ---- what is kept
 
--- a null Variant, and neither a status nor a time
+-- a null Variant, and neither a status nor a timestamp
 abbrev pub null_value : DataValue
 null_value = record {
   value = Some null;
@@ -44,16 +46,17 @@ null_value = record {
   server_picoseconds = None;
 }
 
--- the DataValue as it is where it holds no value
+-- the DataValue unchanged if it has no value
 abbrev pub kept_with : (ValueType → Bool) → Option VariantData → DataValue → DataValue
 kept_with takes None d = d
 kept_with takes (Some v) d = cond (is_kept takes (type_of v)) d null_value
 
--- the DataValue as it is where its value has a type that is taken, or no type, or where it holds no value; else a null Variant in its place
+-- the DataValue unchanged if its value has a type that is taken, or no type, or if it has no value;
+-- otherwise with a null Variant in place of its value
 abbrev pub kept_value : (ValueType → Bool) → DataValue → DataValue
 kept_value takes d = kept_with takes d.value d
 
--- the item, with what is kept of its value where its node takes these types
+-- the item, with what is kept of its value if its node takes these types
 abbrev pub thinned : (NodeId → ValueType → Bool) → WriteValue → WriteValue
 thinned takes item = record {
   node_id = item.node_id;

@@ -1,6 +1,7 @@
--- What was read can be written back. That is a law of Strings, ByteStrings, NodeIds, QualifiedNames, LocalizedTexts, ExtensionObjects and
--- DiagnosticInfos, of headers and of the items of a Read; of Variants, DataValues and the items of a Write just where no reserved type id is
--- named.
+-- What was decoded can be encoded again. This holds for Strings, ByteStrings, NodeIds,
+-- QualifiedNames, LocalizedTexts, ExtensionObjects and DiagnosticInfos, for headers and for the
+-- items of a Read; for Variants, DataValues and the items of a Write it holds only if no reserved
+-- type id is named.
 use Rattle.std.specs.Prelude.{ℕ, List, [], ◌∷◌, ◌++◌, Bool, not}
 use Rattle.std.specs.List.{list_all}
 use Rattle.ua_variant.specs.Data.{VariantData, null, one, absent, many, ScalarData, leaf, data_value, variant, diagnostic, ScalarsData, no_scalars, scalar, DataValueData, bare, valued}
@@ -14,7 +15,8 @@ use Rattle.ua_opening.specs.WrittenBack.{array_all}
 
 -- ---- type ids
 
--- the type ids that a value names, at every level: of its scalar, or of its array, and those in what these hold
+-- the type ids that a value names, at every level: of its scalar, or of its array, and those in
+-- what these hold
 -- an array of the Int32s 7 and 8: 6, 6 and 6; a null array of the reserved id 26: 26
 abbrev mutual
   pub variant_ids : VariantData → List ℕ
@@ -37,7 +39,8 @@ abbrev mutual
   data_value_ids (bare f) = []
   data_value_ids (valued v f) = variant_ids v
 
--- none of these is reserved: 26 to 31 are read as of ByteStrings, and never written (OPC 10000-6, 5.2.2.16)
+-- none of these is reserved: 26 to 31 are decoded as ByteStrings, and never encoded (OPC 10000-6,
+-- 5.2.2.16)
 abbrev pub none_reserved : List ℕ → Bool
 none_reserved ids = list_all (λ k. not (is_reserved k)) ids
 
@@ -51,10 +54,10 @@ data_value_unreserved v = none_reserved (data_value_ids (data_value_of v))
 
 -- ---- the two structures that hold values
 
--- no value that is to be written names a reserved type id
+-- no value to be written names a reserved type id
 abbrev pub write_unreserved : WriteRequest → Bool
 write_unreserved m = array_all (λ item. data_value_unreserved item.value) m.nodes_to_write
 
--- no value that was read names a reserved type id
+-- no value in the results names a reserved type id
 abbrev pub results_unreserved : ReadResponse → Bool
 results_unreserved m = array_all data_value_unreserved m.results

@@ -1,2 +1,2 @@
--- What stands at the front of values: words that only contracts within this crate cite.
+-- What is at the start of values: definitions that only contracts within this crate cite.
 pub mod Ahead

@@ -1,7 +1,7 @@
 pub mod Codes
 pub mod Shows
 mod Ends
-mod Named
+pub mod Named
 mod Printable
 mod Rows
 mod Steps

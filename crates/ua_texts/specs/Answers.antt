@@ -17,12 +17,12 @@ use Rattle.ua_texts.specs.Values.{variant_text}
 use Rattle.ua_texts.specs.declared.style.EndpointStyle.{EndpointStyle}
 use Rattle.ua_texts.specs.declared.style.LineStyle.{LineStyle}
 
--- a value behind a space, where there is one
+-- a value after a space, if there is one
 abbrev pub value_part : Option VariantData → List ℕ
 value_part None = []
 value_part (Some v) = codes " " ++ variant_text v
 
--- a NodeId and a status, with its name where names are wanted
+-- a NodeId and a status, with its name if names are wanted
 abbrev pub status_text : Bool → NodeId → ℕ → List ℕ
 status_text names node code = node_text node ++ (codes " " ++ named_code names code)
 
@@ -35,25 +35,26 @@ ticks_text (Some moment) = signed_decimal moment.ticks
 abbrev pub times_text : DataValue → List ℕ
 times_text answer = codes " source " ++ (ticks_text answer.source_timestamp ++ (codes " server " ++ ticks_text answer.server_timestamp))
 
--- the timestamps, where they are wanted
+-- the timestamps, if they are wanted
 abbrev pub times_part : Bool → DataValue → List ℕ
 times_part times answer = cond times (times_text answer) []
 
--- the answer to an item of a Read: NODE CODE TYPE VALUE, or NODE CODE where there is no value; where names are wanted, NAME behind CODE;
--- where timestamps are wanted, `source TICKS server TICKS` at the end
+-- the answer to an item of a Read: NODE CODE TYPE VALUE, or NODE CODE if there is no value; if
+-- names are wanted, NAME after CODE; if timestamps are wanted, `source TICKS server TICKS` at the
+-- end
 unfoldable pub plain_read : LineStyle → NodeId → DataValue → List ℕ
 plain_read style node answer =
     status_text style.names node (number_of answer.status) ++ (value_part answer.value ++ (times_part style.times answer ++ codes "\n"))
 
--- the same as an object of JSON, where this is wanted
+-- the same as an object of JSON, if this is wanted
 unfoldable pub read_line : LineStyle → NodeId → DataValue → List ℕ
 read_line style node answer = cond style.json (json_line (read_json style node answer)) (plain_read style node answer)
 
--- the answer to an item of a Write: NODE CODE, where names are wanted NODE CODE NAME
+-- the answer to an item of a Write: NODE CODE, or if names are wanted NODE CODE NAME
 unfoldable pub plain_write : LineStyle → NodeId → StatusCode → List ℕ
 plain_write style node status = status_text style.names node status.code ++ codes "\n"
 
--- the same as an object of JSON, where this is wanted
+-- the same as an object of JSON, if this is wanted
 unfoldable pub write_line : LineStyle → NodeId → StatusCode → List ℕ
 write_line style node status = cond style.json (json_line (write_json style node status)) (plain_write style node status)
 
@@ -61,26 +62,26 @@ write_line style node status = cond style.json (json_line (write_json style node
 unfoldable pub policy_line : UserTokenPolicy → List ℕ
 policy_line p = codes "  policy " ++ (shown_string p.policy_id ++ ((codes " " ++ signed_decimal p.token_type) ++ codes "\n"))
 
--- the token policies of an endpoint, each in a line, where they are wanted; none where there is no list
+-- the token policies of an endpoint, each on a line, if they are wanted; none if there is no list
 abbrev pub policies_part : Bool → Option (List UserTokenPolicy) → List ℕ
 policies_part wanted None = []
 policies_part wanted (Some policies) = cond wanted (flat_map policy_line policies) []
 
--- where a server is, and under which security: URL MODE POLICY, the mode by its number
+-- the address of a server and its security: URL MODE POLICY, the mode by its number
 unfoldable pub address_line : EndpointDescription → List ℕ
 address_line e = shown_string e.endpoint_url ++ ((codes " " ++ (signed_decimal e.security_mode ++ codes " ")) ++ (shown_string e.security_policy_uri ++ codes "\n"))
 
--- an endpoint: its address, and where its token policies are wanted, these behind it
+-- an endpoint: its address, followed by its token policies if they are wanted
 unfoldable pub plain_endpoint : EndpointStyle → EndpointDescription → List ℕ
 plain_endpoint style e = address_line e ++ policies_part style.policies e.user_identity_tokens
 
--- the same as an object of JSON, where this is wanted
+-- the same as an object of JSON, if this is wanted
 unfoldable pub endpoint_line : EndpointStyle → EndpointDescription → List ℕ
 endpoint_line style e = cond style.json (json_line (endpoint_json style e)) (plain_endpoint style e)
 
 -- ---- several answers
 
--- the texts of pairs, one of each list, as long as both last
+-- the texts of pairs, one of each list, up to the end of the shorter list
 abbrev pub pairs_text : {A B : Type 0} → (A → B → List ℕ) → List A → List B → List ℕ
 pairs_text f [] ys = []
 pairs_text f (x ∷ xs) [] = []

@@ -1,4 +1,5 @@
--- Answers as JSON (RFC 8259): each line is one object. Its text is what the crate `json` prints of it: no blanks, the shortest escapes.
+-- Answers as JSON (RFC 8259): each line is one object. Its text is what the crate `json` prints of
+-- it: no spaces, the shortest escapes.
 use Rattle.std.specs.Prelude.{ℕ, ℤ, Bool, true, leb, unsigned_abs, cond, ◌==◌, map, option_map, length, List, [], ◌∷◌, ◌++◌, Option, Some, None, codes}
 use Rattle.std.specs.Fmt.{decimal, signed_decimal}
 use Rattle.base64.specs.Engines.{standard}
@@ -25,7 +26,7 @@ use Rattle.ua_texts.specs.declared.style.LineStyle.{LineStyle}
 
 -- ---- objects, arrays and texts
 
--- a member of an object: its name, and what it is
+-- a member of an object: its name and its value
 abbrev pub Field : Type 0
 Field = List ℕ × Json
 
@@ -56,16 +57,17 @@ text_or_null (Some text) = json.string text
 abbrev pub most_exact : ℕ
 most_exact = 9007199254740992
 
--- an Int64: a number up to 2^53 and down to its negative, beyond them a string of its digits
+-- an Int64: a number from -2^53 to 2^53, otherwise a string of its digits
 abbrev pub int64_json : ℤ → Json
 int64_json n = cond (leb (unsigned_abs n) most_exact) (json.number (signed_decimal n)) (json.string (signed_decimal n))
 
--- a UInt64: a number up to 2^53, beyond it a string of its digits
+-- a UInt64: a number up to 2^53, otherwise a string of its digits
 abbrev pub uint64_json : ℕ → Json
 uint64_json n = cond (leb n most_exact) (json.number (decimal n)) (json.string (decimal n))
 
--- a scalar that holds no further value: Boolean as true or false, whole numbers as numbers; a String as it is, a ByteString in base64, null as
--- null; all others as strings of the texts that they have in lines that are not JSON
+-- a scalar that contains no other value: Boolean as true or false, whole numbers as numbers, a
+-- String unchanged, a ByteString in base64, null as null; all others as strings of the texts that
+-- they have in lines that are not JSON
 abbrev pub leaf_json : LeafData → Json
 leaf_json (boolean b) = json.boolean b
 leaf_json (sbyte n) = json.number (signed_decimal n)
@@ -91,7 +93,7 @@ leaf_json (localized_text x) = json.string (leaf_text (localized_text x))
 leaf_json (extension_object x) = json.string (leaf_text (extension_object x))
 leaf_json (reserved k x) = json.string (leaf_text (reserved k x))
 
--- a scalar: one that holds further values as a string of the octets of its canonical encoding
+-- a scalar: one that contains other values as a string of the bytes of its canonical encoding
 abbrev pub scalar_json : ScalarData → Json
 scalar_json (leaf l) = leaf_json l
 scalar_json (data_value d) = json.string (scalar_text (data_value d))
@@ -104,7 +106,7 @@ scalar_json (diagnostic d) = json.string (scalar_text (diagnostic d))
 abbrev pub signed_json : ℤ → Json
 signed_json n = json.number (signed_decimal n)
 
--- the dimensions of an array, where it has any
+-- the dimensions of an array, if it has any
 abbrev pub dimension_fields : List ℤ → List Field
 dimension_fields ds = cond (length ds == 0) [] ((codes "dimensions", array (map signed_json ds)) ∷ [])
 
@@ -113,7 +115,7 @@ abbrev pub items_json : Option (List ScalarData) → Json
 items_json None = json.null
 items_json (Some items) = array (map scalar_json items)
 
--- the type of the elements of an array with `[]` behind it, its elements and its dimensions
+-- the type of the elements of an array followed by `[]`, its elements and its dimensions
 abbrev pub array_fields : ℕ → Option (List ScalarData) → List ℤ → List Field
 array_fields k items ds = (codes "type", json.string (type_name k ++ codes "[]")) ∷ (codes "value", items_json items) ∷ dimension_fields ds
 
@@ -121,34 +123,34 @@ array_fields k items ds = (codes "type", json.string (type_name k ++ codes "[]")
 abbrev pub scalar_fields : ScalarData → List Field
 scalar_fields s = (codes "type", json.string (type_name (kind_of s))) ∷ (codes "value", scalar_json s) ∷ []
 
--- the type and the value of a Variant; no value is of the type `Null`
+-- the type and the value of a Variant; the absent value has the type `Null`
 abbrev pub variant_fields : VariantData → List Field
 variant_fields null = (codes "type", json.string (codes "Null")) ∷ (codes "value", json.null) ∷ []
 variant_fields (one s) = scalar_fields s
 variant_fields (absent k ds) = array_fields k None ds
 variant_fields (many k ss ds) = array_fields k (Some (row_list ss)) ds
 
--- what stands for a value that cannot be written
+-- the fields of a value that cannot be encoded
 abbrev pub unwritable_fields : List Field
 unwritable_fields = (codes "unwritable", json.boolean true) ∷ []
 
--- a value: one that cannot be written is `unwritable`, without its type
+-- a value: one that cannot be encoded is `unwritable`, without its type
 abbrev pub written_fields : VariantData → List Field
 written_fields v = cond (variant_encodable v) (variant_fields v) unwritable_fields
 
--- the value of an answer, where there is one
+-- the value of an answer, if there is one
 abbrev pub value_fields : Option VariantData → List Field
 value_fields None = []
 value_fields (Some v) = written_fields v
 
 -- ---- lines
 
--- the name of a code, where names are wanted and it has one
+-- the name of a code, if names are wanted and it has one
 abbrev pub name_fields : Bool → Option (List ℕ) → List Field
 name_fields names None = []
 name_fields names (Some name) = cond names ((codes "name", json.string name) ∷ []) []
 
--- a NodeId and a status, with its name where names are wanted
+-- a NodeId and a status, with its name if names are wanted
 abbrev pub status_fields : Bool → NodeId → ℕ → List Field
 status_fields names node code = (codes "node", json.string (node_text node)) ∷ (codes "status", json.string (code_text code)) ∷ name_fields names (name_of_code code)
 
@@ -160,7 +162,7 @@ time_json moment = text_or_null (option_map (λ m. signed_decimal m.ticks) momen
 abbrev pub both_fields : DataValue → List Field
 both_fields answer = (codes "source", time_json answer.source_timestamp) ∷ (codes "server", time_json answer.server_timestamp) ∷ []
 
--- the timestamps, where they are wanted
+-- the timestamps, if they are wanted
 abbrev pub time_fields : Bool → DataValue → List Field
 time_fields times answer = cond times (both_fields answer) []
 
@@ -173,11 +175,11 @@ abbrev pub policies_json : Option (List UserTokenPolicy) → Json
 policies_json None = json.null
 policies_json (Some policies) = array (map policy_json policies)
 
--- the token policies, where they are wanted
+-- the token policies, if they are wanted
 abbrev pub policy_fields : Bool → Option (List UserTokenPolicy) → List Field
 policy_fields wanted policies = cond wanted ((codes "policies", policies_json policies) ∷ []) []
 
--- where a server is, and under which security, the mode by its number
+-- the address of a server and its security, the mode by its number
 abbrev pub address_fields : EndpointDescription → List Field
 address_fields e =
     (codes "url", text_or_null e.endpoint_url) ∷ (codes "mode", signed_json e.security_mode) ∷ (codes "policy", text_or_null e.security_policy_uri) ∷ []

@@ -1,4 +1,4 @@
--- The texts of values with all that they hold, as people write them.
+-- The texts of values with all that they contain, for people to read.
 use Rattle.std.specs.Prelude.{◌≡◌, ℕ, ℤ, Bool, true, false, List, [], ◌∷◌, ◌++◌, codes}
 use Rattle.std.specs.Fmt.{signed_decimal}
 use Rattle.std.specs.List.{flat_map}
@@ -13,8 +13,9 @@ use Rattle.ua_texts.specs.Values.{leaf_text, parted, scalar_text, type_name}
 
 -- ---- scalars that hold no further value
 
--- such a scalar, alone or within an array or brackets, with or without the names of status codes: an XmlElement and an ExtensionObject by their
--- octets, as what `leaf_text` says of all others
+-- the text of such a scalar, alone or within an array or brackets, with or without the names of
+-- StatusCodes; a type that is not listed has its `leaf_text`, which shows an XmlElement and an
+-- ExtensionObject by their bytes
 abbrev pub IsPlainLeaf : Bool → Bool → LeafData → List ℕ → Type 0
 IsPlainLeaf names within (float p) text = IsPlainFloat p.bits text
 IsPlainLeaf names within (double p) text = IsPlainDouble p.bits text
@@ -27,14 +28,14 @@ IsPlainLeaf names within (qualified_name x) text = text ≡ plain_name within x
 IsPlainLeaf names within (localized_text x) text = text ≡ plain_localized within x
 IsPlainLeaf names within l text = text ≡ leaf_text l
 
--- a scalar that holds further values by its octets, any other so
+-- a scalar that contains other values is shown by its bytes, any other as above
 abbrev pub IsLeafOrOctets : Bool → Bool → ScalarData → List ℕ → Type 0
 IsLeafOrOctets names within (leaf l) text = IsPlainLeaf names within l text
 IsLeafOrOctets names within s text = text ≡ scalar_text s
 
 -- ---- the fields of a DataValue
 
--- the fields of a DataValue that are there, each by its name, but its value
+-- the fields of a DataValue that are present, each by its name, except its value
 abbrev pub IsPlainFields : Bool → DataFields → List ℕ → Type 0
 IsPlainFields names f text =
     (source : List ℕ) × (server : List ℕ) × (text ≡ status_part names (codes "status") f.status ++ (source ++ server))
@@ -46,7 +47,7 @@ IsPlainFields names f text =
 abbrev pub length_text : ℤ → List ℕ
 length_text n = codes "[" ++ (signed_decimal n ++ codes "]")
 
--- the lengths of an array's dimensions, each in square brackets; `[]` where it has one dimension alone
+-- the lengths of an array's dimensions, each in square brackets; `[]` if it has only one dimension
 abbrev pub dimensions_text : List ℤ → List ℕ
 dimensions_text [] = codes "[]"
 dimensions_text (d ∷ ds) = flat_map length_text (d ∷ ds)
@@ -56,14 +57,16 @@ abbrev pub array_type : ℕ → List ℤ → List ℕ
 array_type k ds = type_name k ++ dimensions_text ds
 
 abbrev mutual
-  -- the type and the value: `Int32 7`, `Int32[2][3] 1,2,3,4,5,6`, `Int32[] null`; no value is `Null`
+  -- the type and the value: `Int32 7`, `Int32[2][3] 1,2,3,4,5,6`, `Int32[] null`; the absent value
+  -- is `Null`
   pub IsPlainTyped : Bool → Bool → VariantData → List ℕ → Type 0
   IsPlainTyped names within null text = text ≡ codes "Null"
   IsPlainTyped names within (one s) text = (value : List ℕ) × (text ≡ type_name (kind_of s) ++ (codes " " ++ value)) × IsPlainScalar names within s value
   IsPlainTyped names within (absent k ds) text = text ≡ array_type k ds ++ codes " null"
   IsPlainTyped names within (many k ss ds) text = (texts : List (List ℕ)) × (text ≡ array_type k ds ++ (codes " " ++ parted texts)) × ArePlain names ss texts
 
-  -- a scalar: a Variant with its type in round brackets, a DataValue and a DiagnosticInfo by their fields in curly ones
+  -- a scalar: a Variant with its type in round brackets, a DataValue and a DiagnosticInfo by their
+  -- fields in curly ones
   pub IsPlainScalar : Bool → Bool → ScalarData → List ℕ → Type 0
   IsPlainScalar names within (leaf l) text = IsPlainLeaf names within l text
   IsPlainScalar names within (data_value d) text = IsPlainDataValue names d text
@@ -77,16 +80,17 @@ abbrev mutual
   ArePlain names (scalar s ss) [] = ⊥
   ArePlain names (scalar s ss) (text ∷ texts) = IsPlainScalar names true s text × ArePlain names ss texts
 
-  -- a DataValue: `{`, its value with its type where there is one, the fields that are there, and ` }`
+  -- a DataValue: `{`, its value with its type if there is one, the fields that are present, and
+  -- ` }`
   pub IsPlainDataValue : Bool → DataValueData → List ℕ → Type 0
   IsPlainDataValue names (bare f) text = (fields : List ℕ) × (text ≡ codes "{" ++ (fields ++ codes " }")) × IsPlainFields names f fields
   IsPlainDataValue names (valued v f) text = (value : List ℕ) × (fields : List ℕ) × (text ≡ codes "{ value (" ++ (value ++ (codes ")" ++ (fields ++ codes " }"))))
       × IsPlainTyped names true v value × IsPlainFields names f fields
 
--- elements with a comma between
+-- elements separated by commas
 abbrev pub IsPlainItems : Bool → List ScalarData → List ℕ → Type 0
 IsPlainItems names items text = (texts : List (List ℕ)) × (text ≡ parted texts) × ArePlain names (row items) texts
 
--- a value that cannot be written is `unwritable`, without its type
+-- a value that cannot be encoded is `unwritable`, without its type
 abbrev pub IsPlainVariant : Bool → VariantData → List ℕ → Type 0
 IsPlainVariant names v text = Either (variant_encodable v) (IsPlainTyped names false v text) (text ≡ unwritable)

@@ -1,4 +1,5 @@
--- Answers to a Read as JSON (RFC 8259), as people write values and times: each line is one object.
+-- Answers to a Read as JSON (RFC 8259), with values and times for people to read: each line is one
+-- object.
 use Rattle.std.specs.Prelude.{◌≡◌, ℕ, Bool, true, false, List, [], ◌∷◌, ◌++◌, Option, Some, None, Result, OnOk, codes, from_bits}
 use Rattle.std.specs.Float.{Float, Format, binary32, binary64, float_is_finite}
 use Rattle.std.specs.List.{flat_map}
@@ -23,16 +24,17 @@ use Rattle.ua_texts.specs.declared.style.LineStyle.{LineStyle}
 
 -- ---- scalars
 
--- a string of a text of which this holds
+-- a string of a text with this property
 abbrev pub IsTextJson : (List ℕ → Type 0) → Json → Type 0
 IsTextJson Holds j = (text : List ℕ) × (j ≡ json.string text) × Holds text
 
--- a floating-point number: a number that reads back as it; an infinity, and what is no number, a string of its text
+-- a floating-point number: a number that is parsed back as it; an infinity and a NaN are strings of
+-- their text
 abbrev pub IsFloatJson : Format → Float → (List ℕ → Type 0) → Json → Type 0
 IsFloatJson f x Holds j = Either (float_is_finite x) ((text : List ℕ) × (j ≡ json.number text) × IsPlainNumber text × (parse_float f text ≡ Some x)) (IsTextJson Holds j)
 
--- a scalar: Boolean, whole numbers, String and ByteString as without; a Float and a Double so; all others strings of the texts that they have in
--- lines that are not JSON
+-- a scalar: Boolean, whole numbers, String and ByteString as in exact JSON; a Float and a Double as
+-- numbers; all others as strings of the texts that they have in lines that are not JSON
 abbrev pub IsScalarJson : Bool → ScalarData → Json → Type 0
 IsScalarJson names (leaf (boolean b)) j = j ≡ scalar_json (leaf (boolean b))
 IsScalarJson names (leaf (sbyte n)) j = j ≡ scalar_json (leaf (sbyte n))
@@ -51,7 +53,7 @@ IsScalarJson names s j = IsTextJson (IsPlainScalar names false s) j
 
 -- ---- values
 
--- the elements of an array, each so
+-- the elements of an array, each in this form
 abbrev pub AreJson : Bool → ScalarsData → List Json → Type 0
 AreJson names no_scalars [] = Unit {0}
 AreJson names no_scalars (j ∷ js) = ⊥
@@ -62,7 +64,8 @@ AreJson names (scalar s ss) (j ∷ js) = IsScalarJson names s j × AreJson names
 abbrev pub IsArrayJson : Bool → ScalarsData → Json → Type 0
 IsArrayJson names ss j = (items : List Json) × (j ≡ array items) × AreJson names ss items
 
--- the type and the value of a Variant, its elements so; no value and a null array are as without
+-- the type and the value of a Variant, its elements in this form; an absent value and a null array
+-- are as in exact JSON
 abbrev pub AreVariantFields : Bool → VariantData → List Field → Type 0
 AreVariantFields names null fields = fields ≡ variant_fields null
 AreVariantFields names (one s) fields = (value : Json) × (fields ≡ (codes "type", json.string (type_name (kind_of s))) ∷ (codes "value", value) ∷ []) × IsScalarJson names s value
@@ -70,11 +73,11 @@ AreVariantFields names (absent k ds) fields = fields ≡ variant_fields (absent 
 AreVariantFields names (many k ss ds) fields =
     (value : Json) × (fields ≡ (codes "type", json.string (type_name k ++ codes "[]")) ∷ (codes "value", value) ∷ dimension_fields ds) × IsArrayJson names ss value
 
--- a value: one that cannot be written is `unwritable`, without its type
+-- a value: one that cannot be encoded is `unwritable`, without its type
 abbrev pub AreWrittenFields : Bool → VariantData → List Field → Type 0
 AreWrittenFields names v fields = Either (variant_encodable v) (AreVariantFields names v fields) (fields ≡ unwritable_fields)
 
--- the value of an answer, where there is one
+-- the value of an answer, if there is one
 abbrev pub AreValueFields : Bool → Option VariantData → List Field → Type 0
 AreValueFields names None fields = fields ≡ []
 AreValueFields names (Some v) fields = AreWrittenFields names v fields
@@ -94,7 +97,7 @@ pub record AreBothFields (answer : DataValue) (fields : List Field) : Type 0 whe
   pub of_source : IsTimeJson answer.source_timestamp source
   pub of_server : IsTimeJson answer.server_timestamp server
 
--- the timestamps, where they are wanted
+-- the timestamps, if they are wanted
 abbrev pub AreTimeFields : Bool → DataValue → List Field → Type 0
 AreTimeFields true answer fields = AreBothFields answer fields
 AreTimeFields false answer fields = fields ≡ []
@@ -109,14 +112,14 @@ pub record IsPlainJson (style : LineStyle) (node : NodeId) (answer : DataValue) 
 
 -- ---- what is put into a writer
 
--- a value of which this holds was put
+-- a value with this property was put
 abbrev pub PutsJson : {E : Type 0} → Result (Unit {0}) E → Written → Written → (Json → Type 0) → Type 0
 PutsJson r old new Is = OnOk r ((j : Json) × (new.before ≡ old.before) × (new.tokens ≡ old.tokens ++ json_tokens j) × Is j)
 
--- values of which this holds were put
+-- values with this property were put
 abbrev pub PutsEach : {E : Type 0} → Result (Unit {0}) E → Written → Written → (List Json → Type 0) → Type 0
 PutsEach r old new Are = OnOk r ((js : List Json) × (new.before ≡ old.before) × (new.tokens ≡ old.tokens ++ flat_map json_tokens js) × Are js)
 
--- members of which this holds were put
+-- members with this property were put
 abbrev pub PutsFields : {E : Type 0} → Result (Unit {0}) E → Written → Written → (List Field → Type 0) → Type 0
 PutsFields r old new Are = OnOk r ((fields : List Field) × (new.before ≡ old.before) × (new.tokens ≡ old.tokens ++ fields_tokens fields) × Are fields)

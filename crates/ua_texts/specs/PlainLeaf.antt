@@ -1,5 +1,6 @@
--- The texts of values that hold no further value, as people write them. A number's decimal is not fixed by the value alone: any that reads back as it,
--- in its layout. So what is said there of a text is a relation.
+-- The texts of values that contain no other value, for people to read. A number's decimal is not
+-- determined by the value alone: it is any that is parsed back as the value, in its layout. So the
+-- text is given by a relation.
 use Rattle.std.specs.Prelude.{◌≡◌, ◌⊎◌, ℕ, Bool, true, false, cond, nat_eq, List, [], ◌++◌, Option, Some, None, Result, OnOk, codes}
 use Rattle.std.specs.Fmt.{decimal, signed_decimal}
 use Rattle.ua_plain.specs.Decimal.{IsDoubleText, IsFloatText, has_double_text, has_float_text}
@@ -17,18 +18,18 @@ use Rattle.ua_texts.specs.declared.marks.Marks.{Marks}
 
 -- ---- what was added
 
--- a text of which this holds was added
+-- a text with this property was appended
 abbrev pub Adds : {E : Type 0} → Result (Unit {0}) E → List ℕ → List ℕ → (List ℕ → Type 0) → Type 0
 Adds r old new Holds = OnOk r ((text : List ℕ) × (new ≡ old ++ text) × Holds text)
 
--- ---- numbers and moments
+-- ---- numbers and times
 
--- where a value has a form of its own, it has that; else it has this one
+-- if a value has a form of its own, it has that; otherwise it has this one
 abbrev pub Either : Bool → Type 0 → Type 0 → Type 0
 Either true Own Other = Own
 Either false Own Other = Other
 
--- a Float: its decimal, `Infinity`, `NaN`, or its pattern
+-- a Float: its decimal, `Infinity`, `NaN`, or its bit pattern
 abbrev pub IsPlainFloat : ℕ → List ℕ → Type 0
 IsPlainFloat bits text = Either (has_float_text bits) (IsFloatText bits text) (text ≡ pattern_text 8 bits)
 
@@ -50,11 +51,11 @@ plain_string within text = cond within (marked_string (of true) text) (shown_str
 abbrev pub plain_node : Bool → NodeId → List ℕ
 plain_node within node = marked (of within) (node_text node)
 
--- `svr=`, the index of a server and `;`, unless that is 0 (OPC 10000-6, 5.3.1.11)
+-- `svr=`, the index of a server and `;`, unless it is 0 (OPC 10000-6, 5.3.1.11)
 abbrev pub server_text : ℕ → List ℕ
 server_text server = cond (nat_eq server 0) [] (codes "svr=" ++ (decimal server ++ codes ";"))
 
--- `nsu=`, the URI of a namespace and `;`, where there is one
+-- `nsu=`, the URI of a namespace and `;`, if there is one
 abbrev pub uri_text : Bool → Option (List ℕ) → List ℕ
 uri_text within None = []
 uri_text within (Some uri) = codes "nsu=" ++ (marked (before_semicolon within) uri ++ codes ";")
@@ -67,15 +68,16 @@ plain_expanded within e = server_text e.server_index ++ (uri_text within e.names
 abbrev pub plain_name : Bool → QualifiedName → List ℕ
 plain_name within q = decimal q.namespace ++ (codes ":" ++ marked_string (of within) q.name)
 
--- a locale and a bar, where there is one
+-- a locale and a bar, if there is one
 abbrev pub locale_text : Marks → Option (List ℕ) → List ℕ
 locale_text marks None = []
 locale_text marks (Some locale) = marked marks locale ++ codes "|"
 
--- a LocalizedText: the locale with a bar behind it, and the text, as `en|Pump`; the text alone where it has no locale
+-- a LocalizedText: the locale followed by a bar, and the text, as `en|Pump`; the text alone if it
+-- has no locale
 abbrev pub plain_localized : Bool → LocalizedText → List ℕ
 plain_localized within l = locale_text (before_bar within) l.locale ++ marked_string (before_bar within) l.text
 
--- a StatusCode: its pattern, and where names are wanted its name behind it, where it has one
+-- a StatusCode: its digits, and if names are wanted its name after them, if it has one
 abbrev pub plain_code : Bool → ℕ → List ℕ
 plain_code names code = pattern_text 8 code ++ cond names (name_part (name_of_code code)) []

@@ -1,4 +1,4 @@
--- What responses are printed as.
+-- How responses are printed.
 use Rattle.std.specs.Prelude.{◌≡◌, ◌≢◌, ℕ, Bool, false, List, [], ◌++◌, length, Option, Some, None}
 use Rattle.std.specs.List.{flat_map, list_any}
 use Rattle.std.specs.Option.{unwrap_or}
@@ -41,7 +41,7 @@ fault_in m = None
 abbrev pub is_bad_value : DataValue → Bool
 is_bad_value answer = is_bad (unwrap_or answer.status (of_code 0))
 
--- any of them passes, where there are some
+-- whether any of them passes
 abbrev pub any_in : {A : Type 0} → (A → Bool) → Option (List A) → Bool
 any_in test None = false
 any_in test (Some items) = list_any test items
@@ -54,37 +54,38 @@ has_bad m = false
 
 -- ---- what is printed
 
--- there are as many answers as were asked for, and their lines were added
+-- there are as many answers as were requested, and their lines were appended
 pub record AreAnswers {A : Type 0} (answers : Option (List A)) (asked : ℕ) (lines : List A → List ℕ) (old new : List ℕ) : Type 0 where
   pub each : List A
   pub given : answers ≡ Some each
   pub many : length each ≡ asked
   pub added : new ≡ old ++ lines each
 
--- why no answers were printed: the service failed, or there are not as many as were asked for
+-- why no answers were printed: the service failed, or their number is not that of the items
+-- requested
 abbrev pub NoAnswers : {A : Type 0} → Option (List A) → ℕ → Response → AnswerFault → Type 0
 NoAnswers answers asked response (Service code) = fault_in response ≡ Some code
 NoAnswers {A = A} answers asked response Unknown = (fault_in response ≡ None) × ((each : List A) → answers ≡ Some each → length each ≢ asked)
 NoAnswers answers asked response OutOfMemory = Unit {0}
 
--- what a fault leaves of the text: all of it and no more, unless memory ran out
+-- the text after a fault: it is unchanged, unless an allocation failed
 abbrev pub Leaves : List ℕ → List ℕ → AnswerFault → Type 0
 Leaves old new (Service code) = new ≡ old
 Leaves old new Unknown = new ≡ old
 Leaves old new OutOfMemory = Unit {0}
 
--- the lines of the list, none where it is null
+-- the lines of the list, none if it is null
 abbrev pub endpoint_lines : EndpointStyle → Option (List EndpointDescription) → List ℕ
 endpoint_lines style None = []
 endpoint_lines style (Some endpoints) = flat_map (endpoint_line style) endpoints
 
--- there is a list, and its lines were added
+-- there is a list, and its lines were appended
 pub record AreEndpoints (style : EndpointStyle) (list : Option (Option (List EndpointDescription))) (old new : List ℕ) : Type 0 where
   pub each : Option (List EndpointDescription)
   pub given : list ≡ Some each
   pub added : new ≡ old ++ endpoint_lines style each
 
--- why no endpoints were printed: the service failed, or it was another one
+-- why no endpoints were printed: the service failed, or the response is of another service
 abbrev pub NoEndpoints : Response → AnswerFault → Type 0
 NoEndpoints response (Service code) = fault_in response ≡ Some code
 NoEndpoints response Unknown = (fault_in response ≡ None) × (endpoints_in response ≡ None)

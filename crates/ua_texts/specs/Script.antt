@@ -1,4 +1,4 @@
--- Scripts: what their lines ask for.
+-- Scripts: what their lines request.
 use Rattle.std.specs.Prelude.{◌≡◌, ℕ, cond, List, [], ◌∷◌, ◌++◌, Option, Some, None, Result, Ok, Err, codes}
 use Rattle.std.specs.List.{AllZip}
 use Rattle.ua_builtin.specs.Exact.{◌>>=◌}
@@ -19,12 +19,12 @@ use Rattle.ua_texts.specs.declared.script.Step.TheVariants.{Read, Write, Renew}
 
 -- ---- the fields of a line
 
--- the index range of a text: null where it is empty
+-- the index range of a text: null if it is empty
 abbrev pub range_of : List ℕ → Option (List ℕ)
 range_of [] = None
 range_of (c ∷ cs) = Some (c ∷ cs)
 
--- the index range in the fields behind a NodeId: null where there is none
+-- the index range in the fields after a NodeId: null if there is none
 abbrev pub range_denoted : List (List ℕ) → Option (Option (List ℕ))
 range_denoted [] = Some None
 range_denoted (text ∷ []) = cond (is_short text) (Some (range_of text)) None
@@ -51,35 +51,35 @@ pub record AsksWrite (fields : List (List ℕ)) (node : NodeId) (value : Variant
   pub names : NamesId id node
   pub denotes : typed_denoted kind text ≡ Some value
 
--- what the fields of a line ask for: a Read, a Write, or with `renew` alone a renewal
+-- what the fields of a line request: a Read, a Write, or with `renew` alone a token renewal
 abbrev pub Asks : List (List ℕ) → Step → Type 0
 Asks fields (Read node range) = AsksRead fields node range
 Asks fields (Write node value) = AsksWrite fields node (variant_of value)
 Asks fields Renew = fields ≡ codes "renew" ∷ []
 
--- the fields ask for nothing
+-- the fields request nothing
 abbrev pub AsksNothing : List (List ℕ) → Type 0
 AsksNothing fields = (step : Step) → Asks fields step → ⊥
 
--- what was read from the fields is what they ask for, unless memory ran out
+-- what was parsed from the fields is what they request, unless an allocation failed
 abbrev pub GivesStep : List (List ℕ) → Result Step StepFault → Type 0
 GivesStep fields (Ok step) = Asks fields step
 GivesStep fields (Err Bad) = AsksNothing fields
 GivesStep fields (Err NoMemory) = Unit {0}
 
--- the text of the first field, and that behind it, which names a range as the other fields do
+-- the text of the first field, and the text after it, which names a range as the other fields do
 pub record IsCutBehindFirst (text first behind : List ℕ) : Type 0 where
   pub rest : List (List ℕ)
   pub parts : fields text ≡ first ∷ rest
   pub part : range_denoted rest ≡ range_denoted (fields behind)
 
--- what was read from a field is the NodeId that it names, unless memory ran out
+-- what was parsed from a field is the NodeId that it names, unless an allocation failed
 abbrev pub GivesId : List ℕ → Result NodeId StepFault → Type 0
 GivesId text (Ok id) = NamesId text id
 GivesId text (Err Bad) = (id : NodeId) → NamesId text id → ⊥
 GivesId text (Err NoMemory) = Unit {0}
 
--- what was read from two fields is the value that they denote, unless memory ran out
+-- what was parsed from two fields is the value that they denote, unless an allocation failed
 abbrev pub GivesValue : List ℕ → List ℕ → Result Variant StepFault → Type 0
 GivesValue kind text (Ok value) = typed_denoted kind text ≡ Some (variant_of value)
 GivesValue kind text (Err Bad) = typed_denoted kind text ≡ None
@@ -87,15 +87,15 @@ GivesValue kind text (Err NoMemory) = Unit {0}
 
 -- ---- a whole script
 
--- a line asks for the step that has its number
+-- a line requests the step that has its number
 abbrev pub IsLineOf : FileLine → ScriptLine → Type 0
 IsLineOf line step = (line.number ≡ step.number) × Asks (fields line.text) step.step
 
--- the lines that are read ask for the steps, each for its own
+-- the lines request the steps, each line its own
 abbrev pub AsksFor : List ℕ → List ScriptLine → Type 0
 AsksFor text steps = AllZip IsLineOf (node_lines text) steps
 
--- the first line that asks for nothing
+-- the first line that requests nothing
 pub record IsFirstBad (lines : List FileLine) (number : ℕ) : Type 0 where
   pub front : List FileLine
   pub line : List ℕ
@@ -105,7 +105,7 @@ pub record IsFirstBad (lines : List FileLine) (number : ℕ) : Type 0 where
   pub good : AllZip IsLineOf front steps
   pub bad : AsksNothing (fields line)
 
--- what a fault says of a script
+-- what a fault tells of a script
 abbrev pub Refuses : List ℕ → ScriptFault → Type 0
 Refuses text (Line number) = IsFirstBad (node_lines text) number
 Refuses text OutOfMemory = Unit {0}

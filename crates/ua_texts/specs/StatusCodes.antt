@@ -1,5 +1,6 @@
--- The table of status codes: 270 of the codes of OPC 10000-6, A.2, with their names. Not in it are 0x8052_0000, whose name editions of the standard
--- spell in two ways, and codes that late editions added.
+-- The table of StatusCodes: 270 of the codes of OPC 10000-6, A.2, with their names. The table lacks
+-- 0x8052_0000, whose name editions of the standard spell in two ways, and codes that late editions
+-- added.
 use Rattle.std.specs.Prelude.{ℕ, List, [], ◌∷◌, codes}
 
 -- each code with its name, in the order of the codes

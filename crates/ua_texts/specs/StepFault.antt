@@ -1,4 +1,4 @@
--- Which fault of a line a fault within it makes.
+-- Which fault of a line results from a fault within it.
 use Rattle.std.specs.Prelude.{ℕ}
 use Rattle.ua_builtin.specs.declared.fault.TextFault.{TextFault}
 use Rattle.ua_builtin.specs.declared.fault.TextFault.TheVariants.{NotNodeId, OutOfMemory as NoTextMemory}
@@ -9,17 +9,17 @@ use Rattle.ua_texts.specs.declared.fault.ScriptFault.TheVariants.{Line, OutOfMem
 use Rattle.ua_texts.specs.declared.fault.StepFault.{StepFault}
 use Rattle.ua_texts.specs.declared.fault.StepFault.TheVariants.{Bad, NoMemory}
 
--- the fault of a line whose NodeId was not read: the field names none, or memory ran out
+-- the fault of a line whose NodeId was not parsed: the field names none, or an allocation failed
 abbrev pub id_fault : TextFault → StepFault
 id_fault NotNodeId = Bad
 id_fault NoTextMemory = NoMemory
 
--- the fault of a line whose value was not read: the field denotes none, or memory ran out
+-- the fault of a line whose value was not parsed: the field denotes none, or an allocation failed
 abbrev pub value_fault : ValueFault → StepFault
 value_fault NotValue = Bad
 value_fault NoValueMemory = NoMemory
 
--- the fault of a script, by that of its line of a number
+-- the fault of a script that results from the fault of its line with this number
 abbrev pub script_fault : ℕ → StepFault → ScriptFault
 script_fault number Bad = Line number
 script_fault number NoMemory = OutOfMemory

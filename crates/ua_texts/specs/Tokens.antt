@@ -1,4 +1,4 @@
--- What is put into a writer of JSON.
+-- What is put into a JSON writer.
 use Rattle.std.specs.Prelude.{◌≡◌, List, [], ◌∷◌, ◌++◌, Result, OnOk}
 use Rattle.json.specs.Token.{Token}
 use Rattle.json.specs.Token as token
@@ -16,6 +16,6 @@ fields_tokens (field ∷ fields) = token.key field.0 ∷ (json_tokens field.1 ++
 abbrev pub element_tokens : ScalarData → List Token
 element_tokens s = json_tokens (scalar_json s)
 
--- these tokens were put behind those that stood there
+-- these tokens were put after those that were there
 abbrev pub Puts : {E : Type 0} → Result (Unit {0}) E → Written → Written → List Token → Type 0
 Puts r old new tokens = OnOk r ((new.before ≡ old.before) × (new.tokens ≡ old.tokens ++ tokens))

@@ -50,12 +50,13 @@ abbrev pub boolean_text : Bool → List ℕ
 boolean_text true = codes "true"
 boolean_text false = codes "false"
 
--- a scalar without a text form: the octets of its canonical encoding
+-- a scalar without a text form: the bytes of its canonical encoding
 abbrev pub leaf_octets_text : LeafData → List ℕ
 leaf_octets_text l = written_text (leaf_encodable l) (leaf_canonical l)
 
--- a scalar that holds no further value: numbers in decimal, Float, Double and StatusCode by their patterns, a String as it is shown,
--- a Guid with its hyphens, a ByteString in base64, others by their octets
+-- a scalar that contains no other value: numbers in decimal, Float, Double and StatusCode by their
+-- bit patterns, a String as it is shown, a Guid with its hyphens, a ByteString in base64, others by
+-- their bytes
 abbrev pub leaf_text : LeafData → List ℕ
 leaf_text (boolean b) = boolean_text b
 leaf_text (sbyte n) = signed_decimal n
@@ -81,7 +82,7 @@ leaf_text (localized_text x) = leaf_octets_text (localized_text x)
 leaf_text (extension_object x) = leaf_octets_text (extension_object x)
 leaf_text (reserved k x) = unwritable
 
--- a scalar: one that holds further values by the octets of its canonical encoding
+-- a scalar: one that contains other values by the bytes of its canonical encoding
 abbrev pub scalar_text : ScalarData → List ℕ
 scalar_text (leaf l) = leaf_text l
 scalar_text (data_value d) = written_text (data_value_encodable d) (data_value_canonical d)
@@ -90,22 +91,22 @@ scalar_text (diagnostic d) = written_text (diagnostic_encodable d) (diagnostic_c
 
 -- ---- arrays
 
--- texts with a comma between
+-- texts separated by commas
 abbrev pub parted : List (List ℕ) → List ℕ
 parted [] = []
 parted (text ∷ texts) = text ++ flat_map (λ t. 44 ∷ t) texts
 
--- the text of an element at a place: behind a comma unless it is the first
+-- the text of an element at an index: after a comma unless it is the first
 abbrev pub item_text : ℕ → List ℕ → List ℕ
 item_text zero text = text
 item_text (suc n) text = 44 ∷ text
 
--- what stands in front of the element at a place: a comma, unless it is the first
+-- the text before the element at an index: a comma, unless it is the first
 abbrev pub comma_at : ℕ → List ℕ
 comma_at zero = []
 comma_at (suc n) = 44 ∷ []
 
--- the elements of an array, with a comma between; none for an empty array
+-- the elements of an array separated by commas; the empty text for an empty array
 abbrev pub items_text : List ScalarData → List ℕ
 items_text items = parted (map scalar_text items)
 
@@ -116,13 +117,14 @@ array_text k (Some items) = type_name k ++ (codes "[] " ++ items_text items)
 
 -- ---- values with their types
 
--- the type and the value: an array's type with `[]` behind it, a null array as `null`; dimensions are not shown; no value is `Null`
+-- the type and the value: an array's type is followed by `[]`, a null array is `null`; dimensions
+-- are not shown; the absent value is `Null`
 abbrev pub typed_text : VariantData → List ℕ
 typed_text null = codes "Null"
 typed_text (one s) = type_name (kind_of s) ++ (codes " " ++ scalar_text s)
 typed_text (absent k ds) = array_text k None
 typed_text (many k ss ds) = array_text k (Some (row_list ss))
 
--- a value that cannot be written is `unwritable`, without its type
+-- a value that cannot be encoded is `unwritable`, without its type
 abbrev pub variant_text : VariantData → List ℕ
 variant_text v = cond (variant_encodable v) (typed_text v) unwritable

@@ -91,7 +91,7 @@ fn push_plain_write(
     out.push_str("\n")
 }
 
-/// Appends a NodeId and a status code, with its name where names are wanted.
+/// Appends a NodeId and a StatusCode, with its name if names are wanted.
 pub(crate) fn push_status(
     alloc: Global,
     out: &mut String,
@@ -107,7 +107,7 @@ pub(crate) fn push_status(
     push_code_as(out, status, names)
 }
 
-/// Appends a value after a space, where there is one.
+/// Appends a value after a space, if there is one.
 fn push_value_part(
     alloc: Global,
     out: &mut String,
@@ -124,7 +124,7 @@ fn push_value_part(
     }
 }
 
-/// Appends the timestamps of an answer, where they are wanted.
+/// Appends the timestamps of an answer, if they are wanted.
 fn push_times_part(out: &mut String, answer: &DataValue, times: bool) -> Result<(), AllocError>
     ensures { OnOk result (string_bytes out.new ≡ string_bytes out.old ++ times_part times answer.now) }
 {
@@ -185,7 +185,7 @@ fn push_plain_endpoint(
     push_policies_part(out, &endpoint.user_identity_tokens, style.policies)
 }
 
-/// Appends where a server is, and under which security.
+/// Appends the address of a server, and its security.
 fn push_address(out: &mut String, endpoint: &EndpointDescription) -> Result<(), AllocError>
     ensures { OnOk result (string_bytes out.new ≡ string_bytes out.old ++ address_line endpoint.now) }
 {
@@ -195,7 +195,7 @@ fn push_address(out: &mut String, endpoint: &EndpointDescription) -> Result<(), 
     out.push_str("\n")
 }
 
-/// Appends the token policies of an endpoint, where they are wanted.
+/// Appends the token policies of an endpoint, if they are wanted.
 fn push_policies_part(
     out: &mut String,
     policies: &UaArray<UserTokenPolicy>,

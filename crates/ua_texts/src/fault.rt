@@ -27,7 +27,7 @@ impl<T: Drop> From<AllocFailed<T>> for ScriptFault {
     }
 }
 
-/// Why a line gave no step.
+/// The reason why a line is no step.
 #[derive(Clone, Copy, PartialEq, Eq, Debug)]
 pub(crate) enum StepFault {
     /// The line is no step.

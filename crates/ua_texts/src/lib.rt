@@ -7,7 +7,8 @@
 //! ```
 //! let steps = parse_script(alloc, "write\tns=1;s=Pump\tInt32\t6\nread\tns=1;s=Pump\n")?;
 //! let mut out = String::new(alloc);
-//! push_read_line(alloc, &mut out, &node, &answer, LineStyle::plain(false))?; // `ns=1;s=Pump 00000000 Int32 6`
+//! // `ns=1;s=Pump 00000000 Int32 6`
+//! push_read_line(alloc, &mut out, &node, &answer, LineStyle::plain(false))?;
 //! ```
 #![tactic(auto)]
 

@@ -1,4 +1,4 @@
-//! Texts that stand among marks.
+//! Texts between delimiters, which are called marks.
 
 ghost use Rattle.std.specs.Prelude.{◌≡◌, ◌++◌, string_bytes, OnOk, Some, None, if◌then◌else◌};
 ghost use Rattle.ua_texts.specs.Marks.{before_bar, before_semicolon, is_mark, marked, marked_char, marked_string, of as marks_of};
@@ -7,19 +7,19 @@ use crate::text::{push_char, push_escaped_octet};
 use std::alloc::AllocError;
 use ua_builtin::UaString;
 
-/// Which characters part a text from what stands beside it, so that they are escaped in it.
+/// The characters that delimit a text, and are escaped in it.
 #[derive(Clone, Copy, PartialEq, Eq, Debug)]
 pub(crate) struct Marks {
     /// A bar follows the text.
     pub bar: bool,
     /// A semicolon follows the text.
     pub semicolon: bool,
-    /// The text stands within an array or within brackets.
+    /// The text is within an array or within brackets.
     pub within: bool,
 }
 
 impl Marks {
-    /// Those of a text that stands alone, or within an array or brackets.
+    /// The marks of a text alone, or within an array or brackets.
     pub(crate) fn of(within: bool) -> Marks
         ensures { result ≡ marks_of within }
     {
@@ -30,7 +30,7 @@ impl Marks {
         }
     }
 
-    /// Those of a text in front of a bar.
+    /// The marks of a text before a bar.
     pub(crate) fn before_bar(within: bool) -> Marks
         ensures { result ≡ before_bar within }
     {
@@ -41,7 +41,7 @@ impl Marks {
         }
     }
 
-    /// Those of a text in front of a semicolon.
+    /// The marks of a text before a semicolon.
     pub(crate) fn before_semicolon(within: bool) -> Marks
         ensures { result ≡ before_semicolon within }
     {
@@ -85,7 +85,7 @@ fn mark_octet(c: char, marks: Marks) -> Option<u8>
     if is_mark { Some(c as u8) } else { None }
 }
 
-/// Appends a String so, null as `null`.
+/// Appends a String with its marks escaped, null as `null`.
 pub(crate) fn push_marked_string(
     out: &mut String,
     text: &UaString,

@@ -1,4 +1,4 @@
-//! The standard's names of status codes.
+//! The standard's names of StatusCodes.
 
 ghost use Rattle.std.specs.Prelude.{◌≡◌, ◌++◌, map, option_map, slice_get, string_bytes, OnOk};
 ghost use Rattle.ua_texts.specs.Names.{name_of_code, named_code};
@@ -19,14 +19,14 @@ pub fn code_name(status: StatusCode) -> Option<&'static str>
     }
 }
 
-/// The codes of the table, rising.
+/// The codes of the table, in ascending order.
 fn known_codes() -> &'static [u32]
     ensures { result.now ≡ map (λ row. row.0) status_codes }
 {
     &STATUS_CODES
 }
 
-/// The name at a place of the table.
+/// The name at an index of the table.
 fn name_at(place: usize) -> Option<&'static str>
     ensures { option_map (λ name. name.now) result ≡ slice_get (map (λ row. row.1) status_codes) place }
 {

@@ -80,7 +80,7 @@ pub fn push_endpoint_json(
     end_line(out, line)
 }
 
-/// A line whose object is begun.
+/// A line whose object has begun.
 pub(crate) fn begin_line(alloc: Global) -> Result<Writer, AllocError>
     ensures { IfOk result (λ line. (line.before ≡ []) × (line.tokens ≡ begin_object ∷ [])) }
 {
@@ -139,7 +139,7 @@ fn put_base64(alloc: Global, line: &mut Writer, octets: &UaBytes) -> Result<(), 
     }
 }
 
-/// Puts a NodeId and a status code, with its name where names are wanted.
+/// Puts a NodeId and a StatusCode, with its name if names are wanted.
 pub(crate) fn put_status(
     alloc: Global,
     line: &mut Writer,
@@ -156,7 +156,7 @@ pub(crate) fn put_status(
     put_name(line, status, names)
 }
 
-/// Puts the name of a status code, where names are wanted and it has one.
+/// Puts the name of a StatusCode, if names are wanted and it has one.
 fn put_name(line: &mut Writer, status: StatusCode, names: bool) -> Result<(), AllocError>
     ensures { Puts result line.old line.new (fields_tokens (name_fields names (name_of_code status.code))) }
 {
@@ -166,7 +166,7 @@ fn put_name(line: &mut Writer, status: StatusCode, names: bool) -> Result<(), Al
     }
 }
 
-/// Puts the value of an answer, where there is one.
+/// Puts the value of an answer, if there is one.
 fn put_value(
     alloc: Global,
     line: &mut Writer,
@@ -180,7 +180,7 @@ fn put_value(
     }
 }
 
-/// Puts a value, or that it cannot be written.
+/// Puts a value, or `unwritable` if it cannot be encoded.
 fn put_written(alloc: Global, line: &mut Writer, value: &Variant) -> Result<(), AllocError>
     ensures { Puts result line.old line.new (fields_tokens (written_fields (variant_of value.now))) }
 {
@@ -310,7 +310,7 @@ fn put_scalars(alloc: Global, line: &mut Writer, scalars: &[Scalar]) -> Result<(
     Ok(())
 }
 
-/// Puts the dimensions of an array, where it has any.
+/// Puts the dimensions of an array, if it has any.
 pub(crate) fn put_dimensions(line: &mut Writer, dims: &Dimensions) -> Result<(), AllocError>
     ensures { Puts result line.old line.new (fields_tokens (dimension_fields dims.now)) }
 {
@@ -401,7 +401,7 @@ fn put_scalar_text(alloc: Global, line: &mut Writer, scalar: &Scalar) -> Result<
     line.string(&text)
 }
 
-/// Puts the timestamps of an answer, where they are wanted.
+/// Puts the timestamps of an answer, if they are wanted.
 fn put_times(line: &mut Writer, answer: &DataValue, times: bool) -> Result<(), AllocError>
     ensures { Puts result line.old line.new (fields_tokens (time_fields times answer.now)) }
 {
@@ -438,7 +438,7 @@ fn put_time(line: &mut Writer, moment: Option<DateTime>) -> Result<(), AllocErro
     }
 }
 
-/// Puts where a server is, and under which security.
+/// Puts the address of a server, and its security.
 fn put_address(line: &mut Writer, endpoint: &EndpointDescription) -> Result<(), AllocError>
     ensures { Puts result line.old line.new (fields_tokens (address_fields endpoint.now)) }
 {
@@ -463,7 +463,7 @@ fn put_signed_as(line: &mut Writer, name: &str, number: i32) -> Result<(), Alloc
     line.i64(i64::from(number))
 }
 
-/// Puts the token policies of an endpoint, where they are wanted.
+/// Puts the token policies of an endpoint, if they are wanted.
 fn put_policies(
     line: &mut Writer,
     policies: &UaArray<UserTokenPolicy>,

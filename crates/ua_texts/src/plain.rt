@@ -1,4 +1,4 @@
-//! Values with all that they hold, in the human-readable form.
+//! Values with all that they contain, in the human-readable form.
 
 ghost use Rattle.std.specs.Prelude.{◌≡◌, ◌++◌, OnOk, map, string_bytes, true};
 ghost use Rattle.std.specs.List.{flat_map};
@@ -109,7 +109,7 @@ fn push_lengths(out: &mut String, lengths: &[i32]) -> Result<(), AllocError>
     Ok(())
 }
 
-/// Appends the elements of an array, with a comma between.
+/// Appends the elements of an array, separated by commas.
 #[cycle(plain)]
 fn push_plain_items(
     alloc: Global,
@@ -159,7 +159,7 @@ fn push_plain_scalars(
     Ok(())
 }
 
-/// Appends a comma in front of the element at a place, unless it is the first.
+/// Appends a comma before the element at an index, unless it is the first.
 fn push_comma(out: &mut String, index: usize) -> Result<(), AllocError>
     ensures { OnOk result (string_bytes out.new ≡ string_bytes out.old ++ comma_at index) }
 {
@@ -188,7 +188,7 @@ pub(crate) fn push_plain_scalar(
     }
 }
 
-/// Appends a value that holds no further value; any other by its bytes.
+/// Appends a value that contains no other value; any other by its bytes.
 fn push_plain_leaf(
     alloc: Global,
     out: &mut String,
@@ -230,7 +230,7 @@ fn push_plain_bracketed(
     out.push_str(")")
 }
 
-/// Appends a DataValue among Variants: the fields that are there, in curly brackets.
+/// Appends a DataValue among Variants: the fields that are present, in curly brackets.
 #[cycle(plain)]
 fn push_plain_data_value(
     alloc: Global,
@@ -259,7 +259,7 @@ fn push_plain_data_value(
     }
 }
 
-/// Appends the fields of a DataValue that are there, but its value.
+/// Appends the fields of a DataValue that are present, except its value.
 fn push_plain_fields(out: &mut String, value: &DataValue, names: bool) -> Result<(), AllocError>
     ensures { Adds result (string_bytes out.old) (string_bytes out.new) (IsPlainFields names (data_fields_of value.now)) }
 {

@@ -53,7 +53,7 @@ fn push_plain_line(
     out.push_str("\n")
 }
 
-/// Appends a value after a space, where there is one.
+/// Appends a value after a space, if there is one.
 fn push_plain_value_part(
     alloc: Global,
     out: &mut String,
@@ -71,7 +71,7 @@ fn push_plain_value_part(
     }
 }
 
-/// Appends the timestamps of an answer, where they are wanted.
+/// Appends the timestamps of an answer, if they are wanted.
 fn push_plain_times_part(
     out: &mut String,
     answer: &DataValue,

@@ -1,4 +1,4 @@
-//! DiagnosticInfos as people write them.
+//! DiagnosticInfos in the human-readable form.
 
 ghost use Rattle.std.specs.Prelude.{◌≡◌, ◌++◌, OnOk, string_bytes};
 ghost use Rattle.ua_diagnostic.specs.Diagnostic.{innermost, no_fields};
@@ -9,7 +9,7 @@ use crate::plain_parts::{push_number_part, push_status_part, push_text_part};
 use std::alloc::AllocError;
 use ua_diagnostic::{BoxedDiagnostic, DiagnosticInfo};
 
-/// Appends a DiagnosticInfo: the fields that are there, each by its name, within curly brackets.
+/// Appends a DiagnosticInfo: the fields that are present, each by its name, within curly brackets.
 #[cycle(plain_diagnostics)]
 pub(crate) fn push_plain_diagnostic(
     out: &mut String,
@@ -49,7 +49,7 @@ fn push_empty_diagnostic(out: &mut String, names: bool) -> Result<(), AllocError
     out.push_str("{ }")
 }
 
-/// Appends the fields that are there, but the inner info.
+/// Appends the fields that are present, except the inner DiagnosticInfo.
 #[tactic(auto, unfolding(crate::specs::PlainDiagnostic::diagnostic_parts))]
 fn push_diagnostic_parts(
     out: &mut String,

@@ -1,4 +1,4 @@
-//! Values that hold no further value, as people write them.
+//! Values that contain no other value, in the human-readable form.
 
 ghost use Rattle.std.specs.Prelude.{◌≡◌, ◌++◌, OnOk, string_bytes};
 ghost use Rattle.ua_texts.specs.PlainLeaf.{Adds, IsPlainDouble, IsPlainFloat, IsPlainMoment, locale_text, plain_code, plain_expanded, plain_localized, plain_name, plain_node, plain_string, server_text, uri_text};
@@ -14,7 +14,7 @@ use ua_builtin::{
 };
 use ua_plain::{double_text, float_text, moment_text};
 
-/// Appends a Float: its decimal, or its pattern where it has none.
+/// Appends a Float: its decimal, or its bit pattern if it has none.
 pub(crate) fn push_float(out: &mut String, value: FloatBits) -> Result<(), AllocError>
     ensures { Adds result (string_bytes out.old) (string_bytes out.new) (IsPlainFloat value.bits) }
 {
@@ -24,7 +24,7 @@ pub(crate) fn push_float(out: &mut String, value: FloatBits) -> Result<(), Alloc
     }
 }
 
-/// Appends a Double: its decimal, or its pattern where it has none.
+/// Appends a Double: its decimal, or its bit pattern if it has none.
 pub(crate) fn push_double(out: &mut String, value: DoubleBits) -> Result<(), AllocError>
     ensures { Adds result (string_bytes out.old) (string_bytes out.new) (IsPlainDouble value.bits) }
 {
@@ -34,7 +34,7 @@ pub(crate) fn push_double(out: &mut String, value: DoubleBits) -> Result<(), All
     }
 }
 
-/// Appends a DateTime: its time, or its ticks where it has none.
+/// Appends a DateTime: its time, or its ticks if it has none.
 pub(crate) fn push_moment(out: &mut String, value: DateTime) -> Result<(), AllocError>
     ensures { Adds result (string_bytes out.old) (string_bytes out.new) (IsPlainMoment value) }
 {
@@ -44,7 +44,7 @@ pub(crate) fn push_moment(out: &mut String, value: DateTime) -> Result<(), Alloc
     }
 }
 
-/// Appends a String, with the marks escaped where it stands within an array or brackets.
+/// Appends a String, with the marks escaped if it is within an array or brackets.
 pub(crate) fn push_plain_string(
     out: &mut String,
     text: &UaString,
@@ -96,7 +96,7 @@ fn push_server(out: &mut String, server: u32) -> Result<(), AllocError>
     write!(out, "svr={server};")
 }
 
-/// Appends the URI of a namespace, where there is one.
+/// Appends the URI of a namespace, if there is one.
 fn push_uri(out: &mut String, uri: &UaString, within: bool) -> Result<(), AllocError>
     ensures { OnOk result (string_bytes out.new ≡ string_bytes out.old ++ uri_text within uri.now) }
 {
@@ -120,7 +120,7 @@ pub(crate) fn push_plain_name(
     push_marked_string(out, &name.name, Marks::of(within))
 }
 
-/// Appends a LocalizedText: its locale with a bar after it, where it has one, and its text.
+/// Appends a LocalizedText: its locale with a bar after it, if it has one, and its text.
 pub(crate) fn push_plain_localized(
     out: &mut String,
     value: &LocalizedText,
@@ -133,7 +133,7 @@ pub(crate) fn push_plain_localized(
     push_marked_string(out, &value.text, marks)
 }
 
-/// Appends a locale and a bar, where there is one.
+/// Appends a locale and a bar, if there is one.
 fn push_locale(out: &mut String, locale: &UaString, marks: Marks) -> Result<(), AllocError>
     ensures { OnOk result (string_bytes out.new ≡ string_bytes out.old ++ locale_text marks locale.now) }
 {
@@ -146,7 +146,7 @@ fn push_locale(out: &mut String, locale: &UaString, marks: Marks) -> Result<(), 
     }
 }
 
-/// Appends a StatusCode as a pattern, and where names are wanted its name after a space.
+/// Appends a StatusCode in hexadecimal, and if names are wanted its name after a space.
 pub(crate) fn push_plain_code(
     out: &mut String,
     status: StatusCode,

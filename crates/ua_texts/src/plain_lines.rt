@@ -1,4 +1,4 @@
-//! Texts of values after their types, and the lines that hold them, as people write them.
+//! Texts of values after their types, and the lines that contain them, in the human-readable form.
 
 ghost use Rattle.std.specs.Prelude.{◌≡◌, ◌++◌, ◌∷◌, [], IfOk, OnOk, string_bytes};
 ghost use Rattle.ua_texts.specs.PlainLines.{exact_fields, exact_line, exact_lines as exact_lines_of, exact_typed as exact_typed_of};
@@ -17,7 +17,7 @@ pub fn exact_typed(alloc: Global, kind: &str, text: &str) -> Result<String, Allo
     Ok(exact)
 }
 
-/// Appends the text of a value after the name of its type so.
+/// Appends the text of a value after the name of its type, in its exact form.
 fn push_exact_typed(out: &mut String, kind: &str, text: &str) -> Result<(), AllocError>
     ensures { OnOk result (string_bytes out.new ≡ string_bytes out.old ++ exact_typed_of kind.now text.now) }
 {
@@ -39,7 +39,7 @@ pub fn exact_lines(alloc: Global, text: &str) -> Result<String, AllocError>
     Ok(exact)
 }
 
-/// Appends a line so.
+/// Appends a line in its exact form.
 fn push_exact_line(out: &mut String, line: &str) -> Result<(), AllocError>
     ensures { OnOk result (string_bytes out.new ≡ string_bytes out.old ++ exact_line line.now) }
 {
@@ -47,7 +47,7 @@ fn push_exact_line(out: &mut String, line: &str) -> Result<(), AllocError>
     out.push_str("\n")
 }
 
-/// Appends the fields of a line, with a tab between, and the last one in its exact form.
+/// Appends the fields of a line, separated by tabs, and the last one in its exact form.
 fn push_exact_fields(out: &mut String, line: &str) -> Result<(), AllocError>
     ensures { OnOk result (string_bytes out.new ≡ string_bytes out.old ++ exact_fields line.now) }
 {

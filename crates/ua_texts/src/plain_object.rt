@@ -41,7 +41,7 @@ pub fn push_plain_json(
     end_line(out, line)
 }
 
-/// Puts the value of an answer, where there is one.
+/// Puts the value of an answer, if there is one.
 fn put_plain_value(
     alloc: Global,
     line: &mut Writer,
@@ -56,7 +56,7 @@ fn put_plain_value(
     }
 }
 
-/// Puts a value, or that it cannot be written.
+/// Puts a value, or `unwritable` if it cannot be encoded.
 fn put_plain_written(
     alloc: Global,
     line: &mut Writer,
@@ -265,7 +265,7 @@ fn put_plain_text(
     line.string(&text)
 }
 
-/// Puts the timestamps of an answer, where they are wanted.
+/// Puts the timestamps of an answer, if they are wanted.
 fn put_plain_times(
     alloc: Global,
     line: &mut Writer,

@@ -1,4 +1,4 @@
-//! Parts of values by their names, as people write them.
+//! Parts of values by their names, in the human-readable form.
 
 ghost use Rattle.std.specs.Prelude.{◌≡◌, ◌++◌, OnOk, string_bytes};
 ghost use Rattle.ua_texts.specs.PlainLeaf.{Adds};
@@ -10,7 +10,7 @@ use std::alloc::AllocError;
 use std::fmt::Write;
 use ua_builtin::{DateTime, StatusCode, UaString};
 
-/// Appends a number by its name, where there is one.
+/// Appends a number by its name, if there is one.
 pub(crate) fn push_number_part(
     out: &mut String,
     name: &str,
@@ -24,7 +24,7 @@ pub(crate) fn push_number_part(
     }
 }
 
-/// Appends a text in brackets by its name, where there is one.
+/// Appends a text in brackets by its name, if there is one.
 pub(crate) fn push_text_part(
     out: &mut String,
     name: &str,
@@ -40,7 +40,7 @@ pub(crate) fn push_text_part(
     out.push_str(")")
 }
 
-/// Appends a status by its name, where there is one.
+/// Appends a status by its name, if there is one.
 pub(crate) fn push_status_part(
     out: &mut String,
     name: &str,
@@ -58,7 +58,7 @@ pub(crate) fn push_status_part(
     }
 }
 
-/// Appends a timestamp, and what is to be added to it, each by its name, where it is there.
+/// Appends a timestamp, and the picoseconds to be added to it, each by its name, if it is present.
 pub(crate) fn push_time_part(
     out: &mut String,
     name: &str,

@@ -31,7 +31,7 @@ pub fn parse_plain_value(
     parse_value(alloc, kind, array, &exact)
 }
 
-/// A text with each decimal's pattern, and each time's ticks, in its place.
+/// A text with the bit pattern in place of each decimal, and the ticks in place of each time.
 fn exact_text(alloc: Global, kind: u8, array: bool, text: &str) -> Result<String, AllocError>
     ensures { IfOk result (λ exact. string_bytes exact ≡ exact_text_of kind array text.now) }
 {
@@ -40,7 +40,8 @@ fn exact_text(alloc: Global, kind: u8, array: bool, text: &str) -> Result<String
     Ok(exact)
 }
 
-/// Appends a text with each decimal's pattern, and each time's ticks, in its place.
+/// Appends a text with the bit pattern in place of each decimal, and the ticks in place of each
+/// time.
 pub(crate) fn push_exact_text(
     out: &mut String,
     kind: u8,
@@ -56,7 +57,7 @@ pub(crate) fn push_exact_text(
     }
 }
 
-/// Appends the elements of an array so, with a comma between.
+/// Appends the elements of an array in this form, separated by commas.
 fn push_exact_elements(out: &mut String, kind: u8, text: &str) -> Result<(), AllocError>
     ensures { OnOk result (string_bytes out.new ≡ string_bytes out.old ++ exact_elements kind text.now) }
 {
@@ -68,7 +69,7 @@ fn push_exact_elements(out: &mut String, kind: u8, text: &str) -> Result<(), All
     Ok(())
 }
 
-/// Appends the element at a place so, after a comma unless it is the first.
+/// Appends the element at an index in this way, after a comma unless it is the first.
 fn push_exact_item(
     out: &mut String,
     kind: u8,
@@ -83,8 +84,8 @@ fn push_exact_item(
     push_exact(out, kind, element)
 }
 
-/// Appends a Float's or Double's pattern for its decimal, or a DateTime's ticks for its time, or
-/// the text as it stands.
+/// Appends a Float's or Double's bit pattern for its decimal, a DateTime's ticks for its time, or
+/// the text unchanged.
 fn push_exact(out: &mut String, kind: u8, text: &str) -> Result<(), AllocError>
     ensures { OnOk result (string_bytes out.new ≡ string_bytes out.old ++ exact_element kind text.now) }
 {

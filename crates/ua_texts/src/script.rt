@@ -10,7 +10,7 @@ use ua_builtin::{NodeId, UaString};
 use ua_nodes::{MOST_OCTETS, is_read, parse_type, parse_value, without_return};
 use ua_variant::Variant;
 
-/// The step that a line of a script asks for.
+/// The step that a line of a script requests.
 #[derive(Drop)]
 pub enum Step {
     /// Read the Value of a node, or the part of an array that an index range selects.
@@ -52,7 +52,7 @@ pub fn parse_script(alloc: Global, text: &str) -> Result<Vec<ScriptLine>, Script
     Ok(steps)
 }
 
-/// What a line asks for.
+/// The request of a line.
 fn parse_step(alloc: Global, line: &str) -> Result<Step, StepFault>
     ensures { GivesStep (fields line.now) result }
 {
@@ -66,7 +66,7 @@ fn parse_step(alloc: Global, line: &str) -> Result<Step, StepFault>
     }
 }
 
-/// What a line of one field asks for.
+/// The request of a line of one field.
 fn parse_word(line: &str) -> Result<Step, StepFault>
     ensures { GivesStep (line.now ∷ []) result }
 {
@@ -76,7 +76,7 @@ fn parse_word(line: &str) -> Result<Step, StepFault>
     }
 }
 
-/// What a line asks for that begins with `read` and a tab.
+/// The request of a line that begins with `read` and a tab.
 fn parse_read(alloc: Global, rest: &str) -> Result<Step, StepFault>
     ensures { GivesStep (codes "read" ∷ fields rest.now) result }
 {
@@ -92,14 +92,14 @@ fn parse_read(alloc: Global, rest: &str) -> Result<Step, StepFault>
     Ok(Step::Read { node, range })
 }
 
-/// The first field, and the text after it, which is empty where there is no other field.
+/// The first field, and the text after it, which is empty if there is no other field.
 fn split_range(rest: &str) -> (&str, &str)
     ensures { IsCutBehindFirst rest.now result.0.now result.1.now }
 {
     rest.split_once('\t').unwrap_or((rest, ""))
 }
 
-/// What a line asks for that begins with `write` and a tab.
+/// The request of a line that begins with `write` and a tab.
 fn parse_write(alloc: Global, rest: &str) -> Result<Step, StepFault>
     ensures { GivesStep (codes "write" ∷ fields rest.now) result }
 {
@@ -127,7 +127,7 @@ fn parse_node(alloc: Global, text: &str) -> Result<NodeId, StepFault>
     Ok(NodeId::parse_text(alloc, text)?)
 }
 
-/// The index range of a field, null where it is empty.
+/// The index range of a field, null if it is empty.
 fn parse_range(alloc: Global, text: &str) -> Result<UaString, AllocError>
     ensures { IfOk result (λ range. range ≡ range_of text.now) }
 {

@@ -295,6 +295,6 @@ macro_rules! names_of {
 /// The codes of the table.
 pub(crate) static STATUS_CODES: [u32; 270] = status_codes!(codes_of);
 
-/// The names of the table, one a line. They are one text, since a table of so many texts is dear to
-/// check.
+/// The names of the table, one on each line. They are one text, since a table of so many texts
+/// takes long to check.
 pub(crate) const STATUS_NAMES: &str = status_codes!(names_of);

@@ -99,7 +99,7 @@ fn push_array(
     }
 }
 
-/// Appends the elements of an array, with a comma between.
+/// Appends the elements of an array, separated by commas.
 fn push_elements(alloc: Global, out: &mut String, elements: &Elements) -> Result<(), AllocError>
     ensures { OnOk result (string_bytes out.new ≡ string_bytes out.old ++ items_text (elements_of elements.now)) }
 {
@@ -130,7 +130,7 @@ fn push_scalars(alloc: Global, out: &mut String, scalars: &[Scalar]) -> Result<(
     Ok(())
 }
 
-/// Appends the element at a place, after a comma unless it is the first.
+/// Appends the element at an index, after a comma unless it is the first.
 fn push_item(
     alloc: Global,
     out: &mut String,

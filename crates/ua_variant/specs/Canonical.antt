@@ -1,4 +1,4 @@
--- The one encoding that is written.
+-- The canonical encoding.
 use Rattle.std.specs.Prelude.{ℕ, ◌+◌, false, List, [], ◌∷◌, ◌++◌}
 use Rattle.ua_builtin.specs.Number.{number_octets}
 use Rattle.ua_variant.specs.Data.{DataFields, VariantData, null, one, absent, many, ScalarData, leaf, data_value, variant, diagnostic, ScalarsData, no_scalars, scalar, DataValueData, bare, valued}
@@ -9,11 +9,11 @@ use Rattle.ua_variant.specs.Encoding.{array_octet}
 use Rattle.ua_diagnostic.specs.Dimensions.{null_count, has_dims, dims_canonical}
 use Rattle.ua_diagnostic.specs.Diagnostic.{diagnostic_canonical}
 
--- the octets that are written for the fields of a DataValue but its value, behind the mask
+-- the canonical encoding of the fields of a DataValue except its value, after the mask
 unfoldable pub data_fields_canonical : DataFields → List ℕ
 data_fields_canonical f = (data_fields (data_flags f)).canonical f
 
--- the octets that are written for a Variant, a scalar, the elements of an array, and a DataValue
+-- the canonical encoding of a Variant, a scalar, the elements of an array, and a DataValue
 abbrev mutual
   pub variant_canonical : VariantData → List ℕ
   variant_canonical null = 0 ∷ []

@@ -8,7 +8,7 @@ use Rattle.ua_variant.specs.Trees.{Tree, tip, fork, coded_tree}
 use Rattle.ua_variant.specs.Data.{LeafData, DataFields, VariantData, null, one, absent, many, ScalarData, leaf, data_value, variant, diagnostic, ScalarsData, no_scalars, scalar, DataValueData, bare, valued}
 use Rattle.ua_diagnostic.specs.Diagnostic.{DiagnosticData}
 
--- what stands at the leaves of a tree
+-- the contents of the leaves of a tree
 pub data Mark : Type 0 where
   empty_mark : Mark
   array_mark : ℕ → List ℤ → Mark
@@ -42,7 +42,7 @@ abbrev mutual
 abbrev pub no_data : DataValueData
 no_data = bare (record { status = None; source_timestamp = None; source_picoseconds = None; server_timestamp = None; server_picoseconds = None })
 
--- the value that has this tree; some value where none has it
+-- the value that has this tree; some value if none has it
 abbrev mutual
   pub variant_from : Tree Mark → VariantData
   variant_from (tip (array_mark k ds)) = absent k ds

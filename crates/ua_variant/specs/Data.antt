@@ -14,7 +14,8 @@ use Rattle.ua_builtin.specs.declared.qualified_name.QualifiedName.{QualifiedName
 use Rattle.ua_builtin.specs.declared.localized_text.LocalizedText.{LocalizedText}
 use Rattle.ua_builtin.specs.declared.extension_object.ExtensionObject.{ExtensionObject}
 
--- the scalars that hold no further value, one case a type id; the reserved ids 26 to 31 keep theirs
+-- the scalars that contain no other value, one case a type id; the reserved ids 26 to 31 keep
+-- theirs
 pub data LeafData : Type 0 where
   boolean : Bool → LeafData
   sbyte : ℤ → LeafData
@@ -40,7 +41,7 @@ pub data LeafData : Type 0 where
   extension_object : ExtensionObject → LeafData
   reserved : ℕ → Option (List ℕ) → LeafData
 
--- the fields of a DataValue but its value
+-- the fields of a DataValue except its value
 pub record DataFields : Type 0 where
   pub status : Option StatusCode
   pub source_timestamp : Option DateTime

@@ -1,4 +1,4 @@
--- Readers on lists: the value at the front and the octets behind it, or nothing.
+-- Decoders on lists of bytes: the value at the start and the bytes after it, or nothing.
 use Rattle.std.specs.Prelude.{ℕ, suc, zero, ◌%◌, Bool, cond, ◌&&◌, not, leb, eqb, Some, None}
 use Rattle.ua_builtin.specs.Exact.{◌>>=◌}
 use Rattle.ua_builtin.specs.Number.{number_at}
@@ -13,7 +13,8 @@ use Rattle.ua_variant.specs.Encodable.{is_read_kind}
 use Rattle.ua_diagnostic.specs.Dimensions.{is_negative, dims_at, no_dims_at}
 use Rattle.ua_diagnostic.specs.Diagnostic.{diagnostic_at}
 
--- a mask of at most 0x3F, where 0x01 is set a value, which inner reads, and the other fields that the mask announces
+-- a mask of at most 0x3F, a value if 0x01 is set, which inner decodes, and the other fields that
+-- the mask announces
 unfoldable pub data_value_step : Reader VariantData → Reader DataValueData
 data_value_step inner octets = number_at 1 octets >>= λ m. when (leb m.0 0x3F) (
     optional_read (has m.0 0x01) inner m.1 >>= λ v. (data_fields m.0).decode v.1 >>= λ f. Some (value_within v.0 f.0, f.1))
@@ -36,24 +37,25 @@ row_at (suc n) p octets = p octets >>= λ s. row_at n p s.1 >>= λ ss. Some (sca
 abbrev pub elements_at : (ℕ → Reader ScalarData) → ℕ → Bool → ℕ → Reader VariantData
 elements_at p k f n octets = row_at n (p k) octets >>= λ ss. dims_at f n ss.1 >>= λ ds. Some (many k ss.0 ds.0, ds.1)
 
--- behind the first octet of an array: a count, its elements and dimensions; a negative count is a null array
+-- after the first byte of an array: a count, its elements and dimensions; a negative count is a
+-- null array
 unfoldable pub array_at : (ℕ → Reader ScalarData) → ℕ → Bool → Reader VariantData
 array_at p k f octets = number_at 4 octets >>= λ n. cond (is_negative n.0)
     (no_dims_at f n.1 >>= λ ds. Some (absent k ds.0, ds.1))
     (elements_at p k f n.0 n.1)
 
--- behind the first octet t
+-- after the first byte t
 unfoldable pub variant_after : (ℕ → Reader ScalarData) → ℕ → Reader VariantData
 variant_after p t octets =
     cond (eqb t 0) (Some (null, octets)) (
     cond (leb 0x80 t) (when (is_read_kind (t % 0x40) && leb t 0xFF) (array_at p (t % 0x40) (has t 0x40) octets))
     (when (not (eqb t 24)) (p t octets >>= λ s. Some (one s.0, s.1))))
 
--- the first octet and what it announces, where p reads the scalars of each type id
+-- the first byte and what it announces, where p decodes the scalars of each type id
 unfoldable pub variant_step : (ℕ → Reader ScalarData) → Reader VariantData
 variant_step p octets = number_at 1 octets >>= λ t. variant_after p t.0 t.1
 
--- a Variant, and a DataValue, with so many levels left
+-- a Variant, and a DataValue, with this nesting depth left
 unfoldable mutual
   pub variant_at : ℕ → Reader VariantData
   variant_at zero octets = None
@@ -63,6 +65,6 @@ unfoldable mutual
   data_value_at zero octets = None
   data_value_at (suc n) octets = data_value_step (variant_at n) octets
 
--- the scalars of each type id, with n levels left
+-- the scalars of each type id, with a nesting depth of n left
 abbrev pub scalars_at : ℕ → ℕ → Reader ScalarData
 scalars_at n = scalar_at (data_value_at n) (variant_at n) (diagnostic_at n)

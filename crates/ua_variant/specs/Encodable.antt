@@ -1,4 +1,4 @@
--- Which values can be written.
+-- Which values can be encoded.
 pub use Rattle.ua_diagnostic.specs.Diagnostic.{diagnostic_encodable}
 pub use Rattle.ua_diagnostic.specs.Dimensions.{dims_encodable}
 use Rattle.std.specs.Prelude.{ℕ, ◌+◌, Bool, true, false, ◌&&◌, leb, eqb, not, [], ◌∷◌}
@@ -20,15 +20,15 @@ kind_of (data_value d) = 23
 kind_of (variant v) = 24
 kind_of (diagnostic d) = 25
 
--- the type ids that are written
+-- the type ids that are encoded
 abbrev pub is_kind : ℕ → Bool
 is_kind k = leb 1 k && leb k 25
 
--- the type ids that are read: those that are written, and the reserved ones
+-- the type ids that are decoded: those that are encoded, and the reserved ones
 abbrev pub is_read_kind : ℕ → Bool
 is_read_kind k = leb 1 k && leb k 31
 
--- each field that is there can be written
+-- each field that is present can be encoded
 unfoldable pub data_fields_encodable : DataFields → Bool
 data_fields_encodable f =
     let time = optional_fits date_time_format.encodable in
@@ -48,7 +48,7 @@ abbrev pub row_length : ScalarsData → ℕ
 row_length no_scalars = 0
 row_length (scalar s ss) = 1 + row_length ss
 
--- a value with all that it holds, its depth apart
+-- a value with all that it contains can be encoded, its nesting depth aside
 abbrev mutual
   pub variant_fits : VariantData → Bool
   variant_fits null = true
@@ -72,10 +72,10 @@ abbrev mutual
   data_value_fits (bare f) = data_fields_encodable f
   data_value_fits (valued v f) = data_fields_encodable f && variant_fits v
 
--- with at most 100 levels
+-- the Variant can be encoded, with a nesting depth of at most 100
 abbrev pub variant_encodable : VariantData → Bool
 variant_encodable v = leb (variant_depth v) most_levels && variant_fits v
 
--- a DataValue that can be written with all that it holds, with at most 100 levels
+-- a DataValue that can be encoded with all that it contains, with a nesting depth of at most 100
 abbrev pub data_value_encodable : DataValueData → Bool
 data_value_encodable d = leb (data_value_depth d) most_levels && data_value_fits d

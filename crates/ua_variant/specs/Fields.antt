@@ -1,4 +1,4 @@
--- The fields of a DataValue that hold no further value, as a mask announces them.
+-- The fields of a DataValue that contain no other value, as a mask announces them.
 use Rattle.std.specs.Prelude.{ℕ, ◌+◌, is_some}
 use Rattle.ua_builtin.specs.Format.{Flat}
 use Rattle.ua_builtin.specs.Join.{number, both, made}
@@ -8,7 +8,8 @@ use Rattle.ua_variant.specs.Data.{DataFields}
 use Rattle.ua_builtin.specs.Flags.{has, flag_bit}
 use Rattle.ua_diagnostic.specs.Parts.{optional}
 
--- status 0x02, source time 0x04, source picoseconds 0x10, server time 0x08, server picoseconds 0x20, in this order (OPC 10000-6, 5.2.2.17)
+-- status 0x02, source time 0x04, source picoseconds 0x10, server time 0x08, server picoseconds
+-- 0x20, in this order (OPC 10000-6, 5.2.2.17)
 unfoldable pub data_fields : ℕ → Flat DataFields
 data_fields m =
     made (λ (a, (b, (c, (d, e)))). record { status = a; source_timestamp = b; source_picoseconds = c; server_timestamp = d; server_picoseconds = e })
@@ -19,7 +20,7 @@ data_fields m =
     (both (optional (has m 0x08) date_time_format)
     (optional (has m 0x20) (number 2))))))
 
--- the flags of the fields that are there
+-- the flags of the fields that are present
 unfoldable pub data_flags : DataFields → ℕ
 data_flags f =
     flag_bit 0x02 (is_some f.status) + flag_bit 0x04 (is_some f.source_timestamp) + flag_bit 0x08 (is_some f.server_timestamp)

@@ -40,7 +40,8 @@ data_value_format = record {
 
 -- ---- arrays that claim more than there is
 
--- a count that is not negative, and behind it fewer octets than so many elements of the type id take at least
+-- a count that is not negative, and after it fewer bytes than this many elements of the type id
+-- take at least
 pub record IsOverlongRow (kind : ℕ) (octets : List ℕ) : Type 0 where
   pub count : ℕ
   pub rest : List ℕ
@@ -48,7 +49,7 @@ pub record IsOverlongRow (kind : ℕ) (octets : List ℕ) : Type 0 where
   pub positive : count < first_negative
   pub beyond : length rest < count * least_octets kind
 
--- the octet of an array of a type id from 1 to 31, and behind it such a count
+-- the byte of an array of a type id from 1 to 31, and after it such a count
 pub record IsOverlongArray (octets : List ℕ) : Type 0 where
   pub tag : ℕ
   pub rest : List ℕ

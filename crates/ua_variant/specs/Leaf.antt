@@ -1,4 +1,4 @@
--- Scalars that hold no further value: their type ids and encodings.
+-- Scalars that contain no other value: their type ids and encodings.
 use Rattle.std.specs.Prelude.{ℕ, Bool, ◌&&◌, cond, leb, eqb, List, Option, None}
 use Rattle.std.specs.Int.{w8, w16, w32, w64}
 use Rattle.ua_builtin.specs.Exact.{image_read}
@@ -47,7 +47,7 @@ leaf_kind (localized_text x) = 21
 leaf_kind (extension_object x) = 22
 leaf_kind (reserved k x) = k
 
--- the type ids of what holds further values: DataValue, Variant, DiagnosticInfo
+-- the type ids of what contains other values: DataValue, Variant, DiagnosticInfo
 abbrev pub holds_values : ℕ → Bool
 holds_values k = leb 23 k && leb k 25
 
@@ -55,7 +55,7 @@ holds_values k = leb 23 k && leb k 25
 abbrev pub is_reserved : ℕ → Bool
 is_reserved k = leb 26 k && leb k 31
 
--- octets under a reserved id, as a ByteString's; they are not written
+-- bytes under a reserved id, as a ByteString's; they are not encoded
 abbrev pub reserved_octets : ℕ → Flat (Option (List ℕ))
 reserved_octets k = unwritten (such (λ x. is_reserved k) counted)
 
@@ -95,21 +95,21 @@ leaf_typed (localized_text x) = typed localized_text_format x
 leaf_typed (extension_object x) = typed extension_object_format x
 leaf_typed (reserved k x) = typed (reserved_octets k) x
 
--- the octets encode the scalar in the format of its type
+-- the bytes encode the scalar in the format of its type
 abbrev pub EncodesLeaf : LeafData → List ℕ → Type 0
 EncodesLeaf l b = (leaf_typed l).format.encodes (leaf_typed l).value b
 
--- the scalar can be written
+-- the scalar can be encoded
 abbrev pub leaf_encodable : LeafData → Bool
 leaf_encodable l = (leaf_typed l).format.encodable (leaf_typed l).value
 
--- the octets that are written for the scalar
+-- the canonical encoding of the scalar
 abbrev pub leaf_canonical : LeafData → List ℕ
 leaf_canonical l = (leaf_typed l).format.canonical (leaf_typed l).value
 
 -- ---- reading, by the type id
 
--- a scalar of the type id k, in the format of its type; nothing where k is not the id of such a scalar
+-- a scalar of the type id k, in the format of its type; nothing if k is not the id of such a scalar
 unfoldable pub leaf_at : ℕ → Reader LeafData
 leaf_at k octets =
     cond (is_reserved k) (image_read (reserved k) counted.decode octets) (

@@ -1,10 +1,11 @@
--- How deep values nest, and how many values a value holds.
+-- The nesting depth of values, and how many values a value contains.
 pub use Rattle.ua_diagnostic.specs.Diagnostic.{diagnostic_depth, diagnostic_count}
 use Rattle.std.specs.Prelude.{ℕ, ◌+◌, max, length}
 use Rattle.ua_variant.specs.Data.{DataFields, VariantData, null, one, absent, many, ScalarData, leaf, data_value, variant, diagnostic, ScalarsData, no_scalars, scalar, DataValueData, bare, valued}
 use Rattle.ua_diagnostic.specs.Parts.{there}
 
--- a Variant, DataValue or DiagnosticInfo is one level more than the deepest of these directly within it
+-- a Variant, DataValue or DiagnosticInfo is one level more than the deepest of these directly
+-- within it
 abbrev mutual
   pub variant_depth : VariantData → ℕ
   variant_depth null = 1
@@ -26,11 +27,12 @@ abbrev mutual
   data_value_depth (bare f) = 1
   data_value_depth (valued v f) = 1 + variant_depth v
 
--- how many of the fields of a DataValue but its value are there
+-- how many of the fields of a DataValue except its value are present
 abbrev pub data_fields_count : DataFields → ℕ
 data_fields_count f = there f.status + there f.source_timestamp + there f.source_picoseconds + there f.server_timestamp + there f.server_picoseconds
 
--- a Variant, DataValue or DiagnosticInfo counts 1 beside what it holds; each other scalar, field and dimension counts 1
+-- a Variant, DataValue or DiagnosticInfo counts 1 plus what it contains; each other scalar, field
+-- and dimension counts 1
 abbrev mutual
   pub variant_count : VariantData → ℕ
   variant_count null = 1

@@ -1,9 +1,10 @@
--- Arrays of the types whose values all take the same octets, each held in a vector of its own type.
+-- Arrays of the types whose values all take the same bytes, each held in a vector of its own type.
 use Rattle.std.specs.Prelude.{ℕ, Bool, ◌||◌, ◌&&◌, leb, eqb, List, map}
 use Rattle.ua_variant.specs.Data.{LeafData, boolean, sbyte, byte, int16, uint16, int32, uint32, int64, uint64, float, double, date_time, guid, status_code}
 use Rattle.ua_variant.specs.declared.packed.Packed.{Packed}
 
--- the type ids of Boolean, the whole numbers, Float and Double, of DateTime and Guid, and of StatusCode (OPC 10000-6, 5.1.2)
+-- the type ids of Boolean, the whole numbers, Float and Double, of DateTime and Guid, and of
+-- StatusCode (OPC 10000-6, 5.1.2)
 abbrev pub is_packed_kind : ℕ → Bool
 is_packed_kind k = (leb 1 k && leb k 11) || (leb 13 k && leb k 14) || eqb k 19
 

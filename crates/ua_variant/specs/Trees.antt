@@ -1,4 +1,4 @@
--- Binary trees, as lists of marks: by this a data type that holds itself has a code.
+-- Binary trees, as lists of marks: this gives a recursive data type a code.
 use Rattle.std.specs.Prelude.{◌≡◌, List, [], ◌∷◌, Option, Some, None, refl}
 use Rattle.std.proofs.Common.{ap, ◌∙◌}
 use Rattle.std.specs.Coded.{Coded, code_by, coded_list, coded_option}
@@ -25,7 +25,7 @@ trees_of [] done = done
 trees_of (Some p ∷ more) done = trees_of more (tip p ∷ done)
 trees_of (None ∷ more) done = trees_of more (join_last done)
 
--- the first tree, or d where there is none
+-- the first tree, or d if there is none
 abbrev pub first_tree : {P : Type 0} → Tree P → List (Tree P) → Tree P
 first_tree d [] = d
 first_tree d (t ∷ ts) = t

@@ -6,7 +6,7 @@ use Rattle.ua_variant.specs.declared.values.Scalar.{Scalar}
 use Rattle.ua_variant.specs.declared.values.Variant.{Variant}
 use Rattle.ua_variant.specs.declared.values.DataValue.{DataValue}
 
--- the DataValue of the code with these fields, and with a value where there is one
+-- the DataValue of the code with these fields, and with a value if there is one
 abbrev pub made_data_value : Option VariantData → DataFields → DataValue
 made_data_value v f = record {
   value = v;
@@ -17,12 +17,12 @@ made_data_value v f = record {
   server_picoseconds = f.server_picoseconds;
 }
 
--- the DataValue of the code that stands for the data
+-- the DataValue of the code that is for the data
 abbrev pub data_value_value : DataValueData → DataValue
 data_value_value (bare f) = made_data_value None f
 data_value_value (valued v f) = made_data_value (Some v) f
 
--- the scalar of the code that stands for one that holds no further value
+-- the scalar of the code that is for one that contains no other value
 abbrev pub leaf_value : LeafData → Scalar
 leaf_value (boolean x) = Scalar.Boolean x
 leaf_value (sbyte x) = Scalar.SByte x
@@ -48,14 +48,14 @@ leaf_value (localized_text x) = Scalar.LocalizedText x
 leaf_value (extension_object x) = Scalar.ExtensionObject x
 leaf_value (reserved k x) = Scalar.Reserved k x
 
--- the scalar of the code that stands for the data
+-- the scalar of the code that is for the data
 abbrev pub scalar_value : ScalarData → Scalar
 scalar_value (leaf l) = leaf_value l
 scalar_value (data_value d) = Scalar.DataValue d
 scalar_value (variant v) = Scalar.Variant v
 scalar_value (diagnostic d) = Scalar.DiagnosticInfo d
 
--- the Variant of the code that stands for the data
+-- the Variant of the code that is for the data
 abbrev pub variant_value : VariantData → Variant
 variant_value null = Variant.Null
 variant_value (one s) = Variant.One (scalar_value s)

@@ -19,12 +19,12 @@ abbrev pub row_list : ScalarsData → List ScalarData
 row_list no_scalars = []
 row_list (scalar s ss) = s ∷ row_list ss
 
--- the DataValue of these fields, with a value where there is one
+-- the DataValue of these fields, with a value if there is one
 abbrev pub value_within : Option VariantData → DataFields → DataValueData
 value_within None f = bare f
 value_within (Some v) f = valued v f
 
--- the fields of a DataValue of the code but its value
+-- the fields of a DataValue of the code except its value
 abbrev pub data_fields_of : DataValue → DataFields
 data_fields_of d = record {
   status = d.status;
@@ -72,7 +72,8 @@ abbrev pub elements_of : Elements → List ScalarData
 elements_of (Elements.Packed p) = map leaf (packed_leaves p)
 elements_of (Elements.Mixed v) = map scalar_of v.items
 
--- the array of the type id k with these elements and dimensions; a null one where the elements are null
+-- the array of the type id k with these elements and dimensions; a null one if the elements are
+-- null
 abbrev pub many_of : ℕ → Option (List ScalarData) → List ℤ → VariantData
 many_of k None ds = absent k ds
 many_of k (Some ss) ds = many k (row ss) ds
@@ -83,7 +84,7 @@ variant_of Variant.Null = null
 variant_of (Variant.One s) = one (scalar_of s)
 variant_of (Variant.Many k ss ds) = many_of k ss ds
 
--- a Variant among other Variants: null where nothing is kept of it
+-- a Variant among other Variants: null if nothing is kept of it
 abbrev pub or_null : Option VariantData → VariantData
 or_null None = null
 or_null (Some v) = v
@@ -103,7 +104,7 @@ no_fields = record {
   server_picoseconds = None;
 }
 
--- a DataValue among Variants: one without any field where nothing is kept of it
+-- a DataValue among Variants: one without any field if nothing is kept of it
 abbrev pub or_bare : Option DataValueData → DataValueData
 or_bare None = bare no_fields
 or_bare (Some d) = d

@@ -1,13 +1,14 @@
--- Floats (OPC 10000-6, 5.2.2.3): 1.0 is 00 00 80 3F. Every pattern of bits is kept, that of a signalling NaN too.
+-- Floats (OPC 10000-6, 5.2.2.3): 1.0 is 00 00 80 3F. Every bit pattern is kept, that of a
+-- signalling NaN too.
 use Rattle.std.specs.Prelude.{ℕ}
 use Rattle.ua_wire.specs.Format.{Flat}
 use Rattle.ua_wire.specs.Join.{number, made}
 use Rattle.ua_wire.specs.declared.float_bits.FloatBits.{FloatBits}
 
--- the Float of this pattern of bits
+-- the Float with this bit pattern
 abbrev pub of_bits : ℕ → FloatBits
 of_bits n = record { bits = n }
 
--- the pattern of an IEEE 754 number of 32 bits, the least octet first
+-- the bit pattern of an IEEE 754 number of 32 bits, the least significant byte first
 unfoldable pub float_bits : Flat FloatBits
 float_bits = made of_bits (λ v. v.bits) (number 4)

@@ -1,4 +1,4 @@
--- The octets of a text, wherever they stand: in the value itself, or in memory of their own.
+-- The bytes of a text, wherever they are stored: in the value itself, or in memory of their own.
 use Rattle.std.specs.Prelude.{ℕ, List, Option, Some, None, string_bytes}
 use Rattle.ua_wire.specs.declared.text.Held.{Held}
 use Rattle.ua_wire.specs.declared.text.Held.TheVariants.{Null, Short, Long}

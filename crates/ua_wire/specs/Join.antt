@@ -6,7 +6,8 @@ use Rattle.ua_wire.specs.Format.{Flat, Format}
 
 -- ---- flat formats
 
--- a whole number of k octets, the least first: number 4 encodes 258 by 02 01 00 00 (OPC 10000-6, 5.2.2.2)
+-- a whole number of k bytes, the least significant first: number 4 encodes 258 by 02 01 00 00 (OPC
+-- 10000-6, 5.2.2.2)
 abbrev pub number : ℕ → Flat ℕ
 number k = record {
   encodes = IsNumber k;
@@ -15,7 +16,7 @@ number k = record {
   decode = number_at k;
 }
 
--- the format of no value: nothing is read, and nothing can be written
+-- the format of no value: nothing is decoded, and nothing can be encoded
 abbrev pub nothing : {A : Type 0} → Flat A
 nothing = record {
   encodes = Never;
@@ -24,7 +25,7 @@ nothing = record {
   decode = never_read;
 }
 
--- one value alone, without octets; is tells it from the others
+-- one value alone, without bytes; is tells it from the others
 abbrev pub only : {A : Type 0} → A → (A → Bool) → Flat A
 only x is = record {
   encodes = IsOnly x;
@@ -33,8 +34,9 @@ only x is = record {
   decode = only_read x;
 }
 
--- a head by f, and behind it the value in the format that the head chooses; a writer takes the head from the value
--- bind (number 1) in_form form_of: an octet for the form, and what the form has behind it
+-- a head by f, and after it the value in the format that the head chooses; a writer takes the head
+-- from the value
+-- bind (number 1) in_form form_of: a byte for the form, and what the form has after it
 abbrev pub bind : {A B : Type 0} → Flat A → (A → Flat B) → (B → A) → Flat B
 bind f g head = record {
   encodes = Follows f.encodes (λ x. (g x).encodes);
@@ -43,7 +45,7 @@ bind f g head = record {
   decode = then_read f.decode (λ x. (g x).decode);
 }
 
--- two values, one behind the other: both (number 2) (number 1) encodes (258, 7) by 02 01 07
+-- two values, one after the other: both (number 2) (number 1) encodes (258, 7) by 02 01 07
 abbrev pub both : {A B : Type 0} → Flat A → Flat B → Flat (A × B)
 both f g = record {
   encodes = Joined f.encodes g.encodes;
@@ -52,7 +54,8 @@ both f g = record {
   decode = pair_read f.decode g.decode;
 }
 
--- the values made of those of f; one that passes the test can be written, as the value of f that it is made of
+-- the values made of those of f; one that passes the test can be encoded, as the value of f that it
+-- is made of
 abbrev pub image : {A B : Type 0} → (A → B) → (B → A) → (B → Bool) → Flat A → Flat B
 image make parts is f = record {
   encodes = Image make f.encodes;
@@ -61,7 +64,8 @@ image make parts is f = record {
   decode = image_read make f.decode;
 }
 
--- the values made of those of f, where each has its parts: a structure, as the tuple of its fields in order
+-- the values made of those of f, where each has its parts: a structure, as the tuple of its fields
+-- in order
 abbrev pub made : {A B : Type 0} → (A → B) → (B → A) → Flat A → Flat B
 made make parts f = record {
   encodes = Image make f.encodes;
@@ -81,15 +85,15 @@ such test f = record {
 
 -- ---- formats with levels
 
--- how many levels a pair has: as many as the deeper of the two
+-- the nesting depth of a pair: that of the deeper of the two
 abbrev pub pair_depth : {A B : Type 0} → (A → ℕ) → (B → ℕ) → A × B → ℕ
 pair_depth first second v = max (first v.0) (second v.1)
 
--- how many values a pair is: those of both
+-- the count of values of a pair: the sum of both
 abbrev pub pair_count : {A B : Type 0} → (A → ℕ) → (B → ℕ) → A × B → ℕ
 pair_count first second v = first v.0 + second v.1
 
--- two values, one behind the other
+-- two values, one after the other
 abbrev pub pair : {A B : Type 0} → Format A → Format B → Format (A × B)
 pair f g = record {
   encodes = Joined f.encodes g.encodes;
@@ -100,7 +104,7 @@ pair f g = record {
   decode = λ levels. pair_read (f.decode levels) (g.decode levels);
 }
 
--- a structure with levels, as the tuple of its fields in order
+-- a structure with nested values, as the tuple of its fields in order
 abbrev pub struct : {A B : Type 0} → (A → B) → (B → A) → Format A → Format B
 struct make parts f = record {
   encodes = Image make f.encodes;

@@ -6,14 +6,14 @@ use Rattle.ua_wire.specs.Format.{Format}
 abbrev pub CanonicalEncodes : {A : Type 0} → Format A → Type 0
 CanonicalEncodes {A = A} format = (v : A) → IsTrue (format.encodable v) → format.encodes v (format.canonical v)
 
--- no encoding begins another, and no octets encode two values
+-- encodings are prefix-free, and no bytes encode two values
 abbrev pub EncodesOnce : {A : Type 0} → (A → List ℕ → Type 0) → Type 0
 EncodesOnce {A = A} encodes = (v w : A) (a c x y : List ℕ) → encodes v a → encodes w c → a ++ x ≡ c ++ y → (v ≡ w) × (a ≡ c)
 
--- reading gives back the value that was written, whatever follows
+-- decoding gives back the value that was encoded, whatever follows
 abbrev pub ReadsBack : {A : Type 0} → Format A → Type 0
 ReadsBack {A = A} format = (v : A) (rest : List ℕ) (levels : ℕ) → IsTrue (format.encodable v) → format.depth v ≤ levels → format.decode levels (format.canonical v ++ rest) ≡ Some (v, rest)
 
--- a value is at most as many values as its encoding has octets
+-- the count of values of a value is at most the number of bytes of its encoding
 abbrev pub CountsWithinOctets : {A : Type 0} → Format A → Type 0
 CountsWithinOctets {A = A} format = (v : A) (b : List ℕ) → format.encodes v b → format.count v ≤ length b

@@ -1,4 +1,4 @@
--- The laws of equality and of hashes, which the standard library's traits want of an impl.
+-- The laws of equality and of hashes, which the standard library's traits require of an impl.
 use Rattle.std.specs.Prelude.{◌≡◌, ℕ, List, true, Option, Some, None}
 use Rattle.std.proofs.Common.{refl, sym, ap}
 use Rattle.std.specs.Bool.{Decides}

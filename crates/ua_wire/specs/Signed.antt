@@ -5,15 +5,15 @@ use mir.Val.{bits, hbits}
 use Rattle.ua_wire.specs.Format.{Flat}
 use Rattle.ua_wire.specs.Join.{number, image}
 
--- the number lies within the range of the signed type
+-- the number is within the range of the signed type
 abbrev pub in_range : Width → ℤ → Bool
 in_range w (pos n) = nat_lt n (2 ^ hbits w)
 in_range w (negsuc n) = nat_lt n (2 ^ hbits w)
 
--- how many octets a number of the signed type takes
+-- how many bytes a number of the signed type takes
 abbrev pub octets_of : Width → ℕ
 octets_of w = bits w / 8
 
--- a signed number: the octets of its two's complement
+-- a signed number: the bytes of its two's complement
 abbrev pub signed : Width → Flat ℤ
 signed w = image (cast_signed w) (cast_unsigned w) (in_range w) (number (octets_of w))

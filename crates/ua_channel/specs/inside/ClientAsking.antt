@@ -1,4 +1,4 @@
--- What an open channel of a client makes of an ask, and which frames come next in a phase.
+-- What an open channel of a client makes of an operation, and which frames come next in a phase.
 use Rattle.std.specs.Prelude.{◌≡◌, ℕ, ◌+◌, nat_le, Bool, length, List, [], ◌∷◌, ◌++◌, Result}
 use Rattle.ua_builtin.specs.Reasons.{first_reason}
 use Rattle.ua_chunk.specs.declared.fault.CutFault.{CutFault}
@@ -17,36 +17,37 @@ use Rattle.ua_channel.specs.declared.client.phase.Phase.{Phase}
 use Rattle.ua_channel.specs.declared.client.phase.Phase.TheVariants.{Waiting, Agreed, Open, Done}
 use Rattle.ua_chunk.specs.declared.fault.CutFault.TheVariants as cut_fault
 
--- why no call may be asked after so many more calls, whatever its body, in the order in which it is judged
+-- why a call is refused after this many more calls, whatever its body, in the order in which it is
+-- judged
 abbrev pub more_reasons : Talking → ℕ → List (AskFault × Bool)
 more_reasons t more = (TooManyPending, nat_le most_pending (length t.pending.items + more)) ∷ (Exhausted, nat_le no_id (t.next + more)) ∷ []
 
--- what a fault of cutting comes to
+-- the error that results from an error of splitting
 abbrev pub of_cut_fault : CutFault → AskFault
 of_cut_fault TooManyOctets = RequestTooLarge
 of_cut_fault TooManyChunks = RequestTooLarge
 of_cut_fault cut_fault.OutOfMemory = OutOfMemory
 
--- nothing changed, but that room may have been made for pending calls
+-- nothing changed, except that memory may have been reserved for pending calls
 pub record AsBefore (old new : Talking) : Type 0 where
   pub rest : new ≡ record old { pending = new.pending }
   pub pending : new.pending.items ≡ old.pending.items
 
--- what an ask of this body answers
+-- the outcome of a call with this body
 abbrev pub AnswersCall : {A : Type 0} → Talking → List ℕ → Result A AskFault → Type 0
 AnswersCall t body result = AnswersFor (first_reason (ask_reasons t 0 body)) result
 
--- what is judged of any body of this length, without memory
+-- how any body of this length is judged, without allocating
 abbrev pub JudgesCall : Talking → ℕ → ℕ → Result (Unit {0}) AskFault → Type 0
 JudgesCall t more len result = JudgesBy (λ body. first_reason (ask_reasons t more body)) len result
 
--- what stands in front of the request of a CLO of 57 octets
+-- what precedes the request of a CLO of 57 bytes
 abbrev pub closing_front : ℕ → ℕ → ℕ → ℕ → List ℕ
 closing_front channel token number id =
     (kind_octets Clo ++ 70 ∷ number_octets 4 57)
     ++ (token_header.canonical (channel, token) ++ sequence_header.canonical (number, id))
 
--- the gate of a phase
+-- the frame filter of a phase
 abbrev pub client_phase_gate : Phase → Gate
 client_phase_gate Waiting = ack_gate
 client_phase_gate (Agreed a) = answer_gate a.ack.send_buffer_size

@@ -5,7 +5,7 @@ use Rattle.ua_channel.specs.ClientTold.{ClientTold, ClientTold as told}
 use Rattle.ua_channel.specs.declared.client.event.Event.{Event}
 use Rattle.ua_channel.specs.declared.client.event.Event.TheVariants as event
 
--- an event as what a frame tells: the octets of a message are its parts, joined
+-- an event as what a frame tells: the bytes of a message are its parts, joined
 abbrev pub told_by : Event → ClientTold
 told_by (event.Agreed ack) = told.Agreed ack
 told_by (event.Opened channel token) = told.Opened channel token

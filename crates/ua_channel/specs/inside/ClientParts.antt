@@ -1,4 +1,4 @@
--- What the parts of a client make of a frame, and of a piece.
+-- What the parts of a client make of a frame, and of a fragment.
 use Rattle.std.specs.Prelude.{◌≡◌, ℕ, ◌==◌, Bool, true, false, ◌||◌, if◌then◌else◌, not, map, nat_le, is_none, List, [], ◌∷◌, ◌++◌, Option, Some, None, Result, Ok, Err}
 use Rattle.std.specs.List.{filter}
 use Rattle.ua_builtin.specs.Reasons.{first_reason, renamed_reason}
@@ -48,11 +48,13 @@ use Rattle.ua_channel.specs.declared.client.fault.ClientTakeFault.TheVariants as
 
 -- ---- faults
 
--- a channel stops for the first of these reasons, ours or the server's, or for want of memory
+-- a channel stops for the first of these reasons, its own or the server's, or because an allocation
+-- fails
 abbrev pub IsStopFor : List (Why × Bool) → StepFault → Type 0
 IsStopFor reasons fault = IsFaultFor (λ (code : ℕ). first_reason reasons ≡ Some (ours code)) (λ (code : ℕ). first_reason reasons ≡ Some (peers code)) fault
 
--- what is made of a frame with these reasons against it: it is taken, and then this holds, or it stops the channel for the first of them
+-- the outcome for a frame with these reasons against it: it is taken, and then this holds, or it
+-- stops the channel for the first of them
 abbrev pub Judged : {A : Type 0} → List (Why × Bool) → (A → Type 0) → Result A StepFault → Type 0
 Judged reasons Good (Ok a) = (first_reason reasons ≡ None) × Good a
 Judged reasons Good (Err fault) = IsStopFor reasons fault
@@ -63,7 +65,7 @@ Judged reasons Good (Err fault) = IsStopFor reasons fault
 abbrev pub error_reasons : Option ErrorFrame → List (Why × Bool)
 error_reasons e = (ours 0x8007_0000, is_none e) ∷ (peers (code_in e), true) ∷ []
 
--- why the body of an ACK is refused, by the Acknowledge that it is
+-- why the body of an ACK is rejected, by the Acknowledge that it is
 abbrev pub ack_reasons : Limits → Option Ack → List (Why × Bool)
 ack_reasons limits a = (ours 0x8007_0000, is_none a) ∷ (ours 0x8081_0000, of_ack (is_outside limits) a) ∷ []
 
@@ -73,7 +75,7 @@ IsAgreed found a = found ≡ Some a.ack
 
 -- ---- the answer to an OPN
 
--- why a response is refused
+-- why a response is rejected
 abbrev pub response_reasons : OpenResponse → List (Why × Bool)
 response_reasons r = (ours r.response_header.service_result.code, nat_le 0x8000_0000 r.response_header.service_result.code) ∷ []
 
@@ -81,17 +83,18 @@ response_reasons r = (ours r.response_header.service_result.code, nat_le 0x8000_
 abbrev pub IsResponse : OpenResponse → ℕ × ℕ → Type 0
 IsResponse r ids = (r.channel_id ≡ ids.0) × (r.token_id ≡ ids.1)
 
--- why the body of an OPN is refused, by the answer that it is
+-- why the body of an OPN is rejected, by the response that it is
 abbrev pub body_reasons : Option OpenAnswer → List (Why × Bool)
 body_reasons answer = (ours 0x8007_0000, is_none answer) ∷ (ours (result_of answer), is_bad answer) ∷ []
 
--- the answer is a response with this channel and token
+-- the response is an OpenSecureChannel response with this channel and token
 pub record IsAnsweredBy (answer : Option OpenAnswer) (ids : ℕ × ℕ) : Type 0 where
   pub response : OpenResponse
   pub answer_is : answer ≡ Some (Opened response)
   pub ids_are : IsResponse response ids
 
--- what remains to be judged of an answer: its channel, its token, its number, its request id
+-- what remains to be judged of a response: its channel, its token, its SequenceNumber, its
+-- RequestId
 abbrev pub answer_reasons : Received → List Asking → Answer → List (Why × Bool)
 answer_reasons before asked a =
     (ours 0x807F_0000, is_other (channel_in (responses before.openings)) a.channel)
@@ -100,7 +103,7 @@ answer_reasons before asked a =
     ∷ (ours 0x8009_0000, not (is_awaited (responses before.openings) (opened_ids before.openings) asked a.request))
     ∷ []
 
--- the answer is that of an opening, a good response, and only what remains is against it
+-- the response is that of an OPN, a good one, and only what remains is against it
 pub record IsAnswerOf (o : Opening) (a : Answer) : Type 0 where
   pub response : OpenResponse
   pub answer_is : answer_in o ≡ Some (Opened response)
@@ -109,7 +112,7 @@ pub record IsAnswerOf (o : Opening) (a : Answer) : Type 0 where
   pub token_is : response.token_id ≡ a.token
   pub remain : (limits : Limits) (before : Received) (asked : List Asking) → first_reason (client_reasons limits before asked (Opens o)) ≡ first_reason (answer_reasons before asked a)
 
--- what is made of an opening, whatever was received and asked before
+-- the outcome for an OPN, whatever was received and requested before
 abbrev pub JudgesAnswer : Opening → Result Answer StepFault → Type 0
 JudgesAnswer o (Ok a) = IsAnswerOf o a
 JudgesAnswer o (Err fault) = (limits : Limits) (before : Received) (asked : List Asking) → IsStopFor (client_reasons limits before asked (Opens o)) fault
@@ -123,15 +126,15 @@ told_by_frame (Some e) = told_by e ∷ []
 
 -- ---- an open channel
 
--- a client that agreed so has received an ACK, and nothing else
+-- a client with this agreement has received an ACK, and nothing else
 abbrev pub greeted : Agreed → Received
 greeted a = record nothing_received { ack = Some a.ack }
 
--- why the first answer is refused, where it is good: its request id
+-- why the first response is rejected, if it is good: its RequestId
 abbrev pub first_reasons : Answer → List (Why × Bool)
 first_reasons a = (ours 0x8009_0000, not (a.request == 1)) ∷ []
 
--- what is kept of a channel that this answer opened
+-- what is kept of a channel that this response opened
 pub record IsOpenedWith (limits : Limits) (agreed : Agreed) (a : Answer) (t : Talking) : Type 0 where
   pub agreed_is : t.agreed ≡ agreed
   pub channel_is : t.channel ≡ a.channel
@@ -145,13 +148,13 @@ pub record IsOpenedWith (limits : Limits) (agreed : Agreed) (a : Answer) (t : Ta
   pub octets : octet_limit t.assembler ≡ limits.max_message_size
   pub chunks : chunk_limit t.assembler ≡ limits.max_chunk_count
 
--- a frame that carries this opened a channel, and tells it
+-- a frame with this content opened a channel, and tells it
 pub record IsOpenedBy (limits : Limits) (agreed : Agreed) (c : Content) (t : Talking) : Type 0 where
   pub tells : client_tells (greeted agreed) c ≡ told.Opened t.channel t.newest ∷ []
   pub talks : Talks limits t (after (greeted agreed) c) []
   pub ack_is : (after (greeted agreed) c).ack ≡ Some agreed.ack
 
--- why an open channel refuses a good answer, by what is kept of it
+-- why an open channel rejects a good response, by what is kept of it
 abbrev pub renewal_reasons : Talking → Answer → List (Why × Bool)
 renewal_reasons t a =
     (ours 0x807F_0000, not (a.channel == t.channel))
@@ -160,7 +163,8 @@ renewal_reasons t a =
     ∷ (ours 0x8009_0000, not (is_in a.request (listed t.renewal)))
     ∷ []
 
--- what is kept of a channel whose assembler stands after these chunks, with the answer to a renewal
+-- what is kept of a channel whose assembler is in the state after these chunks, with the response
+-- to a renewal
 pub record IsRenewedWith (old : Talking) (a : Answer) (cs : List Chunk) (new : Talking) : Type 0 where
   pub new_is : new ≡ record old { tokens = new.tokens; newest = a.token; renewal = None; assembler = new.assembler }
   pub tokens_are : new.tokens.items ≡ old.tokens.items ++ a.token ∷ []
@@ -176,40 +180,40 @@ TellsRenewal old a cs new e = (e ≡ Some (event.Renewed a.token)) × IsRenewedW
 abbrev pub token_reasons : Talking → Chunk → List (Why × Bool)
 token_reasons t c = (ours 0x807F_0000, not (c.channel == t.channel)) ∷ (ours 0x8087_0000, not (is_in c.token t.tokens.items)) ∷ []
 
--- why a client's channel stops for what an assembler refuses
+-- why a client's channel stops for what an assembler rejects
 abbrev pub why_of : AssembleFault → Why
 why_of fault = ours (step_faults.fault_code 0x80B9_0000 fault)
 
--- why its assembler refuses a chunk behind these
+-- why its assembler rejects a chunk after these
 abbrev pub refused_reasons : Talking → List Chunk → Chunk → List (Why × Bool)
 refused_reasons t cs c = map (renamed_reason why_of) (reasons (octet_limit t.assembler) (chunk_limit t.assembler) (last_number t.assembler) cs c)
 
--- why what is delivered under a request id is refused
+-- why what is delivered under a RequestId is rejected
 abbrev pub unasked_reasons : Talking → ℕ → List (Why × Bool)
 unasked_reasons t request = (ours 0x8009_0000, not (is_in request t.pending.items)) ∷ []
 
--- why an open channel refuses a chunk behind these whose channel and token are right
+-- why an open channel rejects a chunk after these whose channel and token are right
 abbrev pub known_reasons : Talking → List Chunk → Chunk → List (Why × Bool)
 known_reasons t cs c = refused_reasons t cs c ++ unasked_reasons t c.request
 
--- why an open channel refuses a chunk behind these, by what is kept of it
+-- why an open channel rejects a chunk after these, by what is kept of it
 abbrev pub chunk_reasons : Talking → List Chunk → Chunk → List (Why × Bool)
 chunk_reasons t cs c = token_reasons t c ++ known_reasons t cs c
 
--- the first of the tokens stands before the last place of n, or n has no place
+-- the first of the tokens is before the last occurrence of n, or n does not occur
 abbrev pub drops_first : ℕ → List ℕ → Bool
 drops_first n [] = false
 drops_first n (m ∷ ms) = not (m == n) || is_in n ms
 
--- the calls that stay pending behind a chunk of a request that it ends or not
+-- the calls that stay pending after a chunk of a request that it ends or not
 abbrev pub left_behind : Bool → ℕ → List ℕ → List ℕ
 left_behind ending request ids = if ending then filter (λ (id : ℕ). not (id == request)) ids else ids
 
--- the calls that stay pending behind a chunk
+-- the calls that stay pending after a chunk
 abbrev pub left_pending : Chunk → List ℕ → List ℕ
 left_pending c ids = left_behind (ends c) c.request ids
 
--- what is kept of a channel whose assembler accepted a chunk behind these
+-- what is kept of a channel whose assembler accepted a chunk after these
 pub record IsAccepted (old : Talking) (cs : List Chunk) (c : Chunk) (new : Talking) (d : Option Delivered) : Type 0 where
   pub new_is : new ≡ record old { assembler = new.assembler }
   pub stands : Stands new.assembler (cs ++ c ∷ [])
@@ -223,14 +227,16 @@ pub record DeliversEvent (d : Option Delivered) (e : Option Event) : Type 0 wher
   pub tells : map told_item (items_of d) ≡ told_by_frame e
   pub parts : event_parts e ≡ parts_in d
 
--- what is kept of a channel with what a chunk of this request and token delivered, which it ended or not
+-- what is kept of a channel with what a chunk of this request and token delivered, which it ended
+-- or not
 pub record IsDeliveredWith (old : Talking) (request token : ℕ) (ending : Bool) (d : Option Delivered) (new : Talking) (e : Option Event) : Type 0 where
   pub new_is : new ≡ record old { tokens = new.tokens; pending = new.pending }
   pub tokens_are : new.tokens.items ≡ from_last token old.tokens.items
   pub pending_are : new.pending.items ≡ left_behind ending request old.pending.items
   pub event_is : DeliversEvent d e
 
--- what is kept of a channel whose assembler stands after these chunks, with one more, and what that tells
+-- what is kept of a channel whose assembler is in the state after these chunks, with one more, and
+-- what that tells
 pub record IsTakenWith (old : Talking) (cs : List Chunk) (c : Chunk) (new : Talking) (e : Option Event) : Type 0 where
   pub new_is : new ≡ record old { tokens = new.tokens; pending = new.pending; assembler = new.assembler }
   pub tokens_are : new.tokens.items ≡ from_last c.token old.tokens.items
@@ -241,29 +247,30 @@ pub record IsTakenWith (old : Talking) (cs : List Chunk) (c : Chunk) (new : Talk
   pub tells : map told_item (given cs c) ≡ told_by_frame e
   pub parts : MayEndIn cs (Sends c) (event_parts e)
 
--- whatever comes of it
+-- whatever the outcome
 abbrev pub any_event : Unit {0} → Type 0
 any_event e = Unit {0}
 
 -- ---- what a channel makes of a frame
 
--- an open channel took a frame that carries this, and tells this
+-- an open channel took a frame with this content, and tells this
 pub record TakesFrame (limits : Limits) (before : Received) (asked : List Asking) (c : Content) (new : Talking) (e : Option Event) : Type 0 where
   pub tells : client_tells before c ≡ told_by_frame e
   pub parts : MayEndIn before.messages c (event_parts e)
   pub talks : Talks limits new (after before c) asked
   pub ack_is : (after before c).ack ≡ before.ack
 
--- a frame that carries this was taken, and tells this; where the connection then is, and how much it may hold
+-- a frame with this content was taken, and tells this; the progress of the connection then, and how
+-- much it may hold
 pub record TookFrame (limits : Limits) (before : Received) (asked : List Asking) (c : Content) (p : Phase) (bound : ℕ) (e : Option Event) : Type 0 where
   pub tells : client_tells before c ≡ told_by_frame e
   pub parts : MayEndIn before.messages c (event_parts e)
   pub phase_is : InPhase limits p (after before c) asked
   pub bound_is : bound ≡ client_bound_behind limits (after before c).ack
 
--- ---- a piece
+-- ---- a fragment
 
--- the octets end with the frame of this event
+-- the bytes end with the frame of this event
 abbrev pub ComesTo : Event → ClientChannel → List Placed → List ℕ → List ClientTold → Type 0
 ComesTo e new asks octets before = ComesBy client_side false new.end asks octets before e
 
@@ -276,13 +283,13 @@ failure_of (Peer code) = Ok (client_event.Failed code true)
 failure_of OutOfMemory = Err take_fault.OutOfMemory
 failure_of Closed = Err take_fault.Closed
 
--- what is answered where an event came
+-- the outcome of a call with an event
 abbrev pub AnswersEvent : DateTime → Result ClientEvent ClientTakeFault → ClientChannel → List Placed → List ℕ → List ClientTold → Type 0
 AnswersEvent moment (Ok e) new asks octets before = Tells moment e new asks octets before
 AnswersEvent moment (Err take_fault.OutOfMemory) new asks octets before = IsClientDone new
 AnswersEvent moment (Err take_fault.Closed) new asks octets before = ⊥
 
--- an answer with the number of octets that were taken
+-- an outcome with the number of bytes that were taken
 abbrev pub counted : {A F : Type 0} → ℕ → Result A F → Result (ℕ × A) F
 counted n (Ok a) = Ok (n, a)
 counted n (Err fault) = Err fault

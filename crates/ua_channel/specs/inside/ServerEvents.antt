@@ -5,7 +5,7 @@ use Rattle.ua_channel.specs.declared.server_event.Event.{Event}
 use Rattle.ua_channel.specs.ServerTold.{Told, Agreed, Opened, Asked, GaveUp, Closed}
 use Rattle.ua_channel.specs.declared.server_event.Event.TheVariants as event
 
--- an event as what a frame tells: the octets of a message are its parts, joined
+-- an event as what a frame tells: the bytes of a message are its parts, joined
 abbrev pub told_of : Event → Told
 told_of (event.Agreed agreement) = Agreed agreement
 told_of (event.Opened request handle token lifetime) = Opened request handle token lifetime

@@ -1,4 +1,4 @@
--- What a server's channel makes of a call of its reader, and of a piece.
+-- What a server's channel makes of a call of its reader, and of a fragment.
 use Rattle.std.specs.Prelude.{◌≡◌, ℕ, List, [], ◌∷◌, ◌++◌, Result, Ok, Err}
 use Rattle.ua_builtin.specs.declared.date_time.DateTime.{DateTime}
 use Rattle.ua_channel.specs.declared.server.ServerChannel.{ServerChannel}
@@ -14,11 +14,11 @@ use Rattle.ua_channel.specs.ServerTold.{Told, Told as told}
 use Rattle.ua_channel.specs.ServerAnswers.{SendsOctets, Asks}
 use Rattle.ua_channel.specs.declared.server_event.ServerEvent.TheVariants as event
 
--- where the channel stands with an event of a frame
+-- the state of the channel with an event of a frame
 abbrev pub StandsWith : Event → ServerChannel → List ℕ → List Told → Type 0
 StandsWith e new octets before = ComesBy server_side (is_closed e) new.end tt octets before e
 
--- what is answered to an event of the last frame
+-- the outcome for an event of the last frame
 abbrev pub AnswersTo : ℕ → ℕ → DateTime → Result ServerEvent ChannelFault → ServerChannel → List ℕ → List Told → Type 0
 AnswersTo channel number moment (Ok NeedMore) new octets before = ⊥
 AnswersTo channel number moment (Ok (Send sent)) new octets before = SendsOctets channel number moment sent.items new octets before

@@ -1,4 +1,4 @@
--- What faults of the parts of either end come to.
+-- The errors that result from errors of the parts of either end.
 use Rattle.std.specs.Prelude.{ℕ}
 use Rattle.ua_builtin.specs.Status.{of_code}
 use Rattle.ua_frame.specs.declared.fault.FrameFault.{FrameFault}
@@ -29,8 +29,8 @@ of_open_fault open_fault.Unreadable = Refused (of_code 0x8007_0000)
 of_open_fault open_fault.Policy = Refused (of_code 0x8055_0000)
 of_open_fault open_fault.OutOfMemory = OutOfMemory
 
--- the code of what an assembler refuses, where this is that of a message that is too large: Bad_SequenceNumberInvalid,
--- Bad_DecodingError, Bad_TcpNotEnoughResources; 0 where it refuses nothing
+-- the code for what an assembler rejects, given the code for a message that is too large:
+-- Bad_SequenceNumberInvalid, Bad_DecodingError, Bad_TcpNotEnoughResources; 0 if it rejects nothing
 abbrev pub fault_code : ℕ → AssembleFault → ℕ
 fault_code large chunk_fault.Sequence = 0x8088_0000
 fault_code large chunk_fault.Unreadable = 0x8007_0000
@@ -46,14 +46,15 @@ of_chunk_fault large chunk_fault.OutOfMemory = OutOfMemory
 of_chunk_fault large chunk_fault.Closed = Closed
 of_chunk_fault large fault = Refused (of_code (fault_code large fault))
 
--- of a step, for the caller: with the ERR frame that says the code
+-- of a step, for the caller: with the ERR frame of the code
 abbrev pub of_step : StepFault → ChannelFault
 of_step (Refused code) = channel_fault.Refused code (frame_octets (err_frame code))
 of_step (Peer code) = channel_fault.Refused code (frame_octets (err_frame code))
 of_step Closed = channel_fault.Closed
 of_step OutOfMemory = channel_fault.OutOfMemory
 
--- the least number of octets that are taken at a fault, where there are some: none where memory was refused
+-- the minimum number of bytes that are taken at a fault, if there are some: none if an allocation
+-- failed
 abbrev pub least_at : StepFault → ℕ
 least_at OutOfMemory = 0
 least_at other = 1

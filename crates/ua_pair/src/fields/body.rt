@@ -34,7 +34,7 @@ pub enum BodyKind {
     CloseRequest,
 }
 
-/// The number of the encoding of a request of CloseSecureChannel (OPC 10000-6, A.3).
+/// The number of the encoding of a CloseSecureChannel request (OPC 10000-6, A.3).
 const CLOSE_REQUEST: u32 = 452;
 
 /// The request that a body is, if it is one.
@@ -61,7 +61,7 @@ fn found_response<S: Source>(alloc: Global, src: &mut S) -> Result<Option<Respon
     }
 }
 
-/// The request of OpenSecureChannel that a body is, if it is one.
+/// The OpenSecureChannel request that a body is, if it is one.
 #[tactic(auto, using(ua_opening::proofs::BodyRead::found_ok, ua_opening::proofs::BodyRead::found_err))]
 fn found_open_request<S: Source>(
     alloc: Global,
@@ -101,7 +101,7 @@ fn standard_number(id: &NodeId) -> Option<u32>
     }
 }
 
-/// The request of CloseSecureChannel that bytes are, after the NodeId of its encoding.
+/// The CloseSecureChannel request that bytes are, after the NodeId of its encoding.
 fn found_last<S: Source>(alloc: Global, src: &mut S) -> Result<Option<CloseRequest>, AllocError>
     ensures { IfOk result (λ found. found ≡ body_of close_request (S.octets src.old)) }
 {
@@ -113,7 +113,7 @@ fn found_last<S: Source>(alloc: Global, src: &mut S) -> Result<Option<CloseReque
     }
 }
 
-/// The request of CloseSecureChannel that a body is, if it is one.
+/// The CloseSecureChannel request that a body is, if it is one.
 fn found_close_request<S: Source>(
     alloc: Global,
     src: &mut S,
@@ -134,7 +134,7 @@ fn found_close_request<S: Source>(
     found_last(alloc, src)
 }
 
-/// Appends the lines of the message that was found, and lets it go.
+/// Appends the lines of the message that was found, and drops it.
 fn push_found<T: Lines + Drop>(
     alloc: Global,
     found: Option<T>,
@@ -172,7 +172,7 @@ pub fn push_body_fields<S: Source>(
     }
 }
 
-/// The value that follows the NodeId that bytes begin with, whatever follows it.
+/// The value after the NodeId at the start of bytes, whatever follows it.
 fn found_behind<T: Wire, S: Source>(alloc: Global, src: &mut S) -> Result<Option<T>, AllocError>
     ensures { IfOk result (λ found. found ≡ behind_id T.format (S.octets src.old)) }
 {
@@ -188,8 +188,8 @@ fn found_behind<T: Wire, S: Source>(alloc: Global, src: &mut S) -> Result<Option
     }
 }
 
-/// Appends the lines of the header of a message that this side sent, where it reads whole. Discard
-/// the source afterwards. Where an allocation fails, some lines may stand there.
+/// Appends the lines of the header of a message that this side sent, if it is decoded completely.
+/// Discard the source afterwards. If an allocation fails, some lines may have been appended.
 pub(crate) fn push_header_fields<S: Source>(
     alloc: Global,
     side: Side,

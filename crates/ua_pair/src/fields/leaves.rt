@@ -15,9 +15,9 @@ use ua_builtin::{
 use ua_texts::{push_base64, push_code_as, push_escaped_string, push_variant, push_wide_pattern};
 use ua_variant::{DiagnosticInfo, HeldVariant};
 
-/// A value whose text is shown where it is there.
+/// A value whose text is shown if it is present.
 trait Text {
-    /// The text, with the names of status codes or without.
+    /// The text, with or without the names of StatusCodes.
     ghost shown: { Bool → Self → List ℕ };
 
     /// Appends the text.

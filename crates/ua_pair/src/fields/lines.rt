@@ -6,12 +6,12 @@ ghost use Rattle.ua_pair.specs.Tree.{Tree, deeper, element_path, field_path, lin
 use std::alloc::{AllocError, Global};
 use std::fmt::Write;
 
-/// Where the lines of a value stand.
+/// The place of the lines of a value.
 #[derive(Clone, Copy)]
 pub(crate) struct Place<'a> {
-    /// Whether a status code has its standard name after it.
+    /// Whether a StatusCode is followed by its standard name.
     pub(crate) names: bool,
-    /// The blanks in front of each.
+    /// The leading spaces of each line.
     pub(crate) margin: &'a str,
     /// The path of the value, which is empty for a message.
     pub(crate) path: &'a str,
@@ -27,7 +27,7 @@ pub(crate) trait Lines {
         ensures { OnOk result (string_bytes out.new ≡ with_lines place.entry.names place.entry.margin.now place.entry.path.now (string_bytes out.old) (tree self.now)) };
 }
 
-/// Appends what stands in front of the text of a line.
+/// Appends what comes before the text of a line.
 pub(crate) fn push_start(out: &mut String, place: Place<'_>) -> Result<(), AllocError>
     ensures { OnOk result (string_bytes out.new ≡ string_bytes out.old ++ (place.entry.margin.now ++ (place.entry.path.now ++ codes " "))) }
 {
@@ -46,7 +46,7 @@ pub(crate) fn push_line(out: &mut String, place: Place<'_>, text: &str) -> Resul
     out.push_str("\n")
 }
 
-/// The blanks in front, one level deeper.
+/// The leading spaces, one level deeper.
 pub(crate) fn deeper_margin(alloc: Global, margin: &str) -> Result<String, AllocError>
     ensures { IfOk result (λ inner. string_bytes inner ≡ deeper margin.now) }
 {
@@ -55,7 +55,7 @@ pub(crate) fn deeper_margin(alloc: Global, margin: &str) -> Result<String, Alloc
     Ok(inner)
 }
 
-/// The path of a field, as a text of its own: nothing is to be put back after it.
+/// The path of a field, as a text of its own.
 fn path_of_field(alloc: Global, path: &str, name: &str) -> Result<String, AllocError>
     ensures { IfOk result (λ inner. string_bytes inner ≡ field_path path.now name.now) }
 {

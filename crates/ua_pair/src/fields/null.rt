@@ -37,7 +37,7 @@ pub(crate) fn is_null_object(value: &ExtensionObject) -> bool
     is_null_id(&value.type_id) && matches!(&value.body, ExtensionBody::Absent)
 }
 
-/// Whether no id is there.
+/// Whether no id is present.
 fn has_no_id(value: &DiagnosticInfo) -> bool
     ensures { result ≡ names_nothing (diagnostic_fields_of value.now) }
 {
@@ -47,7 +47,7 @@ fn has_no_id(value: &DiagnosticInfo) -> bool
         && value.localized_text.is_none()
 }
 
-/// Whether no field is there.
+/// Whether no field is present.
 pub(crate) fn is_empty(value: &DiagnosticInfo) -> bool
     ensures { result ≡ says_nothing (diagnostic_of value.now) }
 {

@@ -1,6 +1,6 @@
 use Rattle.std.proofs.Common.{ℕ, ◌≤◌, ◌<◌, length, get_or, Ok, Err, sym, ◌∙◌}
 use Rattle.std.proofs.lemmas.List.Sorted.{searched}
-use Rattle.ua_pair.proofs.Named.{codes_in, named_at, rising, unnamed_between}
+use Rattle.ua_texts.proofs.Named.{codes_in, named_at, rising, unnamed_between}
 use Rattle.ua_pair.specs.Encodings.{encodings}
 use Rattle.ua_pair.proofs.EncodingTable.{encodings_rise}
 use Rattle.ua_pair.proofs.encoding.encoding_name.Goals as goal
