@@ -9,6 +9,7 @@ use Rattle.ua_frame.specs.declared.hello.Hello.{Hello}
 use Rattle.ua_frame.specs.declared.limits.Limits.{Limits}
 use Rattle.ua_frame.specs.Agreement.{hello_reasons, is_url_long, unless_refused, ack_to, agreed}
 use Rattle.ua_frame.specs.Hello.{hello_in}
+use Rattle.ua_frame.specs.Limits.{tighter}
 use Rattle.ua_channel.specs.Agreement.{Agreement}
 use Rattle.ua_channel.specs.Content.Content.{Greets}
 use Rattle.ua_channel.specs.Received.{Received}
@@ -51,17 +52,17 @@ agreed_size limits h good =
     let large : 8192 ≤ h.send_buffer_size = ltb-false h.send_buffer_size 8192 (small_by (is_url_long h) (ltb h.receive_buffer_size 8192) (ltb h.send_buffer_size 8192) good) in
     omega (arith, limits.receives, large)
 
-abbrev agreed_with : Hello → Ack → Agreement
-agreed_with h ack = record { ack = ack; octets = h.max_message_size; chunks = h.max_chunk_count }
+abbrev agreed_with : Limits → Hello → Ack → Agreement
+agreed_with limits h ack = record { ack = ack; octets = tighter h.max_message_size limits.max_response_size; chunks = h.max_chunk_count }
 
 -- a Hello that is agreed to
-pub agrees : (limits : Limits) (body : List ℕ) (h : Hello) (ack : Ack) → hello_in body ≡ Some h → agreed h limits ≡ Ok ack → AgreesTo limits body (record { ack = ack; octets = h.max_message_size; chunks = h.max_chunk_count })
-agrees limits body h ack some ok =
+pub agrees : (limits : Limits) (body : List ℕ) (h : Hello) (ack : Ack) → hello_in body ≡ Some h → agreed h limits ≡ Ok ack → (octets : ℕ) → octets ≡ tighter h.max_message_size limits.max_response_size → AgreesTo limits body (record { ack = ack; octets = octets; chunks = h.max_chunk_count })
+agrees limits body h ack some ok octets octets_is =
     let by = agreed_by (first_reason (hello_reasons h)) (ack_to h limits) ack ok in
     record {
       hello = h;
       reads = some;
-      agreement_is = ap (agreed_with h) by.1;
+      agreement_is = ap (λ (n : ℕ). record { ack = ack; octets = n; chunks = h.max_chunk_count }) octets_is ∙ ap (agreed_with limits h) by.1;
       large = agreed_size limits h by.0;
       accepted = λ channel before. reasons_of limits channel before body h some ∙ by.0;
     }

@@ -2,6 +2,7 @@
 
 ghost use Rattle.std.specs.Prelude.{◌≡◌, ◌<◌, ◌+◌, ◌^◌};
 ghost use Rattle.ua_channel.specs.inside.ServerParts.{JudgesHello};
+ghost use Rattle.ua_frame.specs.Limits.{tighter};
 
 use crate::step_fault::StepFault;
 use std::alloc::Global;
@@ -10,7 +11,8 @@ use ua_builtin::{StatusCode, Wire};
 use ua_chunk::{CHUNK_HEADERS, Lane};
 use ua_frame::{Ack, Hello, Limits, agree};
 
-/// The agreement of a server and a client: the Acknowledge, and the client's limits of a message.
+/// The agreement of a server and a client: the Acknowledge, and the limits of a response, which are
+/// the client's limits of a message, and no more bytes than the server allows itself.
 #[derive(Clone, Copy)]
 pub struct Agreement {
     ack: Ack,
@@ -67,6 +69,19 @@ impl Agreement {
     }
 }
 
+/// The smaller of two limits, of which 0 is none.
+fn tighter(a: u32, b: u32) -> u32
+    ensures { result ≡ tighter a b }
+{
+    if a == 0 {
+        return b;
+    }
+    if b == 0 {
+        return a;
+    }
+    a.min(b)
+}
+
 /// The agreement of a server with these limits on the body of a HEL.
 pub fn judge_hello(alloc: Global, limits: &Limits, body: &[u8]) -> Result<Agreement, StepFault>
     ensures { JudgesHello limits.now body.now result }
@@ -75,11 +90,14 @@ pub fn judge_hello(alloc: Global, limits: &Limits, body: &[u8]) -> Result<Agreem
         return Err(StepFault::Refused(StatusCode::BAD_DECODING_ERROR));
     };
     match agree(&hello, limits) {
-        Ok(ack) => Ok(Agreement {
-            ack,
-            octets: hello.max_message_size,
-            chunks: hello.max_chunk_count,
-        }),
+        Ok(ack) => {
+            let octets = tighter(hello.max_message_size, limits.max_response_size);
+            Ok(Agreement {
+                ack,
+                octets,
+                chunks: hello.max_chunk_count,
+            })
+        }
         Err(code) => Err(StepFault::Refused(code)),
     }
 }

@@ -516,7 +516,7 @@ module _ (limits : Limits) (asks : List Placed) (octets : List ℕ) (told : List
   replied_so body None some e =
       reads_reply body (record {
         some = some;
-        octets_fit = ap (λ (n : ℕ). passes n (length body)) (sym back.octets) ∙ cut_octets body e;
+        octets_fit = back.octets (length body) (cut_octets body e);
         chunks_fit = ap (λ (n : ℕ). passes n (length (pieces lane.room body))) (sym back.chunks) ∙ cut_chunks body e;
       })
   replied_so body (Some fault) some e = reads_abort (of_code 0x80B9_0000) (omega arith)

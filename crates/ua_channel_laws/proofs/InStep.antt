@@ -1,17 +1,19 @@
 -- Both ends stay in step.
-use Rattle.std.proofs.Common.{◌≡◌, ◌⊎◌, inl, inr, ℕ, ◌<◌, ◌^◌, min, Bool, true, false, ◌||◌, eqb, List, [], ◌∷◌, ◌++◌, Option, Some, length, refl, sym, ◌∙◌, ap, arith}
-use Rattle.std.proofs.lemmas.Bool.{eq-eqb, or_parts}
+use Rattle.std.proofs.Common.{◌≡◌, ◌⊎◌, inl, inr, ℕ, zero, suc, ◌<◌, ◌≤◌, ◌^◌, min, Bool, true, false, not, cond, ◌&&◌, ◌||◌, eqb, ltb, List, [], ◌∷◌, ◌++◌, Option, Some, length, refl, sym, subst, ◌∙◌, ap, arith}
+use Rattle.std.proofs.lemmas.Bool.{eq-eqb, eqb-false, le-ltb, ltb-false, ne_eqb, or_parts}
+use Rattle.std.proofs.Math.Bool.{and-false}
 use Rattle.std.proofs.lemmas.List.Folds.{list_any-append}
 use Rattle.ua_wire.proofs.Readers.{some_is}
 use Rattle.ua_frame.specs.declared.ack.Ack.{Ack}
 use Rattle.ua_frame.specs.declared.hello.Hello.{Hello}
+use Rattle.ua_frame.specs.Limits.{tighter}
 use Rattle.ua_frame.specs.declared.limits.Limits.{Limits}
 use Rattle.ua_frame.specs.Agreement.{ack_to}
 use Rattle.ua_chunk.specs.Cutting.{pieces}
 use Rattle.ua_chunk.specs.Refusal.{passes}
 use Rattle.ua_channel.specs.Asks.{is_in}
 use Rattle.ua_channel.specs.ClientAsks.{is_too_large, room_of}
-use Rattle.ua_channel_laws.specs.ClientReads.{AtClient, IsLaneBack, lane_from, opened_at, with_answer, with_call, with_renewal, with_reply}
+use Rattle.ua_channel_laws.specs.ClientReads.{AtClient, IsLaneBack, IsTighter, lane_from, opened_at, with_answer, with_call, with_renewal, with_reply}
 use Rattle.ua_channel.specs.ClientSends.{hello_to}
 use Rattle.ua_channel_laws.specs.InStep.{AreInStep, lane_back}
 use Rattle.ua_channel.specs.Received.{latest, latest_behind}
@@ -41,6 +43,34 @@ last_in n (m ∷ ms) e = either (last_behind (Some m) n ms e)
 
 pub in_more : (n m : ℕ) (ms : List ℕ) → is_in n ms ≡ true → is_in n (ms ++ m ∷ []) ≡ true
 in_more n m ms e = list_any-append (λ (k : ℕ). eqb k n) ms (m ∷ []) ∙ ap (λ (b : Bool). b || (eqb m n || false)) e
+
+-- a number that is not 0 is some
+some_number : (n : ℕ) → eqb n 0 ≡ false → 0 < n
+some_number zero e = absurd (eqb-false zero 0 e refl)
+some_number (suc n) e = omega arith
+
+-- what is within a limit that is some is no more than it
+within_some : (limit n : ℕ) → 0 < limit → passes limit n ≡ false → n ≤ limit
+within_some limit n some within =
+    let is : eqb limit 0 ≡ false = ne_eqb limit 0 (λ e. omega (arith, some, e)) in
+    ltb-false limit n (subst (λ (b : Bool). (not b && ltb limit n) ≡ false) is within)
+
+-- no more than a limit is within it
+within_few : (limit n : ℕ) → n ≤ limit → passes limit n ≡ false
+within_few limit n few = ap (λ (b : Bool). not (eqb limit 0) && b) (le-ltb limit n few) ∙ and-false (not (eqb limit 0))
+
+-- what is within the smaller of two limits is within the first
+tighter_by : (x y : Bool) (a b n : ℕ) → eqb a 0 ≡ x → eqb b 0 ≡ y → passes (cond x b (cond y a (min a b))) n ≡ false → passes a n ≡ false
+tighter_by true y a b n is other within = ap (λ (t : Bool). not t && ltb a n) is
+tighter_by false true a b n is other within = within
+tighter_by false false a b n is other within =
+    let first = some_number a is in
+    let second = some_number b other in
+    let few = within_some (min a b) n (omega (arith, first, second)) within in
+    within_few a n (omega (arith, few))
+
+tighter_first : (a b : ℕ) → IsTighter (tighter a b) a
+tighter_first a b n within = tighter_by (eqb a 0) (eqb b 0) a b n refl refl within
 
 module _ (server client : Limits) (url : Option (List ℕ)) (channel : ℕ) (s : AtServer) (c : AtClient) (h : AreInStep server client url channel s c) where
   receives : c.ack.receive_buffer_size ≡ min server.receive_buffer_size client.send_buffer_size
@@ -73,7 +103,7 @@ module _ (server client : Limits) (url : Option (List ℕ)) (channel : ℕ) (s :
     token_small = few;
     some = omega (arith, sent_size, server.sends, client.receives);
     fits = omega (arith, sent_size, sends, server.sends, client.receives);
-    octets = ap (λ (x : Hello). x.max_message_size) h.hello_is;
+    octets = subst (λ (m : ℕ). IsTighter (tighter m server.max_response_size) client.max_message_size) (sym (ap (λ (x : Hello). x.max_message_size) h.hello_is)) (tighter_first client.max_message_size server.max_response_size);
     chunks = ap (λ (x : Hello). x.max_chunk_count) h.hello_is;
   }
 

@@ -1,5 +1,5 @@
 -- What a client decodes of a server that keeps to the protocol, one message after the other.
-use Rattle.std.specs.Prelude.{◌≡◌, ◌<◌, ◌≤◌, ◌+◌, ◌^◌, ◌==◌, ◌++◌, ◌∷◌, ℕ, List, [], IsTrue, Option, Some, None, not, length}
+use Rattle.std.specs.Prelude.{◌≡◌, ◌<◌, ◌≤◌, ◌+◌, ◌^◌, ◌==◌, ◌++◌, ◌∷◌, ℕ, List, [], IsTrue, IsFalse, Option, Some, None, not, length}
 use Rattle.std.specs.List.{AllByRecursion, filter}
 use Rattle.ua_builtin.specs.DateTime.{date_time}
 use Rattle.ua_builtin.specs.Status.{of_code}
@@ -11,6 +11,7 @@ use Rattle.ua_frame.specs.declared.limits.Limits.{Limits}
 use Rattle.ua_chunk.specs.Open.{open_ids}
 use Rattle.ua_chunk.specs.Sequence.{may_follow}
 use Rattle.ua_chunk.specs.declared.chunk.Chunk.{Chunk}
+use Rattle.ua_chunk.specs.Refusal.{passes}
 use Rattle.ua_chunk.specs.declared.fault.CutFault.{CutFault}
 use Rattle.ua_chunk.specs.declared.lane.Lane.{Lane}
 use Rattle.ua_channel.specs.Asks.{Asking, Placed, asked_in, id_of, is_in, next_id, pending_calls, pending_renewals}
@@ -79,6 +80,10 @@ lane_from at = call_lane at.ack at.channel at.newest
 
 -- ---- what a server may send next
 
+-- a size within the first limit is within the second, where 0 is no limit
+abbrev pub IsTighter : ℕ → ℕ → Type 0
+IsTighter a b = (n : ℕ) → IsFalse (passes a n) → IsFalse (passes b n)
+
 -- a lane to the client: on its channel, under a token that it holds, in frames that it takes,
 -- within its limits of messages
 pub record IsLaneBack (limits : Limits) (at : AtClient) (lane : Lane) : Type 0 where
@@ -88,7 +93,7 @@ pub record IsLaneBack (limits : Limits) (at : AtClient) (lane : Lane) : Type 0 w
   pub token_small : lane.token < 2 ^ 32
   pub some : 0 < lane.room
   pub fits : 24 + lane.room ≤ at.ack.send_buffer_size
-  pub octets : lane.octets ≡ limits.max_message_size
+  pub octets : IsTighter lane.octets limits.max_message_size
   pub chunks : lane.chunks ≡ limits.max_chunk_count
 
 -- an OPN response that can be encoded: on this channel, with this SequenceNumber and RequestId,

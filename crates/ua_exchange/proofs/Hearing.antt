@@ -138,7 +138,7 @@ module _ (first : State) (moment : DateTime) (fits : IsTrue (date_time.encodable
       token_small = let tokens = token-few answered in omega (arith, few, tokens);
       some = omega arith;
       fits = subst (λ (a : Ack). 24 + (lane_back answered).room ≤ a.send_buffer_size) (sym h.ack_is) (omega arith);
-      octets = refl;
+      octets = λ n within. within;
       chunks = refl;
     }
 

@@ -24,6 +24,7 @@ program_limits = record {
   send_buffer_size = 65535;
   max_message_size = message_size;
   max_chunk_count = 256;
+  max_response_size = 0;
   receives = lit≤ tt;
   sends = lit≤ tt;
   takes_octets = lit≤ tt;

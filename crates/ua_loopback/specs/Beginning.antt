@@ -19,6 +19,7 @@ least = record {
   send_buffer_size = 8192;
   max_message_size = 1;
   max_chunk_count = 1;
+  max_response_size = 0;
   receives = le_refl 8192;
   sends = le_refl 8192;
   takes_octets = le_refl 1;

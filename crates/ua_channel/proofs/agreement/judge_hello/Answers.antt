@@ -10,7 +10,7 @@ returns-in_default c = λ channel before. refuses_unreadable c.args.limits.now c
 
 pub returns-in-Ok : goal.returns-in-Ok
 returns-in-Ok c =
-    agrees c.args.limits.now c.args.body.now c.in-Some.hello c.in-Ok.ack (whole_read hello sound_hello c.args.body.now (Some c.in-Some.hello) (rw c.in-Some.is at c.in_ok-hello.ensures.read)) (sym c.in-Ok.ensures)
+    agrees c.args.limits.now c.args.body.now c.in-Some.hello c.in-Ok.ack (whole_read hello sound_hello c.args.body.now (Some c.in-Some.hello) (rw c.in-Some.is at c.in_ok-hello.ensures.read)) (sym c.in-Ok.ensures) c.tighter-octets.result c.tighter-octets.ensures
 
 pub returns : goal.returns
 returns c = λ channel before.
