@@ -7,7 +7,7 @@ mod Rows
 mod Steps
 mod Scripts
 mod Tokens
-mod PlainAdds
+pub mod PlainAdds
 mod PlainDiagnostics
 mod PlainRows
 mod PlainValues

@@ -39,6 +39,8 @@ pub use fault::{AnswerFault, ScriptFault};
 pub use names::{code_name, push_code_as};
 pub use plain::push_plain_variant;
 pub use plain_answer::push_plain_read_line;
+pub use plain_diagnostic::push_diagnostic;
+pub use plain_leaf::{push_double, push_moment, push_plain_localized, push_plain_name};
 pub use plain_lines::{exact_lines, exact_typed};
 pub use plain_read::parse_plain_value;
 pub use plain_reply::{push_plain_read_answers, push_read_answers_as};

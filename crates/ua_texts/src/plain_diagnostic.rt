@@ -24,8 +24,13 @@ pub(crate) fn push_plain_diagnostic(
     }
 }
 
+/// Appends a DiagnosticInfo: the fields that are there, each by its name, within curly brackets.
 #[cycle(plain_diagnostics)]
-fn push_diagnostic(out: &mut String, value: &DiagnosticInfo, names: bool) -> Result<(), AllocError>
+pub fn push_diagnostic(
+    out: &mut String,
+    value: &DiagnosticInfo,
+    names: bool,
+) -> Result<(), AllocError>
     ensures { OnOk result (string_bytes out.new ≡ string_bytes out.old ++ plain_diagnostic names (diagnostic_of value.now)) }
 {
     out.push_str("{")?;

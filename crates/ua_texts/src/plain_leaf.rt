@@ -25,7 +25,7 @@ pub(crate) fn push_float(out: &mut String, value: FloatBits) -> Result<(), Alloc
 }
 
 /// Appends a Double: its decimal, or its bit pattern if it has none.
-pub(crate) fn push_double(out: &mut String, value: DoubleBits) -> Result<(), AllocError>
+pub fn push_double(out: &mut String, value: DoubleBits) -> Result<(), AllocError>
     ensures { Adds result (string_bytes out.old) (string_bytes out.new) (IsPlainDouble value.bits) }
 {
     match double_text(value) {
@@ -35,7 +35,7 @@ pub(crate) fn push_double(out: &mut String, value: DoubleBits) -> Result<(), All
 }
 
 /// Appends a DateTime: its time, or its ticks if it has none.
-pub(crate) fn push_moment(out: &mut String, value: DateTime) -> Result<(), AllocError>
+pub fn push_moment(out: &mut String, value: DateTime) -> Result<(), AllocError>
     ensures { Adds result (string_bytes out.old) (string_bytes out.new) (IsPlainMoment value) }
 {
     match moment_text(value) {
@@ -109,7 +109,7 @@ fn push_uri(out: &mut String, uri: &UaString, within: bool) -> Result<(), AllocE
 }
 
 /// Appends a QualifiedName: its namespace and its name, with a colon between.
-pub(crate) fn push_plain_name(
+pub fn push_plain_name(
     out: &mut String,
     name: &QualifiedName,
     within: bool,
@@ -121,7 +121,7 @@ pub(crate) fn push_plain_name(
 }
 
 /// Appends a LocalizedText: its locale with a bar after it, if it has one, and its text.
-pub(crate) fn push_plain_localized(
+pub fn push_plain_localized(
     out: &mut String,
     value: &LocalizedText,
     within: bool,
