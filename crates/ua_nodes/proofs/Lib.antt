@@ -9,6 +9,7 @@ pub mod Judged
 pub mod OneLoad
 pub mod Parsed
 pub mod Pieces
+pub mod Placed
 pub mod Ranges
 pub mod Reasons
 pub mod Sets

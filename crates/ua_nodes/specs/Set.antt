@@ -50,3 +50,13 @@ with_reading (Some v) id r nodes = set_value (same_id id) nodes (set_node v r)
 -- the nodes after a reading of the node with this NodeId
 unfoldable pub after_set : NodeId → Reading → Nodes → Nodes
 after_set id r nodes = with_reading (node_at nodes id) id r nodes
+
+-- why a reading of the node at a place is refused: as one of the node of its NodeId, or because there is none
+abbrev pub set_refusal_at : Option NodeId → Reading → Nodes → Option SetFault
+set_refusal_at None r nodes = set_refusal None r
+set_refusal_at (Some id) r nodes = set_refusal (node_at nodes id) r
+
+-- what a reading of the node at a place leaves: what one of the node of its NodeId does, or all as it was
+abbrev pub after_set_at : Option NodeId → Reading → Nodes → Nodes
+after_set_at None r nodes = nodes
+after_set_at (Some id) r nodes = after_set id r nodes

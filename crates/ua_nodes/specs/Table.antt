@@ -1,6 +1,6 @@
 -- A table of nodes, as a finite map.
-use Rattle.std.specs.Prelude.{Bool, List, Option}
-use Rattle.std.specs.Map.{lookup}
+use Rattle.std.specs.Prelude.{ℕ, Bool, List, Option, slice_get}
+use Rattle.std.specs.Map.{keys_of, lookup}
 use Rattle.ua_builtin.specs.declared.node_id.NodeId.{NodeId}
 use Rattle.ua_builtin.specs.contracts.node_id.NodeIdPartialEq.TheImpl.{ghosts}
 use Rattle.ua_variant.specs.View.{variant_of}
@@ -18,6 +18,10 @@ Nodes = List (NodeId × Variable)
 -- the node that the NodeId names
 abbrev pub node_at : Nodes → NodeId → Option Variable
 node_at nodes id = lookup (same_id id) nodes
+
+-- the NodeId of the node at a place in this order
+abbrev pub id_at : Nodes → ℕ → Option NodeId
+id_at nodes index = slice_get (keys_of nodes) index
 
 -- what a table keeps of a node besides its NodeId
 abbrev pub variable_of : Node → Variable

@@ -2,9 +2,9 @@
 
 ghost use Rattle.std.specs.Prelude.{◌≡◌, MatchResult, OnErr, IsSome, Some, None};
 ghost use Rattle.ua_builtin.specs.Reasons.{first_reason};
-ghost use Rattle.ua_nodes.specs.Set.{after_set, given_by, set_node, set_reasons, set_refusal};
+ghost use Rattle.ua_nodes.specs.Set.{after_set, after_set_at, given_by, set_node, set_reasons, set_refusal, set_refusal_at};
 ghost use Rattle.ua_nodes.specs.Sound.{IsSound};
-ghost use Rattle.ua_nodes.specs.Table.{node_at};
+ghost use Rattle.ua_nodes.specs.Table.{id_at, node_at};
 
 use crate::fault::SetFault;
 use crate::node::Variable;
@@ -49,6 +49,24 @@ impl NodeTable {
         ensures sound { IsSound self.old → IsSound self.new }
     {
         match self.nodes.get_mut(id) {
+            Some(variable) => variable.set(reading),
+            None => {
+                drop(reading);
+                Err(SetFault::Unknown)
+            }
+        }
+    }
+
+    /// Does what [`NodeTable::set`] does for the NodeId of the node at a position in the order of
+    /// insertion, without looking for it. A position past the end is answered as an unknown NodeId.
+    /// Allocates nothing.
+    pub fn set_at(&mut self, index: usize, reading: Reading) -> Result<(), SetFault>
+        ensures nodes { self.new ≡ after_set_at (id_at self.old index) reading self.old }
+        ensures answer { MatchResult result (λ _. set_refusal_at (id_at self.old index) reading self.old ≡ None) (λ fault. set_refusal_at (id_at self.old index) reading self.old ≡ Some fault) }
+        ensures kept { OnErr result (self.new ≡ self.old) }
+        ensures sound { IsSound self.old → IsSound self.new }
+    {
+        match self.nodes.get_index_mut(index) {
             Some(variable) => variable.set(reading),
             None => {
                 drop(reading);

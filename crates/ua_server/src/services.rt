@@ -1,8 +1,8 @@
 //! The services of a server.
 
 ghost use Rattle.std.specs.Prelude.{◌≡◌, ◌++◌, ◌∷◌, ◌↔◌, [], IsTrue, IsSome, IfOk, OnOk, OnErr, IsErrOf, MatchResult, None, Some};
-ghost use Rattle.ua_nodes.specs.Set.{after_set, set_refusal};
-ghost use Rattle.ua_nodes.specs.Table.{node_at, variable_of};
+ghost use Rattle.ua_nodes.specs.Set.{after_set, after_set_at, set_refusal, set_refusal_at};
+ghost use Rattle.ua_nodes.specs.Table.{id_at, node_at, variable_of};
 ghost use Rattle.ua_nodes.specs.Sound.{IsSound, is_sound_node};
 ghost use Rattle.ua_nodes.specs.declared.fault.InsertFault.TheVariants as insert_fault;
 ghost use Rattle.ua_services.specs.Response.{response};
@@ -92,6 +92,15 @@ impl Services {
         ensures kept { OnErr result (self.new ≡ self.old) }
     {
         self.nodes.set(id, reading)
+    }
+
+    /// Sets what the node at a position holds, as [`NodeTable::set_at`]. Allocates nothing.
+    pub fn set_at(&mut self, index: usize, reading: Reading) -> Result<(), SetFault>
+        ensures state { self.new ≡ with_nodes self.old (after_set_at (id_at self.old.nodes index) reading self.old.nodes) }
+        ensures answer { MatchResult result (λ _. set_refusal_at (id_at self.old.nodes index) reading self.old.nodes ≡ None) (λ fault. set_refusal_at (id_at self.old.nodes index) reading self.old.nodes ≡ Some fault) }
+        ensures kept { OnErr result (self.new ≡ self.old) }
+    {
+        self.nodes.set_at(index, reading)
     }
 
     /// Adds a node after the others, as [`NodeTable::insert`]. [`Node::is_sound`] tests its
