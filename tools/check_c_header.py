@@ -263,7 +263,7 @@ def check_numbers(header: str) -> None:
 # The records that have the clauses of calls of the library, as fields: of each the file and the head of the call.
 RECORDS = {
     ('Connecting', 'IsNewConnection'): ('ua_server/src/connection.rt', 'pub fn new('),
-    ('Connecting', 'StepsConnectionAs'): ('ua_server/src/connection.rt', 'pub fn step('),
+    ('Connecting', 'StepsConnectionAs'): ('ua_server/src/connection.rt', 'pub fn step_telling('),
     ('Serving', 'IsFresh'): ('ua_server/src/server.rt', 'pub fn new('),
     ('Serving', 'StepsAs'): ('ua_server/src/server.rt', 'pub fn step('),
     ('Asking', 'IsNewClient'): ('ua_channel/src/client/channel.rt', 'pub fn new('),

@@ -25,7 +25,8 @@ use ua_frame::Limits;
 use ua_nodes::{Reading, SetFault};
 use ua_server::laws::a_history_goes_on_by_changes_and_steps;
 use ua_server::{
-    Application, Connection, End, ServeFault, Services, Step, StepFault, Watch, serve_application,
+    Application, Connection, End, ServeFault, Services, Step, StepFault, Watch, Written,
+    serve_application,
 };
 use ua_services::WriteValue;
 use ua_variant::{Scalar, Variant};
@@ -142,38 +143,44 @@ pub enum SetpointFault {
     NotHandedOn(Step),
 }
 
-/// Takes bytes of a client, and adds what they wrote to the setpoints that a gateway passes on.
+/// Takes bytes of a client, keeps in `written` what they wrote, and adds it to the setpoints that a
+/// gateway passes on.
 pub fn take_setpoints(
     alloc: Global,
     connection: &mut Connection,
     services: &mut Services,
     piece: &[u8],
     moment: DateTime,
+    written: &mut Written,
     setpoints: &mut Vec<WriteValue>,
 ) -> Result<Step, SetpointFault>
     ensures steps { (octets : List ℕ) (told : List Told) → Goes (channel_at connection.old) octets told
         → StepNow (limits_of (channel_at connection.old)) (channel_of (channel_at connection.old)) (next_of (channel_at connection.old)) moment piece.now (step_in result) (channel_at connection.new) octets told (with_own_session connection.old services.old) (with_own_session connection.new services.new) }
     ensures stores { (octets : List ℕ) (told : List Told) → Goes (channel_at connection.old) octets told
-        → StepStores piece.now (step_in result) (channel_at connection.new) octets told (with_own_session connection.old services.old) }
-    ensures handed_on { IfOk result (λ step. setpoints.new.items ≡ setpoints.old.items ++ step.written) }
+        → StepStores piece.now (step_in result) written.new (channel_at connection.new) octets told (with_own_session connection.old services.old) }
+    ensures handed_on { IfOk result (λ step. setpoints.new.items ≡ setpoints.old.items ++ written.new) }
     ensures kept { OnErr result (setpoints.new.items ≡ setpoints.old.items) }
 {
-    let step = match connection.step(services, piece, moment) {
+    let step = match connection.step_telling(services, piece, moment, written) {
         Ok(step) => step,
         Err(fault) => return Err(SetpointFault::Step(fault)),
     };
-    match hand_on(alloc, &step, setpoints) {
+    match hand_on(alloc, written, setpoints) {
         Ok(()) => Ok(step),
         Err(_) => Err(SetpointFault::NotHandedOn(step)),
     }
 }
 
 /// Adds what a step stored, or nothing.
-fn hand_on(alloc: Global, step: &Step, setpoints: &mut Vec<WriteValue>) -> Result<(), AllocError>
-    ensures added { OnOk result (setpoints.new.items ≡ setpoints.old.items ++ step.now.written) }
+fn hand_on(
+    alloc: Global,
+    written: &Written,
+    setpoints: &mut Vec<WriteValue>,
+) -> Result<(), AllocError>
+    ensures added { OnOk result (setpoints.new.items ≡ setpoints.old.items ++ written.now) }
     ensures kept { OnErr result (setpoints.new.items ≡ setpoints.old.items) }
 {
-    let mut values = step.written.values(alloc)?;
+    let mut values = written.values(alloc)?;
     setpoints.append(&mut values)?;
     Ok(())
 }

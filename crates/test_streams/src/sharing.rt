@@ -132,17 +132,11 @@ impl Sharing {
     }
 
     /// Keeps what a step that answered something stored. Says how many octets it took.
-    fn keep_written(&mut self, step: Step) -> usize {
-        let Step {
-            taken,
-            out,
-            end: _,
-            written,
-        } = step;
-        if !out.is_empty() {
+    fn keep_written(&mut self, step: Step, written: Written) -> usize {
+        if !step.out.is_empty() {
             self.written = Some(written);
         }
-        taken
+        step.taken
     }
 }
 
@@ -176,10 +170,11 @@ impl Takes for Sharing {
             told.fail("no row");
             return (piece.len(), Goes::Out);
         };
-        match connection.step(services, piece, given.moment) {
+        let mut written = Written::nothing();
+        match connection.step_telling(services, piece, given.moment, &mut written) {
             Ok(step) => {
                 let goes = tell_step(given, &step, told);
-                (self.keep_written(step), goes)
+                (self.keep_written(step, written), goes)
             }
             Err(StepFault::Closed) => {
                 told.event("is closed");

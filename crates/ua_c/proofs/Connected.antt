@@ -4,6 +4,7 @@ use Rattle.ua_builtin.specs.declared.date_time.DateTime.{DateTime}
 use Rattle.ua_frame.specs.declared.limits.Limits.{Limits}
 use Rattle.ua_server.specs.declared.step.Step.{Step}
 use Rattle.ua_server.specs.declared.step.StepFault.{StepFault}
+use Rattle.ua_structures.specs.declared.attribute.WriteValue.{WriteValue}
 use Rattle.ua_wire.specs.Counted.{text}
 use Rattle.ua_c.specs.Connecting.{IsNewConnection, MakesConnection, SaysOnly, StepsConnection, StepsConnectionAs, StepsShared, stored_after}
 use Rattle.ua_c.specs.Handled.{OfNodes, OfShared, WhereNone}
@@ -37,16 +38,17 @@ connection_made limits channel old new status these served enough are made none 
 })
 
 -- what a step does with what two handles hold, where they hold a connection and nodes, and nothing waits
-pub steps_shared : (old new before after : Holding) (piece : List ℕ) (moment : DateTime) (report : Report) (was is : ServedConnection) (shared left : SharedNodes) (answer : Result Step StepFault)
-    → old.machine ≡ machine.Connection was → before.machine ≡ machine.Nodes shared → (0 < length old.waiting → ⊥) → StepsConnectionAs was.connection shared.services piece moment answer is.connection left.services
+pub steps_shared : (old new before after : Holding) (piece : List ℕ) (moment : DateTime) (report : Report) (was is : ServedConnection) (shared left : SharedNodes) (answer : Result Step StepFault) (written : List WriteValue)
+    → old.machine ≡ machine.Connection was → before.machine ≡ machine.Nodes shared → (0 < length old.waiting → ⊥) → StepsConnectionAs was.connection shared.services piece moment answer written is.connection left.services
     → left.ids ≡ shared.ids → new.machine ≡ machine.Connection is → after ≡ record { machine = machine.Nodes left; waiting = before.waiting } → Shows answer report old.waiting new.waiting
-    → untold_in is.written ≡ stored_after answer (untold_in was.written) → StepsShared old new before after piece moment report
-steps_shared old new before after piece moment report was is shared left answer was_is shared_is none steps ids machine_is after_is shown stored =
+    → untold_in is.written ≡ stored_after answer written (untold_in was.written) → StepsShared old new before after piece moment report
+steps_shared old new before after piece moment report was is shared left answer written was_is shared_is none steps ids machine_is after_is shown stored =
     subst (λ m. OfShared m before.machine (SaysOnly report before after other_handle × (new ≡ old)) (λ c s. WhereNone old new (SaysOnly report before after) (StepsConnection c s new before after piece moment report))) (sym was_is)
     (subst (λ m. OfNodes m (SaysOnly report before after other_handle × (new ≡ old)) (λ s. WhereNone old new (SaysOnly report before after) (StepsConnection was s new before after piece moment report))) (sym shared_is) (
       (λ some. absurd (none some)),
       (λ e. record {
         answer = answer;
+        written = written;
         served = is;
         left = left;
         machine_is = machine_is;

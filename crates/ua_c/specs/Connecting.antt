@@ -1,5 +1,5 @@
 -- What a connection over shared nodes does for C: each clause of the calls of `Connection`, over what two handles hold.
-use Rattle.std.specs.Prelude.{◌≡◌, ◌⊎◌, ℕ, List, [], Option, Some, None, Result, Ok, Err, IfOk, IsErrOf}
+use Rattle.std.specs.Prelude.{◌≡◌, ◌⊎◌, ℕ, List, [], Option, Some, None, Result, Ok, Err, IfOk, OnErr, IsErrOf}
 use Rattle.ua_builtin.specs.declared.date_time.DateTime.{DateTime}
 use Rattle.ua_channel.specs.ServerStands.{limits_of, channel_of, next_of, bound_of, IsDone, Goes, ChannelStands as Holds}
 use Rattle.ua_channel.specs.ServerTold.{Told}
@@ -41,8 +41,9 @@ pub record IsNewConnection (limits : Limits) (channel : ℕ) (connection : Conne
   pub limits_is : limits_of (channel_at connection) ≡ limits
   pub channel_is : channel_of (channel_at connection) ≡ channel
 
--- what `Connection::step` says of what it answers to a piece at a moment, and of the connection and the services that it leaves
-pub record StepsConnectionAs (connection : Connection) (services : State) (piece : List ℕ) (moment : DateTime) (answer : Result Step StepFault) (new : Connection) (left : State) : Type 0 where
+-- what `Connection::step_telling` says of what it answers to a piece at a moment, of what was stored, and of the connection and the services
+-- that it leaves
+pub record StepsConnectionAs (connection : Connection) (services : State) (piece : List ℕ) (moment : DateTime) (answer : Result Step StepFault) (written : List WriteValue) (new : Connection) (left : State) : Type 0 where
   pub among : (channels : ℕ → ℕ) (k : ℕ) (octets : List ℕ) (es : List SharedEvent) (first : State) → StandsAmong channels k (channel_at connection) (session_at connection) octets es first services
       → StepAmong (limits_of (channel_at connection)) channels k moment piece answer (channel_at new) (session_at new) octets es first services left
   pub now : (octets : List ℕ) (told : List Told) → Goes (channel_at connection) octets told
@@ -50,7 +51,8 @@ pub record StepsConnectionAs (connection : Connection) (services : State) (piece
   pub history : (octets : List ℕ) (hs : List ConnectionEvent) (first : State) → StandsOver (channel_at connection) octets hs first (with_own_session connection services)
       → StepOver (limits_of (channel_at connection)) (channel_of (channel_at connection)) moment piece answer (channel_at new) octets hs first (with_own_session connection services) (with_own_session new left)
   pub stands : (octets : List ℕ) (told : List Told) → Goes (channel_at connection) octets told → StepStands piece answer (channel_at new) octets told
-  pub stores : (octets : List ℕ) (told : List Told) → Goes (channel_at connection) octets told → StepStores piece answer (channel_at new) octets told (with_own_session connection services)
+  pub stores : (octets : List ℕ) (told : List Told) → Goes (channel_at connection) octets told → StepStores piece answer written (channel_at new) octets told (with_own_session connection services)
+  pub failed : OnErr answer (written ≡ [])
   pub apart : left.session ≡ services.session
   pub endpoint : left.endpoint ≡ services.endpoint
   pub progress : IfOk answer (λ step. StepTakes piece step)
@@ -81,21 +83,22 @@ abbrev pub TellsOnly : ℕ → Report → ℕ → Type 0
 TellsOnly why report waiting = (report ≡ nothing why) × (waiting ≡ 0)
 
 -- what is then to be told of Writes: what the step stored, and no longer what one before it did
-abbrev pub stored_after : Result Step StepFault → List WriteValue → List WriteValue
-stored_after (Ok step) before = step.written
-stored_after (Err f) before = before
+abbrev pub stored_after : Result Step StepFault → List WriteValue → List WriteValue → List WriteValue
+stored_after (Ok step) written before = written
+stored_after (Err f) written before = before
 
--- one step of a connection over shared nodes: the answer is one of `Connection::step`, and C is told just that
+-- one step of a connection over shared nodes: the answer is one of `Connection::step_telling`, and C is told just that
 pub record StepsConnection (old : ServedConnection) (shared : SharedNodes) (new before after : Holding) (piece : List ℕ) (moment : DateTime) (report : Report) : Type 0 where
   pub answer : Result Step StepFault
+  pub written : List WriteValue
   pub served : ServedConnection
   pub left : SharedNodes
   pub machine_is : new.machine ≡ machine.Connection served
   pub nodes_are : after ≡ record { machine = machine.Nodes left; waiting = before.waiting }
-  pub steps : StepsConnectionAs old.connection shared.services piece moment answer served.connection left.services
+  pub steps : StepsConnectionAs old.connection shared.services piece moment answer written served.connection left.services
   pub ids_are : left.ids ≡ shared.ids
   pub shown : Shows answer report [] new.waiting
-  pub stored : untold_in served.written ≡ stored_after answer (untold_in old.written)
+  pub stored : untold_in served.written ≡ stored_after answer written (untold_in old.written)
 
 -- a step says only a status, and the nodes are as they were
 abbrev pub SaysOnly : Report → Holding → Holding → ℕ → Type 0

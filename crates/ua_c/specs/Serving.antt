@@ -9,7 +9,6 @@ use Rattle.ua_server.specs.Now.{StepNow}
 use Rattle.ua_server.specs.Served.{channel_in}
 use Rattle.ua_server.specs.State.{State, begun}
 use Rattle.ua_server.specs.Stepping.{ServerStands, StepAnswers, StepStands, StepTakes}
-use Rattle.ua_server.specs.Storing.{StepStores}
 use Rattle.ua_server.specs.declared.server.Server.{Server}
 use Rattle.ua_server.specs.declared.step.End.{End}
 use Rattle.ua_server.specs.declared.step.End.TheVariants as ending
@@ -42,7 +41,6 @@ pub record StepsAs (server : Server) (services : State) (piece : List ℕ) (mome
   pub history : (octets : List ℕ) (hs : List ConnectionEvent) (first : State) → StandsOver (channel_in server) octets hs first services
       → StepOver (limits_of (channel_in server)) (channel_of (channel_in server)) moment piece answer (channel_in new) octets hs first services left
   pub stands : (octets : List ℕ) (told : List Told) → Goes (channel_in server) octets told → StepStands piece answer (channel_in new) octets told
-  pub stores : (octets : List ℕ) (told : List Told) → Goes (channel_in server) octets told → StepStores piece answer (channel_in new) octets told services
   pub endpoint : left.endpoint ≡ services.endpoint
   pub progress : IfOk answer (λ step. StepTakes piece step)
   pub starved : (octets : List ℕ) (told : List Told) → Goes (channel_in server) octets told

@@ -17,7 +17,7 @@ use crate::untold::{ServedConnection, Untold};
 use crate::waiting::Waiting;
 use std::alloc::Global;
 use ua_builtin::DateTime;
-use ua_server::Connection;
+use ua_server::{Connection, Written};
 
 impl Holding {
     /// A step of a connection over nodes.
@@ -71,8 +71,10 @@ impl SharedNodes {
         if waiting.len() > 0 {
             return Report::only(FETCH_FIRST);
         }
-        let answer = served.connection.step(&mut self.services, piece, moment);
-        Report::of_stored(alloc, answer, waiting, &mut served.written)
+        let mut written = Written::nothing();
+        let connection = &mut served.connection;
+        let answer = connection.step_telling(&mut self.services, piece, moment, &mut written);
+        Report::of_stored(alloc, answer, written, waiting, &mut served.written)
     }
 }
 

@@ -9,7 +9,7 @@ use crate::status::{CLOSED, ENDED, NO_MEMORY, OK, REFUSED};
 use crate::untold::Untold;
 use crate::waiting::Waiting;
 use std::alloc::Global;
-use ua_server::{End, Step, StepFault};
+use ua_server::{End, Step, StepFault, Written};
 
 /// A status, how many bytes were taken, and the StatusCode of a refusal.
 #[derive(Clone, Copy)]
@@ -52,15 +52,7 @@ impl Report {
         ensures { Shows answer result waiting.old waiting.new }
     {
         match answer {
-            Ok(
-                Step {
-                    taken,
-                    out,
-                    end,
-                    written,
-                },
-            ) => {
-                drop(written);
+            Ok(Step { taken, out, end }) => {
                 *waiting = Waiting::of(out);
                 Report::of_end(taken, end)
             }
@@ -73,21 +65,15 @@ impl Report {
     pub(crate) fn of_stored(
         alloc: Global,
         answer: Result<Step, StepFault>,
+        written: Written,
         waiting: &mut Waiting,
         left: &mut Untold,
     ) -> Report
         ensures shows { Shows answer result waiting.old waiting.new }
-        ensures stored { untold_in left.new ≡ stored_after answer (untold_in left.old) }
+        ensures stored { untold_in left.new ≡ stored_after answer written (untold_in left.old) }
     {
         match answer {
-            Ok(
-                Step {
-                    taken,
-                    out,
-                    end,
-                    written,
-                },
-            ) => {
+            Ok(Step { taken, out, end }) => {
                 *left = Untold::of(alloc, written);
                 *waiting = Waiting::of(out);
                 Report::of_end(taken, end)

@@ -100,16 +100,16 @@ stores-ended piece (Some end) n out written new octets told before some none = n
 
 module _ (channel number : ℕ) (moment : DateTime) (piece : List ℕ) (n : ℕ) (mid : ServerChannel) (octets : List ℕ) (told : List Told) (before : State) where
   -- a step that says nothing, and one that says something
-  pub silent-stores : (s : Step) (end : Option Ending) → s.taken ≡ n → s.out.items ≡ [] → s.end ≡ end → s.written ≡ []
+  pub silent-stores : (s : Step) (end : Option Ending) (written : List WriteValue) → s.taken ≡ n → s.out.items ≡ [] → s.end ≡ end → written ≡ []
       → ((out : List ℕ) → out ≡ [] → (written : List WriteValue) → written ≡ [] → StoresBy piece end n out written mid octets told before)
-      → StoresBy piece s.end s.taken s.out.items s.written mid octets told before
-  silent-stores s end taken out is none by =
-      subst (λ (k : ℕ). StoresBy piece s.end k s.out.items s.written mid octets told before) (sym taken)
-      (subst (λ (e : Option Ending). StoresBy piece e n s.out.items s.written mid octets told before) (sym is) (by s.out.items out s.written none))
+      → StoresBy piece s.end s.taken s.out.items written mid octets told before
+  silent-stores s end written taken out is none by =
+      subst (λ (k : ℕ). StoresBy piece s.end k s.out.items written mid octets told before) (sym taken)
+      (subst (λ (e : Option Ending). StoresBy piece e n s.out.items written mid octets told before) (sym is) (by s.out.items out written none))
 
-  pub saying-stores : (s t : Step) (new : ServerChannel) → s ≡ t → StoresBy piece t.end t.taken t.out.items t.written new octets told before
-      → StoresBy piece s.end s.taken s.out.items s.written new octets told before
-  saying-stores s t new is a = subst (λ (x : Step). StoresBy piece x.end x.taken x.out.items x.written new octets told before) (sym is) a
+  pub saying-stores : (s t : Step) (written : List WriteValue) (new : ServerChannel) → s ≡ t → StoresBy piece t.end t.taken t.out.items written new octets told before
+      → StoresBy piece s.end s.taken s.out.items written new octets told before
+  saying-stores s t written new is a = subst (λ (x : Step). StoresBy piece x.end x.taken x.out.items written new octets told before) (sym is) a
 
   -- nothing came
   pub stores-quiet : AnswersBehind channel number moment piece n (Ok event.NeedMore) mid octets told → (out : List ℕ) → out ≡ [] → (written : List WriteValue) → written ≡ []

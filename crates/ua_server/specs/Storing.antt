@@ -40,13 +40,13 @@ StoresBy piece None n out written new octets told before = StoresOn piece n out 
 StoresBy piece (Some end) n out written new octets told before = written ≡ []
 
 -- which items a step tells, if it goes on after bytes that told this
-abbrev pub StepStores : List ℕ → Result Step StepFault → ServerChannel → List ℕ → List Told → State → Type 0
-StepStores piece (Ok step) new octets told before = StoresBy piece step.end step.taken step.out.items step.written new octets told before
-StepStores piece (Err f) new octets told before = Unit {0}
+abbrev pub StepStores : List ℕ → Result Step StepFault → List WriteValue → ServerChannel → List ℕ → List Told → State → Type 0
+StepStores piece (Ok step) written new octets told before = StoresBy piece step.end step.taken step.out.items written new octets told before
+StepStores piece (Err f) written new octets told before = Unit {0}
 
 -- ---- inside
 
 -- the same for a step that tells which request it answered
-abbrev pub AdvanceStores : List ℕ → Result (Step × Bool × Option AnsweredRequest) StepFault → ServerChannel → List ℕ → List Told → State → Type 0
-AdvanceStores piece (Ok found) new octets told before = StoresBy piece found.0.end found.0.taken found.0.out.items found.0.written new octets told before
-AdvanceStores piece (Err f) new octets told before = Unit {0}
+abbrev pub AdvanceStores : List ℕ → Result (Step × Bool × Option AnsweredRequest) StepFault → List WriteValue → ServerChannel → List ℕ → List Told → State → Type 0
+AdvanceStores piece (Ok found) written new octets told before = StoresBy piece found.0.end found.0.taken found.0.out.items written new octets told before
+AdvanceStores piece (Err f) written new octets told before = Unit {0}

@@ -1,6 +1,6 @@
 //! One of several connections over one node table.
 
-ghost use Rattle.std.specs.Prelude.{◌≡◌, ◌≤◌, ◌↔◌, [], ℕ, List, Err, None, IfOk, IsErrOf, IsTrue};
+ghost use Rattle.std.specs.Prelude.{◌≡◌, ◌≤◌, ◌↔◌, [], ℕ, List, Err, None, IfOk, OnErr, IsErrOf, IsTrue};
 ghost use Rattle.ua_channel.specs.Received.{received};
 ghost use Rattle.ua_channel.specs.ServerStands.{limits_of, channel_of, next_of, bound_of, bound_after, held_after, Goes, IsDone, ChannelStands as Holds};
 ghost use Rattle.ua_channel.specs.ServerTold.{Told};
@@ -19,6 +19,7 @@ use crate::server::Server;
 use crate::services::Services;
 use crate::session::SessionSlot;
 use crate::step::{Step, StepFault};
+use crate::written::Written;
 use std::alloc::Global;
 use ua_builtin::DateTime;
 use ua_frame::Limits;
@@ -100,10 +101,46 @@ impl Connection {
             → StepOver (limits_of (channel_at self.old)) (channel_of (channel_at self.old)) moment piece.now result (channel_at self.new) octets hs first (with_own_session self.old services.old) (with_own_session self.new services.new) }
         // The state of the channel afterwards is the same whatever the services are.
         ensures stands { (octets : List ℕ) (told : List Told) → Goes (channel_at self.old) octets told → StepStands piece.now result (channel_at self.new) octets told }
+        ensures apart { services.new.session ≡ services.old.session }
+        ensures endpoint { services.new.endpoint ≡ services.old.endpoint }
+        ensures progress { IfOk result (λ step. StepTakes piece.now step) }
+        // After a failed allocation, the bound is what it was before the call.
+        ensures starved { (octets : List ℕ) (told : List Told) → Goes (channel_at self.old) octets told
+            → IsErrOf result step_fault.OutOfMemory → bound_of (channel_at self.new) ≡ bound_of (channel_at self.old) }
+        ensures closed { IsDone (channel_at self.old) → (result ≡ Err step_fault.Closed) × (self.new ≡ self.old) × (services.new ≡ services.old) }
+        ensures limits { limits_of (channel_at self.new) ≡ limits_of (channel_at self.old) }
+        ensures channel { channel_of (channel_at self.new) ≡ channel_of (channel_at self.old) }
+    {
+        let mut unasked = Written::nothing();
+        self.step_telling(services, piece, moment, &mut unasked)
+    }
+
+    /// Does what [`step`](Connection::step) does, and keeps in `written` what the Write that was
+    /// answered stored, as [`Server::step_telling`].
+    pub fn step_telling(
+        &mut self,
+        services: &mut Services,
+        piece: &[u8],
+        moment: DateTime,
+        written: &mut Written,
+    ) -> Result<Step, StepFault>
+        // Among all connections over these services: what is sent to this one, and the state of
+        // each other one.
+        ensures among { (channels : ℕ → ℕ) (k : ℕ) (octets : List ℕ) (es : List SharedEvent) (first : State) → StandsAmong channels k (channel_at self.old) (session_at self.old) octets es first services.old
+            → StepAmong (limits_of (channel_at self.old)) channels k moment piece.now result (channel_at self.new) (session_at self.new) octets es first services.old services.new }
+        // As a function of the current state alone, however it arose.
+        ensures now { (octets : List ℕ) (told : List Told) → Goes (channel_at self.old) octets told
+            → StepNow (limits_of (channel_at self.old)) (channel_of (channel_at self.old)) (next_of (channel_at self.old)) moment piece.now result (channel_at self.new) octets told (with_own_session self.old services.old) (with_own_session self.new services.new) }
+        // The same over the events of this connection, whatever changed the services before.
+        ensures history { (octets : List ℕ) (hs : List ConnectionEvent) (first : State) → StandsOver (channel_at self.old) octets hs first (with_own_session self.old services.old)
+            → StepOver (limits_of (channel_at self.old)) (channel_of (channel_at self.old)) moment piece.now result (channel_at self.new) octets hs first (with_own_session self.old services.old) (with_own_session self.new services.new) }
+        // The state of the channel afterwards is the same whatever the services are.
+        ensures stands { (octets : List ℕ) (told : List Told) → Goes (channel_at self.old) octets told → StepStands piece.now result (channel_at self.new) octets told }
         // `written` has just the items that were stored by the Write that this step answered, in
-        // order.
+        // order, and nothing of another step.
         ensures stores { (octets : List ℕ) (told : List Told) → Goes (channel_at self.old) octets told
-            → StepStores piece.now result (channel_at self.new) octets told (with_own_session self.old services.old) }
+            → StepStores piece.now result written.new (channel_at self.new) octets told (with_own_session self.old services.old) }
+        ensures failed { OnErr result (written.new ≡ []) }
         ensures apart { services.new.session ≡ services.old.session }
         ensures endpoint { services.new.endpoint ≡ services.old.endpoint }
         ensures progress { IfOk result (λ step. StepTakes piece.now step) }
@@ -115,7 +152,7 @@ impl Connection {
         ensures channel { channel_of (channel_at self.new) ≡ channel_of (channel_at self.old) }
     {
         services.swap_session(&mut self.slot);
-        let step = self.server.step(services, piece, moment);
+        let step = self.server.step_telling(services, piece, moment, written);
         services.swap_session(&mut self.slot);
         step
     }

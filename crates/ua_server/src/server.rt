@@ -73,7 +73,8 @@ fn next_answered(
     (taken, Ok(ServerEvent::NeedMore))
 }
 
-/// Answers a whole message, under its RequestId, and gives the answered request and what it stored.
+/// Answers a whole message, under its RequestId, and gives the answered request; what it stored is
+/// kept in `written`.
 fn reply_to(
     alloc: Global,
     channel: &mut ServerChannel,
@@ -81,13 +82,16 @@ fn reply_to(
     id: u32,
     message: Message,
     moment: DateTime,
-) -> Result<(Vec<u8>, AnsweredRequest, Written), StepFault>
+    written: &mut Written,
+) -> Result<(Vec<u8>, AnsweredRequest), StepFault>
+    requires { written.old ≡ [] }
     ensures sent { (octets : List ℕ) (before : List Told) (token : ℕ) → GoesTelling channel.old octets before (Asked id token (concat message))
         → IfOk result (λ told. GoesTelling channel.new octets before (Asked id token (concat message))
         × IsReplyAt (channel_of channel.old) token (agreed_by before) (response.canonical (answered services.old moment (concat message)).1) (next_of channel.old) id told.0.items (next_of channel.new)) }
     ensures noted { (octets : List ℕ) (before : List Told) (token : ℕ) → GoesTelling channel.old octets before (Asked id token (concat message))
         → IfOk result (λ told. told.1 ≡ request_answered (lane_at (channel_of channel.old) token (agreed_by before)) services.old moment (concat message)) }
-    ensures stored { IfOk result (λ told. told.2 ≡ stored_of services.old (concat message)) }
+    ensures stored { IfOk result (λ told. written.new ≡ stored_of services.old (concat message)) }
+    ensures forgotten { OnErr result (written.new ≡ []) }
     ensures state { IfOk result (λ told. services.new ≡ (answered services.old moment (concat message)).0) }
     ensures failed { (octets : List ℕ) (before : List Told) (token : ℕ) → GoesTelling channel.old octets before (Asked id token (concat message))
         → OnErr result ((result ≡ Err step_fault.OutOfMemory) × IsDone channel.new) }
@@ -106,14 +110,20 @@ fn reply_to(
             return Err(StepFault::OutOfMemory);
         }
     };
-    let written = Written::of(message, results);
+    written.keep(message, results);
     match channel.respond(id, &body) {
         Ok(sent) => {
             let request = request.sent_as(sent.is_abort);
-            Ok((sent.octets, request, written))
+            Ok((sent.octets, request))
         }
-        Err(ReplyFault::OutOfMemory) => Err(StepFault::OutOfMemory),
-        Err(ReplyFault::NotOpen) => Err(StepFault::Closed),
+        Err(ReplyFault::OutOfMemory) => {
+            written.forget();
+            Err(StepFault::OutOfMemory)
+        }
+        Err(ReplyFault::NotOpen) => {
+            written.forget();
+            Err(StepFault::Closed)
+        }
     }
 }
 
@@ -126,7 +136,6 @@ fn refusal(alloc: Global, taken: usize, fault: ChannelFault) -> Result<Step, Ste
         → NowBehind old moment piece taken (Err fault) mid octets told
         → StepNow (limits_of old) (channel_of old) (next_of old) moment piece result mid octets told before before }
     ensures taken { IfOk result (λ step. (step.taken ≡ taken) × (step.end ≡ None → ⊥)) }
-    ensures stored { IfOk result (λ step. step.written ≡ []) }
     ensures closed { fault ≡ channel_fault.Closed → result ≡ Err step_fault.Closed }
 {
     match fault {
@@ -137,7 +146,6 @@ fn refusal(alloc: Global, taken: usize, fault: ChannelFault) -> Result<Step, Ste
                     taken,
                     out,
                     end: Some(End::Refused(code)),
-                    written: Written::nothing(),
                 }),
                 Err(_) => Err(StepFault::OutOfMemory),
             }
@@ -158,7 +166,7 @@ pub struct Server {
 }
 
 impl Server {
-    ghost use Rattle.std.specs.Prelude.{◌≡◌, ◌≤◌, ◌↔◌, ◌++◌, [], ℕ, List, length, take, None, false, Ok, Err, IfOk, IsErrOf, IsTrue};
+    ghost use Rattle.std.specs.Prelude.{◌≡◌, ◌≤◌, ◌↔◌, ◌++◌, [], ℕ, List, length, take, None, false, Ok, Err, IfOk, OnErr, IsErrOf, IsTrue};
     ghost use Rattle.ua_builtin.specs.declared.date_time.DateTime.{DateTime};
     ghost use Rattle.ua_channel.specs.Received.{received};
     ghost use Rattle.ua_channel.specs.ServerStands.{limits_of, channel_of, next_of, bound_of, Goes, IsDone, bound_after, held_after, ChannelStands as Holds};
@@ -231,9 +239,6 @@ impl Server {
             → StepOver (limits_of (channel_in self.old)) (channel_of (channel_in self.old)) moment piece.now result (channel_in self.new) octets hs first services.old services.new }
         // The state of the channel afterwards is the same whatever the services are.
         ensures stands { (octets : List ℕ) (told : List Told) → Goes (channel_in self.old) octets told → StepStands piece.now result (channel_in self.new) octets told }
-        // `written` has just the items that were stored by the Write that this step answered, in
-        // order.
-        ensures stores { (octets : List ℕ) (told : List Told) → Goes (channel_in self.old) octets told → StepStores piece.now result (channel_in self.new) octets told services.old }
         ensures endpoint { services.new.endpoint ≡ services.old.endpoint }
         ensures progress { IfOk result (λ step. StepTakes piece.now step) }
         // After a failed allocation, the bound is what it was before the call.
@@ -243,7 +248,44 @@ impl Server {
         ensures limits { limits_of (channel_in self.new) ≡ limits_of (channel_in self.old) }
         ensures channel { channel_of (channel_in self.new) ≡ channel_of (channel_in self.old) }
     {
-        match self.advance(services, piece, moment) {
+        let mut unasked = Written::nothing();
+        self.step_telling(services, piece, moment, &mut unasked)
+    }
+
+    /// Does what [`step`](Server::step) does, and keeps in `written` what the Write that was answered
+    /// stored: its message, instead of dropping it. What `written` had before is dropped; behind any
+    /// other step, and behind a fault, it is empty.
+    pub fn step_telling(
+        &mut self,
+        services: &mut Services,
+        piece: &[u8],
+        moment: DateTime,
+        written: &mut Written,
+    ) -> Result<Step, StepFault>
+        ensures answers { (octets : List ℕ) (told : List Told) (first : State) (moments : List DateTime) → ServerStands (channel_in self.old) octets told first moments services.old
+            → StepAnswers (limits_of (channel_in self.old)) (channel_of (channel_in self.old)) moment piece.now result (channel_in self.new) octets told first moments services.old services.new }
+        // As a function of the current state alone, however it arose.
+        ensures now { (octets : List ℕ) (told : List Told) → Goes (channel_in self.old) octets told
+            → StepNow (limits_of (channel_in self.old)) (channel_of (channel_in self.old)) (next_of (channel_in self.old)) moment piece.now result (channel_in self.new) octets told services.old services.new }
+        // The same over the events of the connection, whatever changed its services before.
+        ensures history { (octets : List ℕ) (hs : List ConnectionEvent) (first : State) → StandsOver (channel_in self.old) octets hs first services.old
+            → StepOver (limits_of (channel_in self.old)) (channel_of (channel_in self.old)) moment piece.now result (channel_in self.new) octets hs first services.old services.new }
+        // The state of the channel afterwards is the same whatever the services are.
+        ensures stands { (octets : List ℕ) (told : List Told) → Goes (channel_in self.old) octets told → StepStands piece.now result (channel_in self.new) octets told }
+        // `written` has just the items that were stored by the Write that this step answered, in
+        // order, and nothing of another step.
+        ensures stores { (octets : List ℕ) (told : List Told) → Goes (channel_in self.old) octets told → StepStores piece.now result written.new (channel_in self.new) octets told services.old }
+        ensures failed { OnErr result (written.new ≡ []) }
+        ensures endpoint { services.new.endpoint ≡ services.old.endpoint }
+        ensures progress { IfOk result (λ step. StepTakes piece.now step) }
+        // After a failed allocation, the bound is what it was before the call.
+        ensures starved { (octets : List ℕ) (told : List Told) → Goes (channel_in self.old) octets told
+            → IsErrOf result step_fault.OutOfMemory → bound_of (channel_in self.new) ≡ bound_of (channel_in self.old) }
+        ensures closed { IsDone (channel_in self.old) → (result ≡ Err step_fault.Closed) × (self.new ≡ self.old) × (services.new ≡ services.old) }
+        ensures limits { limits_of (channel_in self.new) ≡ limits_of (channel_in self.old) }
+        ensures channel { channel_of (channel_in self.new) ≡ channel_of (channel_in self.old) }
+    {
+        match self.advance(services, piece, moment, written) {
             Ok(found) => Ok(found.0),
             Err(fault) => Err(fault),
         }
@@ -263,13 +305,15 @@ impl Server {
         services: &mut Services,
         piece: &[u8],
         moment: DateTime,
+        written: &mut Written,
     ) -> Result<(Step, bool, Option<AnsweredRequest>), StepFault>
         ensures answers { (octets : List ℕ) (told : List Told) (first : State) (moments : List DateTime) → ServerStands (channel_in self.old) octets told first moments services.old
             → Advances (limits_of (channel_in self.old)) (channel_of (channel_in self.old)) moment piece.now result (channel_in self.new) octets told first moments services.old services.new }
         ensures now { (octets : List ℕ) (told : List Told) → Goes (channel_in self.old) octets told
             → AdvanceNow (limits_of (channel_in self.old)) (channel_of (channel_in self.old)) (next_of (channel_in self.old)) moment piece.now result (channel_in self.new) octets told services.old services.new }
         ensures stands { (octets : List ℕ) (told : List Told) → Goes (channel_in self.old) octets told → AdvanceStands piece.now result (channel_in self.new) octets told }
-        ensures stores { (octets : List ℕ) (told : List Told) → Goes (channel_in self.old) octets told → AdvanceStores piece.now result (channel_in self.new) octets told services.old }
+        ensures stores { (octets : List ℕ) (told : List Told) → Goes (channel_in self.old) octets told → AdvanceStores piece.now result written.new (channel_in self.new) octets told services.old }
+        ensures failed { OnErr result (written.new ≡ []) }
         ensures endpoint { services.new.endpoint ≡ services.old.endpoint }
         ensures progress { IfOk result (λ found. StepTakes piece.now found.0) }
         ensures starved { (octets : List ℕ) (told : List Told) → Goes (channel_in self.old) octets told
@@ -278,9 +322,10 @@ impl Server {
         ensures limits { limits_of (channel_in self.new) ≡ limits_of (channel_in self.old) }
         ensures channel { channel_of (channel_in self.new) ≡ channel_of (channel_in self.old) }
     {
+        written.forget();
         let (taken, answer) = next_answered(&mut self.channel, piece, moment);
         match answer {
-            Ok(event) => self.answer(services, taken, event, moment),
+            Ok(event) => self.answer(services, taken, event, moment, written),
             Err(fault) => match refusal(self.alloc, taken, fault) {
                 Ok(step) => Ok((step, false, None)),
                 Err(fault) => Err(fault),
@@ -296,15 +341,18 @@ impl Server {
         taken: usize,
         event: ServerEvent,
         moment: DateTime,
+        written: &mut Written,
     ) -> Result<(Step, bool, Option<AnsweredRequest>), StepFault>
-        requires { is_given_up (Ok event) ≡ false }
+        requires some { is_given_up (Ok event) ≡ false }
+        requires empty { written.old ≡ [] }
         ensures now { (old : ServerChannel) (piece octets : List ℕ) (told : List Told)
             → NowBehind old moment piece taken (Ok event) (channel_in self.old) octets told
             → AdvanceNow (limits_of old) (channel_of old) (next_of old) moment piece result (channel_in self.new) octets told services.old services.new }
         ensures stands { (old : ServerChannel) (piece octets : List ℕ) (told : List Told)
             → AnswersBehind (channel_of old) (next_of old) moment piece taken (Ok event) (channel_in self.old) octets told → AdvanceStands piece result (channel_in self.new) octets told }
         ensures stores { (old : ServerChannel) (piece octets : List ℕ) (told : List Told)
-            → AnswersBehind (channel_of old) (next_of old) moment piece taken (Ok event) (channel_in self.old) octets told → AdvanceStores piece result (channel_in self.new) octets told services.old }
+            → AnswersBehind (channel_of old) (next_of old) moment piece taken (Ok event) (channel_in self.old) octets told → AdvanceStores piece result written.new (channel_in self.new) octets told services.old }
+        ensures failed { OnErr result (written.new ≡ []) }
         ensures endpoint { services.new.endpoint ≡ services.old.endpoint }
         ensures taken { IfOk result (λ found. found.0.taken ≡ taken) }
         ensures starved { (old : ServerChannel) (piece octets : List ℕ) (told : List Told) → Goes old octets told → limits_of (channel_in self.old) ≡ limits_of old
@@ -315,14 +363,11 @@ impl Server {
     {
         match event {
             ServerEvent::NeedMore => Ok((Step::silent(self.alloc, taken, None), false, None)),
-            ServerEvent::Send(out) => Ok((
-                Step::saying(taken, out, Written::nothing()),
-                true,
-                None,
-            )),
+            ServerEvent::Send(out) => Ok((Step::saying(taken, out), true, None)),
             ServerEvent::Asked(id, message) => {
-                match reply_to(self.alloc, &mut self.channel, services, id, message, moment) {
-                    Ok(told) => Ok((Step::saying(taken, told.0, told.2), true, Some(told.1))),
+                let channel = &mut self.channel;
+                match reply_to(self.alloc, channel, services, id, message, moment, written) {
+                    Ok(told) => Ok((Step::saying(taken, told.0), true, Some(told.1))),
                     Err(fault) => Err(fault),
                 }
             }

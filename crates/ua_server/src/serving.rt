@@ -13,6 +13,7 @@ use crate::server::Server;
 use crate::services::Services;
 use crate::step::{End, Step, StepFault};
 use crate::watch::{Unwatched, Watch, tell};
+use crate::written::Written;
 use std::alloc::{AllocError, Global};
 use ua_builtin::DateTime;
 use ua_channel::{Line, Moments, write_whole};
@@ -198,7 +199,11 @@ impl Serving {
     {
         application.act(services);
         let moment = self.moment(moments);
-        let (step, answered, request) = match self.server.advance(services, piece, moment) {
+        let mut unasked = Written::nothing();
+        let (step, answered, request) = match self
+            .server
+            .advance(services, piece, moment, &mut unasked)
+        {
             Ok(found) => found,
             Err(fault) => return Err(fault),
         };

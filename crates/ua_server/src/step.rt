@@ -2,7 +2,6 @@
 
 ghost use Rattle.std.specs.Prelude.{◌≡◌, [], None};
 
-use crate::written::Written;
 use std::alloc::Global;
 use thiserror::Error;
 use ua_builtin::StatusCode;
@@ -29,9 +28,6 @@ pub struct Step {
     pub out: Vec<u8>,
     /// How the connection ended, if it did.
     pub end: Option<End>,
-    /// What the Write that was answered stored, if it was one. A step allocates nothing for it: it
-    /// keeps the message instead of dropping it.
-    pub written: Written,
 }
 
 impl Step {
@@ -40,25 +36,22 @@ impl Step {
         ensures taken { result.taken ≡ taken }
         ensures out { result.out.items ≡ [] }
         ensures end { result.end ≡ end }
-        ensures written { result.written ≡ [] }
     {
         Step {
             taken,
             out: Vec::new(alloc),
             end,
-            written: Written::nothing(),
         }
     }
 
-    /// A step that sends these bytes and stored this, after which the connection goes on.
-    pub(crate) fn saying(taken: usize, out: Vec<u8>, written: Written) -> Step
-        ensures { result ≡ record { taken = taken; out = out; end = None; written = written } }
+    /// A step that sends these bytes, after which the connection goes on.
+    pub(crate) fn saying(taken: usize, out: Vec<u8>) -> Step
+        ensures { result ≡ record { taken = taken; out = out; end = None } }
     {
         Step {
             taken,
             out,
             end: None,
-            written,
         }
     }
 }

@@ -38,7 +38,7 @@ impl Model for Written {
 
 impl Written {
     /// Nothing was stored. Allocates nothing.
-    pub(crate) fn nothing() -> Written
+    pub fn nothing() -> Written
         ensures { result ≡ [] }
     {
         Written {
@@ -47,20 +47,31 @@ impl Written {
         }
     }
 
-    /// What the Write in a message with these results stored; nothing where they are null.
+    /// Lets go of what was stored.
+    pub(crate) fn forget(&mut self)
+        ensures { self.new ≡ [] }
+    {
+        if self.message.is_some() {
+            *self = Written::nothing();
+        }
+    }
+
+    /// Takes in, where it is empty, what the Write in a message with these results stored: nothing
+    /// where they are null.
     #[tactic(auto, using(crate::proofs::Stores::good_nothing))]
-    pub(crate) fn of(message: Message, results: UaArray<StatusCode>) -> Written
-        ensures { result ≡ good_items (items_written (request_read (concat message))) (items_of results) }
+    pub(crate) fn keep(&mut self, message: Message, results: UaArray<StatusCode>)
+        requires { self.old ≡ [] }
+        ensures { self.new ≡ good_items (items_written (request_read (concat message))) (items_of results) }
     {
         if results.as_items().is_none() {
             drop(message);
             drop(results);
-            return Written::nothing();
+            return;
         }
-        Written {
+        *self = Written {
             message: Some(message),
             results,
-        }
+        };
     }
 
     /// The items that were stored, in the order of the Write: each with its NodeId, the attribute

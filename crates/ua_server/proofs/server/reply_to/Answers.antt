@@ -44,4 +44,4 @@ returns-clause-failed c = λ octets before token g.
 pub returns-in-Ok-respond-clause-stored : goal.returns-in-Ok-respond-clause-stored
 returns-in-Ok-respond-clause-stored c =
     let results : c.in-Ok.told.2 ≡ results_of (answered c.args.services.now c.args.moment (concat c.args.message)).1 = search rules in
-    kept-stored c.args.services.now c.args.moment (concat c.args.message) c.of-written.result c.in-Ok.told.2 c.of-written.ensures results
+    kept-stored c.args.services.now c.args.moment (concat c.args.message) c.keep.new.self c.in-Ok.told.2 c.keep.ensures results

@@ -83,4 +83,4 @@ returns-in-Ok-clause-stores c = λ octets told g.
 pub returns-in-Ok-refusal-clause-stores : goal.returns-in-Ok-refusal-clause-stores
 returns-in-Ok-refusal-clause-stores c = λ octets told g.
     let step = c.in-Ok-refusal.step in
-    stores-ended c.args.piece.now step.end step.taken step.out.items step.written c.next_answered-taken.new.channel octets told c.args.services.now c.in-Ok-refusal.ensures.taken.1 c.in-Ok-refusal.ensures.stored
+    stores-ended c.args.piece.now step.end step.taken step.out.items c.forget.new.self c.next_answered-taken.new.channel octets told c.args.services.now c.in-Ok-refusal.ensures.taken.1 c.forget.ensures

@@ -7,7 +7,7 @@ use Rattle.ua_server.specs.declared.step.StepFault.TheVariants as step_fault
 use Rattle.ua_server.proofs.Bounds.{same-fault}
 use Rattle.ua_server.proofs.Nows.{now-without}
 use Rattle.ua_server.proofs.NowStanding.{as-told}
-use Rattle.ua_server.proofs.server.Server.step.Goals as goal
+use Rattle.ua_server.proofs.server.Server.step_telling.Goals as goal
 
 pub returns-in-Err-clause-starved : goal.returns-in-Err-clause-starved
 returns-in-Err-clause-starved c = λ octets told g fails.
