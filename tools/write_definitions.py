@@ -30,7 +30,7 @@ MARK = re.compile(r"^<!-- (?P<kind>contract|rests) (?P<calls>[\w: ]+) -->\n(?P<b
 SAME = re.compile(r"the same(?=[,;:]| of\b| where\b| by\b| in\b|$)")
 HEAD = """# Definitions
 
-Each definition that the contract of a public call of a library names, with its file and line, in the words of the comment above it; [ARCHITECTURE.md](ARCHITECTURE.md#words) explains these words. The crates stand from the lowest up. Within a crate a definition stands before what it is made of. `tools/trust.py CALL` prints all definitions on which the contract of one call rests, also those that no contract names. [ENCODINGS.md](ENCODINGS.md) has the types, structures, messages and status codes as tables. `tools/write_definitions.py` writes this page.
+Each definition that the contract of a public call of a library names, with its file and line, in the words of the comment above it; [ARCHITECTURE.md](ARCHITECTURE.md#words) explains the words of names. The crates stand from the lowest up. Within a crate a definition stands before what it is made of. `tools/trust.py CALL` prints all definitions on which the contract of one call rests, also those that no contract names. [ENCODINGS.md](ENCODINGS.md) has the types, structures, messages and status codes as tables. `tools/write_definitions.py` writes this page.
 """
 
 

@@ -13,7 +13,7 @@ use ua_services::{read_request, read_response, write_request, write_response};
 #[derive(Drop)]
 struct Body {
     parts: Vec<Bytes>,
-    /// How many octets it has.
+    /// How many bytes it has.
     len: usize,
 }
 
@@ -29,7 +29,7 @@ impl Model for Body {
 }
 
 impl Body {
-    /// A body of no octets.
+    /// A body of no bytes.
     fn new(alloc: Global) -> Body {
         Body {
             parts: Vec::new(alloc),
@@ -51,21 +51,21 @@ impl Body {
         }
     }
 
-    /// A source of the octets.
+    /// A source of the bytes.
     fn source(&self) -> Parts<'_> {
         let _len = self.len;
         Parts::new(self.parts.as_slice())
     }
 }
 
-/// The body of these octets.
+/// The body of these bytes.
 fn body_of(alloc: Global, octets: &[u8]) -> Result<Body, Fault> {
     let mut body = Body::new(alloc);
     body.add(Bytes::copy_from_slice(alloc, octets)?)?;
     Ok(body)
 }
 
-/// Reads a response so many times, and lets it go; how many were read.
+/// Reads a response this many times, and lets it go; how many were read.
 pub fn read_responses(alloc: Global, octets: &[u8], times: u32) -> Result<u64, Fault> {
     let body = body_of(alloc, octets)?;
     let mut sum = 0u64;
@@ -79,7 +79,7 @@ pub fn read_responses(alloc: Global, octets: &[u8], times: u32) -> Result<u64, F
     Ok(sum)
 }
 
-/// Reads a request so many times, and lets it go; how many were read.
+/// Reads a request this many times, and lets it go; how many were read.
 pub fn read_requests(alloc: Global, octets: &[u8], times: u32) -> Result<u64, Fault> {
     let body = body_of(alloc, octets)?;
     let mut sum = 0u64;
@@ -93,7 +93,7 @@ pub fn read_requests(alloc: Global, octets: &[u8], times: u32) -> Result<u64, Fa
     Ok(sum)
 }
 
-/// Writes a response so many times; how many octets.
+/// Writes a response this many times; how many bytes.
 pub fn write_responses(alloc: Global, octets: &[u8], times: u32) -> Result<u64, Fault> {
     let Ok(response) = read_response(alloc, &mut Octets::new(octets)) else {
         return Err(Fault::Value);
@@ -108,7 +108,7 @@ pub fn write_responses(alloc: Global, octets: &[u8], times: u32) -> Result<u64, 
     Ok(sum)
 }
 
-/// Writes a request so many times; how many octets.
+/// Writes a request this many times; how many bytes.
 pub fn write_requests(alloc: Global, octets: &[u8], times: u32) -> Result<u64, Fault> {
     let Ok(request) = read_request(alloc, &mut Octets::new(octets)) else {
         return Err(Fault::Value);
@@ -123,7 +123,7 @@ pub fn write_requests(alloc: Global, octets: &[u8], times: u32) -> Result<u64, F
     Ok(sum)
 }
 
-/// A lane of chunks of 8,192 octets, without limits.
+/// A lane of chunks of 8,192 bytes, without limits.
 const LANE: Lane = Lane {
     channel: 1,
     token: 1,
@@ -132,7 +132,7 @@ const LANE: Lane = Lane {
     chunks: 0,
 };
 
-/// Cuts a body into chunks so many times; how many octets they have.
+/// Splits a body into chunks this many times; how many bytes they have.
 pub fn cut_bodies(alloc: Global, octets: &[u8], times: u32) -> Result<u64, Fault> {
     if octets.is_empty() {
         return Err(Fault::Value);

@@ -1,4 +1,4 @@
-//! Calls of a client over a line over memory, from which all answers come.
+//! Calls of a client over an in-memory transport, from which all answers come.
 
 use crate::fault::Fault;
 use crate::given::{Given, MOMENT, limits, request_of, text};
@@ -19,7 +19,7 @@ fn of_call(fault: ClientFault) -> Fault {
     }
 }
 
-/// A line from which octets come.
+/// A transport from which bytes come.
 fn line_of(alloc: Global, octets: &[u8]) -> Result<MemoryLine, Fault> {
     let mut coming = Vec::new(alloc);
     coming.extend_from_slice(octets)?;
@@ -51,7 +51,7 @@ fn answered(reply: &Reply) -> u64 {
     }
 }
 
-/// Calls a request so many times, one at a time; how many were answered.
+/// Calls a request this many times, one at a time; how many were answered.
 pub fn call(alloc: Global, given: &Given, times: u32) -> Result<u64, Fault> {
     let mut line = line_of(alloc, given.octets())?;
     let mut client = begin(alloc, &mut line)?;
@@ -85,7 +85,7 @@ fn group_of(alloc: Global, body: &[u8]) -> Result<Vec<Request>, Fault> {
     Ok(requests)
 }
 
-/// Calls a group of 64 requests so many times; how many were answered.
+/// Calls a group of 64 requests this many times; how many were answered.
 pub fn call_groups(alloc: Global, given: &Given, times: u32) -> Result<u64, Fault> {
     let mut line = line_of(alloc, given.octets())?;
     let mut client = begin(alloc, &mut line)?;

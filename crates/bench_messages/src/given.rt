@@ -7,7 +7,7 @@ use ua_builtin::{DateTime, Octets, UaString};
 use ua_frame::Limits;
 use ua_services::{Request, read_request};
 
-/// The moment of each call and answer.
+/// The time of each call and answer.
 pub const MOMENT: DateTime = DateTime {
     ticks: 132_000_000_000_000_000,
 };
@@ -20,17 +20,17 @@ pub struct Given {
 }
 
 impl Given {
-    /// The octets of two files.
+    /// The bytes of two files.
     pub fn new(octets: Vec<u8>, beside: Vec<u8>) -> Given {
         Given { octets, beside }
     }
 
-    /// The octets of the first file.
+    /// The bytes of the first file.
     pub fn octets(&self) -> &[u8] {
         self.octets.as_slice()
     }
 
-    /// The octets of the second file.
+    /// The bytes of the second file.
     pub fn beside(&self) -> &[u8] {
         self.beside.as_slice()
     }

@@ -1,7 +1,7 @@
-//! Does one piece of work on a message many times over, so that its instructions can be counted:
-//! `bench_messages WORK FILE TIMES [BESIDE]`, where FILE holds the octets of one value, or those that one side
-//! of a connection sends, and BESIDE the nodes of a server or the request of a client.
-//! docs/PERFORMANCE.md says how, and what came of it.
+//! Does one fragment of work on a message many times over, so that its instructions can be counted:
+//! `bench_messages WORK FILE TIMES [BESIDE]`, where FILE holds the bytes of one value, or those
+//! that one side of a connection sends, and BESIDE the nodes of a server or the request of a
+//! client. docs/PERFORMANCE.md says how, and what came of it.
 #![tactic(auto)]
 
 mod bodies;
@@ -31,7 +31,7 @@ fn main(rt: HostRuntime) -> ExitCode {
     }
 }
 
-/// Does the work that the words of the command line name; how many octets it went over.
+/// Does the work that the words of the command line name; how many bytes it went over.
 fn run(rt: &HostRuntime) -> Result<u64, Fault> {
     let words = words_of(rt).map_err(|_| Fault::Words)?;
     let (Some(work), Some(file), Some(times)) = (words.get(1), words.get(2), words.get(3)) else {

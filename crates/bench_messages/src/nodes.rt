@@ -8,7 +8,7 @@ use ua_nodes::{NodeTable, Reading, Stamps};
 use ua_services::{ReadValueId, Request};
 use ua_variant::{Scalar, Variant};
 
-/// Loads a node file so many times, and lets the table go; how many octets it went over.
+/// Loads a node file this many times, and lets the table go; how many bytes it went over.
 pub fn load_nodes(alloc: Global, octets: &[u8], times: u32) -> Result<u64, Fault> {
     let Ok(text) = str::from_utf8(octets) else {
         return Err(Fault::Value);
@@ -35,7 +35,7 @@ fn read_each(alloc: Global, table: &NodeTable, items: &[ReadValueId]) -> Result<
     Ok(sum)
 }
 
-/// Reads the items of a Read so many times from the nodes of a node file; how many were read.
+/// Reads the items of a Read this many times from the nodes of a node file; how many were read.
 pub fn read_items(alloc: Global, given: &Given, times: u32) -> Result<u64, Fault> {
     let Ok(table) = NodeTable::load(alloc, given.text()?) else {
         return Err(Fault::Value);
@@ -70,8 +70,8 @@ fn set_each(table: &mut NodeTable, items: &[ReadValueId], value: i32) -> Result<
     Ok(sum)
 }
 
-/// Sets the nodes that the items of a Read name so many times, in the table of a node file; how many were
-/// set.
+/// Sets the nodes that the items of a Read name this many times, in the table of a node file; how
+/// many were set.
 pub fn set_items(alloc: Global, given: &Given, times: u32) -> Result<u64, Fault> {
     let Ok(mut table) = NodeTable::load(alloc, given.text()?) else {
         return Err(Fault::Value);

@@ -1,5 +1,5 @@
-//! Work on what one side of a connection sends, in pieces of 4,096 octets, as one read of a line gives
-//! them.
+//! Work on what one side of a connection sends, in fragments of 4,096 bytes, as one read of a
+//! transport gives them.
 
 use crate::fault::Fault;
 use crate::given::{Given, MOMENT, limits, text};
@@ -11,7 +11,7 @@ use ua_nodes::NodeTable;
 use ua_pair::{DissectOptions, Dissector, Side};
 use ua_server::{Connection, Endpoint, Server, Services};
 
-/// The most octets of a piece.
+/// The most bytes of a fragment.
 const PIECE: usize = 4096;
 
 /// The largest frame that is taken.
@@ -20,16 +20,16 @@ const FRAME_SIZE: u32 = 65535;
 /// The id of the channel.
 const CHANNEL: u32 = 1;
 
-/// What takes octets, and counts what came of them.
+/// What takes bytes, and counts what came of them.
 trait Takes {
-    /// Takes octets from the front of a piece; how many.
+    /// Takes bytes from the prefix of a fragment; how many.
     fn take_front(&mut self, piece: &[u8]) -> Result<usize, Fault>;
 
     /// How many frames, messages or answers there were so far.
     fn count(&self) -> u64;
 }
 
-/// Takes a piece whole, or up to where so many were counted.
+/// Takes a fragment whole, or up to where this many were counted.
 fn take_piece<M: Takes>(machine: &mut M, piece: &[u8], most: u64) -> Result<(), Fault> {
     let mut rest = piece;
     for _ in 0..piece.len() {
@@ -42,7 +42,7 @@ fn take_piece<M: Takes>(machine: &mut M, piece: &[u8], most: u64) -> Result<(), 
     Ok(())
 }
 
-/// Takes octets in pieces, up to where so many were counted.
+/// Takes bytes in fragments, up to where this many were counted.
 fn take_pieces<M: Takes>(machine: &mut M, octets: &[u8], most: u64) -> Result<(), Fault> {
     for piece in octets.chunks(PIECE) {
         take_piece(machine, piece, most)?;
@@ -78,7 +78,7 @@ impl Takes for Frames {
     }
 }
 
-/// Reads all frames of the octets so many times; how many frames.
+/// Reads all frames of the bytes this many times; how many frames.
 pub fn read_frames(alloc: Global, octets: &[u8], times: u32) -> Result<u64, Fault> {
     let gate = Gate::new(FRAME_SIZE)
         .taking(Kind::Hel)
@@ -128,7 +128,7 @@ impl Takes for Channel {
     }
 }
 
-/// Takes so many messages of a client, which stand behind its HEL and OPN; how many were taken.
+/// Takes this many messages of a client, which stand after its HEL and OPN; how many were taken.
 pub fn take_messages(alloc: Global, octets: &[u8], times: u32) -> Result<u64, Fault> {
     let mut channel = Channel {
         channel: ServerChannel::new(alloc, limits()?, CHANNEL),
@@ -210,7 +210,8 @@ fn services(alloc: Global, nodes: &str) -> Result<Services, Fault> {
     Ok(Services::new(nodes, endpoint))
 }
 
-/// Answers so much of what a client sent, over the nodes of a node file; how many answers there were.
+/// Answers so much of what a client sent, over the nodes of a node file; how many answers there
+/// were.
 pub fn answer_messages(alloc: Global, given: &Given, times: u32) -> Result<u64, Fault> {
     let mut serving = Serving {
         server: Server::new(alloc, limits()?, CHANNEL),
@@ -232,7 +233,7 @@ pub fn answer_among(alloc: Global, given: &Given, times: u32) -> Result<u64, Fau
     Ok(sharing.count)
 }
 
-/// Dissects what a client sent so many times; how many octets the lines have.
+/// Dissects what a client sent this many times; how many bytes the lines have.
 pub fn dissect_octets(alloc: Global, octets: &[u8], times: u32) -> Result<u64, Fault> {
     let mut lines = String::new(alloc);
     let mut sum = 0u64;

@@ -1,4 +1,4 @@
-//! The pieces of work.
+//! The fragments of work.
 
 use crate::bodies::{cut_bodies, read_requests, read_responses, write_requests, write_responses};
 use crate::calls::{call, call_groups};
@@ -11,7 +11,7 @@ use ua_builtin::{MOST_LEVELS, Octets, Source, Wire};
 use ua_services::{ReadRequest, ReadResponse};
 use ua_variant::Variant;
 
-/// A piece of work on the octets of one value.
+/// A fragment of work on the bytes of one value.
 #[derive(Clone, Copy, PartialEq, Eq, Debug)]
 pub enum Work {
     /// Reads a Variant, and lets it go.
@@ -20,7 +20,7 @@ pub enum Work {
     Write,
     /// Clones a Variant, and lets the clone go.
     Clone,
-    /// The levels and the count of a Variant, and whether it can be written.
+    /// The levels and the count of a Variant, and whether it can be encoded.
     Measure,
     ReadResponse,
     WriteResponse,
@@ -37,7 +37,7 @@ pub enum Work {
     ReadItem,
     /// Sets the nodes that the items of a Read name.
     Set,
-    /// Cuts a body into chunks.
+    /// Splits a body into chunks.
     Cut,
     /// Reads frames.
     Frames,
@@ -85,7 +85,7 @@ impl Work {
         }
     }
 
-    /// Does the work so many times; how many octets, values, messages or answers it went over.
+    /// Does the work this many times; how many bytes, values, messages or answers it went over.
     pub fn repeat(self, alloc: Global, given: &Given, times: u32) -> Result<u64, Fault> {
         let octets = given.octets();
         match self {
@@ -116,13 +116,13 @@ impl Work {
     }
 }
 
-/// The value that the octets begin with.
+/// The value that the bytes begin with.
 fn value_in<T: Wire>(alloc: Global, octets: &[u8]) -> Result<T, Fault> {
     let value = T::read(alloc, &mut Octets::new(octets), MOST_LEVELS)?;
     Ok(value)
 }
 
-/// Reads a value so many times.
+/// Reads a value this many times.
 fn read_values<T: Wire + Drop>(alloc: Global, octets: &[u8], times: u32) -> Result<u64, Fault> {
     let mut sum = 0u64;
     for _ in 0..times {
@@ -134,7 +134,7 @@ fn read_values<T: Wire + Drop>(alloc: Global, octets: &[u8], times: u32) -> Resu
     Ok(sum)
 }
 
-/// Writes a value so many times.
+/// Writes a value this many times.
 fn write_values<T: Wire + Drop>(alloc: Global, octets: &[u8], times: u32) -> Result<u64, Fault> {
     let value = value_in::<T>(alloc, octets)?;
     let mut out = Vec::with_capacity(alloc, octets.len())?;
@@ -147,7 +147,7 @@ fn write_values<T: Wire + Drop>(alloc: Global, octets: &[u8], times: u32) -> Res
     Ok(sum)
 }
 
-/// Clones a Variant so many times.
+/// Clones a Variant this many times.
 fn clone_values(alloc: Global, octets: &[u8], times: u32) -> Result<u64, Fault> {
     let value = value_in::<Variant>(alloc, octets)?;
     let mut sum = 0u64;
@@ -159,7 +159,7 @@ fn clone_values(alloc: Global, octets: &[u8], times: u32) -> Result<u64, Fault> 
     Ok(sum)
 }
 
-/// Measures a Variant so many times.
+/// Measures a Variant this many times.
 fn measure_values(alloc: Global, octets: &[u8], times: u32) -> Result<u64, Fault> {
     let value = value_in::<Variant>(alloc, octets)?;
     let mut sum = 0u64;

@@ -1,10 +1,11 @@
--- What it is for two machines to stand alike, as far as clauses tell.
+-- When two machines have the same state, as far as clauses tell.
 use Rattle.std.specs.Prelude.{◌≡◌, List}
 use Rattle.ua_chunk.specs.Assembling.{Stands, IsClosed, octet_limit, chunk_limit, last_number}
 use Rattle.ua_chunk.specs.declared.assembler.Assembler.{Assembler}
 use Rattle.ua_chunk.specs.declared.chunk.Chunk.{Chunk}
 
--- two assemblers of the same limits stand after the same chunks and the same last number
+-- two assemblers with the same limits are in the state after the same chunks and the same last
+-- number
 pub record StandAlike (one two : Assembler) (chunks : List Chunk) : Type 0 where
   pub first : Stands one chunks
   pub second : Stands two chunks

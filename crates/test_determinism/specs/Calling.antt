@@ -1,4 +1,4 @@
--- What it is for two clients to be called alike, over lines that bring the same octets and fail alike.
+-- When two clients are called alike, over transports that bring the same bytes and fail alike.
 use Rattle.std.specs.Prelude.{◌≡◌, ℕ, ◌<◌, Bool, true, false, List, ◌++◌, length, Option, Some, None, Result, Ok, Err, IsErrOf}
 use Rattle.ua_channel.specs.Client.{SameClient}
 use Rattle.ua_channel.specs.Line.{Traffic}
@@ -10,14 +10,15 @@ use Rattle.ua_client.specs.declared.fault.ClientFault.{ClientFault}
 use Rattle.ua_client.specs.declared.fault.ClientFault.TheVariants as fault
 use Rattle.test_determinism.specs.Lines.{ComeAlike, WroteAlike}
 
--- ---- how the lines fail
+-- ---- how the transports fail
 
--- a call of the line failed
+-- a call of the transport failed
 abbrev pub line_failed : {A : Type 0} → Result A ClientFault → Bool
 line_failed (Ok found) = false
 line_failed (Err f) = is_line_fault f
 
--- the lines fail alike: no call of either fails; or a read of both fails, behind the same octets; or a write of both, behind the same octets
+-- the transports fail alike: no call of either fails; or a read of both fails, after the same
+-- bytes; or a write of both, after the same bytes
 pub data CallsAlike {A B : Type 0} (a : Result A ClientFault) (b : Result B ClientFault) (line after other later : Option Traffic) : Type 0 where
   NoFault : line_failed a ≡ false → line_failed b ≡ false → CallsAlike a b line after other later
   AtRead : IsErrOf a fault.Read → IsErrOf b fault.Read → ComeAlike after later → CallsAlike a b line after other later
@@ -25,14 +26,14 @@ pub data CallsAlike {A B : Type 0} (a : Result A ClientFault) (b : Result B Clie
 
 -- ---- where clients stand
 
--- the octets to come to a client over a line that tells its own, whatever is written to it: those that were read and are not taken yet, and
--- those of the line
+-- the bytes that a client is still to get over a transport that tells its own, whatever is written
+-- to it: those that were read and are not taken yet, and those of the transport
 abbrev pub ComesTo : Client → Option Traffic → List ℕ → Type 0
 ComesTo x (Some traffic) octets = (more : List ℕ) → untaken_of (connection_of x) ++ traffic.coming more ≡ octets
 ComesTo x None octets = ⊥
 
--- two clients of the same limits and URL stand in one place, where they may be called, and the same octets are to come to both; these and
--- those that came are fewer than 18446744073709551615
+-- two clients with the same limits and URL have one state, in which they may be called, and are to
+-- get the same bytes; these and those that came are fewer than 18446744073709551615
 pub record StandReady (one two : Client) (line other : Option Traffic) (s : ClientPlace) (coming : List ℕ) : Type 0 where
   pub ready : IsReady one
   pub ready_too : IsReady two
@@ -48,19 +49,20 @@ pub record AreDone (one two : Client) : Type 0 where
   pub first : IsDone one
   pub second : IsDone two
 
--- both are done, or they stand in one place again
+-- both are done, or they have one state again
 abbrev pub StandBy : Bool → Client → Client → Option Traffic → Option Traffic → Type 0
 StandBy true one two line other = AreDone one two
 StandBy false one two line other = (s : ClientPlace) × (coming : List ℕ) × StandReady one two line other s coming
 
--- where an answer leaves them
+-- the states in which an outcome leaves them
 abbrev pub LeavesBoth : {A : Type 0} → Result A ClientFault → Client → Client → Option Traffic → Option Traffic → Type 0
 LeavesBoth (Ok found) one two line other = StandBy false one two line other
 LeavesBoth (Err f) one two line other = StandBy (ends f) one two line other
 
 -- ---- opening
 
--- two answers to an opening are the same: both clients stand in one place, where they may be called; or the fault is one
+-- two outcomes of an opening are the same: both clients have one state, in which they may be
+-- called; or the fault is one
 abbrev pub OpenAlike : Result Client ClientFault → Result Client ClientFault → Option Traffic → Option Traffic → Type 0
 OpenAlike (Ok x) (Ok y) line other = StandBy false x y line other
 OpenAlike (Ok x) (Err f) line other = ⊥

@@ -1,4 +1,4 @@
--- What it is for two clients' channels to stand alike, and for what they answer to be the same.
+-- When two clients' channels have the same state, and when their outcomes are the same.
 use Rattle.std.specs.Prelude.{◌≡◌, ℕ, List, [], ◌∷◌, ◌++◌, length, take, Result, Ok, Err}
 use Rattle.ua_channel.specs.Asks.{Asking, Placed}
 use Rattle.ua_channel.specs.Client.{ClientGoes, IsClientDone, client_bound, client_limits, client_next}
@@ -10,8 +10,8 @@ use Rattle.ua_channel.specs.declared.client.fault.ClientTakeFault.{ClientTakeFau
 
 -- ---- where they stand
 
--- two channels of the same limits go on after these asks and octets, which told both this, and the next chunk that either sends has the
--- same number
+-- two channels with the same limits go on after these operations and bytes, which told both this,
+-- and the next chunk that either sends has the same number
 pub record ClientsAlike (one two : ClientChannel) (asks : List Placed) (octets : List ℕ) (told : List ClientTold) : Type 0 where
   pub first : ClientGoes one asks octets told
   pub second : ClientGoes two asks octets told
@@ -26,7 +26,7 @@ pub record ClientsDone (one two : ClientChannel) : Type 0 where
 
 -- ---- what they answer
 
--- two events are the same: of octets that are sent their list counts, and not where it lies
+-- two events are the same: of bytes that are sent their list counts, and not their address
 abbrev pub SameClientEvent : ClientEvent → ClientEvent → Type 0
 SameClientEvent NeedMore NeedMore = Unit {0}
 SameClientEvent (Send out) (Send other) = out.items ≡ other.items
@@ -37,7 +37,7 @@ SameClientEvent (Failed code peer) (Failed other theirs) = (code ≡ other) × (
 SameClientEvent (Renewed token) (Renewed other) = token ≡ other
 SameClientEvent event other = ⊥
 
--- two answers are the same, and took as many octets
+-- two outcomes are the same, and took the same number of bytes
 abbrev pub SameClientAnswer : Result (ℕ × ClientEvent) ClientTakeFault → Result (ℕ × ClientEvent) ClientTakeFault → Type 0
 SameClientAnswer (Ok (n, event)) (Ok (m, other)) = (n ≡ m) × SameClientEvent event other
 SameClientAnswer (Ok (n, event)) (Err fault) = ⊥
@@ -46,31 +46,32 @@ SameClientAnswer (Err fault) (Err other) = fault ≡ other
 
 -- ---- where an answer leaves them
 
--- behind a failure both have ended; behind another event they stand alike, with what was told behind what was told before
+-- after a failure both have ended; after another event they have the same state, with what was told
+-- after what was told before
 abbrev pub LeavesClients : ClientEvent → ClientChannel → ClientChannel → List Placed → List ℕ → List ClientTold → Type 0
 LeavesClients (Failed code peer) one two asks octets told = ClientsDone one two
 LeavesClients event one two asks octets told = (later : List ClientTold) × ClientsAlike one two asks octets (told ++ later)
 
--- where an answer to a piece leaves them
+-- the states in which an outcome for a fragment leaves them
 abbrev pub LeftClients : Result (ℕ × ClientEvent) ClientTakeFault → ClientChannel → ClientChannel → List Placed → List ℕ → List ClientTold → List ℕ → Type 0
 LeftClients (Ok (n, event)) one two asks octets told piece = LeavesClients event one two asks (octets ++ take n piece) told
 LeftClients (Err fault) one two asks octets told piece = ClientsDone one two
 
 -- ---- what they ask
 
--- two answers to an ask are the same: the request id, and the octets that a view shows
+-- two outcomes of an operation are the same: the RequestId, and the bytes that a view shows
 abbrev pub SameAsked : {V E : Type 0} → (V → List ℕ) → Result (ℕ × V) E → Result (ℕ × V) E → Type 0
 SameAsked items (Ok (id, out)) (Ok (other, also)) = (id ≡ other) × (items out ≡ items also)
 SameAsked items (Ok (id, out)) (Err fault) = ⊥
 SameAsked items (Err fault) (Ok (id, out)) = ⊥
 SameAsked items (Err fault) (Err other) = fault ≡ other
 
--- where an ask leaves them: with it behind what was asked before, or as they stood
+-- the states in which an operation leaves them: with it after those before, or unchanged
 abbrev pub AsksAlike : {V E : Type 0} → (ℕ → Asking) → Result (ℕ × V) E → ClientChannel → ClientChannel → List Placed → List ℕ → List ClientTold → Type 0
 AsksAlike asking (Ok (id, out)) one two asks octets told = ClientsAlike one two (asks ++ (length octets, asking id) ∷ []) octets told
 AsksAlike asking (Err fault) one two asks octets told = ClientsAlike one two asks octets told
 
--- where a close leaves them: both are closed, or they stand as they stood
+-- the states in which a close leaves them: both are closed, or they are unchanged
 abbrev pub ClosesAlike : {V E : Type 0} → Result V E → ClientChannel → ClientChannel → List Placed → List ℕ → List ClientTold → Type 0
 ClosesAlike (Ok out) one two asks octets told = ClientsDone one two
 ClosesAlike (Err fault) one two asks octets told = ClientsAlike one two asks octets told

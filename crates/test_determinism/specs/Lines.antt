@@ -1,12 +1,12 @@
--- What it is for two lines to bring the same octets and to fail alike.
+-- When two transports bring the same bytes and fail alike.
 use Rattle.std.specs.Prelude.{◌≡◌, ℕ, ◌<◌, List, [], ◌++◌, length, Option, Some}
 use Rattle.ua_channel.specs.Line.{Traffic}
 
--- these octets are to come from a line, whatever is written to it
+-- these bytes are to come from a transport, whatever is written to it
 abbrev pub Brings : Traffic → List ℕ → Type 0
 Brings traffic octets = (more : List ℕ) → traffic.coming more ≡ octets
 
--- both tell their octets, and these are to come from the one and from the other
+-- both tell their bytes, and these are to come from the one and from the other
 pub record LinesAlike (line other : Option Traffic) (coming : List ℕ) : Type 0 where
   pub first : Traffic
   pub first_is : line ≡ Some first
@@ -17,18 +17,18 @@ pub record LinesAlike (line other : Option Traffic) (coming : List ℕ) : Type 0
   -- fewer than 18446744073709551615
   pub few : length coming < 0xFFFF_FFFF_FFFF_FFFF
 
--- these octets were written to a line that tells them
+-- these bytes were written to a transport that tells them
 abbrev pub Wrote : Option Traffic → Option Traffic → List ℕ → Type 0
 Wrote (Some before) (Some after) sent = after.written ≡ before.written ++ sent
 Wrote before after sent = ⊥
 
--- the same octets were written to both
+-- the same bytes were written to both
 pub record WroteAlike (line after other later : Option Traffic) : Type 0 where
   pub sent : List ℕ
   pub first : Wrote line after sent
   pub second : Wrote other later sent
 
--- the same octets are to come from both before more is written
+-- the same bytes are to come from both before more is written
 abbrev pub ComeAlike : Option Traffic → Option Traffic → Type 0
 ComeAlike (Some after) (Some later) = after.coming [] ≡ later.coming []
 ComeAlike after later = ⊥

@@ -1,4 +1,4 @@
--- What it is for two lines to be served alike.
+-- When two transports are served alike.
 use Rattle.std.specs.Prelude.{◌≡◌, Bool, true, false, List, Option, Result, Ok, Err, IsErrOf}
 use Rattle.ua_channel.specs.Line.{Traffic}
 use Rattle.ua_server.specs.Happening.{Leads}
@@ -8,7 +8,7 @@ use Rattle.ua_server.specs.declared.step.End.{End}
 use Rattle.ua_server.specs.declared.watch.AnsweredRequest.{AnsweredRequest}
 use Rattle.test_determinism.specs.Lines.{ComeAlike, WroteAlike}
 
--- a call of the line failed
+-- a call of the transport failed
 abbrev pub line_failed : Result End ServeFault → Bool
 line_failed (Ok end) = false
 line_failed (Err fault.Read) = true
@@ -21,7 +21,8 @@ abbrev pub IsWriteFault : Result End ServeFault → Type 0
 IsWriteFault (Err (fault.Write n)) = Unit {0}
 IsWriteFault other = ⊥
 
--- the lines fail alike: no call of either fails; or a read of both fails, behind the same octets; or a write of both, behind the same octets
+-- the transports fail alike: no call of either fails; or a read of both fails, after the same
+-- bytes; or a write of both, after the same bytes
 pub data ServesAlike (a b : Result End ServeFault) (line after other later : Option Traffic) : Type 0 where
   NoFault : line_failed a ≡ false → line_failed b ≡ false → ServesAlike a b line after other later
   AtRead : IsErrOf a fault.Read → IsErrOf b fault.Read → ComeAlike after later → ServesAlike a b line after other later

@@ -1,4 +1,4 @@
--- What it is for two scripts to be the same.
+-- When two scripts are the same.
 use Rattle.std.specs.Prelude.{◌≡◌, List, Result, Ok, Err}
 use Rattle.std.specs.List.{AllZip}
 use Rattle.ua_variant.specs.View.{variant_of}
@@ -9,19 +9,19 @@ use Rattle.ua_texts.specs.declared.script.Step.TheVariants.{Read, Write, Renew}
 
 -- ---- scripts
 
--- two steps ask for the same: of a value the data count that it stands for
+-- two steps request the same: of a value the data that it stands for counts
 abbrev pub SameStep : Step → Step → Type 0
 SameStep (Read node range) (Read other part) = (node ≡ other) × (range ≡ part)
 SameStep (Write node value) (Write other also) = (node ≡ other) × (variant_of value ≡ variant_of also)
 SameStep Renew Renew = Unit {0}
 SameStep step other = ⊥
 
--- two lines have one number and ask for the same
+-- two lines have one number and request the same
 pub record SameLine (one two : ScriptLine) : Type 0 where
   pub number : one.number ≡ two.number
   pub step : SameStep one.step two.step
 
--- two answers are the same: the same steps, line for line, or the same fault
+-- two outcomes are the same: the same steps, line for line, or the same fault
 abbrev pub SameScript : {V : Type 0} → (V → List ScriptLine) → Result V ScriptFault → Result V ScriptFault → Type 0
 SameScript lines (Ok steps) (Ok others) = AllZip SameLine (lines steps) (lines others)
 SameScript lines (Ok steps) (Err fault) = ⊥

@@ -8,8 +8,8 @@ use ua_builtin::{DateTime, Source};
 use ua_server::Services;
 use ua_services::{Request, Response};
 
-/// Answers the same request from two services in the same state: where both come to a response, it is
-/// the same, and so are the states that are left.
+/// Answers the same request from two services in the same state: where both result in a response,
+/// it is the same, and so are the states that are left.
 pub fn answer_twice(
     alloc: Global,
     one: &mut Services,
@@ -28,8 +28,8 @@ pub fn answer_twice(
     (first, second)
 }
 
-/// Answers the same body from two services in the same state: where both come to the body of a reply,
-/// it is the same, and so are the states that are left.
+/// Answers the same body from two services in the same state: where both result in the body of a
+/// reply, it is the same, and so are the states that are left.
 pub fn reply_twice<S: Source, R: Source>(
     alloc: Global,
     one: &mut Services,

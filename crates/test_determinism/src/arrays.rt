@@ -10,8 +10,8 @@ use ua_structures::{UaArray, read_array};
 use ua_wire::laws::encodes_once;
 use ua_wire::{ReadFault, Source, Wire};
 
-/// Reads an array from two sources of the same octets: the answers are one, and where it is an array
-/// both sources are left with the same octets.
+/// Reads an array from two sources of the same bytes: the answers are one, and where it is an array
+/// both sources are left with the same bytes.
 pub fn read_array_twice<T: Wire + Drop, S: Source, R: Source>(
     alloc: Global,
     one: &mut S,

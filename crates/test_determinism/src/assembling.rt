@@ -9,8 +9,8 @@ ghost use Rattle.test_determinism.specs.Pinned.{AnswerAlike};
 
 use ua_chunk::{AssembleFault, Assembler, Chunk, Delivered};
 
-/// Hands the same chunk to two assemblers that stand after the same chunks: the answers are one, and
-/// they stand alike behind it, or are both closed.
+/// Hands the same chunk to two assemblers that stand after the same chunks: the answers are one,
+/// and they stand alike after it, or are both closed.
 pub fn accept_twice(
     one: &mut Assembler,
     two: &mut Assembler,
@@ -30,8 +30,8 @@ pub fn accept_twice(
     (first, second)
 }
 
-/// Hands the same sequence number to two assemblers that stand after the same chunks: the answers are
-/// one, and they stand alike behind it, or are both closed.
+/// Hands the same SequenceNumber to two assemblers that stand after the same chunks: the answers
+/// are one, and they stand alike after it, or are both closed.
 pub fn step_twice(
     one: &mut Assembler,
     two: &mut Assembler,

@@ -15,7 +15,7 @@ use ua_services::{
     response_body, skip_request,
 };
 
-/// Reads a request from two sources of the same octets: the answers are one.
+/// Reads a request from two sources of the same bytes: the answers are one.
 pub fn read_request_twice<S: Source, R: Source>(
     alloc: Global,
     one: &mut S,
@@ -29,7 +29,7 @@ pub fn read_request_twice<S: Source, R: Source>(
     (first, second)
 }
 
-/// Passes over a request of two sources of the same octets: the answers are one.
+/// Passes over a request of two sources of the same bytes: the answers are one.
 pub fn skip_request_twice<S: Source, R: Source>(
     alloc: Global,
     one: &mut S,
@@ -46,7 +46,7 @@ pub fn skip_request_twice<S: Source, R: Source>(
     (first, second)
 }
 
-/// Reads a response from two sources of the same octets: the answers are one.
+/// Reads a response from two sources of the same bytes: the answers are one.
 pub fn read_response_twice<S: Source, R: Source>(
     alloc: Global,
     one: &mut S,
@@ -63,7 +63,7 @@ pub fn read_response_twice<S: Source, R: Source>(
     (first, second)
 }
 
-/// Reads an OpenSecureChannel request from two sources of the same octets: the answers are one.
+/// Reads an OpenSecureChannel request from two sources of the same bytes: the answers are one.
 pub fn read_open_request_twice<S: Source, R: Source>(
     alloc: Global,
     one: &mut S,
@@ -80,7 +80,7 @@ pub fn read_open_request_twice<S: Source, R: Source>(
     (first, second)
 }
 
-/// Reads an answer to an OpenSecureChannel request from two sources of the same octets: the answers
+/// Reads an answer to an OpenSecureChannel request from two sources of the same bytes: the answers
 /// are one.
 pub fn read_open_response_twice<S: Source, R: Source>(
     alloc: Global,

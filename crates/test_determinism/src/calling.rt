@@ -1,4 +1,4 @@
-//! Clients over lines that are called twice.
+//! Clients over transports that are called twice.
 
 ghost use Rattle.std.specs.Prelude.{◌≡◌, ℕ, List, IsTrue};
 ghost use Rattle.ua_client.specs.Hearing.{fault_alone};
@@ -18,9 +18,9 @@ use ua_frame::Limits;
 use ua_services::Request;
 use ua_services::laws::bodies_of_responses_differ;
 
-/// Opens two connections to the server of the same URL, with the same limits at the same moment, over
-/// lines that bring the same octets and fail alike: both clients stand in one place, or the faults are
-/// one, and the same octets are written.
+/// Opens two connections to the server of the same URL, with the same limits at the same time, over
+/// transports that bring the same bytes and fail alike: both clients stand in one place, or the
+/// faults are one, and the same bytes are written.
 pub fn open_twice<L: Line, K: Line>(
     alloc: Global,
     line: &mut L,
@@ -43,8 +43,8 @@ pub fn open_twice<L: Line, K: Line>(
     (first, second)
 }
 
-/// Closes two clients that stand in one place, over lines that fail alike: the answers are one, the
-/// same octets are written, and both are done.
+/// Closes two clients that stand in one place, over transports that fail alike: the answers are
+/// one, the same bytes are written, and both are done.
 pub fn close_twice<L: Line, K: Line>(
     one: &mut Client,
     two: &mut Client,
@@ -63,9 +63,9 @@ pub fn close_twice<L: Line, K: Line>(
     (first, second)
 }
 
-/// Renews the tokens of two clients that stand in one place, over lines that bring the same octets and
-/// fail alike: the answers are one, the same octets are written, and both stand in one place again, or
-/// are done.
+/// Renews the tokens of two clients that stand in one place, over transports that bring the same
+/// bytes and fail alike: the answers are one, the same bytes are written, and both stand in one
+/// place again, or are done.
 pub fn renew_twice<L: Line, K: Line>(
     one: &mut Client,
     two: &mut Client,
@@ -85,9 +85,9 @@ pub fn renew_twice<L: Line, K: Line>(
     (first, second)
 }
 
-/// Asks the same request of two clients that stand in one place, over lines that bring the same octets
-/// and fail alike: the answers are one, the same octets are written, and both stand in one place again,
-/// or are done.
+/// Asks the same request of two clients that stand in one place, over transports that bring the
+/// same bytes and fail alike: the answers are one, the same bytes are written, and both stand in
+/// one place again, or are done.
 pub fn call_twice<L: Line, K: Line>(
     one: &mut Client,
     two: &mut Client,
@@ -109,9 +109,9 @@ pub fn call_twice<L: Line, K: Line>(
     (first, second)
 }
 
-/// Asks the same requests of two clients that stand in one place, over lines that bring the same octets
-/// and fail alike: the replies are one, or the faults are, the same octets are written, and both stand
-/// in one place again, or are done.
+/// Asks the same requests of two clients that stand in one place, over transports that bring the
+/// same bytes and fail alike: the replies are one, or the faults are, the same bytes are written,
+/// and both stand in one place again, or are done.
 pub fn call_all_twice<L: Line, K: Line>(
     one: &mut Client,
     two: &mut Client,
@@ -136,8 +136,8 @@ pub fn call_all_twice<L: Line, K: Line>(
     (first, second)
 }
 
-/// The same of calls that add their replies to vectors in which the same stands: the answers are one,
-/// also by the request that a fault names, and the same replies are added.
+/// The same of calls that add their replies to vectors in which the same stands: the answers are
+/// one, also by the request that a fault names, and the same replies are added.
 pub fn call_into_twice<L: Line, K: Line>(
     one: &mut Client,
     two: &mut Client,
@@ -164,9 +164,9 @@ pub fn call_into_twice<L: Line, K: Line>(
     (first, second)
 }
 
-/// Begins a session by the token policy `anonymous` of two clients that stand in one place, over lines
-/// that bring the same octets and fail alike: the answers are one, the same octets are written, and both
-/// stand in one place again, or are done.
+/// Begins a session by the token policy `anonymous` of two clients that stand in one place, over
+/// transports that bring the same bytes and fail alike: the answers are one, the same bytes are
+/// written, and both stand in one place again, or are done.
 pub fn begin_session_twice<L: Line, K: Line>(
     one: &mut Client,
     two: &mut Client,

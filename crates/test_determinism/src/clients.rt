@@ -1,4 +1,4 @@
-//! Octets that come twice to a client's channel, and what it asks twice.
+//! Bytes that come twice to a client's channel, and what it asks twice.
 
 ghost use Rattle.std.specs.Prelude.{◌≡◌, ◌<◌, ℕ, List, length};
 ghost use Rattle.ua_channel.specs.Asks.{Placed};
@@ -13,8 +13,8 @@ use ua_builtin::DateTime;
 use ua_channel::{AskFault, ClientChannel, ClientEvent, ClientTakeFault};
 use ua_channel_laws::client_laws::client_is_open;
 
-/// Hands the same octets to two channels that stand alike: the answers are one, with as many octets
-/// taken, and the channels stand alike behind them, or have both ended.
+/// Hands the same bytes to two channels that stand alike: the answers are one, with as many bytes
+/// taken, and the channels stand alike after them, or have both ended.
 pub fn client_take_twice(
     one: &mut ClientChannel,
     two: &mut ClientChannel,
@@ -35,7 +35,7 @@ pub fn client_take_twice(
 }
 
 /// Asks the same call of two channels that stand alike: the answers are one, and the channels stand
-/// alike behind it.
+/// alike after it.
 pub fn client_ask_twice(
     one: &mut ClientChannel,
     two: &mut ClientChannel,
@@ -56,8 +56,8 @@ pub fn client_ask_twice(
     (first, second)
 }
 
-/// Asks a further token of two channels that stand alike: the answers are one, and the channels stand
-/// alike behind it.
+/// Asks a further token of two channels that stand alike: the answers are one, and the channels
+/// stand alike after it.
 pub fn client_renew_twice(
     one: &mut ClientChannel,
     two: &mut ClientChannel,
@@ -111,8 +111,8 @@ pub fn client_judge_twice(
     (first, second)
 }
 
-/// What two channels tell of themselves that stand alike: how many octets they hold, the most that
-/// they may hold, and the request id of what is asked next.
+/// What two channels tell of themselves that stand alike: how many bytes they hold, the most that
+/// they may hold, and the RequestId of what is asked next.
 pub fn client_tells_twice(
     one: &ClientChannel,
     two: &ClientChannel,

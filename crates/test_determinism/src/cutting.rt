@@ -6,7 +6,7 @@ ghost use Rattle.test_determinism.specs.Pinned.{AnswerAlike, HadMemory};
 
 use ua_chunk::{CutFault, Lane, cut};
 
-/// Cuts a body behind the same octets: the answers are one, and so are the octets.
+/// Splits a body after the same bytes: the answers are one, and so are the bytes.
 pub fn cut_twice(
     lane: &Lane,
     body: &[u8],

@@ -1,4 +1,4 @@
-//! Octets that are dissected twice.
+//! Bytes that are dissected twice.
 
 ghost use Rattle.std.specs.Prelude.{◌≡◌, ℕ, List, string_bytes, OnOk, OnErr};
 ghost use Rattle.ua_pair.specs.declared.options.DissectOptions.{DissectOptions};
@@ -8,7 +8,7 @@ use std::alloc::{AllocError, Global};
 use ua_pair::laws::one_reading;
 use ua_pair::{Dissector, Side, dissect};
 
-/// Adds the lines of the same octets behind the same text twice: where both add them, the texts are
+/// Adds the lines of the same bytes after the same text twice: where both add them, the texts are
 /// one.
 pub fn dissect_twice(
     alloc: Global,
@@ -26,8 +26,8 @@ pub fn dissect_twice(
     (first, second)
 }
 
-/// Hands the same octets to two dissectors that stand alike: where both take them, what both add to the
-/// same text is one, and they stand alike behind it. One that did not takes nothing more.
+/// Hands the same bytes to two dissectors that stand alike: where both take them, what both add to
+/// the same text is one, and they stand alike after it. One that did not takes nothing more.
 pub fn dissector_take_twice(
     one: &mut Dissector,
     two: &mut Dissector,
@@ -47,8 +47,8 @@ pub fn dissector_take_twice(
     (first, second)
 }
 
-/// Adds the last line of two dissectors that stand alike behind the same text: where both add it, the
-/// texts are one.
+/// Adds the last line of two dissectors that stand alike after the same text: where both add it,
+/// the texts are one.
 pub fn dissector_finish_twice(
     one: &Dissector,
     two: &Dissector,
@@ -65,7 +65,7 @@ pub fn dissector_finish_twice(
     (first, second)
 }
 
-/// How many octets two dissectors hold that stand alike.
+/// How many bytes two dissectors hold that stand alike.
 pub fn dissector_held_twice(one: &Dissector, two: &Dissector) -> (usize, usize)
     ensures held { (options : DissectOptions) (octets told : List ℕ) → DissectorsAlike one.now two.now options octets told → result.0 ≡ result.1 }
 {

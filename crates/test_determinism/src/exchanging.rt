@@ -11,8 +11,9 @@ use ua_builtin::DateTime;
 use ua_exchange::{PairFault, Transcript, Turn, exchange};
 use ua_nodes::NodeTable;
 
-/// Runs through the same turns over the same nodes twice, each end taking what the other wrote in any
-/// pieces: the transcripts are one, or the first turn that is not accepted and the reason.
+/// Runs through the same client operations over the same nodes twice, each end taking what the
+/// other wrote in any fragments: the transcripts are one, or the first operation that is not
+/// accepted and the reason.
 pub fn exchange_twice(
     alloc: Global,
     table: NodeTable,

@@ -11,7 +11,7 @@ use ua_pair::{
 use ua_services::{OpenAnswer, Request, Response};
 use ua_structures::{CloseRequest, OpenRequest, OpenResponse};
 
-/// Adds the fields of the body that two sources hold behind the same text: where both add them, the
+/// Adds the fields of the body that two sources hold after the same text: where both add them, the
 /// texts are one.
 pub fn push_body_fields_twice<S: Source>(
     alloc: Global,
@@ -31,7 +31,7 @@ pub fn push_body_fields_twice<S: Source>(
     (first, second)
 }
 
-/// Adds the fields of a request behind the same text twice: where both add them, the texts are one.
+/// Adds the fields of a request after the same text twice: where both add them, the texts are one.
 pub fn push_request_fields_twice(
     alloc: Global,
     request: &Request,
@@ -47,7 +47,7 @@ pub fn push_request_fields_twice(
     (first, second)
 }
 
-/// Adds the fields of a response behind the same text twice: where both add them, the texts are one.
+/// Adds the fields of a response after the same text twice: where both add them, the texts are one.
 pub fn push_response_fields_twice(
     alloc: Global,
     response: &Response,
@@ -63,7 +63,8 @@ pub fn push_response_fields_twice(
     (first, second)
 }
 
-/// Adds the fields of an OpenSecureChannel request behind the same text twice: where both add them, the texts are one.
+/// Adds the fields of an OpenSecureChannel request after the same text twice: where both add them,
+/// the texts are one.
 pub fn push_open_request_fields_twice(
     alloc: Global,
     request: &OpenRequest,
@@ -79,7 +80,8 @@ pub fn push_open_request_fields_twice(
     (first, second)
 }
 
-/// Adds the fields of an OpenSecureChannel response behind the same text twice: where both add them, the texts are one.
+/// Adds the fields of an OpenSecureChannel response after the same text twice: where both add them,
+/// the texts are one.
 pub fn push_open_response_fields_twice(
     alloc: Global,
     response: &OpenResponse,
@@ -95,7 +97,8 @@ pub fn push_open_response_fields_twice(
     (first, second)
 }
 
-/// Adds the fields of an answer to an OpenSecureChannel request behind the same text twice: where both add them, the texts are one.
+/// Adds the fields of an answer to an OpenSecureChannel request after the same text twice: where
+/// both add them, the texts are one.
 pub fn push_open_answer_fields_twice(
     alloc: Global,
     answer: &OpenAnswer,
@@ -111,7 +114,8 @@ pub fn push_open_answer_fields_twice(
     (first, second)
 }
 
-/// Adds the fields of a CloseSecureChannel request behind the same text twice: where both add them, the texts are one.
+/// Adds the fields of a CloseSecureChannel request after the same text twice: where both add them,
+/// the texts are one.
 pub fn push_close_request_fields_twice(
     alloc: Global,
     request: &CloseRequest,

@@ -6,8 +6,8 @@ ghost use Rattle.test_determinism.specs.Pinned.{AnswerAlike, HadMemory};
 
 use ua_frame::{Frame, FrameFault, FrameReader};
 
-/// Hands the same octets to two readers that hold the same: the answers are one, with as many octets
-/// taken, and the readers hold the same behind them.
+/// Hands the same bytes to two readers that hold the same: the answers are one, with as many bytes
+/// taken, and the readers hold the same after them.
 pub fn take_frame_twice(
     one: &mut FrameReader,
     two: &mut FrameReader,

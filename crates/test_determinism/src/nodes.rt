@@ -50,7 +50,8 @@ pub fn load_twice(
     (first, second)
 }
 
-/// Reads the same item of two tables of the same nodes: where both come to an answer, it is the same.
+/// Reads the same item of two tables of the same nodes: where both result in an answer, it is the
+/// same.
 pub fn read_item_twice(
     alloc: Global,
     one: &NodeTable,
@@ -67,7 +68,8 @@ pub fn read_item_twice(
     (first, second)
 }
 
-/// Writes the same items to two tables of the same nodes: the statuses are one, and so are the tables.
+/// Writes the same items to two tables of the same nodes: the statuses are one, and so are the
+/// tables.
 pub fn write_items_twice(
     one: &mut NodeTable,
     two: &mut NodeTable,
@@ -89,8 +91,8 @@ pub fn write_items_twice(
     two.write_items(again, moment, others);
 }
 
-/// Adds the answers to the same items of two tables of the same nodes behind the same octets: where
-/// both add them, the octets are one.
+/// Adds the answers to the same items of two tables of the same nodes after the same bytes: where
+/// both add them, the bytes are one.
 pub fn append_items_twice(
     alloc: Global,
     one: &NodeTable,

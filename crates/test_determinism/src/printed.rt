@@ -14,8 +14,8 @@ use ua_texts::{
 };
 use ua_variant::DataValue;
 
-/// Adds the line of the same answer to a Read behind the same text twice: where both add it, the texts
-/// are one.
+/// Adds the line of the same answer to a Read after the same text twice: where both add it, the
+/// texts are one.
 pub fn push_read_line_twice(
     alloc: Global,
     out: &mut String,
@@ -32,8 +32,8 @@ pub fn push_read_line_twice(
     (first, second)
 }
 
-/// Adds the line of the same answer to a Write behind the same text twice: where both add it, the texts
-/// are one.
+/// Adds the line of the same answer to a Write after the same text twice: where both add it, the
+/// texts are one.
 pub fn push_write_line_twice(
     alloc: Global,
     out: &mut String,
@@ -50,7 +50,8 @@ pub fn push_write_line_twice(
     (first, second)
 }
 
-/// Adds the line of the same endpoint behind the same text twice: where both add it, the texts are one.
+/// Adds the line of the same endpoint after the same text twice: where both add it, the texts are
+/// one.
 pub fn push_endpoint_line_twice(
     alloc: Global,
     out: &mut String,
@@ -66,7 +67,7 @@ pub fn push_endpoint_line_twice(
     (first, second)
 }
 
-/// Adds the lines of the answers to a Read of the same nodes behind the same text twice: the answers
+/// Adds the lines of the answers to a Read of the same nodes after the same text twice: the answers
 /// are one, and so are the texts.
 pub fn push_read_answers_twice(
     alloc: Global,
@@ -85,8 +86,8 @@ pub fn push_read_answers_twice(
     (first, second)
 }
 
-/// Adds the lines of the answers to a Write to the same nodes behind the same text twice: the answers
-/// are one, and so are the texts.
+/// Adds the lines of the answers to a Write to the same nodes after the same text twice: the
+/// answers are one, and so are the texts.
 pub fn push_write_answers_twice(
     alloc: Global,
     out: &mut String,
@@ -104,8 +105,8 @@ pub fn push_write_answers_twice(
     (first, second)
 }
 
-/// Adds the lines of the same endpoints behind the same text twice: the answers are one, and so are the
-/// texts.
+/// Adds the lines of the same endpoints after the same text twice: the answers are one, and so are
+/// the texts.
 pub fn push_endpoints_twice(
     alloc: Global,
     out: &mut String,

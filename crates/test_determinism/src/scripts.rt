@@ -9,8 +9,8 @@ use std::alloc::Global;
 use ua_builtin::laws::texts_name_one_node_id;
 use ua_texts::{ScriptFault, ScriptLine, parse_script};
 
-/// Reads the same text as a script twice: the steps are one, each by its line, or the first line that
-/// asks for nothing.
+/// Reads the same text as a script twice: the steps are one, each by its line, or the first line
+/// that asks for nothing.
 pub fn parse_script_twice(
     alloc: Global,
     one: &str,

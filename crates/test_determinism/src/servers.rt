@@ -1,4 +1,4 @@
-//! Octets that come twice to a server's channel.
+//! Bytes that come twice to a server's channel.
 
 ghost use Rattle.std.specs.Prelude.{◌≡◌, ◌<◌, ℕ, List, length};
 ghost use Rattle.ua_channel.specs.ServerTold.{Told};
@@ -10,8 +10,8 @@ ghost use Rattle.test_determinism.specs.Servers.{LeftServers, SameServerAnswer, 
 use ua_builtin::DateTime;
 use ua_channel::{ChannelFault, ReplyFault, ServerChannel, ServerEvent};
 
-/// Hands the same octets to two channels that stand alike: the answers are one, with as many octets
-/// taken, and the channels stand alike behind them, or have both ended.
+/// Hands the same bytes to two channels that stand alike: the answers are one, with as many bytes
+/// taken, and the channels stand alike after them, or have both ended.
 pub fn server_take_twice(
     one: &mut ServerChannel,
     two: &mut ServerChannel,
@@ -31,8 +31,8 @@ pub fn server_take_twice(
     (first, second)
 }
 
-/// The same of [`advance`](ServerChannel::advance), which says at a refusal too how many octets were
-/// taken.
+/// The same of [`advance`](ServerChannel::advance), which says at a rejection too how many bytes
+/// were taken.
 pub fn server_advance_twice(
     one: &mut ServerChannel,
     two: &mut ServerChannel,
@@ -54,8 +54,8 @@ pub fn server_advance_twice(
     (first, second)
 }
 
-/// Asks two channels that stand alike for the same reply: the answers are one, and the channels still
-/// stand alike.
+/// Asks two channels that stand alike for the same reply: the answers are one, and the channels
+/// still stand alike.
 pub fn server_reply_twice(
     one: &mut ServerChannel,
     two: &mut ServerChannel,
@@ -73,7 +73,7 @@ pub fn server_reply_twice(
     (first, second)
 }
 
-/// What two channels tell of themselves that stand alike: how many octets they hold, the most that
+/// What two channels tell of themselves that stand alike: how many bytes they hold, the most that
 /// they may hold, and how many messages are unfinished.
 pub fn server_tells_twice(
     one: &ServerChannel,

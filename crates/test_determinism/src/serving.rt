@@ -11,9 +11,9 @@ use ua_channel::{Line, Moments};
 use ua_frame::Limits;
 use ua_server::{End, ServeFault, Services, Watch, serve, serve_watched};
 
-/// Serves two lines that bring the same octets and fail alike, from services in the same state, at the
-/// same moments: the answers are one, the same octets are written, the services are left in one state,
-/// and as many moments were asked for.
+/// Serves two transports that bring the same bytes and fail alike, from services in the same state,
+/// at the same times: the answers are one, the same bytes are written, the services are left in one
+/// state, and as many times were asked for.
 pub fn serve_twice<L: Line, K: Line, M: Moments>(
     alloc: Global,
     line: &mut L,
@@ -42,8 +42,8 @@ pub fn serve_twice<L: Line, K: Line, M: Moments>(
     (first, second)
 }
 
-/// Serves two lines as [`serve_twice`] does, each with a watch of its own: what is said there holds, and
-/// both watches are told of the same requests, in the same order.
+/// Serves two transports as [`serve_twice`] does, each with a watch of its own: what is said there
+/// holds, and both watches are told of the same requests, in the same order.
 pub fn serve_watched_twice<L: Line, K: Line, M: Moments, W: Watch, V: Watch>(
     alloc: Global,
     line: &mut L,

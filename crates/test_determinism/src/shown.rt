@@ -10,7 +10,7 @@ use ua_texts::{
 };
 use ua_variant::Variant;
 
-/// Adds the same value behind the same text twice: where both add it, the texts are one.
+/// Adds the same value after the same text twice: where both add it, the texts are one.
 pub fn push_variant_twice(
     alloc: Global,
     out: &mut String,
@@ -25,7 +25,7 @@ pub fn push_variant_twice(
     (first, second)
 }
 
-/// Adds the octets of the same value behind the same text twice: where both add them, the texts are
+/// Adds the bytes of the same value after the same text twice: where both add them, the texts are
 /// one.
 pub fn push_encoded_twice<T: Wire>(
     alloc: Global,
@@ -41,7 +41,7 @@ pub fn push_encoded_twice<T: Wire>(
     (first, second)
 }
 
-/// Adds the same String behind the same text twice: where both add it, the texts are one.
+/// Adds the same String after the same text twice: where both add it, the texts are one.
 pub fn push_string_twice(
     out: &mut String,
     also: &mut String,
@@ -55,7 +55,7 @@ pub fn push_string_twice(
     (first, second)
 }
 
-/// Adds the same ByteString behind the same text twice: where both add it, the texts are one.
+/// Adds the same ByteString after the same text twice: where both add it, the texts are one.
 pub fn push_base64_twice(
     out: &mut String,
     also: &mut String,
@@ -69,7 +69,7 @@ pub fn push_base64_twice(
     (first, second)
 }
 
-/// Adds the same pattern of bits behind the same text twice: where both add it, the texts are one.
+/// Adds the same bit pattern after the same text twice: where both add it, the texts are one.
 pub fn push_wide_pattern_twice(
     out: &mut String,
     also: &mut String,
@@ -83,7 +83,7 @@ pub fn push_wide_pattern_twice(
     (first, second)
 }
 
-/// Adds the same status code behind the same text twice: where both add it, the texts are one.
+/// Adds the same StatusCode after the same text twice: where both add it, the texts are one.
 pub fn push_code_twice(
     out: &mut String,
     also: &mut String,
@@ -97,8 +97,8 @@ pub fn push_code_twice(
     (first, second)
 }
 
-/// Adds the same status code, with its name or without, behind the same text twice: where both add it,
-/// the texts are one.
+/// Adds the same StatusCode, with its name or without, after the same text twice: where both add
+/// it, the texts are one.
 pub fn push_code_as_twice(
     out: &mut String,
     also: &mut String,
@@ -113,7 +113,7 @@ pub fn push_code_as_twice(
     (first, second)
 }
 
-/// The name of the same status code, twice: it is one, or there is none.
+/// The name of the same StatusCode, twice: it is one, or there is none.
 pub fn code_name_twice(status: StatusCode) -> (Option<&'static str>, Option<&'static str>)
     ensures answers { option_map (λ name. name.now) result.0 ≡ option_map (λ name. name.now) result.1 }
 {

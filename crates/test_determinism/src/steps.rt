@@ -1,4 +1,4 @@
-//! Octets that come twice to a server.
+//! Bytes that come twice to a server.
 
 ghost use Rattle.std.specs.Prelude.{◌≡◌, ℕ, List};
 ghost use Rattle.ua_builtin.specs.declared.date_time.DateTime.{DateTime};
@@ -12,8 +12,8 @@ ghost use Rattle.ua_server.specs.declared.step.StepFault.TheVariants.{OutOfMemor
 use ua_builtin::DateTime;
 use ua_server::{Server, Services, Step, StepFault};
 
-/// Hands the same octets to two servers that stand alike: the answers are one, with as many octets
-/// taken, the services are left in one state, and the servers stand alike behind them, or have both
+/// Hands the same bytes to two servers that stand alike: the answers are one, with as many bytes
+/// taken, the services are left in one state, and the servers stand alike after them, or have both
 /// ended.
 pub fn step_server_twice(
     one: &mut Server,

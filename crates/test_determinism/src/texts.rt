@@ -23,7 +23,7 @@ pub fn parse_text_twice(
     (first, second)
 }
 
-/// The text of a NodeId, twice: where both come to one, it is the same.
+/// The text of a NodeId, twice: where both result in one, it is the same.
 pub fn to_text_twice(
     alloc: Global,
     id: &NodeId,

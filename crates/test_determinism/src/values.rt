@@ -10,8 +10,8 @@ use std::alloc::{AllocError, Global};
 use ua_wire::laws::encodes_once;
 use ua_wire::{ReadFault, Source, Wire, WriteFault};
 
-/// Reads a value from two sources of the same octets: the answers are one, and where it is a value
-/// both sources are left with the same octets.
+/// Reads a value from two sources of the same bytes: the answers are one, and where it is a value
+/// both sources are left with the same bytes.
 pub fn read_twice<T: Wire, S: Source, R: Source>(
     alloc: Global,
     one: &mut S,
@@ -29,8 +29,8 @@ pub fn read_twice<T: Wire, S: Source, R: Source>(
     (first, second)
 }
 
-/// Reads the value that the same octets encode, with nothing behind it: the answers are one, and so the
-/// value, or that there is none.
+/// Reads the value that the same bytes encode, with nothing after it: the answers are one, and so
+/// the value, or that there is none.
 pub fn read_whole_twice<T: Wire + Drop>(
     alloc: Global,
     one: &[u8],
@@ -45,7 +45,7 @@ pub fn read_whole_twice<T: Wire + Drop>(
     (first, second)
 }
 
-/// Writes a value behind the same octets: the answers are one, and so are the octets.
+/// Writes a value after the same bytes: the answers are one, and so are the bytes.
 pub fn write_twice<T: Wire>(
     value: &T,
     one: &mut Vec<u8>,
@@ -60,7 +60,7 @@ pub fn write_twice<T: Wire>(
     (first, second)
 }
 
-/// Adds a value that can be written behind the same octets: where both add it, the octets are one.
+/// Adds a value that can be encoded after the same bytes: where both add it, the bytes are one.
 pub fn append_twice<T: Wire>(
     value: &T,
     one: &mut Vec<u8>,

@@ -1,5 +1,5 @@
 //! What is promised of the calls of each layer, each in a function that makes the call alone: its
-//! contract follows from that of the call, so a body that this contract refuses that one refuses
+//! contract follows from that of the call, so a body that this contract rejects that one rejects
 //! too.
 #![tactic(auto)]
 

@@ -20,7 +20,8 @@ use std::net::Net;
 use std::rt::Files;
 use std::time::Clock;
 
-/// What is printed of a line: the line with its answer behind it, or alone where it is no question.
+/// What is printed of a line: the line with its response after it, or alone where it is no
+/// question.
 pub fn answered<R: Files + Net + Clock + AllocGlobal>(
     rt: &R,
     taken: u16,

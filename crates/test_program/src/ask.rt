@@ -21,7 +21,7 @@ use ua_program::{
 use ua_session::{AskFault, Question, TokenPolicy, Verdict, WordFault, ask_over, endpoints_over};
 use ua_texts::AnswerStyle;
 
-/// `ask FILE QUESTION`: asks over a line from which the octets of a file come.
+/// `ask FILE QUESTION`: asks over a transport from which the bytes of a file come.
 pub fn ask<R: Files + AllocGlobal>(rt: &R, words: &str) -> Result<String, Fault> {
     let alloc = rt.alloc();
     let (file, question) = first_word(words);
@@ -53,7 +53,7 @@ pub fn ask_out<R: Files + AllocGlobal>(rt: &R, words: &str) -> Result<String, Fa
     with_octets(alloc, &told, line.written())
 }
 
-/// A line that counts the octets that are written to it.
+/// A transport that counts the bytes that are written to it.
 #[derive(Drop)]
 struct Counting<'a, L> {
     line: L,
@@ -78,7 +78,7 @@ impl<L: Line> Line for Counting<'_, L> {
     }
 }
 
-/// A writer that keeps how many octets were written to a line when it was flushed.
+/// A writer that keeps how many bytes were written to a transport when it was flushed.
 #[derive(Drop)]
 struct FlushMarks<'a> {
     written: &'a Cell<usize>,
@@ -96,8 +96,8 @@ impl Write for FlushMarks<'_> {
     }
 }
 
-/// `flushed FILE QUESTION`: how many octets had been sent when the answers were written and flushed, and
-/// how many were in all.
+/// `flushed FILE QUESTION`: how many bytes had been sent when the answers were written and flushed,
+/// and how many were in all.
 pub fn flushed<R: Files + AllocGlobal>(rt: &R, words: &str) -> Result<String, Fault> {
     let alloc = rt.alloc();
     let (file, question) = first_word(words);
@@ -117,7 +117,7 @@ pub fn flushed<R: Files + AllocGlobal>(rt: &R, words: &str) -> Result<String, Fa
     Ok(format!(in alloc; "at {last} of {all} {told}")?)
 }
 
-/// A line from which these octets come.
+/// A transport from which these bytes come.
 fn line_of(alloc: Global, coming: Vec<u8>) -> MemoryLine {
     MemoryLine::new(alloc, coming, Vec::new(alloc), Vec::new(alloc), None, None)
 }
@@ -130,14 +130,14 @@ fn end_text(alloc: Global, ended: Result<&'static str, AskFault>) -> Result<Stri
     }
 }
 
-/// A text, and the octets that were sent behind it.
+/// A text, and the bytes that were sent after it.
 pub fn with_octets(alloc: Global, told: &str, octets: &[u8]) -> Result<String, Fault> {
     let digits = digits(alloc, octets)?;
     Ok(format!(in alloc; "{told} sent {digits}")?)
 }
 
-/// What is printed of the answers, and how it ended: `done`, with `--strict` `bad` where a code is, or
-/// the fault that is told.
+/// What is printed of the answers, and how it ended: `done`, with `--strict` `bad` where a code is,
+/// or the fault that is told.
 fn told<L: Line>(alloc: Global, line: &mut L, question: &str) -> Result<String, Fault> {
     let mut out = Vec::new(alloc);
     let end = asked(alloc, line, question, &mut out)?;

@@ -11,7 +11,7 @@ use std::rt::Files;
 use ua_channel::Line;
 use ua_program::{LoopLine, MOST_OCTETS, carry_over};
 
-/// An end of a connection that gives these octets, and keeps what is written at it.
+/// An end of a connection that gives these bytes, and keeps what is written at it.
 #[derive(Drop)]
 struct MemoryEnd<'a> {
     gives: &'a [u8],
@@ -34,8 +34,8 @@ impl Write for MemoryEnd<'_> {
     }
 }
 
-/// A line over two ends: the client's gives the octets that it awaits, and the server's those that
-/// the client writes.
+/// A transport over two ends: the client's gives the bytes that it awaits, and the server's those
+/// that the client writes.
 fn memory_line<'a>(alloc: Global, up: &'a [u8], down: &'a [u8]) -> LoopLine<'a, MemoryEnd<'a>> {
     let near = MemoryEnd {
         gives: down,
@@ -48,8 +48,8 @@ fn memory_line<'a>(alloc: Global, up: &'a [u8], down: &'a [u8]) -> LoopLine<'a, 
     LoopLine::new(near, far, up, down)
 }
 
-/// `carry NODES SCRIPT`: how many octets go each way of the script of a file over the nodes of another,
-/// and whether just these are written at the two ends of a connection.
+/// `carry NODES SCRIPT`: how many bytes go each way of the script of a file over the nodes of
+/// another, and whether just these are written at the two ends of a connection.
 pub fn carry<R: Files + AllocGlobal>(rt: &R, words: &str) -> Result<String, Fault> {
     let (nodes, script) = first_word(words);
     let nodes = file_text(rt, nodes)?;
@@ -66,13 +66,13 @@ pub fn carry<R: Files + AllocGlobal>(rt: &R, words: &str) -> Result<String, Faul
     Ok(text)
 }
 
-/// How many octets an end kept, where they are these.
+/// How many bytes an end kept, where they are these.
 fn kept(written: &[u8], octets: &[u8]) -> usize {
     if written == octets { octets.len() } else { 0 }
 }
 
-/// `carry-pieces UP DOWN`: of so many octets 01 that a client is to write, and 02 that it awaits: how
-/// many two reads give, how many two writes take, and whether all has gone behind each write.
+/// `carry-pieces UP DOWN`: of this many bytes 01 that a client is to write, and 02 that it awaits:
+/// how many two reads give, how many two writes take, and whether all has gone after each write.
 pub fn carry_pieces(alloc: Global, words: &str) -> Result<String, Fault> {
     let (up, down) = first_word(words);
     let mut up_octets = Vec::new(alloc);

@@ -22,10 +22,10 @@ const MOMENT: DateTime = DateTime {
     ticks: 116_444_736_000_000_000,
 };
 
-/// `client UP DOWN WRITE READ CLOSE [renew]`: a client asks a server that says what the file DOWN holds:
-/// it opens, begins a session, asks the three requests whose bodies stand at these places of the file UP
-/// (as `476:540`), the second one by a call of several, with a renewal in front of it where that is said,
-/// and closes. How many octets it sent, where they are those of UP.
+/// `client UP DOWN WRITE READ CLOSE [renew]`: a client asks a server that says what the file DOWN
+/// holds: it opens, begins a session, asks the three requests whose bodies stand at these places of
+/// the file UP (as `476:540`), the second one by a call of several, with a renewal before it where
+/// that is said, and closes. How many bytes it sent, where they are those of UP.
 pub fn client<R: Files + Net + AllocGlobal>(rt: &R, words: &str) -> Result<String, Fault> {
     let (up, words) = first_word(words);
     let (down, places) = first_word(words);

@@ -93,9 +93,9 @@ impl<R: Clock> Clock for Listening<'_, R> {
     }
 }
 
-/// `accepts HOW ANSWER..`: what is printed, and told, of as many connections as there are answers `next`,
-/// where the listener answers so; and how many pauses were made. The server goes on (`all`), or ends
-/// behind a number of connections (`number`).
+/// `accepts HOW ANSWER..`: what is printed, and told, of as many connections as there are answers
+/// `next`, where the listener answers so; and how many pauses were made. The server goes on
+/// (`all`), or ends after a number of connections (`number`).
 pub fn accepts<R: Files + Net + Clock + AllocGlobal>(rt: &R, words: &str) -> Result<String, Fault> {
     let (how, answers) = first_word(words);
     let answers: Vec<&str> = answers.split(' ').collect(rt.alloc())?;

@@ -11,12 +11,12 @@ pub fn content<R: Files + AllocGlobal>(rt: &R, name: &str) -> Result<Vec<u8>, Fa
     Ok(fs::read(rt, name)?)
 }
 
-/// `holds NAME`: the octets of a file.
+/// `holds NAME`: the bytes of a file.
 pub fn holds<R: Files + AllocGlobal>(rt: &R, name: &str) -> Result<String, Fault> {
     digits(rt.alloc(), &content(rt, name)?)
 }
 
-/// `file NAME OCTETS`: puts octets into a file.
+/// `file NAME OCTETS`: puts bytes into a file.
 pub fn file<R: Files + AllocGlobal>(rt: &R, words: &str) -> Result<String, Fault> {
     let (name, octets) = first_word(words);
     let octets = octets_of(rt, octets)?;

@@ -1,4 +1,4 @@
-//! Lines over streams and moments of clocks: what no clause says of them.
+//! Transports over streams and times of clocks: what no clause says of them.
 
 ghost use Rattle.std.specs.Prelude.{◌≤◌, IfOk};
 
@@ -15,8 +15,8 @@ use std::time::{Clock, Duration};
 use ua_channel::{Line, LineFault, MemoryLine, Moments};
 use ua_tcp::{ClockMoments, GatheringLine, TcpLine};
 
-/// `carried OCTETS`: octets that are written at one end of a connection within this process, and read at
-/// the other one; behind them how many a read gives once the first end has gone.
+/// `carried OCTETS`: bytes that are written at one end of a connection within this process, and
+/// read at the other one; after them how many a read gives once the first end has gone.
 pub fn carried<R: Files + Net + AllocGlobal>(rt: &R, words: &str) -> Result<String, Fault> {
     let octets = octets_of(rt, words)?;
     let (near, mut far) = pair(rt)?;
@@ -30,7 +30,7 @@ pub fn carried<R: Files + Net + AllocGlobal>(rt: &R, words: &str) -> Result<Stri
     Ok(format!(in rt.alloc(); "wrote {wrote} read {text} then {behind}")?)
 }
 
-/// A stream that answers each call so: with so many octets, or by a fault.
+/// A stream that answers each call so: with this many bytes, or by a fault.
 #[derive(Drop)]
 struct Answers(Option<usize>);
 
@@ -61,7 +61,7 @@ impl Write for Answers {
     }
 }
 
-/// How many octets a call of a line moved, or that it failed.
+/// How many bytes a call of a transport moved, or that it failed.
 fn moved(alloc: Global, called: Result<usize, LineFault>) -> Result<String, AllocError> {
     match called {
         Ok(n) => format!(in alloc; "{n}"),
@@ -69,8 +69,8 @@ fn moved(alloc: Global, called: Result<usize, LineFault>) -> Result<String, Allo
     }
 }
 
-/// `stream N`: what a line says whose stream answers each call with so many octets (`-`: by a fault): of
-/// a read of 8 octets, of a write of 4, and of one of none.
+/// `stream N`: what a transport returns whose stream answers each call with this many bytes (`-`:
+/// by a fault): of a read of 8 bytes, of a write of 4, and of one of none.
 pub fn stream(alloc: Global, words: &str) -> Result<String, Fault> {
     let mut line = TcpLine::new(Answers(number_of(words).ok()));
     let mut buffer = [0; 8];
@@ -80,7 +80,7 @@ pub fn stream(alloc: Global, words: &str) -> Result<String, Fault> {
     Ok(format!(in alloc; "read {read} write {written} none {none}")?)
 }
 
-/// What a call of a line that gathers says: `read`, `flush`, or a write of so many octets.
+/// What a call of a gathering transport returns: `read`, `flush`, or a write of this many bytes.
 fn called(
     alloc: Global,
     line: &mut GatheringLine<MemoryLine>,
@@ -101,9 +101,9 @@ fn called(
     Ok(moved(alloc, answer)?)
 }
 
-/// `gathering MOST FAILS CALL ..`: what each call of a line says that gathers, over one that takes so many
-/// octets a write at most and whose write of this number fails (`-`: no limit; none); and of the octets
-/// offered how many went out, in order.
+/// `gathering MOST FAILS CALL ..`: what each call of a gathering transport returns, over one that
+/// takes this many bytes a write at most and whose write of this number fails (`-`: no limit;
+/// none); and of the bytes offered how many went out, in order.
 pub fn gathering(alloc: Global, words: &str) -> Result<String, Fault> {
     let (most, words) = first_word(words);
     let (fails, calls) = first_word(words);
@@ -129,7 +129,7 @@ pub fn gathering(alloc: Global, words: &str) -> Result<String, Fault> {
     Ok(format!(in alloc; "{text}out {count} {order}")?)
 }
 
-/// A clock that stands at this time, or fails.
+/// A clock that is at this time, or fails.
 #[derive(Drop)]
 struct Stopped(Option<Duration>);
 
@@ -143,7 +143,7 @@ impl Clock for Stopped {
     }
 }
 
-/// `moment SECONDS NANOSECONDS`: the moment at this time since 1970, in ticks; `moment -` where the
+/// `moment SECONDS NANOSECONDS`: the time at this time since 1970, in ticks; `moment -` where the
 /// clock fails.
 pub fn moment(alloc: Global, words: &str) -> Result<String, Fault> {
     let time = match words.split_once(' ') {

@@ -1,8 +1,8 @@
-//! Answers rows: each line of the input names a kind of question and its words, and is printed again
-//! with its answer behind it. A line that begins with `#`, or is empty, is printed as it is.
+//! Answers rows: each line of the input names a kind of question and its words, and is printed
+//! again with its response after it. A line that begins with `#`, or is empty, is printed as it is.
 //!
-//! `stdout` beside this folder is the table of rows and answers, written by hand; `stdin` is its left
-//! column. The program sees no answer but its own.
+//! `stdout` beside this folder is the table of rows and answers, written by hand; `stdin` is its
+//! left column. The program sees no answer but its own.
 #![tactic(auto)]
 
 mod answers;

@@ -1,4 +1,4 @@
-//! The texts of faults and of ends, also of those that no octets and no words lead to.
+//! The texts of faults and of ends, also of those that no bytes and no words lead to.
 
 use crate::fault::Fault as RowFault;
 use crate::texts::first_word;
@@ -9,7 +9,7 @@ use ua_program::{Fault, push_outcome};
 use ua_server::{End, ServeFault};
 use ua_session::{AskFault, LoopFault, push_end};
 
-/// The code behind a name.
+/// The code after a name.
 fn code_of(word: &str) -> Result<StatusCode, RowFault> {
     match u32::from_str_radix(word, 16) {
         Ok(code) => Ok(StatusCode { code }),
@@ -76,7 +76,7 @@ pub fn end(alloc: Global, words: &str) -> Result<String, RowFault> {
     Ok(out)
 }
 
-/// `named-end NAME [CODE]`: the same with the names of status codes.
+/// `named-end NAME [CODE]`: the same with the names of StatusCodes.
 pub fn named_end(alloc: Global, words: &str) -> Result<String, RowFault> {
     let mut out = String::new(alloc);
     push_end(&mut out, end_of(words)?, true)?;

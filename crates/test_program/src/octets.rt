@@ -1,12 +1,12 @@
-//! The octets of a row: words of hexadecimal digits. `300*0001` is 0001 three hundred times, `@NAME`
-//! the octets of a file, and `@NAME:56` so many of its first ones.
+//! The bytes of a row: words of hexadecimal digits. `300*0001` is 0001 three hundred times, `@NAME`
+//! the bytes of a file, and `@NAME:56` this many of its first ones.
 
 use crate::fault::{Fault, or_no_row};
 use crate::files::content;
 use std::alloc::Global;
 use std::rt::Files;
 
-/// The octets of these words.
+/// The bytes of these words.
 pub fn octets_of<R: Files + AllocGlobal>(rt: &R, words: &str) -> Result<Vec<u8>, Fault> {
     let mut octets = Vec::new(rt.alloc());
     for word in words.split_whitespace() {
@@ -39,7 +39,7 @@ fn repeated(alloc: Global, word: &str) -> Result<Vec<u8>, Fault> {
     }
 }
 
-/// The octets that digits name.
+/// The bytes that digits name.
 fn decoded(alloc: Global, digits: &str) -> Result<Vec<u8>, Fault> {
     or_no_row(hex::decode(alloc, digits))
 }
@@ -49,7 +49,7 @@ pub fn number_of(word: &str) -> Result<usize, Fault> {
     or_no_row(word.parse::<usize>())
 }
 
-/// Octets as a row has them, `nothing` where there are none.
+/// Bytes as a row has them, `nothing` if there are none.
 pub fn digits(alloc: Global, octets: &[u8]) -> Result<String, Fault> {
     if octets.is_empty() {
         return Ok(String::from_str(alloc, "nothing")?);

@@ -20,7 +20,7 @@ enum Network<'a> {
     Deaf,
     /// Nothing takes a connection.
     Alone,
-    /// Whoever is connected to says these octets.
+    /// Whoever is connected to says these bytes.
     Says(&'a [u8]),
 }
 
@@ -126,7 +126,7 @@ impl<R: Net + Files> Files for Offline<'_, R> {
     }
 }
 
-/// `offline NETWORK WORDS`: as `run`, where nothing can be listened on (`deaf`), or nothing takes a
+/// `offline NETWORK WORDS`: as `run`, if nothing can be listened on (`deaf`), or nothing takes a
 /// connection (`alone`).
 pub fn offline_row<R: Files + Net + Clock + AllocGlobal>(
     rt: &R,
@@ -142,7 +142,8 @@ pub fn offline_row<R: Files + Net + Clock + AllocGlobal>(
     run_over(rt, network, taken, words)
 }
 
-/// `connected FILE WORDS`: as `run`, at 1970-01-01, where whoever is connected to says what a file holds.
+/// `connected FILE WORDS`: as `run`, at 1970-01-01, where whoever is connected to says what a file
+/// holds.
 pub fn connected_row<R: Files + Net + Clock + AllocGlobal>(
     rt: &R,
     taken: u16,

@@ -39,7 +39,7 @@ pub fn pipe_row<R: Files + Net + Clock + AllocGlobal>(
     told(rt, &run_words(rt, &words_of(rt, taken, words)?, &input))
 }
 
-/// An input that fails behind what it holds.
+/// An input that fails after what it holds.
 #[derive(Drop)]
 struct Broken<'a>(&'a [u8]);
 
@@ -52,7 +52,7 @@ impl Read for Broken<'_> {
     }
 }
 
-/// `broken NAME WORDS`: the same of a run whose input fails behind what a file holds.
+/// `broken NAME WORDS`: the same of a run whose input fails after what a file holds.
 pub fn broken_row<R: Files + Net + Clock + AllocGlobal>(
     rt: &R,
     taken: u16,
@@ -84,7 +84,7 @@ pub fn words_row<R: Files + Net + Clock + AllocGlobal>(
     Ok(format!(in rt.alloc(); "{status} out {out} err {err}")?)
 }
 
-/// Whether there are octets, in words.
+/// Whether there are bytes, in words.
 pub fn presence(octets: &[u8]) -> &'static str {
     if octets.is_empty() {
         "nothing"

@@ -10,8 +10,8 @@ use ua_nodes::NodeTable;
 use ua_program::run_script;
 use ua_session::Looped;
 
-/// `script CUT NODES SCRIPT`: the octets each way of a script over the nodes of a file, in pieces of at
-/// most so many octets.
+/// `script CUT NODES SCRIPT`: the bytes each way of a script over the nodes of a file, in fragments
+/// of at most this many bytes.
 pub fn script<R: Files + AllocGlobal>(rt: &R, words: &str) -> Result<String, Fault> {
     let (cut, files) = first_word(words);
     let (nodes, script) = first_word(files);
@@ -31,7 +31,7 @@ pub fn file_text<R: Files + AllocGlobal>(rt: &R, name: &str) -> Result<String, F
     or_no_row(String::from_utf8(content(rt, name)?))
 }
 
-/// What goes each way of a script over nodes, in pieces of at most so many octets.
+/// What goes each way of a script over nodes, in fragments of at most this many bytes.
 pub fn looped(alloc: Global, nodes: &str, script: &str, cut: u16) -> Result<Looped, Fault> {
     let Ok(nodes) = NodeTable::load(alloc, nodes) else {
         return Err(Fault::NoRow);

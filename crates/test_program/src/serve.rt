@@ -25,7 +25,7 @@ const PORT: u16 = 4840;
 
 const NODES: &str = "ns=1;s=Pump\trw\tPump\tInt32\t5\n";
 
-/// Moments that are all 1970-01-01.
+/// Times that are all 1970-01-01.
 pub fn moments(alloc: Global) -> Result<ListMoments, AllocError> {
     let mut ticks = Vec::new(alloc);
     ticks.push(MOMENT)?;
@@ -33,7 +33,7 @@ pub fn moments(alloc: Global) -> Result<ListMoments, AllocError> {
 }
 
 /// `serve NUMBER READ WRITE OCTETS`: serves the connection of this number, whose read and write of
-/// these numbers fail, or none where there is `-`.
+/// these numbers fail, or none if there is `-`.
 pub fn serve<R: Files + AllocGlobal>(rt: &R, words: &str) -> Result<String, Fault> {
     let (number, words) = first_word(words);
     let (read, words) = first_word(words);
@@ -79,7 +79,7 @@ pub fn served_services(alloc: Global) -> Result<Services, Fault> {
     or_no_row(services(alloc, NODES, PORT))
 }
 
-/// `no-memory NUMBER`: the line of a connection of this number at which memory was refused.
+/// `no-memory NUMBER`: the line of a connection of this number at which an allocation failed.
 pub fn memory_refused(alloc: Global, number: &str) -> Result<String, Fault> {
     let Ok(number) = number.parse::<u32>() else {
         return Err(Fault::NoRow);
@@ -89,7 +89,7 @@ pub fn memory_refused(alloc: Global, number: &str) -> Result<String, Fault> {
     marked(alloc, &out)
 }
 
-/// What is said of a connection over a line.
+/// What is printed of a connection over a transport.
 fn said<L: Line>(alloc: Global, line: &mut L, number: &str) -> Result<String, Fault> {
     let Ok(number) = number.parse::<u32>() else {
         return Err(Fault::NoRow);
@@ -102,8 +102,8 @@ fn said<L: Line>(alloc: Global, line: &mut L, number: &str) -> Result<String, Fa
     Ok(format!(in alloc; "\"{text}\"")?)
 }
 
-/// `connections OCTETS..`: serves connections of which each sends the octets of a word and ends. Of
-/// each it says how many octets were sent to it, and which channel the answer to its OPN names: all
+/// `connections OCTETS..`: serves connections of which each sends the bytes of a word and ends. Of
+/// each it says how many bytes were sent to it, and which channel the answer to its OPN names: all
 /// else of them has the time in it.
 pub fn connections<R: Files + Net + Clock + AllocGlobal>(
     rt: &R,
@@ -131,8 +131,8 @@ pub fn request_lines<R: Files + Net + Clock + AllocGlobal>(
     Ok(format!(in rt.alloc(); "\"{text}\"")?)
 }
 
-/// `serve-none`: what is printed, and which fault is told, where nobody connects and the listener does
-/// not wait.
+/// `serve-none`: what is printed, and which fault is told, where nobody connects and the listener
+/// does not wait.
 pub fn serve_none<R: Net + Clock + AllocGlobal>(rt: &R) -> Result<String, Fault> {
     let listener = TcpListener::bind(rt, "127.0.0.1:0")?;
     listener.set_nonblocking(true)?;
@@ -160,7 +160,7 @@ pub fn serve_none<R: Net + Clock + AllocGlobal>(rt: &R) -> Result<String, Fault>
     }
 }
 
-/// The words that ask for so many connections, with the lines of their requests or without.
+/// The words that ask for this many connections, with the lines of their requests or without.
 fn asked(connections: u32, requests: bool) -> Serve<'static> {
     Serve {
         nodes: "nodes.txt",
@@ -182,7 +182,7 @@ pub fn telling(alloc: Global) -> Telling {
     }
 }
 
-/// A connection that has sent octets, and sends no more.
+/// A connection that has sent bytes, and sends no more.
 pub fn client<R: Files + Net + AllocGlobal>(
     rt: &R,
     address: SocketAddr,
@@ -194,7 +194,7 @@ pub fn client<R: Files + Net + AllocGlobal>(
     Ok(client)
 }
 
-/// Connections of which each has sent the octets of a word.
+/// Connections of which each has sent the bytes of a word.
 fn clients<R: Files + Net + AllocGlobal>(
     rt: &R,
     listener: &R::Listener,
@@ -207,7 +207,7 @@ fn clients<R: Files + Net + AllocGlobal>(
     Ok(clients)
 }
 
-/// What is printed of so many connections.
+/// What is printed of this many connections.
 fn served_all<R: Net + Clock + AllocGlobal>(
     rt: &R,
     listener: &R::Listener,
@@ -238,7 +238,7 @@ fn served_all<R: Net + Clock + AllocGlobal>(
     }
 }
 
-/// Adds how many octets were sent to a client, and its channel.
+/// Adds how many bytes were sent to a client, and its channel.
 fn push_sent<S: Read>(alloc: Global, client: &mut S, told: &mut String) -> Result<(), Fault> {
     let mut answer = Vec::new(alloc);
     client.read_to_end(&mut answer)?;

@@ -16,8 +16,8 @@ use ua_texts::{LineStyle, push_read_line};
 /// The port in the server's address.
 const PORT: u16 = 4840;
 
-/// `standard FILE NODES`: the values of these nodes, where a file is served with the standard's nodes, and
-/// 1970-01-01 is the time; or the fault that is told.
+/// `standard FILE NODES`: the values of these nodes, if a file is served with the standard's nodes,
+/// and 1970-01-01 is the time; or the fault that is told.
 pub fn standard<R: Files + AllocGlobal>(rt: &R, words: &str) -> Result<String, Fault> {
     let alloc = rt.alloc();
     let (file, names) = first_word(words);

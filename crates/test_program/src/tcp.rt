@@ -10,7 +10,7 @@ pub fn free_port<R: Net>(rt: &R) -> Result<u16, Fault> {
     Ok(listener.local_addr()?.port())
 }
 
-/// Both ends of a connection: the one that connects as it is, the other as a line.
+/// Both ends of a connection: the one that connects as it is, the other as a transport.
 pub fn pair<R: Net>(rt: &R) -> Result<(R::Stream, TcpLine<R::Stream>), Fault> {
     let listener = TcpListener::bind(rt, "127.0.0.1:0")?;
     let near = TcpStream::connect(rt, listener.local_addr()?)?;

@@ -15,7 +15,7 @@ pub fn unmarked(alloc: Global, word: &str) -> Result<String, AllocError> {
     Ok(text)
 }
 
-/// Octets of a text, as a row has them.
+/// Bytes of a text, as a row has them.
 pub fn marked(alloc: Global, octets: &[u8]) -> Result<String, Fault> {
     let Ok(text) = str::from_utf8(octets) else {
         return Err(Fault::NoRow);
@@ -24,7 +24,7 @@ pub fn marked(alloc: Global, octets: &[u8]) -> Result<String, Fault> {
     Ok(text.replace(alloc, "\n", "\\n")?)
 }
 
-/// The next word, and what is behind it.
+/// The next word, and what is after it.
 pub fn first_word(words: &str) -> (&str, &str) {
     words.split_once(' ').unwrap_or((words, ""))
 }

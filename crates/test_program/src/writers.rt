@@ -11,7 +11,7 @@ use std::rt::Files;
 use std::time::Clock;
 use ua_program::{refuse_words, run};
 
-/// A writer that has room for so many octets, and then fails. It may fail where it is flushed.
+/// A writer that has room for this many bytes, and then fails. It may fail where it is flushed.
 #[derive(Drop)]
 pub struct Failing {
     room: usize,
@@ -19,7 +19,7 @@ pub struct Failing {
 }
 
 impl Failing {
-    /// `N` has room for so many octets; `unflushed` takes each octet, and can't be flushed.
+    /// `N` has room for this many bytes; `unflushed` takes each byte, and can't be flushed.
     pub fn of(word: &str) -> Result<Failing, Fault> {
         if word == "unflushed" {
             return Ok(Failing {
@@ -53,7 +53,8 @@ impl Write for Failing {
     }
 }
 
-/// `out WRITER WORDS`: a run that prints to such a writer: the status, and whether something is told.
+/// `out WRITER WORDS`: a run that prints to such a writer: the status, and whether something is
+/// told.
 pub fn out_row<R: Files + Net + Clock + AllocGlobal>(
     rt: &R,
     taken: u16,
@@ -81,8 +82,8 @@ pub fn out_told_row<R: Files + Net + Clock + AllocGlobal>(
     Ok(format!(in rt.alloc(); "{status} err \"{err}\"")?)
 }
 
-/// `err WRITER WORDS`: a run that tells its faults to such a writer: the status, and whether something is
-/// printed.
+/// `err WRITER WORDS`: a run that tells its faults to such a writer: the status, and whether
+/// something is printed.
 pub fn err_row<R: Files + Net + Clock + AllocGlobal>(
     rt: &R,
     taken: u16,
@@ -107,8 +108,8 @@ fn status_of<R: Files + Net + Clock + AllocGlobal, O: Write, E: Write>(
     run(rt, words, &mut input, out, err)
 }
 
-/// `no-words REASON`: what is told where the words can't be gathered, since memory is refused or one is
-/// not UTF-8, the status, and that where nothing can be told.
+/// `no-words REASON`: what is told where the words cannot be collected, since an allocation fails
+/// or one is not UTF-8, the status, and that if nothing can be told.
 pub fn no_words_row<R: AllocGlobal>(rt: &R, reason: &str) -> Result<String, Fault> {
     let kind = match reason {
         "memory" => io::ErrorKind::OutOfMemory,

@@ -8,7 +8,7 @@ use crate::words::{first_number, number_of};
 use ua_chunk::{AssembleFault, Assembler, Chunk, Delivered, read_chunk};
 use ua_frame::{Frame, FrameReader, Gate, Kind};
 
-/// An assembler behind a reader of MSG frames.
+/// An assembler after a reader of MSG frames.
 #[derive(Drop)]
 pub struct Joining {
     frames: FrameReader,
@@ -16,7 +16,7 @@ pub struct Joining {
 }
 
 impl Joining {
-    /// For messages of at most so many octets and chunks, behind the last number, if there was one.
+    /// For messages of at most this many bytes and chunks, after the last number, if there was one.
     pub fn of(words: &str, told: &mut Told) -> Joining {
         let (octets, words) = first_number(words, told);
         let (chunks, word) = first_number(words, told);

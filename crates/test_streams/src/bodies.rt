@@ -11,10 +11,10 @@ use ua_builtin::Wire;
 use ua_chunk::{CutFault, Lane, abort_octets, cut, read_open};
 use ua_frame::{Frame, error_frame};
 
-/// The greatest sequence number that senders use.
+/// The greatest SequenceNumber that senders use.
 const LAST_NUMBER: u32 = 4294966272;
 
-/// The octets of a chunk in front of its body.
+/// The bytes of a chunk before its body.
 const HEADERS: u32 = 24;
 
 /// Tells the whole body of a HEL, an ACK or an ERR: its fields, and what is written.
@@ -40,7 +40,7 @@ fn tell_written<T: Wire>(given: &Given, message: &T, told: &mut Told) {
     given.tell(out.as_slice(), told);
 }
 
-/// The answer to a row that stands alone.
+/// The answer to a row that is alone.
 pub fn answer(given: &Given, kind: &str, words: &str, told: &mut Told) {
     match kind {
         "error" => given.tell(&error_frame(code_of(words, told)), told),
@@ -107,7 +107,7 @@ fn tell_opening(given: &Given, words: &str, told: &mut Told) {
     }
 }
 
-/// The lane of five numbers, and the words behind them.
+/// The lane of five numbers, and the words after them.
 fn lane_of<'a>(words: &'a str, told: &mut Told) -> (Lane, &'a str) {
     let (channel, words) = first_number(words, told);
     let (token, words) = first_number(words, told);
@@ -124,7 +124,7 @@ fn lane_of<'a>(words: &'a str, told: &mut Told) -> (Lane, &'a str) {
     (lane, words)
 }
 
-/// The chunks of a body on a lane, from a sequence number on, under a request id.
+/// The chunks of a body on a lane, from a SequenceNumber on, under a RequestId.
 fn tell_cut(given: &Given, words: &str, told: &mut Told) {
     let (lane, words) = lane_of(words, told);
     let (sequence, words) = first_number(words, told);
@@ -146,7 +146,7 @@ fn tell_cut(given: &Given, words: &str, told: &mut Told) {
     tell_answer(given, answer, out.as_slice(), told);
 }
 
-/// Tells an answer, and what stands in the output behind the octets 1 and 2.
+/// Tells an answer, and what stands in the output after the bytes 1 and 2.
 fn tell_answer(given: &Given, answer: Result<u32, CutFault>, out: &[u8], told: &mut Told) {
     match answer {
         Ok(next) => tell_number("then", next, told),
@@ -159,7 +159,7 @@ fn tell_answer(given: &Given, answer: Result<u32, CutFault>, out: &[u8], told: &
     }
 }
 
-/// The A chunk on a lane under a sequence number and a request id, with a code.
+/// The A chunk on a lane under a SequenceNumber and a RequestId, with a code.
 fn tell_abort(given: &Given, words: &str, told: &mut Told) {
     let (lane, words) = lane_of(words, told);
     let (sequence, words) = first_number(words, told);

@@ -1,4 +1,4 @@
-//! A client over a line over memory.
+//! A client over an in-memory transport.
 
 use crate::given::Given;
 use crate::lines::Course;
@@ -72,8 +72,8 @@ fn begin_as(client: &mut Client, course: &mut Course, id: &str, moment: DateTime
     }
 }
 
-/// Begins a session by the token policy with this id, and tells its token, or the fault and behind it the
-/// token of a session that was created.
+/// Begins a session by the token policy with this id, and tells its token, or the fault and after
+/// it the token of a session that was created.
 fn try_begin(
     client: &mut Client,
     course: &mut Course,
@@ -117,8 +117,8 @@ fn call_all(given: &Given, client: &mut Client, course: &mut Course, words: &str
     }
 }
 
-/// Calls requests, and tells how many replies are kept, the replies, and where not all were answered
-/// which request the fault names.
+/// Calls requests, and tells how many replies are kept, the replies, and where not all were
+/// answered which request the fault names.
 fn call_into(
     given: &Given,
     client: &mut Client,
@@ -146,7 +146,7 @@ fn call_into(
     }
 }
 
-/// Tells the request id of the next call.
+/// Tells the RequestId of the next call.
 fn tell_next(client: &Client, told: &mut Told) {
     match client.next_id() {
         Some(id) => told.shown(&id),
@@ -177,7 +177,8 @@ pub fn tell_code(word: &str, code: StatusCode, told: &mut Told) {
     told.code(code);
 }
 
-/// Tells why a call failed. A client that was refused memory is to take no further call: that is tried.
+/// Tells why a call failed. After a failed allocation a client is to take no further call: that is
+/// tried.
 fn failed(
     client: &mut Client,
     course: &mut Course,
@@ -192,7 +193,8 @@ fn failed(
     }
 }
 
-/// Tells a fault. A line over memory that is not told to fail fails where it is refused memory.
+/// Tells a fault. An in-memory transport that is not told to fail fails where an allocation
+/// fails.
 pub fn tell_fault(course: &Course, fault: ClientFault, told: &mut Told) {
     match fault {
         ClientFault::OutOfMemory => told.end("client: out of memory"),

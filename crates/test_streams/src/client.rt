@@ -78,7 +78,7 @@ pub fn hello(given: &Given, channel: &ClientChannel, told: &mut Told) {
     );
 }
 
-/// Tells octets that are to be sent under a request id.
+/// Tells bytes that are to be sent under a RequestId.
 fn tell_asked(given: &Given, asked: Result<(u32, Vec<u8>), AskFault>, told: &mut Told) {
     match asked {
         Ok((id, octets)) => {
@@ -90,7 +90,7 @@ fn tell_asked(given: &Given, asked: Result<(u32, Vec<u8>), AskFault>, told: &mut
     }
 }
 
-/// Tells octets that are to be sent.
+/// Tells bytes that are to be sent.
 fn tell_sent(given: &Given, sent: Result<Vec<u8>, AskFault>, told: &mut Told) {
     match sent {
         Ok(octets) => {
@@ -118,7 +118,7 @@ fn ask(given: &Given, channel: &mut ClientChannel, words: &str, told: &mut Told)
     tell_asked(given, channel.ask(body.as_slice()), told);
 }
 
-/// The request ids of so many calls with a body of one octet.
+/// The RequestIds of this many calls with a body of one byte.
 fn asks(channel: &mut ClientChannel, words: &str, told: &mut Told) {
     told.word("asks");
     for _ in 0..number_of(words, told) {
@@ -129,7 +129,7 @@ fn asks(channel: &mut ClientChannel, words: &str, told: &mut Told) {
     }
 }
 
-/// Why a call behind so many more calls, with a body of so many octets, would be refused.
+/// Why a call after this many more calls, with a body of this many bytes, would be rejected.
 fn judge(channel: &ClientChannel, words: &str, told: &mut Told) {
     let (before, word) = first_number(words, told);
     match channel.judge(before as usize, number_of(word, told) as usize) {
@@ -138,7 +138,7 @@ fn judge(channel: &ClientChannel, words: &str, told: &mut Told) {
     }
 }
 
-/// How many octets are held, the most that may be, and the request id that comes next.
+/// How many bytes are held, the most that may be, and the RequestId that comes next.
 fn state(channel: &ClientChannel, told: &mut Told) {
     told.word("held");
     told.shown(&channel.held());

@@ -1,4 +1,4 @@
-//! The dissector of the octets of one side, as they come.
+//! The dissector of the bytes of one side, as they come.
 
 use crate::given::Given;
 use crate::told::Told;
@@ -6,7 +6,7 @@ use crate::words::front;
 use std::alloc::{AllocError, Global};
 use ua_pair::{DissectOptions, Dissector, Side, dissect};
 
-/// The dissector of one side, behind the octets so far.
+/// The dissector of one side, after the bytes so far.
 #[derive(Drop)]
 pub struct Dissection {
     dissector: Dissector,
@@ -19,7 +19,8 @@ impl Dissection {
         }
     }
 
-    /// The lines that come with more octets, and the last one of all octets so far; or that one alone.
+    /// The lines that come with more bytes, and the last one of all bytes so far; or that one
+    /// alone.
     fn lines(&mut self, octets: &[u8], alone: bool, out: &mut String) -> Result<(), AllocError> {
         self.dissector.take(octets, out)?;
         if alone {
@@ -28,8 +29,8 @@ impl Dissection {
         self.dissector.finish(out)
     }
 
-    /// The answer of the dissector to a step: the lines that come with more octets, or of all the last
-    /// one; or whether a frame was refused.
+    /// The answer of the dissector to a step: the lines that come with more bytes, or of all the
+    /// last one; or whether a frame was rejected.
     pub fn step(&mut self, given: &Given, kind: &str, words: &str, told: &mut Told) {
         if kind == "refused" {
             return told.shown(&self.dissector.has_refused());
@@ -54,7 +55,7 @@ pub fn side_of(word: &str) -> Side {
     }
 }
 
-/// Tells the lines of all octets of one side, by the call that takes them at once.
+/// Tells the lines of all bytes of one side, by the call that takes them at once.
 pub fn tell_all(given: &Given, words: &str, told: &mut Told) {
     let (side, words) = front(words);
     let octets = given.octets(words, told);

@@ -8,9 +8,9 @@ use crate::told::Told;
 use crate::words::{front, lengths_of};
 use ua_exchange::{PairFault, Reply, Transcript, Turn, exchange};
 
-/// Lets a client ask turns of a server over nodes, each end in pieces of at most the lengths that words
-/// say, and tells what the first word asks for: the octets `up` or `down`, the `replies`, or how much
-/// `came`.
+/// Lets a client make operations at a server over nodes, each end in fragments of at most the
+/// lengths that words say, and tells what the first word asks for: the bytes `up` or `down`, the
+/// `replies`, or how much `came`.
 pub fn answer(given: &Given, nodes: &str, turns: &[Turn], words: &str, told: &mut Told) {
     let (what, words) = front(words);
     let (up, down) = front(words);
@@ -36,7 +36,7 @@ fn tell(given: &Given, what: &str, found: Transcript, told: &mut Told) {
     }
 }
 
-/// Tells how much came of turns, and how the connection ended.
+/// Tells how much came of operations, and how the connection ended.
 fn tell_sizes(found: &Transcript, told: &mut Told) {
     told.word("up");
     told.shown(&found.up.len());

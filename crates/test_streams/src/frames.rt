@@ -28,7 +28,7 @@ fn tell_frame(given: &Given, frame: &Frame, told: &mut Told) {
     given.tell(frame.body.as_slice(), told);
 }
 
-/// Tells a fault: the code where it has one, and its text.
+/// Tells a fault: the code if it has one, and its text.
 pub fn tell_fault(fault: FrameFault, told: &mut Told) {
     match fault.code() {
         Some(code) => {
@@ -68,7 +68,7 @@ pub fn kind_of(name: &str, told: &mut Told) -> Kind {
     }
 }
 
-/// The gate of a largest size and the kinds behind it.
+/// The frame filter of a largest size and the kinds after it.
 pub fn gate_of(words: &str, told: &mut Told) -> Gate {
     let (largest, kinds) = first_number(words, told);
     let mut gate = Gate::new(largest);

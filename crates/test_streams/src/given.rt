@@ -1,7 +1,7 @@
-//! What rows define for those behind them: octets that have names, and the moment. And the octets of a
-//! row: words of hexadecimal digits, `'` and a text, `$` and a name, `$NAME[N..M]` for a part
-//! of its octets; `300*0001` is 0001 three hundred times, and `300*'MSG,#5` the words MSG and a
-//! UInt32, which is 5 first and one more each time.
+//! What rows define for those after them: bytes that have names, and the time. And the bytes of a
+//! row: words of hexadecimal digits, `'` and a text, `$` and a name, `$NAME[N..M]` for a part of
+//! its bytes; `300*0001` is 0001 three hundred times, and `300*'MSG,#5` the words MSG and a UInt32,
+//! which is 5 first and one more each time.
 
 use crate::told::Told;
 use crate::words::{front, moment_of, number_of, times_of};
@@ -11,12 +11,12 @@ use ua_builtin::DateTime;
 use ua_chunk::Message;
 use ua_wire::split_number;
 
-/// 1970-01-01, the moment where none is set.
+/// 1970-01-01, the time if none is set.
 const MOMENT: DateTime = DateTime {
     ticks: 116_444_736_000_000_000,
 };
 
-/// Octets that have a name.
+/// Bytes that have a name.
 #[derive(Drop)]
 struct Named {
     name: String,
@@ -38,7 +38,7 @@ impl Given {
         }
     }
 
-    /// Sets the moment, and tells its octets.
+    /// Sets the time, and tells its bytes.
     pub fn set_moment(&mut self, word: &str, told: &mut Told) {
         let ticks = moment_of(word, told);
         self.moment = DateTime { ticks };
@@ -51,7 +51,7 @@ impl Given {
         told.word("nothing");
     }
 
-    /// Gives octets the name that stands in front of them, and tells how many they are.
+    /// Gives bytes the name that is before them, and tells how many they are.
     pub fn define(&mut self, words: &str, told: &mut Told) {
         let (name, words) = front(words);
         let octets = self.octets(words, told);
@@ -68,9 +68,9 @@ impl Given {
         }
     }
 
-    // ---- the octets of a row
+    // ---- the bytes of a row
 
-    /// The octets of these words.
+    /// The bytes of these words.
     pub fn octets(&self, words: &str, told: &mut Told) -> Vec<u8> {
         let mut octets = Vec::new(told.alloc());
         for word in words.split_whitespace() {
@@ -79,7 +79,7 @@ impl Given {
         octets
     }
 
-    /// Adds the octets of a word, as often as it counts.
+    /// Adds the bytes of a word, as often as it counts.
     pub fn push_word(&self, word: &str, out: &mut Vec<u8>, told: &mut Told) {
         let (times, units) = times_of(word, told);
         for time in 0..times {
@@ -106,7 +106,7 @@ impl Given {
         }
     }
 
-    /// The octets of a name, or the part of them that stands behind it in brackets.
+    /// The bytes of a name, or the part of them that is after it in brackets.
     fn part(&self, word: &str, told: &mut Told) -> &[u8] {
         match word.split_once('[') {
             Some((name, range)) => part_of(self.find(name, told), range, told),
@@ -114,7 +114,7 @@ impl Given {
         }
     }
 
-    /// The octets of a name.
+    /// The bytes of a name.
     fn find(&self, name: &str, told: &mut Told) -> &[u8] {
         for entry in &self.entries {
             if entry.name.as_str() == name {
@@ -125,9 +125,9 @@ impl Given {
         &[]
     }
 
-    // ---- what is told of octets
+    // ---- what is told of bytes
 
-    /// The first name of these octets.
+    /// The first name of these bytes.
     fn name_of(&self, octets: &[u8]) -> Option<&str> {
         for entry in &self.entries {
             if entry.octets.as_slice() == octets {
@@ -137,7 +137,7 @@ impl Given {
         None
     }
 
-    /// Tells octets by `$` and their first name, or where they have none by their digits.
+    /// Tells bytes by `$` and their first name, or where they have none by their digits.
     pub fn tell(&self, octets: &[u8], told: &mut Told) {
         if octets.is_empty() {
             told.word("nothing");
@@ -149,7 +149,7 @@ impl Given {
         }
     }
 
-    /// Tells frames one by one; what no size in its header cuts off, as one.
+    /// Tells frames one by one; what no size in its header splits off, as one.
     pub fn tell_frames(&self, octets: &[u8], told: &mut Told) {
         let (frame, mut rest) = split_frame(octets);
         self.tell(frame, told);
@@ -164,7 +164,7 @@ impl Given {
     }
 }
 
-/// The part of octets that `N..M]` names, of which either number may be left out.
+/// The part of bytes that `N..M]` names, of which either number may be left out.
 fn part_of<'a>(octets: &'a [u8], range: &str, told: &mut Told) -> &'a [u8] {
     let range = range.strip_suffix(']').unwrap_or("");
     let (first, last) = range.split_once("..").unwrap_or(("", ""));
@@ -179,7 +179,7 @@ fn part_of<'a>(octets: &'a [u8], range: &str, told: &mut Told) -> &'a [u8] {
     }
 }
 
-/// The place that a word names, or another where there is none.
+/// The place that a word names, or another if there is none.
 fn place_of(word: &str, other: usize, told: &mut Told) -> usize {
     if word.is_empty() {
         return other;
@@ -193,7 +193,7 @@ fn push_octets(octets: &[u8], out: &mut Vec<u8>, told: &mut Told) {
     }
 }
 
-/// Adds the octets that hexadecimal digits stand for.
+/// Adds the bytes that hexadecimal digits stand for.
 fn push_digits(digits: &str, out: &mut Vec<u8>, told: &mut Told) {
     match hex::decode(told.alloc(), digits) {
         Ok(octets) => push_octets(octets.as_slice(), out, told),
@@ -212,7 +212,7 @@ pub fn tell_message(given: &Given, message: &Message, told: &mut Told) {
     }
 }
 
-/// The first of these frames by the size in its header, and those behind it.
+/// The first of these frames by the size in its header, and those after it.
 fn split_frame(octets: &[u8]) -> (&[u8], &[u8]) {
     match split_number(octets.get(4..).unwrap_or(&[])) {
         Some((len, _)) if len > 0 && len as usize <= octets.len() => octets.split_at(len as usize),

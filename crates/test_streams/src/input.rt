@@ -3,7 +3,7 @@
 use crate::told::Told;
 use std::io;
 
-/// What is told where a row cannot be read or its answer not be printed.
+/// What is told where a row cannot be read or its response not be printed.
 pub fn broken(error: &io::Error, told: &mut Told) {
     match error.kind() {
         io::ErrorKind::OutOfMemory => told.end("input and output: out of memory"),
@@ -11,7 +11,7 @@ pub fn broken(error: &io::Error, told: &mut Told) {
     }
 }
 
-/// Prints a row with its answer, or a line that is none.
+/// Prints a row with its response, or a line that is none.
 pub fn print_line(rt: &HostRuntime, line: &str, told: &mut Told) {
     let answer = told.answer();
     let printed = if answer.is_empty() {

@@ -1,4 +1,4 @@
-//! Lines over memory, and moments of a list.
+//! In-memory transports, and the timestamps of a list.
 
 use crate::given::Given;
 use crate::told::Told;
@@ -6,7 +6,7 @@ use crate::words::{first_number, front, lengths_of, moments_of, number_of, pace_
 use std::alloc::Global;
 use ua_channel::{Line, ListMoments, MemoryLine, Moments};
 
-/// A line from which octets come.
+/// A transport from which bytes come.
 #[derive(Drop)]
 pub struct Course {
     pub line: MemoryLine,
@@ -15,7 +15,7 @@ pub struct Course {
 }
 
 impl Course {
-    /// A line from which nothing comes.
+    /// A transport from which nothing comes.
     pub fn new(alloc: Global) -> Course {
         let (octets, reads, writes) = (Vec::new(alloc), Vec::new(alloc), Vec::new(alloc));
         Course {
@@ -24,8 +24,8 @@ impl Course {
         }
     }
 
-    /// A line from which octets come, behind the most octets of each read and write, and which of them
-    /// fails. Tells how many the octets are.
+    /// A transport from which bytes come, after the most bytes of each read and write, and which of
+    /// them fails. Tells how many the bytes are.
     pub fn of(given: &Given, words: &str, told: &mut Told) -> Course {
         let (reads, words) = front(words);
         let (writes, words) = front(words);
@@ -40,7 +40,7 @@ impl Course {
         }
     }
 
-    /// The answer of a line to a step.
+    /// The answer of a transport to a step.
     pub fn step(&mut self, given: &Given, kind: &str, words: &str, told: &mut Told) {
         match kind {
             "gets" => self.read(given, words, told),
@@ -49,7 +49,7 @@ impl Course {
         }
     }
 
-    /// What a read into a buffer of so many octets gives.
+    /// What a read into a buffer of this many bytes gives.
     fn read(&mut self, given: &Given, words: &str, told: &mut Told) {
         let mut buffer = Vec::new(told.alloc());
         if buffer.resize(number_of(words, told) as usize, 0).is_err() {
@@ -61,7 +61,7 @@ impl Course {
         }
     }
 
-    /// How many octets a write takes.
+    /// How many bytes a write takes.
     fn write(&mut self, given: &Given, words: &str, told: &mut Told) {
         let octets = given.octets(words, told);
         match self.line.write(octets.as_slice()) {
@@ -74,7 +74,7 @@ impl Course {
     }
 }
 
-/// What a list of moments tells, as often as the first number says.
+/// What a list of timestamps gives, as often as the first number says.
 pub fn tell_moments(words: &str, told: &mut Told) {
     let (times, word) = first_number(words, told);
     let mut moments = ListMoments::new(moments_of(word, told));

@@ -1,13 +1,13 @@
-//! Answers rows about streams of octets: frames that come in pieces, both ends of a channel, the
-//! dissector, a server, a client over a line, and both ends of a connection. Each line of the input is
-//! printed again with its answer behind it. A line that begins with `#`, or is empty, is printed as it
-//! is.
+//! Answers rows about streams of bytes: frames that come in fragments, both ends of a channel, the
+//! dissector, a server, a client over a line, and both ends of a connection. Each line of the input
+//! is printed again with its response after it. A line that begins with `#`, or is empty, is
+//! printed as it is.
 //!
 //! `stdout` beside this folder is the table of rows and answers, written by hand from the tables of
 //! OPC 10000-4 and OPC 10000-6; `stdin` is its left column. The program sees no answer but its own.
 //!
-//! Want of memory ends the program: docs/MEMORY.md says how to refuse each allocation in turn, and what
-//! came of it.
+//! A failed allocation ends the program: docs/MEMORY.md tells how to make each allocation fail in
+//! turn, and what came of it.
 #![tactic(auto)]
 
 mod assembling;

@@ -1,4 +1,4 @@
-//! Octets that lie in several parts.
+//! Bytes that lie in several parts.
 
 use crate::given::Given;
 use crate::told::Told;
@@ -8,11 +8,11 @@ use std::alloc::Global;
 use std::marker::Model;
 use ua_builtin::{NodeId, Parts, ReadFault, Source, Wire};
 
-/// Parts of octets, of which some may be empty.
+/// Parts of bytes, of which some may be empty.
 #[derive(Drop)]
 pub struct Pieces {
     parts: Vec<Bytes>,
-    /// How many octets they have together.
+    /// How many bytes they have together.
     len: usize,
 }
 
@@ -35,7 +35,7 @@ impl Pieces {
         }
     }
 
-    /// The parts that words are, each its octets; `-` is an empty one.
+    /// The parts that words are, each its bytes; `-` is an empty one.
     fn of(given: &Given, words: &str, told: &mut Told) -> Pieces {
         let mut pieces = Pieces::new(told.alloc());
         for word in words.split_whitespace() {
@@ -62,14 +62,14 @@ impl Pieces {
         }
     }
 
-    /// A source of the octets, from the first on.
+    /// A source of the bytes, from the first on.
     fn source(&self) -> Parts<'_> {
         let _len = self.len;
         Parts::new(self.parts.as_slice())
     }
 }
 
-/// The NodeId that parts begin with, and how many octets are there before and behind it.
+/// The NodeId that parts begin with, and how many bytes are there before and after it.
 pub fn tell_node(given: &Given, words: &str, told: &mut Told) {
     let pieces = Pieces::of(given, words, told);
     let mut src = pieces.source();
@@ -101,7 +101,7 @@ pub fn tell_source(given: &Given, words: &str, told: &mut Told) {
     }
 }
 
-/// Passes over so many octets of a source.
+/// Passes over this many bytes of a source.
 fn pass(src: &mut Parts<'_>, count: u32, told: &mut Told) {
     if src.skip(count as usize) {
         told.event("passed");
@@ -110,7 +110,7 @@ fn pass(src: &mut Parts<'_>, count: u32, told: &mut Told) {
     }
 }
 
-/// Takes so many octets of a source.
+/// Takes this many bytes of a source.
 fn take(given: &Given, src: &mut Parts<'_>, count: u32, told: &mut Told) {
     let mut octets = Vec::new(told.alloc());
     if octets.resize(count as usize, 0).is_err() {

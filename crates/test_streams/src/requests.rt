@@ -1,5 +1,5 @@
-//! The requests that a row asks for: words that are each the body of one, or `N*` and a body for N of
-//! them; and the bodies of responses.
+//! The requests that a row asks for: words that are each the body of one, or `N*` and a body for N
+//! of them; and the bodies of responses.
 
 use crate::given::Given;
 use crate::told::Told;
@@ -71,7 +71,7 @@ fn push_value<T: Drop>(value: T, out: &mut Vec<T>, told: &mut Told) {
     }
 }
 
-/// The turns of these words: `renew` is a renewal, and `N*renew` are N of them.
+/// The operations of these words: `renew` is a renewal, and `N*renew` are N of them.
 pub fn turns_of(given: &Given, words: &str, told: &mut Told) -> Vec<Turn> {
     let mut turns = Vec::new(told.alloc());
     for word in words.split_whitespace() {
@@ -83,7 +83,7 @@ pub fn turns_of(given: &Given, words: &str, told: &mut Told) -> Vec<Turn> {
     turns
 }
 
-/// Adds as many renewals as `N*` says, one where nothing is said.
+/// Adds as many renewals as `N*` says, one if nothing is said.
 fn push_renewals(times: &str, out: &mut Vec<Turn>, told: &mut Told) {
     let (times, _) = times_of(times, told);
     for _ in 0..times {

@@ -86,13 +86,13 @@ impl Rows {
         }
     }
 
-    /// Sets the turns, and tells how many they are.
+    /// Sets the operations, and tells how many they are.
     fn begin_turns(&mut self, words: &str, told: &mut Told) {
         self.turns = turns_of(&self.given, words, told);
         told.shown(&self.turns.len());
     }
 
-    /// The answer to a row that stands alone.
+    /// The answer to a row that is alone.
     fn answer_alone(&mut self, kind: &str, words: &str, told: &mut Told) {
         match kind {
             "HEL" => bodies::tell_body::<Hello>(&self.given, words, told),
@@ -144,7 +144,7 @@ impl Rows {
         }
     }
 
-    /// Gives what was begun last octets: all at once, or as many at once as the first word says.
+    /// Gives what was begun last bytes: all at once, or as many at once as the first word says.
     fn take(&mut self, kind: &str, words: &str, told: &mut Told) {
         let (size, rest) = match kind {
             "pieces" => first_number(words, told),
@@ -206,7 +206,7 @@ impl Rows {
         }
     }
 
-    /// Begins a client, which sends its HEL, and gives it octets if there are some.
+    /// Begins a client, which sends its HEL, and gives it bytes if there are some.
     fn begin_client(&mut self, words: &str, told: &mut Told) {
         let (limits, words) = limits_of(words, told);
         let (url, words) = front(words);

@@ -1,4 +1,4 @@
-//! A client over a line to a server in the same process.
+//! A client over a transport to a server in the same process.
 
 use crate::calling::{tell_code, tell_replies};
 use crate::given::Given;
@@ -11,9 +11,9 @@ use ua_client::ClientFault;
 use ua_loopback::{Stage, Transcript, Turn, converse};
 use ua_services::Request;
 
-/// Lets a client take turns over a line to the server of these rows, which takes what is written and
-/// hands out what it says in pieces of at most the lengths that words say, and tells what the first word
-/// asks for: the octets `up` or `down`, the `replies`, or how much `came`.
+/// Lets a client make operations over a transport to the server of these rows, which takes what is
+/// written and returns what it sends in fragments of at most the lengths that words say, and tells
+/// what the first word asks for: the bytes `up` or `down`, the `replies`, or how much `came`.
 pub fn answer(given: &Given, serving: &Serving, words: &str, told: &mut Told) {
     let (what, words) = front(words);
     let (writes, words) = front(words);
@@ -45,7 +45,8 @@ pub fn answer(given: &Given, serving: &Serving, words: &str, told: &mut Told) {
     tell(given, what, found, told);
 }
 
-/// The turns of words: `renew` is a renewal, and of any other word the requests are asked together.
+/// The operations of words: `renew` is a renewal, and of any other word the requests are asked
+/// together.
 fn turns_of(given: &Given, words: &str, told: &mut Told) -> Vec<Turn> {
     let mut turns = Vec::new(told.alloc());
     for word in words.split_whitespace() {
@@ -60,7 +61,7 @@ fn turns_of(given: &Given, words: &str, told: &mut Told) -> Vec<Turn> {
     turns
 }
 
-/// Tells what came of turns, or why not all of them were done.
+/// Tells the outcome of operations, or why not all of them were done.
 fn tell(given: &Given, what: &str, found: Transcript, told: &mut Told) {
     if let Err(fault) = found.outcome {
         tell_fault(fault, found.stage, told);
@@ -74,7 +75,7 @@ fn tell(given: &Given, what: &str, found: Transcript, told: &mut Told) {
     }
 }
 
-/// Tells a fault. A line whose server was refused memory fails.
+/// Tells a fault. A transport fails if an allocation of its server failed.
 fn tell_fault(fault: ClientFault, stage: Stage, told: &mut Told) {
     match fault {
         ClientFault::OutOfMemory => told.end("client: out of memory"),
@@ -85,7 +86,7 @@ fn tell_fault(fault: ClientFault, stage: Stage, told: &mut Told) {
     }
 }
 
-/// Tells how much came of turns, and how the connection ended at the server.
+/// Tells how much came of operations, and how the connection ended at the server.
 fn tell_sizes(found: &Transcript, told: &mut Told) {
     told.word("up");
     told.shown(&found.up.len());

@@ -74,7 +74,7 @@ pub fn step(given: &Given, channel: &mut ServerChannel, kind: &str, words: &str,
     }
 }
 
-/// What comes of one call of `take`, and how many octets it took; at a refusal it does not say.
+/// What comes of one call of `take`, and how many bytes it took; at a rejection it does not say.
 fn take_once(given: &Given, channel: &mut ServerChannel, words: &str, told: &mut Told) {
     let octets = given.octets(words, told);
     match channel.take(octets.as_slice(), given.moment) {
@@ -89,7 +89,7 @@ fn take_once(given: &Given, channel: &mut ServerChannel, words: &str, told: &mut
     }
 }
 
-/// The reply of a request id and a body.
+/// The reply of a RequestId and a body.
 fn reply(given: &Given, channel: &mut ServerChannel, words: &str, told: &mut Told) {
     let (id, words) = first_number(words, told);
     let body = given.octets(words, told);
@@ -107,7 +107,7 @@ fn reply(given: &Given, channel: &mut ServerChannel, words: &str, told: &mut Tol
     }
 }
 
-/// How many octets are held, how many messages are unfinished, and the most octets that may be held.
+/// How many bytes are held, how many messages are unfinished, and the most bytes that may be held.
 fn state(channel: &ServerChannel, told: &mut Told) {
     told.word("held");
     told.shown(&channel.held());

@@ -1,4 +1,4 @@
-//! A server: its nodes, its services, and its steps over octets.
+//! A server: its nodes, its services, and its steps over bytes.
 
 ghost use Rattle.std.specs.Prelude.{IfSome};
 ghost use Rattle.ua_nodes.specs.Sound.{IsSound};
@@ -130,7 +130,7 @@ impl Serving {
         self.tell_held(told);
     }
 
-    /// How many octets the server holds, and how many at most.
+    /// How many bytes the server holds, and how many at most.
     fn tell_held(&self, told: &mut Told) {
         match &self.server {
             Some(server) => {
@@ -176,7 +176,7 @@ impl Serving {
         }
     }
 
-    /// How the service of a line ends, with these moments, and the next moment.
+    /// How serving a transport ends, with these times, and the next time.
     pub fn serve(&mut self, course: &mut Course, word: &str, told: &mut Told) {
         let mut moments = ListMoments::new(moments_of(word, told));
         match (&mut self.services, self.limits) {
@@ -198,8 +198,8 @@ impl Serving {
         }
     }
 
-    /// How the service of a line ends beside a switch, which sets its node at this moment before each
-    /// answer, with the moments of the answers.
+    /// How serving a transport ends beside a switch, which sets its node at this time before each
+    /// answer, with the times of the answers.
     pub fn serve_switch(&mut self, course: &mut Course, words: &str, told: &mut Told) {
         let (name, words) = front(words);
         let (ticks, word) = front(words);
@@ -229,7 +229,7 @@ impl Serving {
         }
     }
 
-    /// How octets end that are served from the beginning of a connection, and what is sent back.
+    /// How bytes end that are served from the beginning of a connection, and what is sent back.
     fn serve_octets(&mut self, given: &Given, words: &str, told: &mut Told) {
         let octets = given.octets(words, told);
         let (Some(services), Some(limits)) = (&mut self.services, self.limits) else {
@@ -254,7 +254,7 @@ impl Serving {
         given.tell_frames(out.as_slice(), told);
     }
 
-    /// What comes of octets where they end at any place, or where one of them is another one.
+    /// What comes of bytes where they end at any place, or where one of them is another one.
     fn sweep(&mut self, given: &Given, kind: &str, words: &str, told: &mut Told) {
         match kind {
             "fronts" => {
@@ -279,8 +279,8 @@ pub fn tell_end(end: End, told: &mut Told) {
     }
 }
 
-/// Tells how the service of a line ended. A write that is not told to fail is refused memory where it
-/// does.
+/// Tells how serving a transport ended. A write that is not told to fail means a failed allocation
+/// where it does.
 pub fn tell_served(end: Result<End, ServeFault>, has_failing_write: bool, told: &mut Told) {
     match end {
         Ok(end) => tell_end(end, told),
@@ -315,7 +315,8 @@ impl Takes for Serving {
     }
 }
 
-/// Ends the program where a server was refused memory: it is to take nothing more, and to hold nothing.
+/// Ends the program where a server was rejected memory: it is to take nothing more, and to hold
+/// nothing.
 pub fn tell_refusal(again: &Result<Step, StepFault>, held: usize, told: &mut Told) {
     match again {
         Err(StepFault::Closed) if held == 0 => told.end("step: out of memory"),

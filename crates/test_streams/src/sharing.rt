@@ -20,7 +20,7 @@ const NAMESPACE: u16 = 1;
 pub struct Sharing {
     services: Option<Services>,
     connections: Vec<Connection>,
-    /// The place of the one that takes octets.
+    /// The place of the one that takes bytes.
     current: usize,
     /// What the step that answered last stored.
     written: Option<Written>,
@@ -61,7 +61,7 @@ impl Sharing {
         }
     }
 
-    /// A connection more, of these limits, on this channel. Tells how many octets it holds.
+    /// A connection more, of these limits, on this channel. Tells how many bytes it holds.
     fn add(&mut self, words: &str, told: &mut Told) {
         let (limits, words) = limits_of(words, told);
         let channel = number_of(words, told);
@@ -131,7 +131,7 @@ impl Sharing {
         }
     }
 
-    /// Keeps what a step that answered something stored. Says how many octets it took.
+    /// Keeps what a step that answered something stored. Says how many bytes it took.
     fn keep_written(&mut self, step: Step, written: Written) -> usize {
         if !step.out.is_empty() {
             self.written = Some(written);

@@ -1,4 +1,4 @@
-//! What comes of octets where they end at any place, and where one of them is another one.
+//! What comes of bytes where they end at any place, and where one of them is another one.
 
 use crate::serving::{Serving, services_over, tell_served};
 use crate::told::Told;
@@ -6,7 +6,7 @@ use std::mem;
 use ua_channel::{ListMoments, MemoryLine};
 use ua_server::{End, ServeFault, serve};
 
-/// How many octets come at once.
+/// How many bytes come at once.
 const AT_ONCE: usize = 4096;
 
 /// 1970-01-01, at which all is answered.
@@ -19,7 +19,7 @@ struct Outcome {
     line: MemoryLine,
 }
 
-/// A line from which octets come, so many at once.
+/// A transport from which bytes come, this many at once.
 fn line_over(octets: &[u8], most: usize, told: &mut Told) -> MemoryLine {
     let alloc = told.alloc();
     let (mut coming, mut reads) = (Vec::new(alloc), Vec::new(alloc));
@@ -29,7 +29,7 @@ fn line_over(octets: &[u8], most: usize, told: &mut Told) -> MemoryLine {
     MemoryLine::new(alloc, coming, reads, Vec::new(alloc), None, None)
 }
 
-/// What comes of octets, so many at once, with new services.
+/// What comes of bytes, this many at once, with new services.
 fn served(serving: &Serving, octets: &[u8], most: usize, told: &mut Told) -> Outcome {
     let mut line = line_over(octets, most, told);
     let end = served_over(serving, &mut line, told);
@@ -55,9 +55,9 @@ fn served_over(
     }
 }
 
-/// Tells what comes of each front of octets, from none to all: the first length of each run of lengths
-/// that end alike, how they end, and how many octets are written, which are a front of those that are
-/// written for all.
+/// Tells what comes of each prefix of bytes, from none to all: the first length of each run of
+/// lengths that end alike, how they end, and how many bytes are written, which are a prefix of
+/// those that are written for all.
 pub fn fronts(serving: &Serving, octets: &[u8], told: &mut Told) {
     let whole = served(serving, octets, AT_ONCE, told);
     let mut last = None;
@@ -83,14 +83,14 @@ fn tell_front(len: usize, found: (Result<End, ServeFault>, usize, bool), told: &
     }
 }
 
-/// Whether what is written for all octets begins with what is written for a front of them.
+/// Whether what is written for all bytes begins with what is written for a prefix of them.
 fn begins_as(whole: &Outcome, front: &Outcome) -> bool {
     whole.line.written().starts_with(front.line.written())
 }
 
-/// Tells what comes of octets with another one at each place in turn: at how many places the connection
-/// ends, the same whether they come at once or one by one, and begins with what is written for the
-/// octets before the place.
+/// Tells what comes of bytes with another one at each place in turn: at how many places the
+/// connection ends, the same whether they come at once or one by one, and begins with what is
+/// written for the bytes before the place.
 pub fn changed(serving: &Serving, octet: u8, octets: &mut [u8], told: &mut Told) {
     let mut same = 0u64;
     for place in 0..octets.len() {
@@ -104,7 +104,7 @@ pub fn changed(serving: &Serving, octet: u8, octets: &mut [u8], told: &mut Told)
     told.shown(&same);
 }
 
-/// Puts an octet into a place, and answers what stood there.
+/// Puts a byte into a place, and answers what stood there.
 fn set(octets: &mut [u8], place: usize, octet: u8) -> u8 {
     match octets.get_mut(place) {
         Some(found) => mem::replace(found, octet),
@@ -112,8 +112,8 @@ fn set(octets: &mut [u8], place: usize, octet: u8) -> u8 {
     }
 }
 
-/// Whether the connection ends, alike by one octet at a time, and begins as it does for the octets before
-/// a place.
+/// Whether the connection ends, alike by one byte at a time, and begins as it does for the bytes
+/// before a place.
 fn is_answered_alike(serving: &Serving, octets: &[u8], place: usize, told: &mut Told) -> bool {
     let whole = served(serving, octets, AT_ONCE, told);
     let by_ones = served(serving, octets, 1, told);

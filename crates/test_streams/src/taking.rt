@@ -1,12 +1,12 @@
-//! Octets that a machine takes in pieces.
+//! Bytes that a machine takes in fragments.
 
 use crate::given::Given;
 use crate::told::Told;
 
-/// What a machine does behind octets.
+/// What a machine does after bytes.
 #[derive(Clone, Copy)]
 pub enum Goes {
-    /// It told nothing, and more octets are to come.
+    /// It told nothing, and more bytes are to come.
     On,
     /// It told an event.
     Telling,
@@ -14,14 +14,14 @@ pub enum Goes {
     Out,
 }
 
-/// What takes octets in pieces.
+/// What takes bytes in fragments.
 pub trait Takes {
-    /// Takes octets of a piece, tells what comes of them, and answers how many they were.
+    /// Takes bytes of a fragment, tells what comes of them, and answers how many they were.
     fn take_one(&mut self, given: &Given, piece: &[u8], told: &mut Told) -> (usize, Goes);
 }
 
-/// Gives a machine octets, so many at once, and tells its events, each with its place where octets are
-/// left; and that it waits, if it does at the end.
+/// Gives a machine bytes, this many at once, and tells its events, each with its place where bytes
+/// are left; and that it waits, if it does at the end.
 pub fn take_pieces<M: Takes>(
     given: &Given,
     machine: &mut M,
@@ -41,7 +41,7 @@ pub fn take_pieces<M: Takes>(
     }
 }
 
-/// Tells the place behind an event where octets are left, and that a machine waits where none are.
+/// Tells the place after an event where bytes are left, and that a machine waits if none are.
 /// Answers whether that is the end.
 fn tell_place(place: usize, total: usize, goes: Goes, told: &mut Told) -> bool {
     let is_left = place < total;

@@ -17,8 +17,8 @@ use ua_frame::Limits;
 use ua_loopback::talking;
 use ua_services::Request;
 
-/// Tells the token of a session that is begun over the line by the token policy with a PolicyId, and the
-/// bodies of the replies to requests that are asked together behind it, or the fault.
+/// Tells the token of a session that is begun over the line by the token policy with a PolicyId,
+/// and the bodies of the replies to requests that are asked together after it, or the fault.
 pub fn tell(given: &Given, course: &mut Course, words: &str, told: &mut Told) {
     let (limits, words) = limits_of(words, told);
     let (url, words) = front(words);

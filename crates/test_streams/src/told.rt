@@ -6,7 +6,7 @@ use ua_builtin::{NodeId, StatusCode};
 
 /// The answer to a row as it grows, or the first fault in its place.
 ///
-/// A call that is refused memory notes that here and goes on; behind such a row the program ends.
+/// A call that is rejected memory notes that here and goes on; after such a row the program ends.
 #[derive(Drop)]
 pub struct Told {
     alloc: Global,
@@ -66,7 +66,7 @@ impl Told {
         self.ends = true;
     }
 
-    /// Ends the program where memory for a row or its answer was refused.
+    /// Ends the program where memory for a row or its response was rejected.
     pub fn refused(&mut self) {
         self.end("rows: out of memory");
     }
@@ -78,7 +78,7 @@ impl Told {
         }
     }
 
-    /// Adds a word, behind a blank where it is not the first.
+    /// Adds a word, after a space where it is not the first.
     pub fn word(&mut self, word: &str) {
         if !self.text.is_empty() {
             self.text(" ");
@@ -86,7 +86,7 @@ impl Told {
         self.text(word);
     }
 
-    /// Adds the first word of an event, behind a comma where it is not the first event.
+    /// Adds the first word of an event, after a comma where it is not the first event.
     pub fn event(&mut self, word: &str) {
         if !self.text.is_empty() {
             self.text(",");
@@ -110,7 +110,7 @@ impl Told {
         }
     }
 
-    /// Adds the hexadecimal digits of octets.
+    /// Adds the hexadecimal digits of bytes.
     pub fn digits(&mut self, octets: &[u8]) {
         match hex::encode_upper(self.alloc, octets) {
             Ok(text) => self.word(text.as_str()),
@@ -126,7 +126,7 @@ impl Told {
         }
     }
 
-    /// Adds a status code.
+    /// Adds a StatusCode.
     pub fn code(&mut self, code: StatusCode) {
         self.digits(&code.code.to_be_bytes());
     }

@@ -1,4 +1,4 @@
-//! The use of a client over a line that `example_callers` writes out.
+//! The use of a client over a transport that `example_callers` writes out.
 
 use crate::calling::{tell_fault, tell_replies};
 use crate::given::Given;

@@ -4,7 +4,7 @@ use crate::told::Told;
 use ua_builtin::{StatusCode, UaString};
 use ua_frame::Limits;
 
-/// The first word, and those behind it.
+/// The first word, and those after it.
 pub fn front(words: &str) -> (&str, &str) {
     words.split_once(' ').unwrap_or((words, ""))
 }
@@ -20,13 +20,13 @@ pub fn number_of(word: &str, told: &mut Told) -> u32 {
     }
 }
 
-/// The number that the first word is, and the words behind it.
+/// The number that the first word is, and the words after it.
 pub fn first_number<'a>(words: &'a str, told: &mut Told) -> (u32, &'a str) {
     let (word, words) = front(words);
     (number_of(word, told), words)
 }
 
-/// How often a word counts, and what stands behind its `*`; once where it has none.
+/// How often a word counts, and what stands after its `*`; once if it has none.
 pub fn times_of<'a>(word: &'a str, told: &mut Told) -> (u32, &'a str) {
     match word.split_once('*') {
         None => (1, word),
@@ -34,7 +34,7 @@ pub fn times_of<'a>(word: &'a str, told: &mut Told) -> (u32, &'a str) {
     }
 }
 
-/// The lengths in front of a `!`, and the number of the call that fails behind it.
+/// The lengths before a `!`, and the number of the call that fails after it.
 pub fn pace_of<'a>(word: &'a str, told: &mut Told) -> (&'a str, Option<usize>) {
     match word.split_once('!') {
         None => (word, None),
@@ -56,7 +56,7 @@ pub fn lengths_of(word: &str, told: &mut Told) -> Vec<usize> {
     lengths
 }
 
-/// The moment that a word is, in ticks.
+/// The time that a word is, in ticks.
 pub fn moment_of(word: &str, told: &mut Told) -> i64 {
     match word.parse::<i64>() {
         Ok(ticks) => ticks,
@@ -67,7 +67,7 @@ pub fn moment_of(word: &str, told: &mut Told) -> i64 {
     }
 }
 
-/// The moments that are joined by `,`.
+/// The times that are joined by `,`.
 pub fn moments_of(word: &str, told: &mut Told) -> Vec<i64> {
     let mut moments = Vec::new(told.alloc());
     if !word.is_empty() {
@@ -81,7 +81,7 @@ pub fn moments_of(word: &str, told: &mut Told) -> Vec<i64> {
     moments
 }
 
-/// The limits of four numbers, if they may be limits, and the words behind them.
+/// The limits of four numbers, if they may be limits, and the words after them.
 pub fn limits_of<'a>(words: &'a str, told: &mut Told) -> (Option<Limits>, &'a str) {
     let (receive, words) = first_number(words, told);
     let (send, words) = first_number(words, told);
@@ -105,7 +105,7 @@ pub fn text_of(word: &str, told: &mut Told) -> Option<UaString> {
     }
 }
 
-/// The status code that eight hexadecimal digits are.
+/// The StatusCode that eight hexadecimal digits are.
 pub fn code_of(word: &str, told: &mut Told) -> StatusCode {
     match u32::from_str_radix(word, 16) {
         Ok(code) => StatusCode { code },

@@ -12,7 +12,8 @@ use crate::uses::{bad, frames, in_file, request, through};
 use crate::value_answers::value_or_message;
 use std::alloc::{AllocError, Global};
 
-/// What is printed of a line: the line with its answer behind it, or alone where it is no question.
+/// What is printed of a line: the line with its response after it, or alone where it is no
+/// question.
 pub fn answered(alloc: Global, state: &mut State, line: &str) -> Result<String, AllocError> {
     match line.split_once(' ') {
         Some((kind, words)) if kind != "#" => {

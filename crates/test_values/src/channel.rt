@@ -79,7 +79,7 @@ pub fn open_answer(alloc: Global, words: &str) -> Result<String, Fault> {
     }
 }
 
-/// What is printed of the CloseSecureChannel request behind the four octets of its NodeId.
+/// What is printed of the CloseSecureChannel request after the four bytes of its NodeId.
 pub fn close_request(alloc: Global, words: &str) -> Result<String, Fault> {
     let octets = octets_of(alloc, words)?;
     let Some(behind) = octets.get(4..) else {

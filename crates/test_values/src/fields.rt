@@ -1,4 +1,4 @@
-//! Fields at the front of octets, sources, and the texts of NodeIds.
+//! Fields at the prefix of bytes, sources, and the texts of NodeIds.
 
 use crate::fault::Fault;
 use crate::octets::{number_of, octets_of};
@@ -8,14 +8,14 @@ use std::alloc::Global;
 use ua_builtin::{NodeId, Octets, Source, UaBytes, UaString};
 use ua_wire::{is_text, split_counted, split_number};
 
-/// The UInt32 in front of octets, and those behind it.
+/// The UInt32 before bytes, and those after it.
 pub fn front(alloc: Global, words: &str) -> Result<String, Fault> {
     let octets = octets_of(alloc, words)?;
     let (number, rest) = split_number(octets.as_slice()).ok_or(Fault::NoValue)?;
     Ok(format!(in alloc; "{number} rest {rest:?}")?)
 }
 
-/// The counted octets in front of octets, those behind them, and whether they are a text.
+/// The counted bytes before bytes, those after them, and whether they are a text.
 pub fn counted(alloc: Global, words: &str) -> Result<String, Fault> {
     let octets = octets_of(alloc, words)?;
     let (field, rest) = split_counted(octets.as_slice()).ok_or(Fault::NoValue)?;
@@ -40,7 +40,7 @@ pub fn skips(alloc: Global, words: &str) -> Result<String, Fault> {
     Ok(text)
 }
 
-/// Adds the octets that are left.
+/// Adds the bytes that are left.
 fn push_rest(alloc: Global, src: &mut Octets<'_>, text: &mut String) -> Result<(), Fault> {
     let mut rest = vec![in alloc; 0; src.left()]?;
     let is_taken = src.take_into(rest.as_mut_slice());
@@ -49,7 +49,7 @@ fn push_rest(alloc: Global, src: &mut Octets<'_>, text: &mut String) -> Result<(
     Ok(())
 }
 
-/// The NodeId that a text names: its octets, and its text, also of a clone.
+/// The NodeId that a text names: its bytes, and its text, also of a clone.
 pub fn node(alloc: Global, text: &str) -> Result<String, Fault> {
     let node = NodeId::parse_text(alloc, text)?;
     let clone = node.try_clone()?;
@@ -59,7 +59,7 @@ pub fn node(alloc: Global, text: &str) -> Result<String, Fault> {
     Ok(format!(in alloc; "{node:?} cloned {is_equal} text {text}")?)
 }
 
-/// The text of the NodeId that octets encode.
+/// The text of the NodeId that bytes encode.
 pub fn text(alloc: Global, words: &str) -> Result<String, Fault> {
     let octets = octets_of(alloc, words)?;
     let (node, _) = read::<NodeId>(alloc, octets.as_slice())?;

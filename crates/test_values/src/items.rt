@@ -11,7 +11,7 @@ use ua_nodes::Stamps;
 use ua_structures::{ReadValueId, WriteValue};
 use ua_variant::{DataValue, HeldVariant, Variant};
 
-/// The octets of the answer to an item of a Read.
+/// The bytes of the answer to an item of a Read.
 pub fn read(alloc: Global, state: &State, words: &str) -> Result<String, Fault> {
     let (stamps, words) = cut(words)?;
     let stamps = stamps_of(stamps)?;
@@ -101,7 +101,7 @@ fn write_item(alloc: Global, words: &str) -> Result<WriteValue, Fault> {
     })
 }
 
-/// A DataValue, or one that has the Variant behind `value` alone.
+/// A DataValue, or one that has the Variant after `value` alone.
 fn data_of(alloc: Global, words: &str) -> Result<DataValue, Fault> {
     match words.strip_prefix("value ") {
         Some(words) => Ok(alone(value_in::<Variant>(alloc, words)?)),

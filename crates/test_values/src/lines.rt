@@ -56,7 +56,7 @@ pub fn write_line(alloc: Global, words: &str) -> Result<String, Fault> {
     quoted(alloc, out.as_str())
 }
 
-/// A status code with its name.
+/// A StatusCode with its name.
 pub fn named_code(alloc: Global, words: &str) -> Result<String, Fault> {
     let code = code_of(words)?;
     let mut out = page(alloc);
@@ -95,7 +95,7 @@ pub fn bad_results(alloc: Global, words: &str) -> Result<String, Fault> {
     named(alloc, if is_bad { "true" } else { "false" })
 }
 
-/// The response whose body is these octets.
+/// The response whose body is these bytes.
 fn response_in(alloc: Global, words: &str) -> Result<Response, Fault> {
     let octets = octets_of(alloc, words)?;
     match read_response(alloc, &mut Octets::new(octets.as_slice())) {
@@ -105,8 +105,8 @@ fn response_in(alloc: Global, words: &str) -> Result<Response, Fault> {
     }
 }
 
-/// The lines of the answers in a response to a Read or a Write of nodes, or of its endpoints; or why it
-/// has none.
+/// The lines of the answers in a response to a Read or a Write of nodes, or of its endpoints; or
+/// why it has none.
 pub fn response_lines(alloc: Global, kind: &str, words: &str) -> Result<String, Fault> {
     let (names, octets) = match kind {
         "endpoint-lines" => ("", words),

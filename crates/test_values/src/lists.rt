@@ -61,7 +61,7 @@ fn message_text(alloc: Global, kind: &str, octets: &[u8]) -> Result<String, Faul
     }
 }
 
-/// How many values there are, or `None` for null; the octets left; and what is written for them.
+/// How many values there are, or `None` for null; the bytes left; and what is written for them.
 fn list_text<T: Wire + Drop>(alloc: Global, octets: &[u8]) -> Result<String, Fault> {
     let mut src = Octets::new(octets);
     let array = UaArray::new(read_array::<T, _>(alloc, &mut src, 100)?);

@@ -1,6 +1,6 @@
 //! Answers rows: each line of the input names a kind of question and what it is about, and is
-//! printed again with its answer behind it. A line that begins with `#`, or is empty, is printed as
-//! it is.
+//! printed again with its response after it. A line that begins with `#`, or is empty, is printed
+//! as it is.
 //!
 //! `stdout` beside this folder is the table of rows and answers, written by hand from the tables of
 //! OPC 10000-4 and OPC 10000-6 and the rules of the node file; `stdin` is its left column. The

@@ -17,7 +17,7 @@ use ua_services::{
 use ua_structures::{CloseRequest, OpenRequest};
 
 /// The lines of the fields of a message of the kind that the first word names, in the style of the
-/// second, `plain` or `names`: the octets are its body.
+/// second, `plain` or `names`: the bytes are its body.
 pub fn fields(alloc: Global, words: &str) -> Result<String, Fault> {
     let (kind, words) = cut(words)?;
     let (style, words) = cut(words)?;
@@ -118,7 +118,7 @@ fn push_open_answer(
     Ok(pushed?)
 }
 
-/// The body of a CloseSecureChannel is its NodeId, of four octets, and its header.
+/// The body of a CloseSecureChannel is its NodeId, of four bytes, and its header.
 fn push_close_request(
     alloc: Global,
     body: &[u8],
@@ -134,7 +134,7 @@ fn push_close_request(
     Ok(pushed?)
 }
 
-/// The same of a body as it stands; none where it is no message of its kind.
+/// The same of a body unchanged; none where it is no message of its kind.
 pub fn body_fields(alloc: Global, words: &str) -> Result<String, Fault> {
     let (kind, words) = cut(words)?;
     let (style, words) = cut(words)?;

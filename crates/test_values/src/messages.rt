@@ -8,7 +8,7 @@ use ua_builtin::WriteFault;
 
 /// A message, as the body of a frame.
 pub trait Message: Shown + Drop {
-    /// Writes its body behind what stands there.
+    /// Writes its body after what stands there.
     fn add_to(&self, out: &mut Vec<u8>) -> Result<(), WriteFault>;
 }
 

@@ -31,7 +31,7 @@ impl State {
     }
 }
 
-/// Sets the moment, and shows its octets.
+/// Sets the time, and shows its bytes.
 pub fn moment(alloc: Global, state: &mut State, words: &str) -> Result<String, Fault> {
     state.moment = DateTime {
         ticks: number(words)?,
@@ -39,7 +39,7 @@ pub fn moment(alloc: Global, state: &mut State, words: &str) -> Result<String, F
     encoded(alloc, &state.moment)
 }
 
-/// Puts the nodes of a file in the place of the table, unless a line is refused.
+/// Puts the nodes of a file in the place of the table, unless a line is rejected.
 pub fn load(alloc: Global, state: &mut State, words: &str) -> Result<String, Fault> {
     let text = text_of(alloc, words)?;
     match NodeTable::load(alloc, text.as_str()) {

@@ -1,13 +1,13 @@
-//! The octets of a row, and the values that they encode.
+//! The bytes of a row, and the values that they encode.
 //!
-//! Octets are words of hexadecimal digits. `300*0001` is 0001 three hundred times, and `300*05_00` is
-//! 05, the number of the time from 0 as a UInt16, and 00, three hundred times.
+//! Bytes are words of hexadecimal digits. `300*0001` is 0001 three hundred times, and `300*05_00`
+//! is 05, the number of the time from 0 as a UInt16, and 00, three hundred times.
 
 use crate::fault::Fault;
 use std::alloc::Global;
 use ua_builtin::{Octets, Source, Wire};
 
-/// The octets of these words.
+/// The bytes of these words.
 pub fn octets_of(alloc: Global, words: &str) -> Result<Vec<u8>, Fault> {
     let mut octets = Vec::new(alloc);
     for word in words.split_whitespace() {
@@ -41,7 +41,7 @@ fn short_of(word: &str) -> Result<u16, Fault> {
     }
 }
 
-/// The octets that digits name.
+/// The bytes that digits name.
 fn bytes_of(alloc: Global, digits: &str) -> Result<Vec<u8>, Fault> {
     match hex::decode(alloc, digits) {
         Ok(octets) => Ok(octets),
@@ -78,7 +78,7 @@ fn push_numbered(
     Ok(())
 }
 
-/// The value that octets encode, with nothing behind it.
+/// The value that bytes encode, with nothing after it.
 pub fn value_in<T: Wire + Drop>(alloc: Global, words: &str) -> Result<T, Fault> {
     let octets = octets_of(alloc, words)?;
     let mut src = Octets::new(octets.as_slice());

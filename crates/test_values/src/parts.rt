@@ -12,7 +12,7 @@ use std::alloc::{AllocError, Global};
 use ua_builtin::{Parts, Source};
 use ua_services::{read_request, skip_request};
 
-/// What is printed of a request that came in two parts, the first of so many octets.
+/// What is printed of a request that came in two parts, the first of this many bytes.
 pub fn two_parts(alloc: Global, words: &str) -> Result<String, Fault> {
     let Some((place, words)) = words.split_once(' ') else {
         return Err(Fault::NoRow);
@@ -33,7 +33,7 @@ fn cut_text(alloc: Global, place: usize, octets: &[u8]) -> Result<String, Fault>
     parts_text(alloc, &parts, octets)
 }
 
-/// What is printed of a request that came in parts of one octet.
+/// What is printed of a request that came in parts of one byte.
 pub fn single_parts(alloc: Global, words: &str) -> Result<String, Fault> {
     let octets = octets_of(alloc, words)?;
     let body = Bytes::copy_from_slice(alloc, octets.as_slice())?;
@@ -41,7 +41,7 @@ pub fn single_parts(alloc: Global, words: &str) -> Result<String, Fault> {
     parts_text(alloc, parts.as_slice(), octets.as_slice())
 }
 
-/// The body in parts of one octet.
+/// The body in parts of one byte.
 fn single_octets(alloc: Global, body: &Bytes) -> Result<Vec<Bytes>, AllocError>
     ensures { IfOk result (λ parts. length (concat parts.items) ≤ length body.now) }
 {
@@ -52,7 +52,7 @@ fn single_octets(alloc: Global, body: &Bytes) -> Result<Vec<Bytes>, AllocError>
     Ok(parts)
 }
 
-/// How many octets the parts have, how many are left behind the request, and what is written for it.
+/// How many bytes the parts have, how many are left after the request, and what is written for it.
 fn parts_text(alloc: Global, parts: &[Bytes], octets: &[u8]) -> Result<String, Fault>
     requires { length (concat parts.now) < 2 ^ 64 }
 {

@@ -104,7 +104,7 @@ pub fn kind_name(kind: RequestKind) -> &'static str {
 }
 
 /// What is printed of a request: its kind, its handle, its fields, and what is written for it; or
-/// its fault. Passing over it has to come to the same, else just what that comes to is printed.
+/// its fault. Passing over it has to result in the same, else just what that results in is printed.
 pub fn request(alloc: Global, words: &str) -> Result<String, Fault> {
     let octets = octets_of(alloc, words)?;
     let skipped = skip_request(alloc, &mut Octets::new(octets.as_slice()));
@@ -129,7 +129,7 @@ pub fn is_same(
     }
 }
 
-/// What is printed where passing over a request comes to something else than reading it.
+/// What is printed where passing over a request results in something else than reading it.
 pub fn skipped_text(
     alloc: Global,
     skipped: Result<RequestKind, RequestFault>,
@@ -155,7 +155,7 @@ pub fn fault_text(alloc: Global, fault: RequestFault) -> Result<String, Fault> {
     }
 }
 
-/// What is printed of a Read that is made of the NodeId that octets encode.
+/// What is printed of a Read that is made of the NodeId that bytes encode.
 pub fn made_read(alloc: Global, words: &str) -> Result<String, Fault> {
     let octets = octets_of(alloc, words)?;
     let (node, _) = crate::values::read::<NodeId>(alloc, octets.as_slice())?;
@@ -164,7 +164,7 @@ pub fn made_read(alloc: Global, words: &str) -> Result<String, Fault> {
     body_text(alloc, Request::Read(request), octets.as_slice())
 }
 
-/// What is printed of a Write that is made of the Variant that octets encode.
+/// What is printed of a Write that is made of the Variant that bytes encode.
 pub fn made_write(alloc: Global, words: &str) -> Result<String, Fault> {
     let octets = octets_of(alloc, words)?;
     let (value, _) = crate::values::read::<Variant>(alloc, octets.as_slice())?;

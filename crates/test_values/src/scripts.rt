@@ -6,7 +6,7 @@ use crate::words::text_of;
 use std::alloc::Global;
 use ua_texts::{ScriptFault, ScriptLine, Step, parse_script};
 
-/// What the lines of a script ask for, each behind its number; or the first bad line.
+/// What the lines of a script ask for, each after its number; or the first bad line.
 pub fn script(alloc: Global, words: &str) -> Result<String, Fault> {
     let text = text_of(alloc, words)?;
     match parse_script(alloc, text.as_str()) {

@@ -13,7 +13,7 @@ use ua_services::session_requests::{
 use ua_services::{Request, request_body};
 use ua_structures::{ReadValueId, WriteValue};
 
-/// The octets of a request that is made at a moment.
+/// The bytes of a request that is made at a time.
 pub fn ask(alloc: Global, moment: DateTime, words: &str) -> Result<String, Fault> {
     let (kind, words) = cut(words)?;
     let request = request_of(alloc, moment, kind, words)?;
@@ -57,7 +57,7 @@ fn token_of(alloc: Global, words: &str) -> Result<(NodeId, u32), Fault> {
     Ok((NodeId::parse_text(alloc, token)?, handle))
 }
 
-/// A request of Read or Write with the items behind `:`, with `|` between.
+/// A request of Read or Write with the items after `:`, with `|` between.
 fn items_request(
     alloc: Global,
     moment: DateTime,

@@ -1,17 +1,17 @@
-//! What is printed of octets, values and texts, and of octets that were written.
+//! What is printed of bytes, values and texts, and of bytes that were written.
 
 use crate::fault::Fault;
 use std::alloc::Global;
 use ua_builtin::{StatusCode, Wire, WriteFault};
 use ua_texts::push_code;
 
-/// Octets as hexadecimal digits.
+/// Bytes as hexadecimal digits.
 pub fn digits(alloc: Global, octets: &[u8]) -> Result<String, Fault> {
     Ok(hex::encode(alloc, octets)?)
 }
 
-/// What is written for a value: `same` where it is these octets, its octets where it is others, and
-/// `unwritable` where it is refused and what stood in the output stays.
+/// What is written for a value: `same` where it is these bytes, its bytes where it is others, and
+/// `unwritable` where it is rejected and what stood in the output stays.
 pub fn written<T: Wire + Drop>(alloc: Global, value: T, octets: &[u8]) -> Result<String, Fault> {
     let mut out = [1, 2].to_vec(alloc)?;
     let answer = value.write(&mut out);
@@ -55,7 +55,7 @@ pub fn quoted(alloc: Global, text: &str) -> Result<String, Fault> {
     Ok(format!(in alloc; "\"{text}\"")?)
 }
 
-/// Status codes with a blank between.
+/// Status codes with a space between.
 pub fn codes(alloc: Global, statuses: &[StatusCode]) -> Result<String, Fault> {
     let mut text = String::new(alloc);
     for status in statuses {

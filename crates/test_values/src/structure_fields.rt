@@ -31,7 +31,7 @@ impl Fields {
         self.text
     }
 
-    /// Adds a word, behind a blank where it is not the first.
+    /// Adds a word, after a space where it is not the first.
     pub fn word(&mut self, word: &str) {
         let answer = match &mut self.text {
             Ok(text) => add_word(text, word),
@@ -42,7 +42,7 @@ impl Fields {
         }
     }
 
-    /// Adds the name of a field, and the octets that are written for its value.
+    /// Adds the name of a field, and the canonical encoding of its value.
     pub fn field<T: Wire>(&mut self, name: &str, value: &T) {
         self.word(name);
         match field_text(self.alloc, value) {
@@ -51,7 +51,7 @@ impl Fields {
         }
     }
 
-    /// Adds a field where it is there.
+    /// Adds a field if it is there.
     pub fn some_field<T: Wire>(&mut self, name: &str, value: &Option<T>) {
         if let Some(value) = value {
             self.field(name, value);

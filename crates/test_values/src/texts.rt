@@ -9,7 +9,7 @@ use ua_nodes::{parse_type, parse_value};
 use ua_texts::{parse_plain_value, push_plain_variant, push_variant};
 use ua_variant::{Elements, Variant};
 
-/// The type that a text names: its id, with `[]` behind it where it is that of arrays.
+/// The type that a text names: its id, with `[]` after it where it is that of arrays.
 pub fn type_named(alloc: Global, words: &str) -> Result<String, Fault> {
     let text = text_of(alloc, words)?;
     let (kind, is_array) = parse_type(text.as_str()).ok_or(Fault::NoValue)?;
@@ -17,7 +17,7 @@ pub fn type_named(alloc: Global, words: &str) -> Result<String, Fault> {
     Ok(format!(in alloc; "{kind}{brackets}")?)
 }
 
-/// The octets of the value of a type that a text denotes, and how the elements of an array are held.
+/// The bytes of the value of a type that a text denotes, and how the elements of an array are held.
 pub fn value(alloc: Global, words: &str) -> Result<String, Fault> {
     let (kind, words) = cut(words)?;
     let (kind, is_array) = type_of(kind)?;
@@ -46,7 +46,7 @@ fn held(value: &Variant) -> &'static str {
     }
 }
 
-/// What a Variant prints as, and the octets of the value that its type and its text denote.
+/// What a Variant prints as, and the bytes of the value that its type and its text denote.
 pub fn print(alloc: Global, words: &str) -> Result<String, Fault> {
     let value = value_in::<Variant>(alloc, words)?;
     let text = variant_text(alloc, &value);
@@ -69,8 +69,8 @@ fn printed(alloc: Global, out: &str) -> Result<String, Fault> {
     }
 }
 
-/// The octets of the value of a type that a text denotes where people write decimals and times, and how
-/// the elements of an array are held.
+/// The bytes of the value of a type that a text denotes where people write decimals and times, and
+/// how the elements of an array are held.
 pub fn plain_value(alloc: Global, words: &str) -> Result<String, Fault> {
     let (kind, words) = cut(words)?;
     let (kind, is_array) = type_of(kind)?;
@@ -85,8 +85,8 @@ fn plain_octets(alloc: Global, kind: u8, is_array: bool, text: &str) -> Result<S
     Ok(out)
 }
 
-/// What a Variant prints as where people read it, with the names of status codes or without, and the octets
-/// of the value that its type and its text denote there.
+/// What a Variant prints as where people read it, with the names of StatusCodes or without, and the
+/// bytes of the value that its type and its text denote there.
 pub fn plain(alloc: Global, words: &str, names: bool) -> Result<String, Fault> {
     let value = value_in::<Variant>(alloc, words)?;
     let text = plain_text(alloc, &value, names);
@@ -112,7 +112,7 @@ fn plain_back(alloc: Global, text: &str) -> Result<String, Fault> {
     plain_octets(alloc, kind, is_array, text)
 }
 
-/// The octets of the value that the name of a type and a text denote.
+/// The bytes of the value that the name of a type and a text denote.
 fn back(alloc: Global, text: &str) -> Result<String, Fault> {
     let (kind, text) = cut(text)?;
     let (kind, is_array) = parse_type(kind).ok_or(Fault::NoValue)?;

@@ -12,7 +12,7 @@ use ua_variant::{
 
 /// A value that may hold others.
 pub trait Tree: Skip {
-    /// How many levels it has, how many values are in it, and whether it can be written.
+    /// How many levels it has, how many values are in it, and whether it can be encoded.
     fn size(&self) -> (u32, u64, bool);
 
     fn copied(&self, alloc: Global) -> Result<Self, AllocError>;
@@ -48,9 +48,9 @@ impl Tree for Variant {
     }
 }
 
-/// What is printed of a tree: its levels, its values, how many octets are left, whether it can be
-/// written, and what is written for a copy of it. Passing over it has to leave the same, else just what
-/// that leaves is printed.
+/// What is printed of a tree: its levels, its values, how many bytes are left, whether it can be
+/// encoded, and what is written for a copy of it. Passing over it has to leave the same, else just
+/// what that leaves is printed.
 pub fn tree_text<T: Tree>(alloc: Global, words: &str) -> Result<String, Fault> {
     let octets = octets_of(alloc, words)?;
     let skipped = skip::<T>(alloc, octets.as_slice());
@@ -62,14 +62,14 @@ pub fn tree_text<T: Tree>(alloc: Global, words: &str) -> Result<String, Fault> {
     sized_text(alloc, value, left, octets.as_slice())
 }
 
-/// How many octets are left where a value that octets begin with is passed over.
+/// How many bytes are left where a value that bytes begin with is passed over.
 fn skip<T: Skip>(alloc: Global, octets: &[u8]) -> Result<u64, Fault> {
     let mut src = Octets::new(octets);
     T::skip_value(alloc, &mut src, 100)?;
     Ok(src.left() as u64)
 }
 
-/// How many octets are left where a value was read.
+/// How many bytes are left where a value was read.
 fn left_of<T>(found: &Result<(T, u64), Fault>) -> Result<u64, Fault> {
     match found {
         Ok((_, left)) => Ok(*left),
@@ -128,7 +128,7 @@ pub fn numbers(alloc: Global, words: &str) -> Result<String, Fault> {
     Ok(format!(in alloc; "{numbers:?} inner {has_inner}")?)
 }
 
-/// The type id and the octets of a clone of a Variant of a reserved type id.
+/// The type id and the bytes of a clone of a Variant of a reserved type id.
 pub fn reserved(alloc: Global, words: &str) -> Result<String, Fault> {
     let octets = octets_of(alloc, words)?;
     let (value, _) = read::<Variant>(alloc, octets.as_slice())?;
@@ -139,7 +139,7 @@ pub fn reserved(alloc: Global, words: &str) -> Result<String, Fault> {
     text
 }
 
-/// The type id and the octets of a value of a reserved type id.
+/// The type id and the bytes of a value of a reserved type id.
 pub fn reserved_text(alloc: Global, value: &Variant) -> Result<String, Fault> {
     match value {
         Variant::One(Scalar::Reserved(kind, octets)) => {
@@ -150,7 +150,7 @@ pub fn reserved_text(alloc: Global, value: &Variant) -> Result<String, Fault> {
     }
 }
 
-/// What is printed of an array of the Variant that octets encode alone.
+/// What is printed of an array of the Variant that bytes encode alone.
 pub fn boxed(alloc: Global, words: &str) -> Result<String, Fault> {
     let octets = octets_of(alloc, words)?;
     let (value, left) = read::<Variant>(alloc, octets.as_slice())?;
@@ -168,7 +168,7 @@ fn array(alloc: Global, kind: u8, items: Vec<Scalar>) -> Variant {
     }
 }
 
-/// What is printed of an array of Int32 that is made of these octets, each word a Variant.
+/// What is printed of an array of Int32 that is made of these bytes, each word a Variant.
 pub fn mixed(alloc: Global, words: &str) -> Result<String, Fault> {
     let mut items = Vec::new(alloc);
     for word in words.split_whitespace() {

@@ -14,7 +14,7 @@ use ua_frame::{Frame, FrameFault, FrameReader, Gate, Kind};
 use ua_nodes::LoadFault;
 use ua_services::{ServiceFault, request_body};
 
-/// The octets of a NodeId, and whether they read as it.
+/// The bytes of a NodeId, and whether they read as it.
 pub fn through(alloc: Global, words: &str) -> Result<String, Fault> {
     let node = NodeId::parse_text(alloc, words)?;
     let octets = encoded(alloc, &node)?;
@@ -27,7 +27,7 @@ pub fn through(alloc: Global, words: &str) -> Result<String, Fault> {
     Ok(format!(in alloc; "{octets} back {is_equal}")?)
 }
 
-/// The bodies of the ERR frames of at most 64 octets in a stream, each word of which is a piece.
+/// The bodies of the ERR frames of at most 64 bytes in a stream, each word of which is a fragment.
 pub fn frames(alloc: Global, words: &str) -> Result<String, Fault> {
     let mut reader = FrameReader::new(alloc, Gate::new(64).taking(Kind::Err));
     let mut frames = Vec::new(alloc);
@@ -81,7 +81,7 @@ fn fault_text(alloc: Global, fault: &ServiceFault) -> Result<String, Fault> {
     Ok(format!(in alloc; "fault {handle} {code:08X}")?)
 }
 
-/// Whether a status code is bad.
+/// Whether a StatusCode is bad.
 pub fn bad(alloc: Global, words: &str) -> Result<String, Fault> {
     let status = StatusCode {
         code: code_of(words)?,

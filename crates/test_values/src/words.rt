@@ -1,15 +1,16 @@
 //! The words of a row: numbers and texts.
 //!
-//! A text stands within `"`; `\t`, `\n`, `\r`, `\s` and `\\` in it are a tab, a line feed, a carriage
-//! return, a blank and a backslash, `\0` is U+0000, and `\b` the byte order mark. `300*"n_,"` is the
-//! text three hundred times, each time with its number, from 0, in the place of `_`.
+//! A text stands within `"`; `\t`, `\n`, `\r`, `\s` and `\\` in it are a tab, a line feed, a
+//! carriage return, a space and a backslash, `\0` is U+0000, and `\b` the byte order mark.
+//! `300*"n_,"` is the text three hundred times, each time with its number, from 0, in the place of
+//! `_`.
 
 use crate::fault::Fault;
 use std::alloc::Global;
 use std::str::FromStr;
 use ua_builtin::{NodeId, UaString};
 
-/// The first word, and those behind it.
+/// The first word, and those after it.
 pub fn cut(words: &str) -> Result<(&str, &str), Fault> {
     words.split_once(' ').ok_or(Fault::NoRow)
 }
@@ -22,7 +23,7 @@ where
     word.parse::<T>().ok().ok_or(Fault::NoRow)
 }
 
-/// The status code of eight hexadecimal digits.
+/// The StatusCode of eight hexadecimal digits.
 pub fn code_of(word: &str) -> Result<u32, Fault> {
     u32::from_str_radix(word, 16).ok().ok_or(Fault::NoRow)
 }
@@ -36,7 +37,7 @@ pub fn type_of(word: &str) -> Result<(u8, bool), Fault> {
     Ok((number(digits)?, is_array))
 }
 
-/// The nodes that a word names, with a comma between; none where it is empty.
+/// The nodes that a word names, separated by commas; none if it is empty.
 pub fn nodes_of(alloc: Global, word: &str) -> Result<Vec<NodeId>, Fault> {
     let mut nodes = Vec::new(alloc);
     if word.is_empty() {
@@ -66,7 +67,7 @@ pub fn text_or_null(alloc: Global, words: &str) -> Result<UaString, Fault> {
     Ok(UaString::new(Some(text_of(alloc, words)?)))
 }
 
-/// A text so many times, each with its number in the place of `_`.
+/// A text this many times, each with its number in the place of `_`.
 fn numbered(alloc: Global, times: u32, unit: &str) -> Result<String, Fault> {
     let mut text = String::new(alloc);
     for number in 0..times {
@@ -96,7 +97,7 @@ fn unescaped(alloc: Global, words: &str) -> Result<String, Fault> {
     Ok(text)
 }
 
-/// What a character behind a backslash means.
+/// What a character after a backslash means.
 fn meant(c: char) -> Result<char, Fault> {
     match c {
         't' => Ok('\t'),

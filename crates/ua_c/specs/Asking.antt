@@ -1,4 +1,5 @@
--- What a client does for C: each clause of the calls of `ClientChannel`, over what a handle holds.
+-- What a client does for C: each clause of the calls of `ClientChannel`, over the content of a
+-- handle.
 use Rattle.std.specs.Prelude.{◌≡◌, ◌⊎◌, ◌<◌, ◌≤◌, ◌++◌, ◌∷◌, [], ℕ, List, length, take, true, false, Some, Result, Ok, Err, IfOk, OnOk, OnErr, IsErrOf}
 use Rattle.std.specs.List.{concat}
 use Rattle.std.specs.declared.alloc.Global.{Global}
@@ -31,7 +32,7 @@ use Rattle.ua_c.specs.declared.told.Told.{Told}
 
 -- ---- what of a channel's answers C is told
 
--- what is told of octets that were taken
+-- what is told of bytes that were taken
 abbrev pub told_of : ℕ → ClientEvent → Told
 told_of taken event.NeedMore = record { status = ok; taken = taken; event = 0; id = 0; code = 0 }
 told_of taken (event.Send octets) = record { status = ok; taken = taken; event = 1; id = 0; code = 0 }
@@ -42,7 +43,7 @@ told_of taken (event.Renewed token) = record { status = ok; taken = taken; event
 told_of taken (event.Failed code false) = record { status = refused; taken = taken; event = 6; id = 0; code = code.code }
 told_of taken (event.Failed code true) = record { status = refused; taken = taken; event = 7; id = 0; code = code.code }
 
--- the octets that then wait: those that are to be sent, or those of a reply
+-- the bytes that then wait: those that are to be sent, or those of a reply
 abbrev pub waiting_of : ClientEvent → List ℕ → List ℕ
 waiting_of event.NeedMore before = before
 waiting_of (event.Send octets) before = octets.items
@@ -59,13 +60,13 @@ ShowsEvent taken event told before waiting = (told ≡ told_of taken event) × (
 abbrev pub only : ℕ → Told
 only status = record { status = status; taken = 0; event = 0; id = 0; code = 0 }
 
--- what C is told of an answer of `ClientChannel::take`, and which octets then wait
+-- what C is told of an outcome of `ClientChannel::take`, and which bytes then wait
 abbrev pub ShowsTake : Result (ℕ × ClientEvent) ClientTakeFault → Told → List ℕ → List ℕ → Type 0
 ShowsTake (Ok (taken, event)) told before waiting = ShowsEvent taken event told before waiting
 ShowsTake (Err take_fault.Closed) told before waiting = (told ≡ only closed) × (waiting ≡ before)
 ShowsTake (Err take_fault.OutOfMemory) told before waiting = (told ≡ only no_memory) × (waiting ≡ before)
 
--- why nothing was asked
+-- why nothing was sent
 abbrev pub status_for : AskFault → ℕ
 status_for ask_fault.NotOpen = not_open
 status_for ask_fault.TooManyPending = too_many_pending
@@ -75,7 +76,8 @@ status_for ask_fault.Exhausted = exhausted
 status_for ask_fault.RequestTooLarge = too_large
 status_for ask_fault.OutOfMemory = no_memory
 
--- what C is told of an answer of `ClientChannel::ask` and `ClientChannel::renew`, and which octets then wait
+-- what C is told of an outcome of `ClientChannel::ask` and `ClientChannel::renew`, and which bytes
+-- then wait
 abbrev pub ShowsAsk : Result (ℕ × Vec ℕ Global) AskFault → ℕ → ℕ → List ℕ → List ℕ → Type 0
 ShowsAsk (Ok (id, octets)) status told before waiting = (status ≡ ok) × (told ≡ id) × (waiting ≡ octets.items)
 ShowsAsk (Err fault) status told before waiting = (status ≡ status_for fault) × (told ≡ 0) × (waiting ≡ before)
@@ -87,14 +89,15 @@ ShowsClose (Err fault) status before waiting = (status ≡ status_for fault) × 
 
 -- ---- a client
 
--- what `ClientChannel::new` says of the channel that it makes
+-- what `ClientChannel::new` ensures of the channel that it makes
 pub record IsNewClient (limits : Limits) (url : List ℕ) (client : ClientChannel) : Type 0 where
   pub stands : ClientStands client [] [] [] []
   pub limits_is : client_limits client ≡ limits
   pub url_is : url_of client ≡ Some url
   pub next_is : client_next client ≡ 2
 
--- what `ClientChannel::take` says of what it answers to a piece at a moment, and of the channel that it leaves
+-- what `ClientChannel::take` ensures of its outcome for a fragment at a time, and of the channel
+-- that it leaves
 pub record TakesAs (client : ClientChannel) (piece : List ℕ) (moment : DateTime) (answer : Result (ℕ × ClientEvent) ClientTakeFault) (new : ClientChannel) : Type 0 where
   pub answers : (asks : List Placed) (octets : List ℕ) (told : List ToldOfFrame) → ClientGoes client asks octets told → ClientAnswers moment piece answer new asks octets told
   pub parts : (asks : List Placed) (octets : List ℕ) (told : List ToldOfFrame) → ClientGoes client asks octets told
@@ -107,7 +110,7 @@ pub record TakesAs (client : ClientChannel) (piece : List ℕ) (moment : DateTim
   pub same : SameClient client new
   pub next : client_next new ≡ client_next client
 
--- what `ClientChannel::ask` says
+-- what `ClientChannel::ask` ensures
 pub record AsksAs (client : ClientChannel) (body : List ℕ) (answer : Result (ℕ × Vec ℕ Global) AskFault) (new : ClientChannel) : Type 0 where
   pub answers : AnswersFor (call_refused client 0 body) answer
   pub sent : IfOk answer (λ r. SendsCall client (client_next client) body r.0 r.1.items (client_next new))
@@ -124,7 +127,7 @@ pub record AsksAs (client : ClientChannel) (body : List ℕ) (answer : Result (�
   pub same : SameClient client new
   pub bound : client_bound new ≡ client_bound client
 
--- what `ClientChannel::renew` says
+-- what `ClientChannel::renew` ensures
 pub record RenewsAs (client : ClientChannel) (moment : DateTime) (answer : Result (ℕ × Vec ℕ Global) AskFault) (new : ClientChannel) : Type 0 where
   pub answers : AnswersFor (renewal_refused client) answer
   pub sent : IfOk answer (λ r. SendsRenewal client (client_next client) moment r.0 r.1.items (client_next new))
@@ -138,7 +141,7 @@ pub record RenewsAs (client : ClientChannel) (moment : DateTime) (answer : Resul
   pub same : SameClient client new
   pub bound : client_bound new ≡ client_bound client
 
--- what `ClientChannel::close` says
+-- what `ClientChannel::close` ensures
 pub record ClosesAs (client : ClientChannel) (moment : DateTime) (answer : Result (Vec ℕ Global) AskFault) (new : ClientChannel) : Type 0 where
   pub answers : AnswersFor (closing_refused client) answer
   pub sent : IfOk answer (λ out. SendsClosing client (client_next client) moment out.items)
@@ -157,13 +160,13 @@ pub record ClosesAs (client : ClientChannel) (moment : DateTime) (answer : Resul
 abbrev pub HoldsClient : ClientChannel → Holding → Type 0
 HoldsClient client new = new.machine ≡ machine.Client client
 
--- the HEL of the client waits, or memory was refused and nothing changed
+-- the HEL of the client waits, or an allocation failed and nothing changed
 abbrev pub HelloBy : ClientChannel → Holding → Holding → ℕ → Type 0
 HelloBy client old new status =
     ((status ≡ ok) × HoldsClient client new × (new.waiting ≡ frame_octets (hello_frame (hello_to (client_limits client) (url_of client)))))
     ⊎ ((status ≡ no_memory) × (new ≡ old))
 
--- one `take` of a client: the answer is one of `ClientChannel::take`, and C is told just that
+-- one `take` of a client: the outcome is one of `ClientChannel::take`, and C is told exactly that
 pub record TakesClient (old : ClientChannel) (new : Holding) (piece : List ℕ) (moment : DateTime) (told : Told) : Type 0 where
   pub answer : Result (ℕ × ClientEvent) ClientTakeFault
   pub client : ClientChannel
@@ -179,7 +182,7 @@ pub record AsksClient (old : ClientChannel) (new : Holding) (body : List ℕ) (s
   pub asks : AsksAs old body answer client
   pub shown : ShowsAsk answer status id [] new.waiting
 
--- a call of an empty body is none
+-- a call with an empty body is refused
 abbrev pub AsksBody : ClientChannel → Holding → Holding → List ℕ → ℕ → ℕ → Type 0
 AsksBody client old new body status id = (length body ≡ 0 → (status ≡ empty) × (id ≡ 0) × (new ≡ old)) × (0 < length body → AsksClient client new body status id)
 
@@ -199,7 +202,7 @@ pub record ClosesClient (old : ClientChannel) (new : Holding) (moment : DateTime
   pub closes : ClosesAs old moment answer client
   pub shown : ShowsClose answer status [] new.waiting
 
--- what each call does with what a handle holds
+-- what each call does with the content of a handle
 abbrev pub HelloMachine : Holding → Holding → ℕ → Type 0
 HelloMachine old new status = OfClient old.machine old new (λ why. status ≡ why) (λ client. WhereNone old new (λ why. status ≡ why) (HelloBy client old new status))
 

@@ -1,4 +1,4 @@
--- The token policy that a client uses, of the endpoints in a response.
+-- The token policy that a client uses, from the endpoints in a response.
 use Rattle.std.specs.Prelude.{◌≡◌, ◌⊎◌, ℕ, List, Option, Some, None, Result, Ok, Err}
 use Rattle.ua_services.specs.Policy.{chosen_id, listed}
 use Rattle.ua_services.specs.declared.response.Response.{Response}
@@ -7,13 +7,14 @@ use Rattle.ua_texts.specs.Replies.{endpoints_in}
 use Rattle.ua_c.specs.Responses.{IsNoResponse, OfResponse, TellsNone}
 use Rattle.ua_c.specs.Status.{no_memory, no_policy}
 
--- octets are the PolicyId of the first anonymous token policy of the first endpoint that fits; none where it is null
+-- bytes are the PolicyId of the first anonymous token policy of the first endpoint that fits; none
+-- if it is null
 pub record IsChosenAmong (endpoints : List EndpointDescription) (text : List ℕ) : Type 0 where
   pub id : Option (List ℕ)
   pub chosen : chosen_id endpoints ≡ Some id
   pub is : text ≡ listed id
 
--- memory was refused, or no endpoint fits
+-- an allocation failed, or no endpoint fits
 abbrev pub IsNotChosenAmong : List EndpointDescription → ℕ → Type 0
 IsNotChosenAmong endpoints status = (status ≡ no_memory) ⊎ ((status ≡ no_policy) × (chosen_id endpoints ≡ None))
 
@@ -33,7 +34,7 @@ pub record HasNoPolicy (r : Response) : Type 0 where
 abbrev pub ChoosesNone : Response → ℕ → ℕ → Type 0
 ChoosesNone r code status = TellsNone (λ other. endpoints_in other ≡ None) r code status ⊎ ((status ≡ no_policy) × (code ≡ 0) × HasNoPolicy r)
 
--- the PolicyId that the response gives that octets are the body of, or why there is none
+-- the PolicyId that the response gives that bytes are the body of, or why there is none
 abbrev pub PolicyBy : List ℕ → ℕ → Result (List ℕ) ℕ → Type 0
 PolicyBy body code (Ok text) = (code ≡ 0) × OfResponse body (λ r. IsPolicy r text)
 PolicyBy body code (Err status) = (IsNoResponse body status × (code ≡ 0)) ⊎ OfResponse body (λ r. ChoosesNone r code status)

@@ -1,4 +1,5 @@
--- What a connection over shared nodes does for C: each clause of the calls of `Connection`, over what two handles hold.
+-- What a connection over shared nodes does for C: each clause of the calls of `Connection`, over
+-- the contents of two handles.
 use Rattle.std.specs.Prelude.{◌≡◌, ◌⊎◌, ℕ, List, [], Option, Some, None, Result, Ok, Err, IfOk, OnErr, IsErrOf}
 use Rattle.ua_builtin.specs.declared.date_time.DateTime.{DateTime}
 use Rattle.ua_channel.specs.ServerStands.{limits_of, channel_of, next_of, bound_of, IsDone, Goes, ChannelStands as Holds}
@@ -31,7 +32,7 @@ use Rattle.ua_c.specs.declared.shared.SharedNodes.{SharedNodes}
 
 -- ---- a connection
 
--- what `Connection::new` says of the connection that it makes
+-- what `Connection::new` ensures of the connection that it makes
 pub record IsNewConnection (limits : Limits) (channel : ℕ) (connection : Connection) : Type 0 where
   pub among : (channels : ℕ → ℕ) (k : ℕ) (es : List SharedEvent) (first now : State) → channels k ≡ channel → told_by k es ≡ [] → (shared_over channels (opened first) es).state ≡ now
       → StandsAmong channels k (channel_at connection) (session_at connection) [] es first now
@@ -41,8 +42,8 @@ pub record IsNewConnection (limits : Limits) (channel : ℕ) (connection : Conne
   pub limits_is : limits_of (channel_at connection) ≡ limits
   pub channel_is : channel_of (channel_at connection) ≡ channel
 
--- what `Connection::step_telling` says of what it answers to a piece at a moment, of what was stored, and of the connection and the services
--- that it leaves
+-- what `Connection::step_telling` ensures of its outcome for a fragment at a time, of what was
+-- stored, and of the connection and the services that it leaves
 pub record StepsConnectionAs (connection : Connection) (services : State) (piece : List ℕ) (moment : DateTime) (answer : Result Step StepFault) (written : List WriteValue) (new : Connection) (left : State) : Type 0 where
   pub among : (channels : ℕ → ℕ) (k : ℕ) (octets : List ℕ) (es : List SharedEvent) (first : State) → StandsAmong channels k (channel_at connection) (session_at connection) octets es first services
       → StepAmong (limits_of (channel_at connection)) channels k moment piece answer (channel_at new) (session_at new) octets es first services left
@@ -74,7 +75,7 @@ pub record IsMadeConnection (limits : UaLimits) (channel : ℕ) (old new : Optio
   pub none : untold_in served.written ≡ []
   pub seated : Seats (machine.Connection served) old new status
 
--- a connection was made, or the handle is as it was
+-- a connection was made, or the handle is unchanged
 abbrev pub MakesConnection : UaLimits → ℕ → Option Holding → Option Holding → ℕ → Type 0
 MakesConnection limits channel old new status = IsMadeConnection limits channel old new status ⊎ ((new ≡ old) × (status ≡ bad_limits) × ¬ (AreEnough limits))
 
@@ -87,7 +88,8 @@ abbrev pub stored_after : Result Step StepFault → List WriteValue → List Wri
 stored_after (Ok step) written before = written
 stored_after (Err f) written before = before
 
--- one step of a connection over shared nodes: the answer is one of `Connection::step_telling`, and C is told just that
+-- one step of a connection over shared nodes: the outcome is one of `Connection::step_telling`, and
+-- C is told exactly that
 pub record StepsConnection (old : ServedConnection) (shared : SharedNodes) (new before after : Holding) (piece : List ℕ) (moment : DateTime) (report : Report) : Type 0 where
   pub answer : Result Step StepFault
   pub written : List WriteValue
@@ -100,11 +102,11 @@ pub record StepsConnection (old : ServedConnection) (shared : SharedNodes) (new 
   pub shown : Shows answer report [] new.waiting
   pub stored : untold_in served.written ≡ stored_after answer written (untold_in old.written)
 
--- a step says only a status, and the nodes are as they were
+-- a step tells only a status, and the nodes are unchanged
 abbrev pub SaysOnly : Report → Holding → Holding → ℕ → Type 0
 SaysOnly report before after why = (report ≡ nothing why) × (after ≡ before)
 
--- what a step does with what two handles hold
+-- what a step does with the contents of two handles
 abbrev pub StepsShared : Holding → Holding → Holding → Holding → List ℕ → DateTime → Report → Type 0
 StepsShared old new before after piece moment report =
     OfShared old.machine before.machine (SaysOnly report before after other_handle × (new ≡ old))

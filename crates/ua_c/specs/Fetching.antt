@@ -1,4 +1,4 @@
--- What any handle answers: how many octets it holds, and those that wait.
+-- What any handle tells: how many bytes it holds, and those that wait.
 use Rattle.std.specs.Prelude.{◌≡◌, ◌⊎◌, ◌≤◌, ℕ, List, Option, Some, None}
 use Rattle.ua_channel.specs.Asks.{Placed}
 use Rattle.ua_channel.specs.Client.{ClientStands, IsClientDone, client_bound, client_bound_behind, held_octets, client_limits}
@@ -12,7 +12,8 @@ use Rattle.ua_c.specs.declared.holding.Holding.{Holding}
 use Rattle.ua_c.specs.declared.holding.Machine.{Machine}
 use Rattle.ua_c.specs.declared.holding.Machine.TheVariants as machine
 
--- what `Server::held`, `ClientChannel::held` and `Connection::held` say of this count; nodes hold no octets
+-- what `Server::held`, `ClientChannel::held` and `Connection::held` ensure of this count; nodes
+-- hold no bytes
 abbrev pub Holds : Machine → ℕ → Type 0
 Holds (machine.Server station) count =
     ((octets : List ℕ) (frames : List Frame) (rest : List ℕ) → ChannelStands (channel_in station.server) octets frames rest → count ≡ held_after (received frames) rest)
@@ -28,7 +29,7 @@ Holds (machine.Connection served) count =
     × ((octets : List ℕ) (frames : List Frame) (rest : List ℕ) → ChannelStands (channel_at served.connection) octets frames rest → count ≤ bound_after (limits_of (channel_at served.connection)) (received frames))
     × (IsDone (channel_at served.connection) → count ≡ 0)
 
--- what `Server::bound`, `ClientChannel::bound` and `Connection::bound` say of this count
+-- what `Server::bound`, `ClientChannel::bound` and `Connection::bound` ensure of this count
 abbrev pub Bounds : Machine → ℕ → Type 0
 Bounds (machine.Server station) count =
     ((octets : List ℕ) (frames : List Frame) (rest : List ℕ) → ChannelStands (channel_in station.server) octets frames rest → count ≡ bound_after (limits_of (channel_in station.server)) (received frames))
@@ -41,12 +42,13 @@ Bounds (machine.Connection served) count =
     ((octets : List ℕ) (frames : List Frame) (rest : List ℕ) → ChannelStands (channel_at served.connection) octets frames rest → count ≡ bound_after (limits_of (channel_at served.connection)) (received frames))
     × (count ≡ bound_of (channel_at served.connection))
 
--- a count of what is held, which is 0 where nothing is
+-- a count of what is held, which is 0 if nothing is
 abbrev pub Counts : (Holding → Type 0) → ℕ → Option Holding → Type 0
 Counts P count None = count ≡ 0
 Counts P count (Some holding) = P holding
 
--- octets that wait are moved into a buffer, and the machine is as it was; or memory was refused, and nothing changed
+-- bytes that wait are moved into a buffer, and the machine is unchanged; or an allocation failed,
+-- and nothing changed
 abbrev pub FetchesHandle : Option Holding → Option Holding → List ℕ → List ℕ → ℕ → ℕ → Type 0
 FetchesHandle None new before after count status = (status ≡ no_handle) × (count ≡ 0) × (after ≡ before) × (new ≡ None)
 FetchesHandle (Some old) None before after count status = ⊥

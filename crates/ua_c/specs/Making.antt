@@ -1,4 +1,4 @@
--- Servers and clients as they begin.
+-- Servers and clients when they begin.
 use Rattle.std.specs.Prelude.{◌≡◌, ◌⊎◌, ◌+◌, ℕ, List, [], Option, Some, Result, Ok, Err, codes}
 use Rattle.std.specs.Str.{IsUtf8}
 use Rattle.ua_channel.specs.declared.client.channel.ClientChannel.{ClientChannel}
@@ -21,30 +21,32 @@ use Rattle.ua_c.specs.declared.station.Station.{Station}
 
 -- ---- texts
 
--- the line of this number is the first bad one of a node file, for the reason of this number: in the order in which they are judged, from 1
+-- the line of this number is the first bad one of a node file, for the reason of this number: in
+-- the order in which they are judged, from 1
 pub record IsBadAt (octets : List ℕ) (line number : ℕ) : Type 0 where
   pub utf8 : IsUtf8 octets
   pub reason : LineReason
   pub is : IsFirstBad (node_lines octets) line reason
   pub number_is : number ≡ place reason + 1
 
--- memory was refused, or octets are no text, or the node file has a first bad line
+-- an allocation failed, or bytes are no text, or the node file has a first bad line
 abbrev pub RefusesFile : List ℕ → ℕ → ℕ → ℕ → Type 0
 RefusesFile octets line reason status = ((status ≡ no_memory) × (line ≡ 0) × (reason ≡ 0))
     ⊎ ((status ≡ bad_text) × (line ≡ 0) × (reason ≡ text_nodes) × ¬ (IsUtf8 octets))
     ⊎ ((status ≡ bad_nodes) × IsBadAt octets line reason)
 
--- the same, where the reason is not told
+-- the same, if the reason is not told
 abbrev pub RefusesNodes : List ℕ → ℕ → ℕ → Type 0
 RefusesNodes octets line status = (reason : ℕ) × RefusesFile octets line reason status
 
--- what a server says of itself: the application `ua`, at its URL
+-- how a server describes itself: the application `ua`, at its URL
 abbrev pub endpoint_of : Option (List ℕ) → ℕ → Endpoint
 endpoint_of url message_limit = record { url = url; application_uri = Some (codes "urn:ua:server"); name = Some (codes "ua"); message_limit = message_limit }
 
 -- ---- handles
 
--- a machine stands in a handle, and nothing waits; or memory was refused, and the handle is as it was
+-- a machine is put into a handle, and nothing waits; or an allocation failed, and the handle is
+-- unchanged
 abbrev pub Seats : Machine → Option Holding → Option Holding → ℕ → Type 0
 Seats m old new status = ((status ≡ ok) × (new ≡ Some (record { machine = m; waiting = [] }))) ⊎ ((status ≡ no_memory) × (new ≡ old))
 
@@ -58,7 +60,7 @@ pub record IsMadeClient (limits : UaLimits) (url : List ℕ) (old new : Option H
   pub made : IsNewClient these url client
   pub seated : Seats (machine.Client client) old new status
 
--- a client was made, or the handle is as it was
+-- a client was made, or the handle is unchanged
 abbrev pub MakesClient : UaLimits → List ℕ → Option Holding → Option Holding → ℕ → Type 0
 MakesClient limits url old new status = IsMadeClient limits url old new status ⊎ ((new ≡ old) × (((status ≡ bad_limits) × ¬ (AreEnough limits)) ⊎ IsNoString url status))
 
@@ -90,7 +92,7 @@ pub record IsMadeServer (nodes : List ℕ) (limits : UaLimits) (url : List ℕ) 
   pub no_line : line ≡ 0
   pub seated : Seats (machine.Server station) old new status
 
--- a server was made, or the handle is as it was
+-- a server was made, or the handle is unchanged
 abbrev pub MakesServer : List ℕ → UaLimits → List ℕ → ℕ → Option Holding → Option Holding → ℕ → ℕ → Type 0
 MakesServer nodes limits url channel old new line status =
     IsMadeServer nodes limits url channel old new line status ⊎ ((new ≡ old) × (((status ≡ bad_limits) × (line ≡ 0) × ¬ (AreEnough limits)) ⊎ IsNoStation nodes url line status))

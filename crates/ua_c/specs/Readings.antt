@@ -1,4 +1,4 @@
--- Readings of nodes by the octets of their values, and what is set and got by them.
+-- Readings of nodes by the bytes of their values, and how they are set and got.
 use Rattle.std.specs.Prelude.{◌≡◌, ◌≢◌, ◌⊎◌, ◌+◌, ◌≤◌, ℕ, ℤ, pos, cond, nat_eq, List, length, take, drop, slice_get, Option, Some, None, IsSome}
 use Rattle.std.specs.List.{position}
 use Rattle.ua_builtin.specs.Exact.{◌>>=◌}
@@ -27,16 +27,16 @@ use Rattle.ua_c.specs.declared.shared.SharedNodes.{SharedNodes}
 
 -- ---- readings
 
--- a field is there where its flag is not 0
+-- a field is present if its flag is not 0
 abbrev pub given_if : {A : Type 0} → ℕ → A → Option A
 given_if flag a = cond (nat_eq flag 0) None (Some a)
 
--- the flag of what is there or not
+-- the flag of what is present or absent
 abbrev pub flag_of : {A : Type 0} → Option A → ℕ
 flag_of None = 0
 flag_of (Some a) = 1
 
--- what is there, and 0 where it is not
+-- the value if present, otherwise 0
 abbrev pub ticks_or_none : Option DateTime → ℤ
 ticks_or_none None = pos 0
 ticks_or_none (Some time) = time.ticks
@@ -67,7 +67,7 @@ no_reading = record {
   has_server_picoseconds = 0;
 }
 
--- what a node holds, with a value of so many octets that stand at the front
+-- what a node holds, with a value of this many bytes at the start
 abbrev pub reading_held : Variable → ℕ → UaReading
 reading_held v size = record {
   value_at = 0;
@@ -85,16 +85,17 @@ reading_held v size = record {
   has_server_picoseconds = 0;
 }
 
--- a reading has a value, whose octets lie within these
+-- a reading has a value, whose bytes lie within these
 pub record HasPart (octets : List ℕ) (given : UaReading) : Type 0 where
   pub some : given.has_value ≢ 0
   pub within : given.value_at + given.value_len ≤ length octets
 
--- the octets of its value
+-- the bytes of its value
 abbrev pub part_of : List ℕ → UaReading → List ℕ
 part_of octets given = take given.value_len (drop given.value_at octets)
 
--- what C hands over is this reading: it has a value of at most 100 levels that its octets encode, and a source time
+-- what C passes is this reading: it has a value of nesting depth at most 100 that its bytes encode,
+-- and a source timestamp
 pub record IsReadingOf (octets : List ℕ) (given : UaReading) (reading : Reading) : Type 0 where
   pub part : HasPart octets given
   pub value_is : IsWhole variant_format (part_of octets given) (Some reading.value)
@@ -103,22 +104,22 @@ pub record IsReadingOf (octets : List ℕ) (given : UaReading) (reading : Readin
   pub status_is : reading.status ≡ given_if given.has_status (record { code = given.status })
   pub source_picoseconds_is : reading.source_picoseconds ≡ given_if given.has_source_picoseconds given.source_picoseconds
 
--- it has no value or no source time
+-- it has no value or no source timestamp
 abbrev pub LacksPart : List ℕ → UaReading → Type 0
 LacksPart octets given = (given.has_source_time ≡ 0) ⊎ ¬ (HasPart octets given)
 
--- memory was refused, or it is none
+-- an allocation failed, or it is none
 abbrev pub IsNoReading : List ℕ → UaReading → ℕ → Type 0
 IsNoReading octets given status =
     (status ≡ no_memory) ⊎ ((status ≡ bad_reading) × LacksPart octets given) ⊎ ((status ≡ bad_octets) × IsWhole variant_format (part_of octets given) None)
 
 -- ---- the place of a node
 
--- the place of the first node that the NodeId names
+-- the index of the first node that the NodeId names
 abbrev pub index_among : List NodeId → NodeId → Option ℕ
 index_among ids id = position (same_id id) ids
 
--- the text names a node, and where that stands
+-- the text names a node, with this index
 pub record IsFound (shared : SharedNodes) (text : List ℕ) (index : ℕ) : Type 0 where
   pub id : NodeId
   pub named : IsNodeText text id
@@ -133,24 +134,24 @@ pub record IsMissing (shared : SharedNodes) (text : List ℕ) : Type 0 where
 abbrev pub FindsIn : SharedNodes → List ℕ → ℕ → ℕ → Type 0
 FindsIn shared text index status = ((status ≡ ok) × IsFound shared text index) ⊎ ((index ≡ 0) × (((status ≡ unknown) × IsMissing shared text) ⊎ IsNoNode text status))
 
--- what finding a node does with what a handle holds: nothing
+-- what finding a node does with the content of a handle: nothing
 abbrev pub FindsNode : Holding → List ℕ → ℕ → ℕ → Type 0
 FindsNode held text index status = OfNodes held.machine ((status ≡ other_handle) × (index ≡ 0)) (λ shared. FindsIn shared text index status)
 
 -- ---- setting
 
--- what is told of a reading that was taken, or refused
+-- what is told of a reading that was taken, or rejected
 abbrev pub status_of_set : Option SetFault → ℕ
 status_of_set None = ok
 status_of_set (Some Unknown) = unknown
 status_of_set (Some Mismatch) = mismatch
 status_of_set (Some NotWritable) = bad_octets
 
--- the nodes where that at a NodeId is set to a reading, and all else as it was
+-- the nodes with that of a NodeId set to a reading, and all else unchanged
 abbrev pub with_set : SharedNodes → NodeId → Reading → SharedNodes
 with_set shared id reading = record { services = with_nodes shared.services (after_set id reading shared.services.nodes); ids = shared.ids }
 
--- the reading is one, and is set; or it is refused, and nothing changed
+-- the reading is one, and is set; or it is rejected, and nothing changed
 pub record SetsReading (old new : SharedNodes) (id : NodeId) (octets : List ℕ) (given : UaReading) (status : ℕ) : Type 0 where
   pub reading : Reading
   pub is : IsReadingOf octets given reading
@@ -158,12 +159,13 @@ pub record SetsReading (old new : SharedNodes) (id : NodeId) (octets : List ℕ)
   pub left : new ≡ with_set old id reading
   pub kept : (status ≡ ok → ⊥) → new ≡ old
 
--- the node at this place is set to the reading; or there is none, or no reading, and nothing changed
+-- the node at this index is set to the reading; or there is none, or no reading, and nothing
+-- changed
 abbrev pub SetsAt : Option NodeId → SharedNodes → SharedNodes → List ℕ → UaReading → ℕ → Type 0
 SetsAt None old new octets given status = (status ≡ unknown) × (new ≡ old)
 SetsAt (Some id) old new octets given status = SetsReading old new id octets given status ⊎ (IsNoReading octets given status × (new ≡ old))
 
--- what setting a node does with what a handle holds
+-- what setting a node does with the content of a handle
 pub record SetsHeld (shared : SharedNodes) (old new : Holding) (index : ℕ) (octets : List ℕ) (given : UaReading) (status : ℕ) : Type 0 where
   pub left : SharedNodes
   pub new_is : new ≡ record { machine = machine.Nodes left; waiting = old.waiting }
@@ -174,7 +176,7 @@ SetsNode old new index octets given status = OfNodes old.machine ((status ≡ ot
 
 -- ---- getting
 
--- the node at a place
+-- the node at an index
 abbrev pub node_at_index : SharedNodes → ℕ → Option Variable
 node_at_index shared index = slice_get shared.ids.items index >>= λ id. node_at shared.services.nodes id
 
@@ -191,12 +193,12 @@ pub record GetsValue (node : Variable) (before after : List ℕ) (needed : ℕ) 
 abbrev pub GetsNone : List ℕ → List ℕ → ℕ → UaReading → Type 0
 GetsNone before after needed reading = IsKept before after needed × (reading ≡ no_reading)
 
--- what is told of the node at a place, if there is one
+-- what is told of the node at an index, if there is one
 abbrev pub GetsAt : Option Variable → List ℕ → List ℕ → ℕ → UaReading → ℕ → Type 0
 GetsAt None before after needed reading status = (status ≡ unknown) × GetsNone before after needed reading
 GetsAt (Some node) before after needed reading status = GetsValue node before after needed reading status ⊎ ((status ≡ no_memory) × GetsNone before after needed reading)
 
--- what getting a node does with what a handle holds: nothing
+-- what getting a node does with the content of a handle: nothing
 abbrev pub GetsNode : Holding → ℕ → List ℕ → List ℕ → ℕ → UaReading → ℕ → Type 0
 GetsNode held index before after needed reading status =
     OfNodes held.machine ((status ≡ other_handle) × GetsNone before after needed reading) (λ shared. GetsAt (node_at_index shared index) before after needed reading status)

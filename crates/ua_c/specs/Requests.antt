@@ -28,20 +28,20 @@ Names text node = NamesNode node text
 abbrev pub NamesNone : List ℕ → Type 0
 NamesNone text = (node : NodeId) → ¬ (Names text node)
 
--- memory was refused, or a text names no NodeId
+-- an allocation failed, or a text names no NodeId
 abbrev pub IsUnnamed : List ℕ → ℕ → Type 0
 IsUnnamed text status = (status ≡ no_memory) ⊎ ((status ≡ bad_text) × NamesNone text)
 
--- octets are UTF-8, and the text of a NodeId
+-- bytes are UTF-8, and the text of a NodeId
 pub record IsNodeText (octets : List ℕ) (node : NodeId) : Type 0 where
   pub utf8 : IsUtf8 octets
   pub names : Names octets node
 
--- memory was refused, or octets are not UTF-8, or the text of no NodeId
+-- an allocation failed, or bytes are not UTF-8, or the text of no NodeId
 abbrev pub IsNoNode : List ℕ → ℕ → Type 0
 IsNoNode octets status = (status ≡ no_memory) ⊎ ((status ≡ bad_text) × (¬ (IsUtf8 octets) ⊎ NamesNone octets))
 
--- the lines of a text: what stands in front of, between and behind its LFs
+-- the lines of a text: what comes before, between and after its LFs
 abbrev pub lines : List ℕ → List (List ℕ)
 lines text = slice_split (λ b. nat_eq b 10) text
 
@@ -49,7 +49,7 @@ lines text = slice_split (λ b. nat_eq b 10) text
 abbrev pub AreNamed : List ℕ → List NodeId → Type 0
 AreNamed text nodes = AllZip Names (lines text) nodes
 
--- the line at a place is the first that names no NodeId
+-- the line at an index is the first that names no NodeId
 pub record IsFirstNone (text : List ℕ) (index : ℕ) : Type 0 where
   pub before : List NodeId
   pub are : AllZip Names (take index (lines text)) before
@@ -58,30 +58,31 @@ pub record IsFirstNone (text : List ℕ) (index : ℕ) : Type 0 where
   pub is : get_or (lines text) index line ≡ line
   pub none : NamesNone line
 
--- memory was refused at the line at a place, or it is the first that names no NodeId
+-- an allocation failed at the line at an index, or it is the first that names no NodeId
 abbrev pub IsUnnamedAt : List ℕ → ℕ → ℕ → Type 0
 IsUnnamedAt text index status = (status ≡ no_memory) ⊎ ((status ≡ bad_text) × IsFirstNone text index)
 
--- the same of a text that is to blame; or memory was refused for the list
+-- the same for a text that is bad; or an allocation failed for the list
 abbrev pub AreUnnamed : List ℕ → BadText → Type 0
 AreUnnamed text bad = IsBad text_nodes (λ status. status ≡ no_memory) bad ⊎ ((bad.text ≡ text_node) × IsUnnamedAt text bad.index bad.status)
 
--- octets are UTF-8, and their lines the texts of NodeIds
+-- bytes are UTF-8, and their lines the texts of NodeIds
 pub record AreNodeTexts (octets : List ℕ) (nodes : List NodeId) : Type 0 where
   pub utf8 : IsUtf8 octets
   pub named : AreNamed octets nodes
 
--- memory was refused, or octets are not UTF-8
+-- an allocation failed, or bytes are not UTF-8
 abbrev pub IsNoText : List ℕ → ℕ → Type 0
 IsNoText octets status = (status ≡ no_memory) ⊎ ((status ≡ bad_text) × ¬ (IsUtf8 octets))
 
--- the whole is to blame, as text_nodes, or the line at the index, as text_node: it is the first that is the text of no NodeId
+-- the whole is bad, as text_nodes, or the line at the index, as text_node: it is the first that is
+-- the text of no NodeId
 abbrev pub AreNoNodes : List ℕ → BadText → Type 0
 AreNoNodes octets bad = IsBad text_nodes (IsNoText octets) bad ⊎ ((bad.text ≡ text_node) × IsUnnamedAt octets bad.index bad.status)
 
 -- ---- index ranges
 
--- octets are UTF-8, and an index range, which is null where there are none
+-- bytes are UTF-8, and an index range, which is null if there are none
 pub record IsRangeText (octets : List ℕ) (range : Option (List ℕ)) : Type 0 where
   pub utf8 : IsUtf8 octets
   pub is : range ≡ range_of octets
@@ -104,14 +105,15 @@ abbrev pub MakesUnder : (NodeId → Request) → List ℕ → Result Request ℕ
 MakesUnder request_of token (Ok r) = IsUnder request_of token r
 MakesUnder request_of token (Err status) = IsNoNode token status
 
--- an ActivateSession under the token of a text, by the token policy that has another one as its PolicyId
+-- an ActivateSession under the token of a text, by the token policy that has another one as its
+-- PolicyId
 pub record IsActivation (token policy : List ℕ) (moment : DateTime) (handle : ℕ) (r : Request) : Type 0 where
   pub id : NodeId
   pub is_token : IsNodeText token id
   pub is_policy : IsString policy
   pub is : r ≡ activate_session_as (Some policy) id moment handle
 
--- the same, or why there is none, and which text is to blame
+-- the same, or why there is none, and which text is bad
 abbrev pub MakesActivation : List ℕ → List ℕ → DateTime → ℕ → Result Request BadText → Type 0
 MakesActivation token policy moment handle (Ok r) = IsActivation token policy moment handle r
 MakesActivation token policy moment handle (Err bad) = IsBad text_token (IsNoNode token) bad ⊎ IsBad text_policy (IsNoString policy) bad
@@ -120,7 +122,8 @@ MakesActivation token policy moment handle (Err bad) = IsBad text_token (IsNoNod
 abbrev pub items_of : Option (List ℕ) → List NodeId → List ReadValueId
 items_of part nodes = map (λ node. part_of_node node part) nodes
 
--- a Read of the Values of the nodes that lines name, or of the parts of them that an index range names
+-- a Read of the Values of the nodes that lines name, or of the parts of them that an index range
+-- names
 pub record IsReadOf (token : List ℕ) (moment : DateTime) (handle : ℕ) (nodes range : List ℕ) (r : Request) : Type 0 where
   pub id : NodeId
   pub is_token : IsNodeText token id
@@ -130,12 +133,13 @@ pub record IsReadOf (token : List ℕ) (moment : DateTime) (handle : ℕ) (nodes
   pub is_range : IsRangeText range part
   pub is : r ≡ read id moment handle (items_of part each)
 
--- the same, or why there is none, and which text is to blame
+-- the same, or why there is none, and which text is bad
 abbrev pub MakesRead : List ℕ → DateTime → ℕ → List ℕ → List ℕ → Result Request BadText → Type 0
 MakesRead token moment handle nodes range (Ok r) = IsReadOf token moment handle nodes range r
 MakesRead token moment handle nodes range (Err bad) = IsBad text_token (IsNoNode token) bad ⊎ AreNoNodes nodes bad ⊎ IsBad text_range (IsNoText range) bad
 
--- a Write that sets the Value of one node to that of a type and a text, without a status and times
+-- a Write that sets the Value of one node to that of a type and a text, without status and
+-- timestamps
 pub record IsWriteOf (token : List ℕ) (moment : DateTime) (handle : ℕ) (node kind text : List ℕ) (r : Request) : Type 0 where
   pub id : NodeId
   pub is_token : IsNodeText token id
@@ -145,14 +149,15 @@ pub record IsWriteOf (token : List ℕ) (moment : DateTime) (handle : ℕ) (node
   pub is_value : IsValueOf kind text value
   pub is : r ≡ write id moment handle (value_for_node item (value_alone (variant_of value)) ∷ [])
 
--- the same, or why there is none, and which text is to blame
+-- the same, or why there is none, and which text is bad
 abbrev pub MakesWrite : List ℕ → DateTime → ℕ → List ℕ → List ℕ → List ℕ → Result Request BadText → Type 0
 MakesWrite token moment handle node kind text (Ok r) = IsWriteOf token moment handle node kind text r
 MakesWrite token moment handle node kind text (Err bad) = IsBad text_token (IsNoNode token) bad ⊎ IsBad text_node (IsNoNode node) bad ⊎ HasNoValueBy false kind text bad
 
 -- ---- bodies
 
--- a request can be written, and its body is put into a buffer; else nothing was written: memory was refused, or it cannot be
+-- a request can be encoded, and its body is put into a buffer; else nothing was written: an
+-- allocation failed, or it cannot be
 abbrev pub PutsBody : Request → List ℕ → List ℕ → ℕ → ℕ → Type 0
 PutsBody r before after needed status = (IsTrue (request.encodable r) × Puts (request.canonical r) before after needed status)
     ⊎ (IsKept before after needed × ((status ≡ no_memory) ⊎ ((status ≡ bad_text) × IsFalse (request.encodable r))))
@@ -162,12 +167,13 @@ abbrev pub PutsMade : Result Request ℕ → List ℕ → List ℕ → ℕ → �
 PutsMade (Ok r) before after needed status = PutsBody r before after needed status
 PutsMade (Err why) before after needed status = IsKept before after needed × (status ≡ why)
 
--- the same, and which text is to blame is told; 0 where there is a request
+-- the same, and which text is bad is told; 0 if there is a request
 abbrev pub PutsTold : Result Request BadText → List ℕ → List ℕ → ℕ → ℕ → ℕ → Type 0
 PutsTold (Ok r) before after needed reason status = PutsBody r before after needed status × (reason ≡ 0)
 PutsTold (Err bad) before after needed reason status = IsKept before after needed × (status ≡ bad.status) × (reason ≡ bad.text)
 
--- a request is `P`, or there is none for a text that is `P`; its body is put into a buffer, and the text told
+-- a request is `P`, or there is none for a text that is `P`; its body is put into a buffer, and the
+-- text told
 pub record Tells (P : Result Request BadText → Type 0) (before after : List ℕ) (needed reason status : ℕ) : Type 0 where
   pub made : Result Request BadText
   pub is : P made

@@ -20,28 +20,29 @@ use Rattle.ua_c.specs.Texts.{IsKept, Puts}
 
 -- ---- texts
 
--- the octets of a text, where there is one
+-- the bytes of a text, if there is one
 abbrev pub octets_in : Result (String Global) ℕ → Result (List ℕ) ℕ
 octets_in (Ok text) = Ok (string_bytes text)
 octets_in (Err status) = Err status
 
 -- ---- responses
 
--- octets are the body of a response
+-- bytes are the body of a response
 abbrev pub IsResponse : List ℕ → Response → Type 0
 IsResponse body r = IsBody response r body
 
--- memory was refused, or octets are the body of no response
+-- an allocation failed, or bytes are the body of no response
 abbrev pub IsNoResponse : List ℕ → ℕ → Type 0
 IsNoResponse body status = (status ≡ no_memory) ⊎ ((status ≡ bad_octets) × IsNoBody response body)
 
--- something is said of the response that octets are the body of
+-- a property of the response that bytes are the body of
 pub record OfResponse (body : List ℕ) (P : Response → Type 0) : Type 0 where
   pub r : Response
   pub is : IsResponse body r
   pub holds : P r
 
--- what C is told of a response of which nothing is printed: that memory was refused; that the service failed, and the code; or that it is `IsOther`
+-- what C is told of a response of which nothing is printed: that an allocation failed; that the
+-- service failed, and the code; or that it is `IsOther`
 abbrev pub TellsNone : (Response → Type 0) → Response → ℕ → ℕ → Type 0
 TellsNone IsOther r code status = ((status ≡ no_memory) × (code ≡ 0))
     ⊎ ((status ≡ service) × (fault_in r ≡ Some (record { code = code })))
@@ -49,11 +50,12 @@ TellsNone IsOther r code status = ((status ≡ no_memory) × (code ≡ 0))
 
 -- ---- kinds
 
--- the number of the binary encoding of a response (OPC 10000-6, A.3), and the ServiceResult in its header
+-- the number of the binary encoding of a response (OPC 10000-6, A.3), and the ServiceResult in its
+-- header
 abbrev pub IsKindOf : Response → ℕ → ℕ → Type 0
 IsKindOf r kind service_result = (kind ≡ responses.number (kind_of r)) × (service_result ≡ (header_of r).service_result.code)
 
--- those of the response that octets are the body of, or why there are none
+-- those of the response that bytes are the body of, or why there are none
 abbrev pub KindBy : List ℕ → ℕ → ℕ → ℕ → Type 0
 KindBy body kind service_result status = ((status ≡ ok) × OfResponse body (λ r. IsKindOf r kind service_result))
     ⊎ (IsNoResponse body status × (kind ≡ 0) × (service_result ≡ 0))
@@ -65,7 +67,8 @@ abbrev pub token_in : Response → Option NodeId
 token_in (CreateSession m) = Some m.authentication_token
 token_in r = None
 
--- a text is that of the token in a response, and names it, where an identifier that is null counts as empty
+-- a text is that of the token in a response, and names it, if an identifier that is null counts as
+-- empty
 pub record IsToken (r : Response) (text : List ℕ) : Type 0 where
   pub id : NodeId
   pub given : token_in r ≡ Some id
@@ -76,14 +79,15 @@ pub record IsToken (r : Response) (text : List ℕ) : Type 0 where
 abbrev pub HasNoToken : Response → Type 0
 HasNoToken r = token_in r ≡ None
 
--- the text of the token in the response that octets are, or why there is none
+-- the text of the token in the response that bytes are, or why there is none
 abbrev pub TokenBy : List ℕ → ℕ → Result (List ℕ) ℕ → Type 0
 TokenBy body code (Ok text) = (code ≡ 0) × OfResponse body (λ r. IsToken r text)
 TokenBy body code (Err status) = (IsNoResponse body status × (code ≡ 0)) ⊎ OfResponse body (λ r. TellsNone HasNoToken r code status)
 
 -- ---- lines
 
--- the lines of the answers in a response to a Read or a Write of nodes, one each, or the lines of the endpoints in one to GetEndpoints, were added
+-- the lines of the answers in a response to a Read or a Write of nodes, one each, or the lines of
+-- the endpoints in one to GetEndpoints, were appended
 abbrev pub AddsFor : List NodeId → Response → List ℕ → List ℕ → Type 0
 AddsFor nodes r old new = AreAnswers (values_in r) (length nodes) (read_lines (plain false) nodes) old new
     ⊎ AreAnswers (statuses_in r) (length nodes) (write_lines (plain false) nodes) old new
@@ -95,11 +99,12 @@ pub record AreLinesFor (nodes : List ℕ) (r : Response) (text : List ℕ) : Typ
   pub are_nodes : AreNodeTexts nodes each
   pub adds : AddsFor each r [] text
 
--- there are not so many answers
+-- there is not this number of answers
 abbrev pub HasNot : {A : Type 0} → ℕ → Option (List A) → Type 0
 HasNot {A = A} asked answers = (each : List A) → answers ≡ Some each → length each ≢ asked
 
--- a response has not as many answers to a Read or a Write, and is not one to GetEndpoints
+-- a response does not have this number of answers to a Read or a Write, and is not one to
+-- GetEndpoints
 pub record HasNoLines (asked : ℕ) (r : Response) : Type 0 where
   pub values : HasNot asked (values_in r)
   pub statuses : HasNot asked (statuses_in r)
@@ -111,7 +116,7 @@ pub record HasNoLinesFor (nodes : List ℕ) (r : Response) : Type 0 where
   pub are_nodes : AreNodeTexts nodes each
   pub none : HasNoLines (length each) r
 
--- why no lines were added
+-- why no lines were appended
 abbrev pub IsRefusedFor : ℕ → Response → AnswerFault → Type 0
 IsRefusedFor asked r (Service code) = fault_in r ≡ Some code
 IsRefusedFor asked r Unknown = (fault_in r ≡ None) × HasNoLines asked r
@@ -123,11 +128,12 @@ IsTold (Service code) told status = (status ≡ service) × (told ≡ code.code)
 IsTold Unknown told status = (status ≡ unknown) × (told ≡ 0)
 IsTold OutOfMemory told status = (status ≡ no_memory) × (told ≡ 0)
 
--- memory was refused, or the lines of octets are not the texts of NodeIds
+-- an allocation failed, or the lines of bytes are not the texts of NodeIds
 abbrev pub HasNoNodes : List ℕ → ℕ → Type 0
 HasNoNodes nodes status = (bad : BadText) × AreNoNodes nodes bad × (bad.status ≡ status)
 
--- the lines of the response that octets are, to what was asked of the nodes that lines name, or why there are none
+-- the lines of the response that bytes are, to a request for the nodes that lines name, or why
+-- there are none
 abbrev pub LinesBy : List ℕ → List ℕ → ℕ → Result (List ℕ) ℕ → Type 0
 LinesBy nodes body code (Ok text) = (code ≡ 0) × OfResponse body (λ r. AreLinesFor nodes r text)
 LinesBy nodes body code (Err status) = ((HasNoNodes nodes status ⊎ IsNoResponse body status) × (code ≡ 0)) ⊎ OfResponse body (λ r. TellsNone (HasNoLinesFor nodes) r code status)

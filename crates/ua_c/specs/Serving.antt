@@ -1,4 +1,4 @@
--- What a server does for C: each clause of the calls of `ua_server`, over what a handle holds.
+-- What a server does for C: each clause of the calls of `ua_server`, over the content of a handle.
 use Rattle.std.specs.Prelude.{◌≡◌, ℕ, List, [], Option, Some, None, Result, Ok, Err, IfOk, IsErrOf}
 use Rattle.ua_builtin.specs.declared.date_time.DateTime.{DateTime}
 use Rattle.ua_channel.specs.ServerStands.{limits_of, channel_of, next_of, bound_of, IsDone, Goes, ChannelStands as Holds}
@@ -24,7 +24,7 @@ use Rattle.ua_c.specs.declared.station.Station.{Station}
 
 -- ---- a server
 
--- what `Server::new` says of the server that it makes
+-- what `Server::new` ensures of the server that it makes
 pub record IsFresh (limits : Limits) (channel : ℕ) (server : Server) : Type 0 where
   pub stands : (first : State) → ServerStands (channel_in server) [] [] first [] first
   pub history : (first : State) → StandsOver (channel_in server) [] [] first first
@@ -32,7 +32,8 @@ pub record IsFresh (limits : Limits) (channel : ℕ) (server : Server) : Type 0 
   pub limits_is : limits_of (channel_in server) ≡ limits
   pub channel_is : channel_of (channel_in server) ≡ channel
 
--- what `Server::step` says of what it answers to a piece at a moment, and of the server and the services that it leaves
+-- what `Server::step` ensures of its outcome for a fragment at a time, and of the server and the
+-- services that it leaves
 pub record StepsAs (server : Server) (services : State) (piece : List ℕ) (moment : DateTime) (answer : Result Step StepFault) (new : Server) (left : State) : Type 0 where
   pub answers : (octets : List ℕ) (told : List Told) (first : State) (moments : List DateTime) → ServerStands (channel_in server) octets told first moments services
       → StepAnswers (limits_of (channel_in server)) (channel_of (channel_in server)) moment piece answer (channel_in new) octets told first moments services left
@@ -59,7 +60,7 @@ status_of (Some ending.Closed) = ended
 status_of (Some ending.NoClose) = ended
 status_of (Some ending.Cut) = ended
 
--- the code of a refusal, and 0 where there is none
+-- the code of a rejection, and 0 if there is none
 abbrev pub code_of : Option End → ℕ
 code_of None = 0
 code_of (Some (ending.Refused code)) = code.code
@@ -71,7 +72,7 @@ code_of (Some ending.Cut) = 0
 abbrev pub nothing : ℕ → Report
 nothing status = record { status = status; taken = 0; code = 0 }
 
--- what C is told of an answer, and which octets then wait
+-- what C is told of an outcome, and which bytes then wait
 abbrev pub Shows : Result Step StepFault → Report → List ℕ → List ℕ → Type 0
 Shows (Ok step) report before waiting = (report ≡ record { status = status_of step.end; taken = step.taken; code = code_of step.end }) × (waiting ≡ step.out.items)
 Shows (Err step_fault.Closed) report before waiting = (report ≡ nothing closed) × (waiting ≡ before)
@@ -79,7 +80,7 @@ Shows (Err step_fault.OutOfMemory) report before waiting = (report ≡ nothing n
 
 -- ---- what a handle holds
 
--- a server of these limits that took no octet yet, over these services; no octets wait
+-- a server with these limits that took no byte yet, over these services; no bytes wait
 pub record HoldsFresh (limits : Limits) (channel : ℕ) (services : State) (new : Holding) : Type 0 where
   pub station : Station
   pub machine_is : new.machine ≡ machine.Server station
@@ -88,7 +89,7 @@ pub record HoldsFresh (limits : Limits) (channel : ℕ) (services : State) (new 
   pub limits_is : station.limits ≡ limits
   pub silent : new.waiting ≡ []
 
--- one step of a server: the answer is one of `Server::step`, and C is told just that
+-- one step of a server: the outcome is one of `Server::step`, and C is told exactly that
 pub record StepsServer (old : Station) (new : Holding) (piece : List ℕ) (moment : DateTime) (report : Report) : Type 0 where
   pub answer : Result Step StepFault
   pub station : Station
@@ -97,10 +98,11 @@ pub record StepsServer (old : Station) (new : Holding) (piece : List ℕ) (momen
   pub limits_is : station.limits ≡ old.limits
   pub shown : Shows answer report [] new.waiting
 
--- what a step does with what a handle holds
+-- what a step does with the content of a handle
 abbrev pub StepsMachine : Holding → Holding → List ℕ → DateTime → Report → Type 0
 StepsMachine old new piece moment report = OfServer old.machine old new (λ why. report ≡ nothing why) (λ station. WhereNone old new (λ why. report ≡ nothing why) (StepsServer station new piece moment report))
 
--- the next connection begins over the same services, without a session; what still waited is let go
+-- the next connection begins over the same services, without a session; what still waited is
+-- dropped
 abbrev pub NextMachine : Holding → Holding → ℕ → ℕ → Type 0
 NextMachine old new channel status = OfServer old.machine old new (λ why. status ≡ why) (λ station. (status ≡ ok) × HoldsFresh station.limits channel (begun station.services) new)

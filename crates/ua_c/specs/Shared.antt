@@ -1,4 +1,4 @@
--- Nodes apart from connections: one table, with what a server says of itself, as it begins.
+-- Nodes apart from connections: one table, with the description of a server, at the beginning.
 use Rattle.std.specs.Prelude.{◌≡◌, ◌⊎◌, ℕ, List, Option, Some, Result, Ok, Err}
 use Rattle.std.specs.Map.{keys_of}
 use Rattle.std.specs.Str.{IsUtf8}
@@ -13,19 +13,20 @@ use Rattle.ua_c.specs.declared.holding.Holding.{Holding}
 use Rattle.ua_c.specs.declared.holding.Machine.TheVariants as machine
 use Rattle.ua_c.specs.declared.shared.SharedNodes.{SharedNodes}
 
--- what a server says of itself: these three Strings, and how many octets of a request it takes at most
+-- the description of a server: these three Strings, and the most bytes of a request that it takes
 pub record IsAbout (url application_uri name : List ℕ) (most : ℕ) (e : Endpoint) : Type 0 where
   pub is : e ≡ record { url = Some url; application_uri = Some application_uri; name = Some name; message_limit = most }
   pub is_url : IsString url
   pub is_application_uri : IsString application_uri
   pub is_name : IsString name
 
--- one of the three is no String, or memory was refused; which of them is told by its number
+-- one of the three is no String, or an allocation failed; which of them is told by its number
 abbrev pub IsNoAbout : List ℕ → List ℕ → List ℕ → ℕ → ℕ → Type 0
 IsNoAbout url application_uri name reason status =
     ((reason ≡ text_url) × IsNoString url status) ⊎ ((reason ≡ text_application_uri) × IsNoString application_uri status) ⊎ ((reason ≡ text_name) × IsNoString name status)
 
--- the nodes that the lines of a file write, before any session, with what a server of them says of itself, and their NodeIds in their order
+-- the nodes that the lines of a file define, before any session, with the description of a server
+-- of them, and their NodeIds in their order
 pub record IsShared (file url application_uri name : List ℕ) (most : ℕ) (shared : SharedNodes) : Type 0 where
   pub endpoint : Endpoint
   pub about : IsAbout url application_uri name most endpoint
@@ -35,7 +36,7 @@ pub record IsShared (file url application_uri name : List ℕ) (most : ℕ) (sha
   pub services_is : shared.services ≡ fresh table endpoint
   pub ids_are : shared.ids.items ≡ keys_of table
 
--- why there are none: a text is none, or the file is refused
+-- why there are none: a text is none, or the file is rejected
 abbrev pub IsNoShared : List ℕ → List ℕ → List ℕ → List ℕ → ℕ → ℕ → ℕ → Type 0
 IsNoShared file url application_uri name line reason status = ((line ≡ 0) × IsNoAbout url application_uri name reason status) ⊎ RefusesFile file line reason status
 
@@ -51,7 +52,7 @@ pub record AreMadeNodes (file url application_uri name : List ℕ) (most : ℕ) 
   pub no_reason : reason ≡ 0
   pub seated : Seats (machine.Nodes shared) old new status
 
--- nodes were made, or the handle is as it was
+-- nodes were made, or the handle is unchanged
 abbrev pub MakesNodes : List ℕ → List ℕ → List ℕ → List ℕ → ℕ → Option Holding → Option Holding → ℕ → ℕ → ℕ → Type 0
 MakesNodes file url application_uri name most old new line reason status = AreMadeNodes file url application_uri name most old new line reason status
     ⊎ ((new ≡ old) × IsNoShared file url application_uri name line reason status)

@@ -13,11 +13,11 @@ use Rattle.ua_c.specs.Status.{no_memory, no_text, text_value}
 use Rattle.ua_c.specs.Texts.{HasNoValueBy, IsEncodingOf, IsKept, IsNoEncoding, IsNoValueEncoded, IsValueBy, Puts}
 use Rattle.ua_c.specs.declared.bad_text.BadText.{BadText}
 
--- a value is wanted as people write it: the number is not 0
+-- a value is wanted in the human-readable form: the number is not 0
 abbrev pub is_plain : ℕ → Bool
 is_plain n = not (nat_eq n 0)
 
--- the type and the text that are printed of a value, as people write it where this is wanted
+-- the type and the text that are printed of a value, in the human-readable form if this is wanted
 abbrev pub IsSpelled : Bool → VariantData → List ℕ → Type 0
 IsSpelled plain v text = Either plain (IsPlainVariant false v text) (text ≡ variant_text v)
 
@@ -27,7 +27,8 @@ pub record IsBack (plain : Bool) (kind text canonical : List ℕ) : Type 0 where
   pub is : IsValueBy plain kind text value
   pub are : IsEncodingOf value canonical
 
--- a text is a type of so many octets, a space, and a text that denotes the value with this canonical encoding
+-- a text is a type of this many bytes, a space, and a text that denotes the value with this
+-- canonical encoding
 pub record IsSpellingOf (plain : Bool) (canonical text : List ℕ) (name_size : ℕ) : Type 0 where
   pub kind : List ℕ
   pub rest : List ℕ
@@ -35,7 +36,7 @@ pub record IsSpellingOf (plain : Bool) (canonical text : List ℕ) (name_size : 
   pub parts : text ≡ kind ++ 32 ∷ rest
   pub back : IsBack plain kind rest canonical
 
--- the same of the value of at most 100 levels that octets encode
+-- the same for the value of nesting depth at most 100 that bytes encode
 pub record IsSpelling (plain : Bool) (octets text : List ℕ) (name_size : ℕ) : Type 0 where
   pub value : Variant
   pub encodes : Within variant_format.encodes variant_format.depth most_levels value octets
@@ -47,7 +48,8 @@ pub record PutsSpelling (plain : Bool) (octets before after : List ℕ) (needed 
   pub is : IsSpelling plain octets text name_size
   pub puts : Puts text before after needed status
 
--- or there is none: memory was refused, octets encode no value, or they encode one that has no such text
+-- or there is none: an allocation failed, bytes encode no value, or they encode one that has no
+-- such text
 abbrev pub LacksSpelling : List ℕ → ℕ → Type 0
 LacksSpelling octets status = (status ≡ no_memory) ⊎ IsNoValueEncoded octets status ⊎ (status ≡ no_text)
 
@@ -72,7 +74,7 @@ pub record CannotEncodeBy (plain : Bool) (kind text : List ℕ) (bad : BadText) 
   pub to_blame : bad.text ≡ text_value
   pub not_one : IsNoEncoding value bad.status
 
--- or there is none, and which text is to blame is told
+-- or there is none, and which text is bad is told
 abbrev pub EncodesBy : Bool → List ℕ → List ℕ → List ℕ → List ℕ → ℕ → ℕ → ℕ → Type 0
 EncodesBy plain kind text before after needed reason status =
     (PutsValueBy plain kind text before after needed status × (reason ≡ 0))

@@ -1,11 +1,11 @@
--- What calls answer, as numbers.
+-- The results of calls, as numbers.
 use Rattle.std.specs.Prelude.{ℕ}
 
 -- the call did what it is for
 abbrev pub ok : ℕ
 ok = 0
 
--- memory was refused
+-- an allocation failed
 abbrev pub no_memory : ℕ
 no_memory = 1
 
@@ -17,7 +17,7 @@ bad_limits = 2
 abbrev pub bad_nodes : ℕ
 bad_nodes = 3
 
--- the handle holds nothing
+-- the handle is empty
 abbrev pub no_handle : ℕ
 no_handle = 4
 
@@ -25,7 +25,7 @@ no_handle = 4
 abbrev pub closed : ℕ
 closed = 5
 
--- the connection was refused
+-- the connection was rejected
 abbrev pub refused : ℕ
 refused = 6
 
@@ -33,7 +33,7 @@ refused = 6
 abbrev pub ended : ℕ
 ended = 7
 
--- octets wait to be fetched
+-- bytes wait to be fetched
 abbrev pub fetch_first : ℕ
 fetch_first = 8
 
@@ -61,11 +61,11 @@ renew_pending = 13
 abbrev pub too_many_tokens : ℕ
 too_many_tokens = 14
 
--- all request ids were used
+-- all RequestIds were used
 abbrev pub exhausted : ℕ
 exhausted = 15
 
--- the server takes no message of so many octets or chunks
+-- the server takes no message of this many bytes or chunks
 abbrev pub too_large : ℕ
 too_large = 16
 
@@ -81,7 +81,7 @@ too_small = 18
 abbrev pub bad_side : ℕ
 bad_side = 19
 
--- the octets are none of what the call takes
+-- the bytes are not what the call takes
 abbrev pub bad_octets : ℕ
 bad_octets = 20
 
@@ -97,11 +97,11 @@ unknown = 22
 abbrev pub mismatch : ℕ
 mismatch = 23
 
--- a reading has no value within the octets, or no source time
+-- a reading has no value within the bytes, or no source timestamp
 abbrev pub bad_reading : ℕ
 bad_reading = 24
 
--- nothing more is there
+-- there is nothing more
 abbrev pub no_more : ℕ
 no_more = 25
 

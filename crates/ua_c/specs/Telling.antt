@@ -19,7 +19,7 @@ use Rattle.ua_c.specs.declared.untold.Untold.{Untold}
 
 -- ---- what is to be told
 
--- what a step stored, where none of it was asked for, else the items that are left
+-- what a step stored, if none of it was told, else the items that are left
 abbrev pub not_told : Option (List WriteValue) → List WriteValue → List WriteValue
 not_told None items = items
 not_told (Some written) items = written
@@ -34,7 +34,7 @@ untold_in u = not_told u.written (drop u.told u.items.items)
 abbrev pub no_item : ℕ → ToldItem
 no_item status = record { status = status; index = 0; needed = 0; reading = no_reading }
 
--- octets are the canonical encoding of a value, and none where there is no value
+-- bytes are the canonical encoding of a value, and none if there is no value
 pub record EncodesValue (v : VariantData) (octets : List ℕ) : Type 0 where
   pub value : Variant
   pub value_is : variant_of value ≡ v
@@ -54,11 +54,12 @@ abbrev pub HoldsUnwritable : Option VariantData → Type 0
 HoldsUnwritable None = ⊥
 HoldsUnwritable (Some v) = IsUnwritable v
 
--- memory was refused, or it cannot be encoded
+-- an allocation failed, or it cannot be encoded
 abbrev pub EncodesNone : Option VariantData → ℕ → Type 0
 EncodesNone held status = (status ≡ no_memory) ⊎ ((status ≡ bad_octets) × HoldsUnwritable held)
 
--- an item is told: the place of its node, the encoding of its value in a buffer, and what the client said beside the value
+-- an item is told: the index of its node, the encoding of its value in a buffer, and what the
+-- client sent beside the value
 pub record TellsItem (shared : SharedNodes) (item : WriteValue) (before after : List ℕ) (told : ToldItem) : Type 0 where
   pub index_is : index_among shared.ids.items item.node_id ≡ Some told.index
   pub octets : List ℕ
@@ -66,11 +67,12 @@ pub record TellsItem (shared : SharedNodes) (item : WriteValue) (before after : 
   pub puts : Puts octets before after told.needed told.status
   pub reading_is : told.reading ≡ reading_of item.value 0 (length octets)
 
--- none is told, and the buffer is as it was
+-- none is told, and the buffer is unchanged
 abbrev pub SaysNoItem : List ℕ → List ℕ → ToldItem → ℕ → Type 0
 SaysNoItem before after told why = (told ≡ no_item why) × (after ≡ before)
 
--- why an item is not told: these nodes have none of its NodeId, memory was refused, or its value cannot be encoded
+-- why an item is not told: these nodes have none of its NodeId, an allocation failed, or its value
+-- cannot be encoded
 abbrev pub IsUntellable : SharedNodes → WriteValue → ℕ → Type 0
 IsUntellable shared item why = ((why ≡ unknown) × (index_among shared.ids.items item.node_id ≡ None)) ⊎ EncodesNone item.value.value why
 
@@ -78,14 +80,15 @@ IsUntellable shared item why = ((why ≡ unknown) × (index_among shared.ids.ite
 abbrev pub Tells : SharedNodes → WriteValue → List ℕ → List ℕ → ToldItem → Type 0
 Tells shared item before after told = TellsItem shared item before after told ⊎ (SaysNoItem before after told told.status × IsUntellable shared item told.status)
 
--- the first of what is to be told is told, and then is no more to be told where its octets did fit; else it still is
+-- the first of what is to be told is told, and is then no more to be told if its bytes did fit;
+-- otherwise it still is
 abbrev pub TellsFirst : SharedNodes → List WriteValue → List WriteValue → List ℕ → List ℕ → ToldItem → Type 0
 TellsFirst shared [] left before after told = SaysNoItem before after told no_more × (left ≡ [])
 TellsFirst shared (item ∷ items) left before after told = Tells shared item before after told
     × (told.status ≡ ok → left ≡ items)
     × ((told.status ≡ ok → ⊥) → left ≡ item ∷ items)
 
--- or memory was refused, and nothing changed
+-- or an allocation failed, and nothing changed
 abbrev pub TellsNext : SharedNodes → List WriteValue → List WriteValue → List ℕ → List ℕ → ToldItem → Type 0
 TellsNext shared old left before after told = TellsFirst shared old left before after told ⊎ (SaysNoItem before after told no_memory × (left ≡ old))
 
@@ -97,7 +100,7 @@ pub record TellsHeld (served : ServedConnection) (shared : SharedNodes) (old new
   pub new_is : new ≡ record { machine = machine.Connection (record { connection = served.connection; written = left }); waiting = old.waiting }
   pub tells : TellsNext shared (untold_in served.written) (untold_in left) before after told
 
--- what telling the next item does with what two handles hold; nodes stay
+-- what telling the next item does with the contents of two handles; nodes stay
 abbrev pub TellsWritten : Holding → Holding → Holding → List ℕ → List ℕ → ToldItem → Type 0
 TellsWritten old new nodes before after told =
     OfShared old.machine nodes.machine (SaysNoItem before after told other_handle × (new ≡ old)) (λ served shared. TellsHeld served shared old new before after told)

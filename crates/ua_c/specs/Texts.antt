@@ -1,4 +1,4 @@
--- What needs no handle: octets as lines, and values as texts.
+-- What needs no handle: bytes as lines, and values as texts.
 use Rattle.std.specs.Prelude.{◌≡◌, ◌⊎◌, ◌≤◌, ◌<◌, ℕ, List, ◌++◌, length, drop, Bool, false, cond, Option, Some, None, IsTrue, IsFalse}
 use Rattle.std.specs.Str.{IsUtf8}
 use Rattle.ua_nodes.specs.TypeName.{type_denoted}
@@ -20,7 +20,8 @@ use Rattle.ua_c.specs.declared.bad_text.BadText.{BadText}
 
 -- ---- buffers
 
--- octets stand at the front of a buffer where they fit, whose rest is as it was; else the buffer is as it was, and too small
+-- bytes are put at the start of a buffer if they fit, and the rest of it is unchanged; otherwise
+-- the buffer is unchanged, and too small
 abbrev pub Puts : List ℕ → List ℕ → List ℕ → ℕ → ℕ → Type 0
 Puts octets before after needed status = (needed ≡ length octets)
     × (length octets ≤ length before → (status ≡ ok) × (after ≡ octets ++ drop (length octets) before))
@@ -32,18 +33,18 @@ IsKept before after needed = (needed ≡ 0) × (after ≡ before)
 
 -- ---- Strings
 
--- octets are a String: UTF-8, and no more than can be encoded
+-- bytes are a String: UTF-8, and no more than can be encoded
 pub record IsString (octets : List ℕ) : Type 0 where
   pub utf8 : IsUtf8 octets
   pub writable : IsTrue (counted_text.encodable (Some octets))
 
--- a String is the one that these octets are
+-- a String is the one that these bytes are
 pub record IsStringOf (octets : List ℕ) (value : Option (List ℕ)) : Type 0 where
   pub is : value ≡ Some octets
   pub utf8 : IsUtf8 octets
   pub writable : IsTrue (counted_text.encodable value)
 
--- memory was refused, or octets are no String
+-- an allocation failed, or bytes are no String
 abbrev pub IsNoString : List ℕ → ℕ → Type 0
 IsNoString octets status = (status ≡ no_memory) ⊎ ((status ≡ bad_text) × ¬ (IsString octets))
 
@@ -64,18 +65,19 @@ pub record PutsLines (octets : List ℕ) (number : ℕ) (before after : List ℕ
   pub are : AreLines (plain side) octets lines
   pub puts : Puts lines before after needed status
 
--- or there is no such side, or memory was refused
+-- or there is no such side, or an allocation failed
 abbrev pub DissectsTo : List ℕ → ℕ → List ℕ → List ℕ → ℕ → ℕ → Type 0
 DissectsTo octets number before after needed status =
     PutsLines octets number before after needed status ⊎ (IsKept before after needed × ((status ≡ no_memory) ⊎ ((status ≡ bad_side) × IsNoSide number)))
 
 -- ---- values
 
--- the value that a text denotes at a type or at an array of it, where decimals and times are wanted as people write them too
+-- the value that a text denotes at a type or at an array of it, in the human-readable form too if
+-- decimals and times are wanted
 abbrev pub denoted_by : Bool → ℕ → Bool → List ℕ → Option VariantData
 denoted_by plain number array text = cond plain (plain_denoted number array text) (value_denoted number array text)
 
--- a value is that which a type and a text denote so
+-- a value is that which a type and a text denote in this form
 pub record IsValueBy (plain : Bool) (kind text : List ℕ) (value : Variant) : Type 0 where
   pub kind_utf8 : IsUtf8 kind
   pub text_utf8 : IsUtf8 text
@@ -95,22 +97,22 @@ pub record DenotesNone (plain : Bool) (kind text : List ℕ) : Type 0 where
   pub type_is : type_denoted kind ≡ Some (number, array)
   pub none : denoted_by plain number array text ≡ None
 
--- octets are no type
+-- bytes are no type
 abbrev pub IsNoType : List ℕ → ℕ → Type 0
 IsNoType kind status = (status ≡ bad_text) × (¬ (IsUtf8 kind) ⊎ (type_denoted kind ≡ None))
 
--- memory was refused, or octets are not the text of a value of a type
+-- an allocation failed, or bytes are not the text of a value of a type
 abbrev pub IsNoValue : Bool → List ℕ → List ℕ → ℕ → Type 0
 IsNoValue plain kind text status = (status ≡ no_memory) ⊎ ((status ≡ bad_text) × (¬ (IsUtf8 text) ⊎ DenotesNone plain kind text))
 
--- why a type and a text denote none, and which of the two is to blame
+-- why a type and a text denote none, and which of the two is bad
 abbrev pub HasNoValueBy : Bool → List ℕ → List ℕ → BadText → Type 0
 HasNoValueBy plain kind text bad = IsBad text_type (IsNoType kind) bad ⊎ IsBad text_value (IsNoValue plain kind text) bad
 
 abbrev pub HasNoValue : List ℕ → List ℕ → ℕ → Type 0
 HasNoValue kind text status = IsNoType kind status ⊎ IsNoValue false kind text status
 
--- a value can be encoded, and octets are its canonical encoding
+-- a value can be encoded, and bytes are its canonical encoding
 abbrev pub IsEncodingOf : Variant → List ℕ → Type 0
 IsEncodingOf value octets = IsTrue (variant_format.encodable value) × (octets ≡ variant_format.canonical value)
 
@@ -136,13 +138,13 @@ abbrev pub EncodesTo : List ℕ → List ℕ → List ℕ → List ℕ → ℕ �
 EncodesTo kind text before after needed status =
     PutsValue kind text before after needed status ⊎ (IsKept before after needed × (HasNoValue kind text status ⊎ CannotEncode kind text status))
 
--- the type and the text of the value of at most 100 levels that octets encode
+-- the type and the text of the value of nesting depth at most 100 that bytes encode
 pub record IsTextOf (octets text : List ℕ) : Type 0 where
   pub value : Variant
   pub encodes : Within variant_format.encodes variant_format.depth most_levels value octets
   pub is : text ≡ variant_text (variant_of value)
 
--- octets encode no value of at most 100 levels
+-- bytes encode no value of nesting depth at most 100
 abbrev pub IsNoValueEncoded : List ℕ → ℕ → Type 0
 IsNoValueEncoded octets status = (status ≡ bad_octets) × IsWhole variant_format octets None
 

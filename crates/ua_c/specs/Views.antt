@@ -18,12 +18,13 @@ use Rattle.ua_c.specs.declared.readings.UaReading.{UaReading}
 
 -- ---- views
 
--- a number of what is there, and 0 where nothing is
+-- the number if present, otherwise 0
 abbrev pub if_there : {A : Type 0} → Option A → ℕ → ℕ
 if_there None n = 0
 if_there (Some a) n = n
 
--- what a DataValue says (OPC 10000-4, 7.11), with a value that takes so many octets from a place on
+-- the content of a DataValue (OPC 10000-4, 7.11), with a value that takes this many bytes from an
+-- offset on
 abbrev pub reading_of : DataValue → ℕ → ℕ → UaReading
 reading_of d at size = record {
   value_at = if_there d.value at;
@@ -41,19 +42,19 @@ reading_of d at size = record {
   has_server_picoseconds = flag_of d.server_picoseconds;
 }
 
--- so many octets of a body from a place on encode the value, where there is one
+-- this many bytes of a body from an offset on encode the value, if there is one
 abbrev pub StandsAt : List ℕ → Option VariantData → ℕ → ℕ → Type 0
 StandsAt body None at size = Unit {0}
 StandsAt body (Some v) at size = (at + size ≤ length body) × EncodesVariant v (take size (drop at body))
 
--- a reading says what a DataValue says, and where in the body its value is encoded
+-- a reading has the content of a DataValue, and the offset of its encoded value in the body
 pub record IsView (body : List ℕ) (d : DataValue) (reading : UaReading) : Type 0 where
   pub at : ℕ
   pub size : ℕ
   pub is : reading ≡ reading_of d at size
   pub stands : StandsAt body d.value at size
 
--- each reading says what the DataValue at its place says
+-- each reading has the content of the DataValue at its index
 abbrev pub AreViews : List ℕ → List DataValue → List UaReading → Type 0
 AreViews body [] [] = Unit {0}
 AreViews body [] (reading ∷ readings) = ⊥
@@ -82,14 +83,15 @@ pub record AreResults (body : List ℕ) (readings : List UaReading) (r : Respons
 abbrev pub HasNoResults : Response → Type 0
 HasNoResults r = results_in r ≡ None
 
--- the readings in the response to a Read that octets are the body of, or why there are none
+-- the readings in the response to a Read that bytes are the body of, or why there are none
 abbrev pub ReadingsBy : List ℕ → ℕ → Result (List UaReading) ℕ → Type 0
 ReadingsBy body code (Ok readings) = (code ≡ 0) × OfResponse body (AreResults body readings)
 ReadingsBy body code (Err status) = (IsNoResponse body status × (code ≡ 0)) ⊎ OfResponse body (λ r. TellsNone HasNoResults r code status)
 
 -- ---- a buffer of readings
 
--- readings stand at the front of a buffer where they fit, whose rest is as it was; else the buffer is as it was, and too small
+-- readings are put at the start of a buffer if they fit, and the rest of it is unchanged; otherwise
+-- the buffer is unchanged, and too small
 abbrev pub PutsReadings : List UaReading → List UaReading → List UaReading → ℕ → ℕ → Type 0
 PutsReadings readings before after count status = (count ≡ length readings)
     × (length readings ≤ length before → (status ≡ ok) × (after ≡ readings ++ drop (length readings) before))
@@ -100,7 +102,8 @@ abbrev pub PutsViews : Result (List UaReading) ℕ → List UaReading → List U
 PutsViews (Ok readings) before after count status = PutsReadings readings before after count status
 PutsViews (Err why) before after count status = (count ≡ 0) × (after ≡ before) × (status ≡ why)
 
--- the views of the results of the Read whose response octets are the body of are put into a buffer, or it is told why there are none
+-- the views of the results of the Read whose response bytes are the body of are put into a buffer,
+-- or it is told why there are none
 pub record Views (body : List ℕ) (before after : List UaReading) (count code status : ℕ) : Type 0 where
   pub made : Result (List UaReading) ℕ
   pub is : ReadingsBy body code made
@@ -108,19 +111,19 @@ pub record Views (body : List ℕ) (before after : List UaReading) (count code s
 
 -- ---- inside
 
--- reading on lists gives something of which readings are views
+-- decoding on lists of bytes gives something of which readings are views
 pub record Sees {A : Type 0} (read : List ℕ → Option (A × List ℕ)) (Are : A → Type 0) (old new : List ℕ) : Type 0 where
   pub value : A
   pub read_is : read old ≡ Some (value, new)
   pub are : Are value
 
--- what a reader that makes views answers
+-- the outcome of a decoder that makes views
 abbrev pub SeesBy : {A X : Type 0} → (List ℕ → Option (A × List ℕ)) → (X → A → Type 0) → List ℕ → List ℕ → Result X ReadFault → Type 0
 SeesBy read Are old new (Ok x) = Sees read (Are x) old new
 SeesBy read Are old new (Err NoValue) = read old ≡ None
 SeesBy read Are old new (Err OutOfMemory) = Unit {0}
 
--- the octets of the fields of a DataValue but its value
+-- the bytes of the fields of a DataValue except its value
 abbrev pub fields_size : DataValue → ℕ
 fields_size d = if_there d.status 4 + if_there d.source_timestamp 8 + if_there d.source_picoseconds 2 + if_there d.server_timestamp 8 + if_there d.server_picoseconds 2
 
@@ -129,7 +132,7 @@ abbrev pub status_of : ReadFault → ℕ
 status_of NoValue = bad_octets
 status_of OutOfMemory = no_memory
 
--- octets begin with a NodeId that announces no response to a Read
+-- bytes begin with a NodeId that announces no response to a Read
 pub record AnnouncesOther (body : List ℕ) : Type 0 where
   pub id : NodeId
   pub rest : List ℕ

@@ -1,4 +1,4 @@
--- What the library says of itself, and words for its numbers and those of the standard.
+-- How the library describes itself, and words for its numbers and those of the standard.
 use Rattle.std.specs.Prelude.{◌≡◌, ℕ, cond, nat_eq, List, Option, Some, None, codes}
 use Rattle.ua_c.specs.Status.{unknown}
 use Rattle.ua_c.specs.Texts.{IsKept, Puts}
@@ -40,7 +40,7 @@ text_of_status k =
     cond (nat_eq k 27) (Some (codes "the value has no text that denotes it")) (
     None))))))))))))))))))))))))))))
 
--- a text is put into a buffer, where there is one; else nothing was written
+-- a text is put into a buffer, if there is one; else nothing was written
 abbrev pub PutsWord : Option (List ℕ) → List ℕ → List ℕ → ℕ → ℕ → Type 0
 PutsWord None before after needed status = IsKept before after needed × (status ≡ unknown)
 PutsWord (Some text) before after needed status = Puts text before after needed status

@@ -3,8 +3,8 @@
 ghost use Rattle.std.specs.Prelude.{◌≡◌};
 ghost use Rattle.ua_c.specs.BadText.{only};
 
-/// Which of the texts of a call is none, with the status that says so or that memory was refused over it,
-/// and of several lines the place of the line from 0.
+/// Which of the texts of a call is none, with the status that says so or that an allocation failed
+/// over it, and of several lines the place of the line from 0.
 #[derive(Clone, Copy)]
 pub struct BadText {
     pub status: u32,

@@ -12,7 +12,7 @@ use std::alloc::Global;
 use ua_builtin::UaString;
 use ua_services::{EndpointDescription, Response, chosen_id};
 
-/// The text of a PolicyId, none where it is null, or a status.
+/// The text of a PolicyId, none if it is null, or a status.
 fn policy_text(alloc: Global, id: &UaString) -> Result<String, u32>
     ensures text { IfOk result (λ text. string_bytes text ≡ listed id.now) }
     ensures fault { IfErr result (λ status. status ≡ no_memory) }
@@ -35,8 +35,8 @@ fn policy_among(alloc: Global, endpoints: &[EndpointDescription]) -> Result<Stri
     }
 }
 
-/// The text of the PolicyId that a response to GetEndpoints gives, or a status and the code of a failed
-/// service.
+/// The text of the PolicyId that a response to GetEndpoints gives, or a status and the code of a
+/// failed service.
 fn policy_in(alloc: Global, response: &Response, code: &mut u32) -> Result<String, u32>
     ensures text { IfOk result (λ text. IsPolicy response.now (string_bytes text)) }
     ensures fault { IfErr result (λ status. ChoosesNone response.now code.new status) }
@@ -56,7 +56,7 @@ fn policy_in(alloc: Global, response: &Response, code: &mut u32) -> Result<Strin
     }
 }
 
-/// The text of the PolicyId that the response gives that octets are.
+/// The text of the PolicyId that the response gives that the bytes encode.
 fn policy(alloc: Global, body: &[u8], code: &mut u32) -> Result<String, u32>
     ensures { PolicyBy body.now code.new (octets_in result) }
 {
@@ -70,7 +70,8 @@ fn policy(alloc: Global, body: &[u8], code: &mut u32) -> Result<String, u32>
     text
 }
 
-/// The PolicyId of the anonymous token policy that a client uses, of the response to a GetEndpoints.
+/// The PolicyId of the anonymous token policy that a client uses, of the response to a
+/// GetEndpoints.
 #[unsafe(no_mangle)]
 pub extern "C" fn ua_choose_policy(
     alloc: Global,

@@ -56,7 +56,7 @@ impl Holding {
 }
 
 impl SharedNodes {
-    /// A step of a connection over these nodes, where no bytes wait.
+    /// A step of a connection over these nodes, if no bytes wait.
     fn step(
         &mut self,
         alloc: Global,

@@ -12,7 +12,7 @@ use std::alloc::Global;
 use std::marker::Model;
 use std::ptr::null_mut;
 
-/// A handle: for C a struct of one pointer that C never reads, null where nothing is held.
+/// A handle: for C a struct of one pointer that C never reads, null if nothing is held.
 #[repr(C)]
 pub struct UaHandle {
     at: *mut u8,

@@ -19,8 +19,8 @@ pub struct UaLimits {
     pub max_chunk_count: u32,
 }
 
-/// The limits that these numbers are; `None` where one is below the least, or where the structure is
-/// of another size.
+/// The limits that these numbers are; `None` if one is below the minimum, or if the structure
+/// has another size.
 pub(crate) fn allowed(limits: &UaLimits) -> Option<Limits>
     ensures { Allowed limits.now result }
 {

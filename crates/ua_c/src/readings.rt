@@ -65,8 +65,8 @@ impl UaReading {
         }
     }
 
-    /// What a node holds, with a value whose encoding has so many bytes and stands at the start of
-    /// them.
+    /// What a node holds, with a value whose encoding has this many bytes and is at the start
+    /// of them.
     fn held(node: &Variable, value_len: usize) -> UaReading
         ensures { result ≡ reading_held node.now value_len }
     {

@@ -11,7 +11,7 @@ use crate::waiting::Waiting;
 use std::alloc::Global;
 use ua_server::{End, Step, StepFault, Written};
 
-/// A status, how many bytes were taken, and the StatusCode of a refusal.
+/// A status, how many bytes were taken, and the StatusCode of a rejection.
 #[derive(Clone, Copy)]
 pub struct Report {
     pub status: u32,
@@ -31,7 +31,7 @@ impl Report {
         }
     }
 
-    /// The result of a step that took so many bytes, and ended the connection or not.
+    /// The result of a step that took this many bytes, and ended the connection or not.
     fn of_end(taken: usize, end: Option<End>) -> Report
         ensures { result ≡ record { status = status_of end; taken = taken; code = code_of end } }
     {

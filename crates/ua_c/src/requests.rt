@@ -84,7 +84,7 @@ pub(crate) fn nodes_of(alloc: Global, octets: &[u8]) -> Result<Vec<NodeId>, BadT
     }
 }
 
-/// The index range that bytes are, null where there are none, or a status.
+/// The index range that bytes are, null if there are none, or a status.
 fn range_of(alloc: Global, octets: &[u8]) -> Result<UaString, u32>
     ensures range { IfOk result (λ range. IsRangeText octets.now range) }
     ensures fault { IfErr result (λ status. IsNoText octets.now status) }
@@ -113,8 +113,8 @@ fn put_request(alloc: Global, request: Request, buffer: &mut [u8], needed: &mut 
     }
 }
 
-/// Puts the body of a request into a buffer, if there is one, and tells which text is to blame where there
-/// is none.
+/// Puts the body of a request into a buffer, if there is one, and tells which text is bad if
+/// there is none.
 fn put_told(
     alloc: Global,
     made: Result<Request, BadText>,
@@ -135,7 +135,7 @@ fn put_told(
     }
 }
 
-/// The place of the line that is to blame, 0 where none is.
+/// The index of the line that is bad, 0 if none is.
 fn index_in(made: &Result<Request, BadText>) -> usize
     ensures { result ≡ index_in made.now }
 {

@@ -12,14 +12,14 @@ use ua_builtin::Wire;
 use ua_texts::{push_plain_variant, push_variant};
 use ua_variant::Variant;
 
-/// A type and a text with a space between, and how many octets the type has.
+/// A type and a text with a space between, and how many bytes the type has.
 #[derive(Drop)]
 struct Spelling {
     text: String,
     kind: usize,
 }
 
-/// The type and the text of a value, as people write it where this is wanted.
+/// The type and the text of a value, in human-readable form if this is wanted.
 fn spell(alloc: Global, value: &Variant, plain: bool) -> Result<String, AllocError>
     ensures { IfOk result (λ text. IsSpelled plain (variant_of value.now) (string_bytes text)) }
 {
@@ -57,7 +57,7 @@ fn is_back(
     }
 }
 
-/// What stands in front of the first space, and what behind it.
+/// What comes before the first space, and what after it.
 fn part(text: &str) -> Option<(&str, &str)>
     ensures { IfSome result (λ x. text.now ≡ x.0.now ++ 32 ∷ x.1.now) }
 {
@@ -89,7 +89,7 @@ fn spell_back(
     }
 }
 
-/// The type and the text of the value that octets encode, where they denote it.
+/// The type and the text of the value that bytes encode, where they denote it.
 fn spelling_of(alloc: Global, octets: &[u8], plain: bool) -> Result<Spelling, u32>
     ensures spelling { IfOk result (λ made. IsSpelling plain octets.now (string_bytes made.text) made.kind) }
     ensures fault { IfErr result (λ status. LacksSpelling octets.now status) }
@@ -108,8 +108,8 @@ fn spelling_of(alloc: Global, octets: &[u8], plain: bool) -> Result<Spelling, u3
     made
 }
 
-/// The type and the text, with a space between, of the value that octets encode, where they denote just
-/// this value; as people write it where `plain` is not 0.
+/// The type and the text, with a space between, of the value that bytes encode, where they denote
+/// just this value; in human-readable form where `plain` is not 0.
 #[unsafe(no_mangle)]
 pub extern "C" fn ua_value_text(
     alloc: Global,
@@ -132,8 +132,8 @@ pub extern "C" fn ua_value_text(
     }
 }
 
-/// The canonical encoding of the value that a type and a text denote, as people write it where `plain` is
-/// not 0.
+/// The canonical encoding of the value that a type and a text denote, in human-readable form where
+/// `plain` is not 0.
 #[unsafe(no_mangle)]
 pub extern "C" fn ua_text_value(
     alloc: Global,

@@ -12,7 +12,7 @@ pub const BAD_NODES: u32 = 3;
 pub const NO_HANDLE: u32 = 4;
 /// The connection ended, or failed, before.
 pub const CLOSED: u32 = 5;
-/// The connection was refused.
+/// The connection was rejected.
 pub const REFUSED: u32 = 6;
 /// The peer closed the connection.
 pub const ENDED: u32 = 7;
@@ -32,7 +32,7 @@ pub const RENEW_PENDING: u32 = 13;
 pub const TOO_MANY_TOKENS: u32 = 14;
 /// All RequestIds were used.
 pub const EXHAUSTED: u32 = 15;
-/// The server takes no message of so many bytes or chunks.
+/// The server takes no message of this many bytes or chunks.
 pub const TOO_LARGE: u32 = 16;
 /// The body of a call is empty.
 pub const EMPTY: u32 = 17;

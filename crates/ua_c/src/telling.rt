@@ -18,7 +18,7 @@ use ua_builtin::{Wire, WriteFault};
 use ua_services::WriteValue;
 use ua_variant::DataValue;
 
-/// The canonical encoding of the value of a DataValue, no bytes where it has none, or a status.
+/// The canonical encoding of the value of a DataValue, no bytes if it has none, or a status.
 fn encoding_in(alloc: Global, value: &DataValue) -> Result<Vec<u8>, u32>
     ensures octets { IfOk result (λ octets. EncodesHeld value.now.value octets.items) }
     ensures fault { IfErr result (λ status. EncodesNone value.now.value status) }

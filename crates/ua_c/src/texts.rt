@@ -92,7 +92,8 @@ pub extern "C" fn ua_dissect(
     }
 }
 
-/// The value that a text denotes at a type, where decimals and times are wanted as people write them too.
+/// The value that a text denotes at a type, where decimals and times are wanted in human-readable
+/// form too.
 fn parse_by(
     alloc: Global,
     kind: u8,
@@ -110,8 +111,8 @@ fn parse_by(
     }
 }
 
-/// The value that a type and a text denote, where decimals and times are wanted as people write them too;
-/// or which of the two is none.
+/// The value that a type and a text denote, where decimals and times are wanted in human-readable
+/// form too; or which of the two is none.
 pub(crate) fn value_by(
     alloc: Global,
     kind: &[u8],

@@ -19,13 +19,13 @@ const EVENT_SEND: u32 = 1;
 const EVENT_OPEN: u32 = 2;
 /// What waits is the body of the reply to a call.
 const EVENT_ANSWERED: u32 = 3;
-/// The server gave up its reply to a call.
+/// The server aborted its reply to a call.
 const EVENT_ABORTED: u32 = 4;
 /// A renewal was answered.
 const EVENT_RENEWED: u32 = 5;
-/// This end refused what came.
+/// This end rejected what came.
 const EVENT_FAILED: u32 = 6;
-/// The server refused, by an ERR frame.
+/// The server rejected, by an ERR frame.
 const EVENT_FAILED_BY_PEER: u32 = 7;
 
 /// A status, how many bytes were taken, and their event, with its RequestId or TokenId and its

@@ -33,7 +33,8 @@ macro_rules! numbered {
 }
 
 impl UaReading {
-    /// The reading of a DataValue, with a value whose encoding takes so many bytes from a place on.
+    /// The reading of a DataValue, with a value whose encoding takes this many bytes from a place
+    /// on.
     pub(crate) fn of_value(value: &DataValue, value_at: usize, value_len: usize) -> UaReading
         ensures { result ≡ reading_of value.now value_at value_len }
     {
@@ -67,7 +68,7 @@ impl UaReading {
     }
 }
 
-/// So many bytes of a field, where it is there.
+/// This many bytes of a field, if it is there.
 fn size_if<T>(field: &Option<T>, size: usize) -> usize
     requires small { size ≤ 8 }
     ensures is { result ≡ if_there field.now size }

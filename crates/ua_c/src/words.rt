@@ -62,7 +62,7 @@ fn text_of_status(status: u32) -> Option<&'static str>
     }
 }
 
-/// Puts a text into a buffer, where there is one.
+/// Puts a text into a buffer, if there is one.
 fn put_word(text: Option<&'static str>, buffer: &mut [u8], needed: &mut usize) -> u32
     ensures { PutsWord (option_map (λ word. word.now) text.entry) buffer.old buffer.new needed.new result }
 {
@@ -84,7 +84,7 @@ pub extern "C" fn ua_status_text(status: u32, buffer: &mut [u8], needed: &mut us
     put_word(text, buffer, needed)
 }
 
-/// The standard's name of a status code (OPC 10000-6, A.2).
+/// The standard's name of a StatusCode (OPC 10000-6, A.2).
 #[unsafe(no_mangle)]
 pub extern "C" fn ua_code_name(code: u32, buffer: &mut [u8], needed: &mut usize) -> u32
     ensures { PutsWord (name_of_code code) buffer.old buffer.new needed.new result }

@@ -20,7 +20,7 @@ use thiserror::Error;
 use ua_frame::Limits;
 use ua_server::Services;
 
-/// At most so many connections at a time over one node table, each at a place. They are numbered
+/// At most this many connections at a time over one node table, each at a place. They are numbered
 /// from 1, in the order in which they are opened, and no number is used again.
 #[derive(Drop)]
 pub struct Connections<S> {
@@ -46,7 +46,7 @@ pub enum OpenFault {
 }
 
 impl<S: Socket> Connections<S> {
-    /// So many free places, for connections with these limits.
+    /// This many free places, for connections with these limits.
     pub fn new(alloc: Global, limits: Limits, count: usize) -> Result<Connections<S>, AllocError>
         ensures free { IfOk result (λ it. places_of it ≡ replicate count None) }
         ensures last { IfOk result (λ it. last_of it ≡ 0) }

@@ -21,7 +21,7 @@ use ua_server::{Connection, End, Services, Step};
 /// The most bytes that are read at once.
 const PIECE: usize = 4096;
 
-/// No further step is taken once so many bytes wait to be written.
+/// No further step is taken once this many bytes wait to be written.
 const MOST_GATHERED: usize = 16384;
 
 /// A client's connection, its socket, and what is buffered between two turns: bytes that were read
@@ -34,11 +34,11 @@ pub struct Conversation<S> {
     connection: Connection,
     phase: Phase,
     outcome: Option<Result<End, Failure>>,
-    /// What was read last: so many bytes of the fragment, of which so many are stepped.
+    /// What was read last: this many bytes of the fragment, of which this many are stepped.
     piece: Vec<u8>,
     filled: usize,
     stepped: usize,
-    /// What was answered and is not written whole, of which so many bytes are written.
+    /// What was answered and is not written whole, of which this many bytes are written.
     out: Vec<u8>,
     sent: usize,
 }
@@ -227,7 +227,7 @@ impl<S: Socket> Conversation<S> {
         }
     }
 
-    /// So many of the waiting bytes are written. Once all are, their memory is freed.
+    /// This many of the waiting bytes are written. Once all are, their memory is freed.
     fn wrote(&mut self, count: usize)
         requires { count ≤ length self.old.waiting }
         ensures { self.new ≡ record self.old { waiting = drop count self.old.waiting } }

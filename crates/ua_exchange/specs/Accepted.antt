@@ -1,4 +1,4 @@
--- Which turns are accepted, and why one is not.
+-- Which client operations (turns: a request or a renewal) are accepted, and why one is not.
 use Rattle.std.specs.Prelude.{◌≡◌, ℕ, ◌-◌, min, nat_le, Bool, true, false, length, map, take, List, ◌∷◌, ◌++◌, Option, Some, None}
 use Rattle.ua_builtin.specs.Reasons.{first_reason, renamed_reason}
 use Rattle.ua_frame.specs.After.{AllAfter}
@@ -15,29 +15,30 @@ use Rattle.ua_exchange.specs.declared.fault.PairFault.TheVariants.{NotWritable, 
 use Rattle.ua_exchange.specs.declared.turn.Turn.{Turn}
 use Rattle.ua_exchange.specs.declared.turn.Turn.TheVariants.{Ask, Renew}
 
--- ---- groups, as tokens are counted: as if a renewal were asked with the requests right in front of it, at most 64, before they are answered
+-- ---- groups, as tokens are counted: as if a renewal were sent with the last 64 requests before it
 
 abbrev pub is_renewal : Turn → Bool
 is_renewal (Ask m) = false
 is_renewal Renew = true
 
--- the requests that stand last among these turns
+-- the requests at the end of these operations
 abbrev pub last_calls : List Turn → List Turn
 last_calls before = after_last is_renewal before
 
--- the turns in front of those requests, at most 64, that count as asked with a renewal
+-- the operations before those requests, at most 64, that count as sent with a renewal
 abbrev pub before_group : List Turn → List Turn
 before_group before = take (length before - min (length (last_calls before)) most_pending) before
 
--- how many tokens count as held where a client renews its token behind these turns: as many as it holds behind those in front of that group,
--- so as many as it would hold if the requests that count as asked with the renewal were not answered yet
+-- how many tokens count as held if a client renews its token after these operations: as many as it
+-- holds after those before that group, so as many as it would hold if the requests that count as
+-- sent with the renewal were not answered yet
 abbrev pub tokens_counted : List Turn → ℕ
 tokens_counted before = judged.tokens_held 1 (served_turns (before_group before))
 
--- ---- why a turn is not accepted
+-- ---- why an operation is not accepted
 
--- the fault that is told where a client does not take the turn of this place for this reason: of the turn, if it is a reason against one; else
--- want of memory
+-- the fault that is told if a client does not take the operation at this place for this reason: of
+-- the operation, if it is a reason against one; otherwise OutOfMemory
 abbrev pub fault_at : ℕ → ClientFault → PairFault
 fault_at place client.NotWritable = NotWritable place
 fault_at place client.Exhausted = Request place Exhausted
@@ -45,8 +46,9 @@ fault_at place client.TooLarge = Request place RequestTooLarge
 fault_at place client.TooManyTokens = Request place TooManyTokens
 fault_at place other = OutOfMemory
 
--- why a turn behind these is not accepted, in the order in which it is judged: the reasons why a client does not take it that holds as many
--- tokens as count as held, each told of the place of the turn
+-- why an operation after these is not accepted, in the order in which it is judged: the reasons why
+-- a client does not take it that holds as many tokens as count as held, each told of the place of
+-- the operation
 abbrev pub turn_reasons : List Turn → Turn → List (PairFault × Bool)
 turn_reasons before turn = map (renamed_reason (fault_at (length before))) (judged.turn_reasons acknowledged (tokens_counted before) (id_behind before) (served_turn turn))
 
@@ -54,20 +56,20 @@ turn_reasons before turn = map (renamed_reason (fault_at (length before))) (judg
 abbrev pub turn_refusal : List Turn → Turn → Option PairFault
 turn_refusal before turn = first_reason (turn_reasons before turn)
 
--- a turn behind these is accepted
+-- an operation after these is accepted
 abbrev pub IsAccepted : List Turn → Turn → Type 0
 IsAccepted before turn = turn_refusal before turn ≡ None
 
--- the turn is a renewal behind these that is refused since too many tokens count as held
+-- the operation is a renewal after these that is refused since too many tokens count as held
 abbrev pub is_crowded : List Turn → Turn → Bool
 is_crowded before (Ask m) = false
 is_crowded before Renew = nat_le most_tokens (tokens_counted before)
 
--- each of the turns is accepted, behind those before it
+-- each of the operations is accepted, after those before it
 abbrev pub AreAccepted : List Turn → Type 0
 AreAccepted turns = AllAfter IsAccepted turns
 
--- the first of the turns that is not accepted, and why
+-- the first of the operations that is not accepted, and why
 pub record FirstRefused (turns : List Turn) (fault : PairFault) : Type 0 where
   pub before : List Turn
   pub turn : Turn

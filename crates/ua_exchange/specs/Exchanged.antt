@@ -1,4 +1,4 @@
--- What comes of turns that both ends of a connection run through.
+-- The outcome of client operations that both ends of a connection run through.
 use Rattle.std.specs.Prelude.{ℕ, List}
 use Rattle.ua_builtin.specs.declared.date_time.DateTime.{DateTime}
 use Rattle.ua_frame.specs.Run.{Over}
@@ -13,15 +13,16 @@ use Rattle.ua_exchange.specs.declared.fault.PairFault.{PairFault}
 use Rattle.ua_exchange.specs.declared.fault.PairFault.TheVariants.{NotWritable, Request, OutOfMemory}
 use Rattle.ua_exchange.specs.declared.turn.Turn.{Turn}
 
--- all that a server in this state says to a client that has these turns, with this moment for each answer
+-- all that a server in this state sends to a client with these operations, with this time for each
+-- answer
 abbrev pub all_said : State → DateTime → List Turn → List ℕ
 all_said first moment turns = output_of channel first (all_told turns) Over (times_of_answers (all_told turns) moment)
 
--- the same of a server over these nodes, as the connection begins
+-- the same for a server over these nodes, when the connection begins
 abbrev pub down_octets : Nodes → DateTime → List Turn → List ℕ
 down_octets nodes moment turns = all_said (begun_over nodes) moment turns
 
--- why there is no transcript: the first turn that is not accepted, or want of memory
+-- why there is no transcript: the first operation that is not accepted, or an allocation failed
 abbrev pub IsRefusedFor : List Turn → PairFault → Type 0
 IsRefusedFor turns (Request index fault) = FirstRefused turns (Request index fault)
 IsRefusedFor turns (NotWritable index) = FirstRefused turns (NotWritable index)

@@ -1,6 +1,7 @@
--- The definitions, in the order in which they are best read: what the two ends are; what a client says of its turns, and what that tells the
--- server; which turns are accepted; what becomes of them; and what both say. Last what a client reads that asks its turns in groups, and what
--- stands inside.
+-- The definitions, in the order in which they are best read: what the two ends are; what a client
+-- sends for its operations, and what that tells the server; which operations are accepted; their
+-- outcomes; and what both send. Last what a client decodes that makes its operations in groups, and
+-- what is inside.
 pub mod Programs
 pub mod Turns
 pub mod Accepted

@@ -13,11 +13,11 @@ use Rattle.ua_server.specs.declared.endpoint.Endpoint.{Endpoint}
 use Rattle.ua_loopback.specs.Accepted as judged
 use Rattle.ua_loopback.specs.Beginning.{Beginning}
 
--- the most octets of a message
+-- the most bytes of a message
 abbrev pub message_size : ℕ
 message_size = 1048576
 
--- the limits of both: frames of 65535 octets each way, messages of 1048576 octets and 256 chunks
+-- the limits of both: frames of 65535 bytes each way, messages of 1048576 bytes and 256 chunks
 abbrev pub program_limits : Limits
 program_limits = record {
   receive_buffer_size = 65535;
@@ -39,11 +39,11 @@ AreOurs limits = HasSizes limits 65535 65535 message_size 256
 abbrev pub url : List ℕ
 url = codes "opc.tcp://localhost:4840"
 
--- what the server says of itself
+-- how the server describes itself
 abbrev pub endpoint : Endpoint
 endpoint = record { url = Some url; application_uri = Some (codes "urn:ua:server"); name = Some (codes "ua"); message_limit = message_size }
 
--- the id of the channel
+-- the SecureChannelId
 abbrev pub channel : ℕ
 channel = 1
 
@@ -55,14 +55,15 @@ acknowledged = judged.acknowledged program_limits program_limits (Some url)
 abbrev pub agreement : Agreement
 agreement = agreement_of program_limits (hello_to program_limits (Some url))
 
--- the server's state as the connection begins
+-- the server's state when the connection begins
 abbrev pub begun_over : Nodes → State
 begun_over nodes = fresh nodes endpoint
 
--- how it begins over services in a state, with one moment for each answer
+-- how it begins over services in a state, with one time for each answer
 abbrev pub beginning : State → DateTime → Beginning
 beginning first moment = record { limits = program_limits; channel = channel; first = first; moment = moment }
 
--- the most octets that either end holds of what is not whole: of a frame 65535, and of 4 unfinished messages 1048576 each
+-- the most bytes that either end holds of what is incomplete: 65535 of a frame, and 1048576 of each
+-- of 4 unfinished messages
 abbrev pub most_held : ℕ
 most_held = 65535 + 4 * message_size

@@ -1,4 +1,4 @@
--- What a client reads of what a server says of turns that are asked in groups.
+-- What a client decodes of what a server sends for operations that are made in groups.
 use Rattle.std.specs.Prelude.{◌≡◌, ℕ, ◌+◌, length, List, [], ◌∷◌, ◌++◌}
 use Rattle.ua_builtin.specs.declared.date_time.DateTime.{DateTime}
 use Rattle.ua_frame.specs.After.{each_after}
@@ -23,19 +23,20 @@ use Rattle.ua_exchange.specs.declared.turn.Turn.TheVariants.{Ask, Renew}
 
 -- ---- what the server says
 
--- up to and with the answers to these turns
+-- up to and including the answers to these operations
 abbrev pub output_behind_turns : State → DateTime → List Turn → List ℕ
 output_behind_turns first moment turns = output_of channel first (asking_told turns) Going (times_of_answers (asking_told turns) moment)
 
 -- ---- what the client is told
 
--- of a turn behind these: the reply to a request, or that it was given up; the token that a renewal brings
+-- of an operation after these: the reply to a request, or that it was aborted; the token that a
+-- renewal brings
 abbrev pub heard_behind : State → DateTime → List Turn → Turn → List Heard
 heard_behind first moment before (Ask m) =
     told_reply (cut_refusal (lane_back before) (response.canonical (response_behind first moment before m))) (id_behind before) (response.canonical (response_behind first moment before m)) ∷ []
 heard_behind first moment before Renew = heard.Renewed (token_behind before + 1) ∷ []
 
--- of turns, in order
+-- of operations, in order
 unfoldable pub turns_heard : State → DateTime → List Turn → List Heard
 turns_heard first moment turns = each_after (heard_behind first moment) turns
 
@@ -45,41 +46,44 @@ all_heard first moment turns = heard.Agreed acknowledged ∷ (heard.Opened chann
 
 -- ---- what it asks, group by group
 
--- no turn stands behind a renewal: it is the last of its group
+-- no operation follows a renewal: it is the last of its group
 abbrev pub EndsAtRenewal : List Turn → Type 0
 EndsAtRenewal [] = Unit {0}
 EndsAtRenewal (Ask m ∷ ts) = EndsAtRenewal ts
 EndsAtRenewal (Renew ∷ ts) = ts ≡ []
 
--- what a client asks in a turn, under this request id
+-- the operation of a client, under this RequestId
 abbrev pub asking_under : ℕ → Turn → Asking
 asking_under id (Ask m) = Call id
 asking_under id Renew = Renewal id
 
--- the same of the turn behind those that wait, with its place: where the answers end to those that are answered
+-- the same for the operation after those that wait, with its place: the end of the answers to those
+-- that are answered
 abbrev pub asked_behind : State → DateTime → List Turn → List Turn → Turn → Placed
 asked_behind first moment answered waiting t = (length (output_behind_turns first moment answered), asking_under (id_behind (answered ++ waiting)) t)
 
--- the turns of groups, one group behind the other
+-- the operations of groups, one group after the other
 abbrev pub in_order : List (List Turn) → List Turn
 in_order [] = []
 in_order (group ∷ groups) = group ++ in_order groups
 
--- what a client asks in these turns, behind those that are answered and those that wait
+-- these operations, each with its place, after those that are answered and those that wait
 abbrev pub asks_behind : State → DateTime → List Turn → List Turn → List Turn → List Placed
 asks_behind first moment answered waiting [] = []
 asks_behind first moment answered waiting (t ∷ ts) = asked_behind first moment answered waiting t ∷ asks_behind first moment answered (waiting ++ t ∷ []) ts
 
--- what it asks in these groups, behind turns that are answered: each group where the answers to the turns before it end
+-- the operations of these groups, after operations that are answered: each group at the end of the
+-- answers to the operations before it
 abbrev pub asks_from : State → DateTime → List Turn → List (List Turn) → List Placed
 asks_from first moment answered [] = []
 asks_from first moment answered (group ∷ groups) = asks_behind first moment answered [] group ++ asks_from first moment (answered ++ group) groups
 
--- all that it asks
+-- all operations, each with its place
 abbrev pub asks_of : State → DateTime → List (List Turn) → List Placed
 asks_of first moment groups = asks_from first moment [] groups
 
--- octets are whole frames; a client with these limits, that asked so, refuses none of them, and they tell it just this, in this order
+-- bytes are whole frames; a client with these limits and operations rejects none of them, and they
+-- tell it exactly this, in this order
 pub record TellsClient (limits : Limits) (asks : List Placed) (octets : List ℕ) (told : List Heard) : Type 0 where
   pub frames : List Frame
   pub run : Run (client_rules limits asks) octets frames [] Going

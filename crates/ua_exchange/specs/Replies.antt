@@ -1,5 +1,5 @@
--- What becomes of requests, by `ua_loopback`: each is answered in the state that those before it left, and its reply comes back under its own
--- request id.
+-- The outcomes of requests, by `ua_loopback`: each is answered in the state that those before it
+-- left, and its reply comes back under its own RequestId.
 use Rattle.std.specs.Prelude.{List, Option, Some}
 use Rattle.ua_builtin.specs.declared.date_time.DateTime.{DateTime}
 use Rattle.ua_chunk.specs.declared.lane.Lane.{Lane}
@@ -14,18 +14,18 @@ use Rattle.ua_exchange.specs.Programs.{agreement, beginning, channel, program_li
 use Rattle.ua_exchange.specs.Turns.{served_turns, token_behind}
 use Rattle.ua_exchange.specs.declared.turn.Turn.{Turn}
 
--- the state that turns leave
+-- the state that operations leave
 abbrev pub state_behind : State → DateTime → List Turn → State
 state_behind s moment turns = served.turns_state s moment (served_turns turns)
 
--- the response to a request behind these turns
+-- the response to a request after these operations
 abbrev pub response_behind : State → DateTime → List Turn → Request → Response
 response_behind s moment before m = (answer (state_behind s moment before) moment m).1
 
--- where it goes: under the token that the request used, within the client's limits
+-- its lane: under the token that the request used, within the client's limits
 abbrev pub lane_back : List Turn → Lane
 lane_back before = lane_of channel (token_behind before) agreement
 
--- the replies to turns, in order
+-- the replies to operations, in order
 unfoldable pub turns_replies : State → DateTime → List Turn → List (Option Reply)
 turns_replies s moment turns = served.turns_replies (beginning s moment) program_limits (Some url) s 1 (served_turns turns)

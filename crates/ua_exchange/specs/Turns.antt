@@ -1,4 +1,5 @@
--- What a client sends of its turns, and what that tells a server: what `ua_loopback` says of turns that ask one request each, or renew.
+-- What a client sends for its operations, and what that tells a server: the definitions of
+-- `ua_loopback` for operations that make one request each, or renew.
 use Rattle.std.specs.Prelude.{ℕ, map, List, [], ◌∷◌, ◌++◌, Option, Some, None}
 use Rattle.ua_builtin.specs.declared.date_time.DateTime.{DateTime}
 use Rattle.ua_channel.specs.ServerTold.{Told}
@@ -9,28 +10,30 @@ use Rattle.ua_exchange.specs.Programs.{channel, program_limits, url}
 use Rattle.ua_exchange.specs.declared.turn.Turn.{Turn}
 use Rattle.ua_exchange.specs.declared.turn.Turn.TheVariants.{Ask, Renew}
 
--- the one request that is asked in a turn; none where it is a renewal
+-- the one request of an operation; none if it is a renewal
 abbrev pub served_turn : Turn → Option (List Request)
 served_turn (Ask m) = Some (m ∷ [])
 served_turn Renew = None
 
--- the same of turns, in order
+-- the same for operations, in order
 abbrev pub served_turns : List Turn → List (Option (List Request))
 served_turns turns = map served_turn turns
 
--- the request id of the turn behind these: ids are counted on from that of the first OPN, which is 1
+-- the RequestId of the operation after these: ids are counted on from that of the first OPN, which
+-- is 1
 abbrev pub id_behind : List Turn → ℕ
 id_behind before = ids_behind 2 (served_turns before)
 
--- the newest token behind these turns: tokens are 1, 2, 3, .., and each renewal brings the next one
+-- the newest token after these operations: tokens are 1, 2, 3, .., and each renewal brings the next
+-- one
 abbrev pub token_behind : List Turn → ℕ
 token_behind before = tokens_behind 1 (served_turns before)
 
--- the octets of a client that has these turns, from the HEL to the CLO
+-- the bytes of a client with these operations, from the HEL to the CLO
 unfoldable pub up_octets : DateTime → List Turn → List ℕ
 up_octets moment turns = conversation_octets program_limits program_limits (Some url) channel moment (served_turns turns)
 
--- what it tells a server up to and with these turns: the opening, and each turn
+-- what it tells a server up to and including these operations: the opening, and each operation
 abbrev pub asking_told : List Turn → List Told
 asking_told turns = opening_told program_limits program_limits (Some url) ++ turns_told 1 2 (served_turns turns)
 

@@ -1,3 +1,4 @@
--- Words that only contracts within this crate cite: which renewals a client is not let take, and what a conversation comes to.
+-- Definitions that only contracts within this crate cite: which renewals are refused, and the
+-- outcome of a conversation.
 pub mod Counting
 pub mod Conversed

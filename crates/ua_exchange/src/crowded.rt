@@ -8,13 +8,13 @@ ghost use Rattle.ua_exchange.specs.inside.Counting.{CountsLast, FindsCrowded};
 
 use crate::turn::Turn;
 
-/// The most tokens that are held: where so many count as held, no further one is asked for.
+/// The most tokens that are held: where this many count as held, no further one is asked for.
 const MOST_TOKENS: usize = 16;
 
 /// The most requests before a renewal that count as not answered yet.
 const MOST_CALLS: usize = 64;
 
-/// The last operations: so many requests, and before these so many renewals.
+/// The last operations: this many requests, and before these this many renewals.
 #[derive(Clone, Copy)]
 struct Last {
     renewals: usize,

@@ -87,10 +87,10 @@ fn conversed(
 /// bytes, and the client the server's, in fragments of at most these lengths, in turn and again
 /// from the first; 0 counts as 1, and an empty list sets no limit. The client writes one frame at a
 /// time, and reads at most 4096 bytes at once, so that no fragment is longer. Each operation is
-/// answered before the next begins; but a renewal is judged as the last operation of a group,
-/// behind at most 64 requests before it, as if none of these were answered yet. `moment` is the
-/// timestamp of each answer, of each OPN and of the CLO, in units of 100 nanoseconds since
-/// 1601-01-01 00:00 UTC.
+/// answered before the next begins; but a renewal is judged as the last operation of a group, after
+/// at most 64 requests before it, as if none of these were answered yet. `moment` is the timestamp
+/// of each answer, of each OPN and of the CLO, in units of 100 nanoseconds since 1601-01-01 00:00
+/// UTC.
 pub fn exchange(
     alloc: Global,
     table: NodeTable,

@@ -1,5 +1,6 @@
--- What a client of `ua_client` does: it opens its channel, and then does turns, each where it took the answers to those before; of the last turn
--- it may have sent a part, and have taken a part of the answers.
+-- What a client of `ua_client` does: it opens its channel, and then makes operations, each after it
+-- took the answers to those before; of the last operation it may have sent a part, and have taken a
+-- part of the answers.
 use Rattle.std.specs.Prelude.{◌≡◌, ℕ, ◌<◌, ◌≤◌, ◌++◌, IsTrue, List, [], ◌∷◌, length, map, Option, Some, None}
 use Rattle.ua_builtin.specs.DateTime.{date_time}
 use Rattle.ua_builtin.specs.declared.date_time.DateTime.{DateTime}
@@ -24,32 +25,34 @@ use Rattle.ua_client.specs.Sent.{bodies_of}
 use Rattle.ua_client.specs.declared.reply.Reply.{Reply}
 use Rattle.ua_headline.specs.Talk.{CanOpen, Ends, IsPrefix}
 
--- what it does in a turn: it calls these requests at once, or renews the token of its channel at this time
+-- one operation: the client calls these requests at once, or renews the token of its channel at
+-- this time
 pub data Deed : Type 0 where
   Calls : (requests : List Request) → Deed
   Renews : (time : DateTime) → Deed
 
--- what it sends in that turn
+-- what it sends in that operation
 abbrev pub turn_of : Deed → List Outgoing
 turn_of (Calls requests) = map CallWith (bodies_of requests)
 turn_of (Renews time) = RenewalAt time ∷ []
 
--- there is nothing against it where the client stands; it calls 1 to 64 requests at once
+-- there is nothing against it in the state of the client; it calls 1 to 64 requests at once
 abbrev pub IsAskable : ClientPlace → Deed → Type 0
 IsAskable m (Calls requests) = (0 < length requests) × (length requests ≤ 64) × (refusal_at m requests ≡ None)
 IsAskable m (Renews time) = IsTrue (date_time.encodable time) × (renewal_refusal m ≡ None)
 
--- its octets there
+-- its bytes there
 abbrev pub octets_at : ClientPlace → Deed → List ℕ
 octets_at m (Calls requests) = sent_at m requests
 octets_at m (Renews time) = renewal_at m time
 
--- what is asked once it is asked there
+-- the client's operations after this one there
 abbrev pub asks_with : ClientPlace → Deed → List Placed
 asks_with m (Calls requests) = asked_at m requests
 asks_with m (Renews time) = asks_renewed m
 
--- calls that were asked at the first place are answered, and a client with these limits stands at the second, where the last reply came
+-- calls that were made in the first state are answered, and a client with these limits has the
+-- second, in which the last reply came
 pub record AreAnswered (limits : Limits) (m t : ClientPlace) (requests : List Request) : Type 0 where
   pub x : ClientChannel
   pub limits_are : client_limits x ≡ limits
@@ -66,29 +69,31 @@ pub record HasRenewed (limits : Limits) (m t : ClientPlace) : Type 0 where
   pub taken : List ℕ
   pub renewed : IsRenewed x m t taken
 
--- a deed is answered
+-- an operation is answered
 abbrev pub IsAnsweredAt : Limits → ClientPlace → ClientPlace → Deed → Type 0
 IsAnsweredAt limits m t (Calls requests) = AreAnswered limits m t requests
 IsAnsweredAt limits m t (Renews time) = HasRenewed limits m t
 
--- a client with these limits that stood at the first place did these deeds, each where it took the answers to those before; it sent these octets,
--- and then stands at the second
+-- a client with these limits in the first state did these operations, each after it took the
+-- answers to those before; it sent these bytes, and then has the second state
 abbrev pub Did : Limits → ClientPlace → List Deed → ClientPlace → List ℕ → Type 0
 Did limits m [] t sent = (t ≡ m) × (sent ≡ [])
 Did limits m (d ∷ deeds) t sent =
     IsAskable m d
     × ((next : ClientPlace) × (more : List ℕ) × IsAnsweredAt limits m next d × (sent ≡ octets_at m d ++ more) × Did limits next deeds t more)
 
--- of a deed that it does there now, if it does one, it asked this, and sent these octets, all or a part
+-- of an operation that it makes there now, if it makes one, it asked this, and sent these bytes,
+-- all or a part
 abbrev pub IsDoing : ClientPlace → Option Deed → List Placed → List ℕ → Type 0
 IsDoing m None asks sent = (asks ≡ m.asks) × (sent ≡ [])
 IsDoing m (Some d) asks sent = IsAskable m d × (asks ≡ asks_with m d) × IsPrefix sent (octets_at m d)
 
--- its turns
+-- its operations
 abbrev pub turns_of : List Deed → Option Deed → List (List Outgoing)
 turns_of deeds now = map turn_of (deeds ++ listed now)
 
--- a client that opened its channel did these deeds, and does this one: what it asked, what it took and what it sent
+-- a client that opened its channel did these operations, and makes this one: what it asked, what it
+-- took and what it sent
 pub record DidSoFar (e : Ends) (deeds : List Deed) (now : Option Deed) (asks : List Placed) (got sent : List ℕ) : Type 0 where
   pub x : ClientChannel
   pub limits_are : client_limits x ≡ e.client
@@ -106,8 +111,8 @@ pub record DidSoFar (e : Ends) (deeds : List Deed) (now : Option Deed) (asks : L
   pub got_is : got ≡ last.octets ++ taken
   pub sent_is : sent ≡ (hello_octets e.client e.url ++ open_octets e.opened) ++ (done ++ part)
 
--- such a client over an honest link to such a server: what the server took is a prefix of what the client sent, and what the client got a prefix of
--- what the server wrote, by what it was told
+-- such a client over an honest link to such a server: what the server took is a prefix of what the
+-- client sent, and what the client received a prefix of what the server wrote, by what it was told
 pub record IsLinked (e : Ends) (deeds : List Deed) (now : Option Deed) (x : ServerChannel) (asks : List Placed) (got : List ℕ) : Type 0 where
   pub can : CanOpen e
   pub limits_are : limits_of x ≡ e.server

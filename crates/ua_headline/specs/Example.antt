@@ -1,5 +1,5 @@
--- A conversation that there may be, with the least limits, on the channel 7 and without a URL: two calls and a renewal between them, which are
--- sent at once, and a call behind the answers to these.
+-- An example conversation, with the least limits, on the channel 7 and without a URL: two calls and
+-- a renewal between them, which are sent at once, and a call after the answers to these.
 use Rattle.std.specs.Prelude.{pos, List, [], ◌∷◌, None}
 use Rattle.ua_channel.specs.Agreement.{agreement_of}
 use Rattle.ua_channel.specs.ClientSends.{hello_to}
@@ -22,11 +22,12 @@ example_ends = record {
   opened = record { ticks = pos 0 };
 }
 
--- the turns, by bodies of one octet
+-- the operations, with bodies of one byte
 abbrev pub example_turns : List (List Outgoing)
 example_turns = (CallWith (1 ∷ []) ∷ (RenewalAt (record { ticks = pos 0 }) ∷ (CallWith (2 ∷ []) ∷ []))) ∷ ((CallWith (3 ∷ []) ∷ []) ∷ [])
 
--- what they tell the server: the calls beside the renewal go under the first token, the call behind its answer under the second
+-- what they tell the server: the calls beside the renewal are sent under the first token, the call
+-- after its response under the second
 abbrev pub example_told : List Told
 example_told =
     Agreed (agreement_of least_limits (hello_to least_limits None))

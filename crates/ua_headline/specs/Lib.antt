@@ -1,4 +1,4 @@
--- What both ends do in a conversation, and what each has of it at any point.
+-- What both ends do in a conversation, and what each has of it at any time.
 pub mod Talk
 pub mod Clients
 pub mod Example

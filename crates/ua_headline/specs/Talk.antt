@@ -1,4 +1,5 @@
--- A conversation of a client and a server over an honest link, at any point of it (OPC 10000-6, 6.7 and 7.1; OPC 10000-4, 5.6.2).
+-- A conversation of a client and a server over an honest link, at any time (OPC 10000-6, 6.7 and
+-- 7.1; OPC 10000-4, 5.6.2).
 use Rattle.std.specs.Prelude.{◌≡◌, ℕ, ◌+◌, ◌<◌, ◌≤◌, ◌^◌, ◌++◌, IsTrue, List, [], ◌∷◌, length, Option, None}
 use Rattle.std.specs.List.{AllByRecursion}
 use Rattle.ua_builtin.specs.DateTime.{date_time}
@@ -35,8 +36,9 @@ use Rattle.ua_server.specs.State.{State}
 abbrev pub IsPrefix : {A : Type 0} → List A → List A → Type 0
 IsPrefix {A = A} xs ys = (more : List A) × (ys ≡ xs ++ more)
 
--- a server as its connection begins: its limits, the id of its channel, the state of its services, and the times of its answers, one for each,
--- in order, and 0 where these end; and a client: its limits, the URL that it names, and the time of its first OPN
+-- a server when its connection begins: its limits, its SecureChannelId, the state of its services,
+-- and the times of its answers, one for each, in order, and 0 when these end; and a client: its
+-- limits, the URL that it names, and the time of its first OPN
 pub record Ends : Type 0 where
   pub server : Limits
   pub channel : ℕ
@@ -46,8 +48,9 @@ pub record Ends : Type 0 where
   pub url : Option (List ℕ)
   pub opened : DateTime
 
--- ---- what the server answers to what a client sends at once, calls and renewals, from this state and request id on, at these times, where so
--- many tokens were issued: to a call the response to its body, under its own request id; to a renewal the next token, for an hour
+-- ---- what the server answers to what a client sends at once, calls and renewals
+-- from this state and RequestId on, at these times, after this many tokens were issued: to a call
+-- the response to its body, under its own RequestId; to a renewal the next token, for an hour
 
 abbrev pub answers_to : State → List DateTime → ℕ → ℕ → List Outgoing → List Answer
 answers_to s times issued id [] = []
@@ -58,15 +61,15 @@ answers_to s times issued id (RenewalAt time ∷ os) =
     TokenFor id 0 (issued + 1) token_lifetime (first_of times)
     ∷ answers_to s (behind_first times) (issued + 1) (id + 1) os
 
--- the state that it leaves, and the times that are not used yet
+-- the state that it leaves, and the timestamps that are not used yet
 abbrev pub left_by : State → List DateTime → List Outgoing → State × List DateTime
 left_by s times [] = (s, times)
 left_by s times (CallWith body ∷ os) = left_by (answered s (first_of times) body).0 (behind_first times) os
 left_by s times (RenewalAt time ∷ os) = left_by s (behind_first times) os
 
--- ---- turns, behind the opening: what the client sends at once, each where it took the answers to those before it
+-- ---- operations after the opening: what the client sends at once, each after all earlier answers
 
--- where both ends are behind the opening
+-- the states of both ends after the opening
 abbrev pub both_opened : Ends → BothEnds
 both_opened e = record {
   server = with_token (greeted_at (hello_to e.client e.url));
@@ -74,11 +77,11 @@ both_opened e = record {
   id = 2;
 }
 
--- one turn, and the server's answers to it
+-- one operation, and the server's answers to it
 abbrev pub round_of : BothEnds → State → List DateTime → List Outgoing → Round
 round_of at s times os = record { outgoing = os; answers = answers_to s times at.server.issued at.id os }
 
--- what goes over the connection in turns, from where both are
+-- what goes over the connection in operations, from the states of both
 abbrev pub rounds_from : Ends → BothEnds → State → List DateTime → List (List Outgoing) → List Round
 rounds_from e at s times [] = []
 rounds_from e at s times (os ∷ turns) =
@@ -88,7 +91,7 @@ rounds_from e at s times (os ∷ turns) =
 abbrev pub rounds_in : Ends → List (List Outgoing) → List Round
 rounds_in e turns = rounds_from e (both_opened e) e.first (behind_first e.times) turns
 
--- the state that turns leave
+-- the state that operations leave
 abbrev pub state_from : State → List DateTime → List (List Outgoing) → State
 state_from s times [] = s
 state_from s times (os ∷ turns) = state_from (left_by s times os).0 (left_by s times os).1 turns
@@ -97,35 +100,36 @@ state_from s times (os ∷ turns) = state_from (left_by s times os).0 (left_by s
 abbrev pub state_in : Ends → List (List Outgoing) → State
 state_in e turns = state_from e.first (behind_first e.times) turns
 
--- what the client sends: the HEL and the first OPN, and its turns
+-- what the client sends: the HEL and the first OPN, and its operations
 abbrev pub sent_in : Ends → List (List Outgoing) → List ℕ
 sent_in e turns =
     (frame_octets (hello_frame (hello_to e.client e.url)) ++ frame_octets (first_open e.opened))
     ++ rounds_up e.server e.channel (both_opened e) (rounds_in e turns)
 
--- what that tells the server: what was agreed to, the first token, and each call whole, once, in order, under its own request id, and each renewal
+-- what that tells the server: what was agreed, the first token, and each call whole, once, in
+-- order, under its own RequestId, and each renewal
 abbrev pub told_in : Ends → List (List Outgoing) → List Told
 told_in e turns =
     (Agreed (agreement_of e.server (hello_to e.client e.url)) ∷ (Opened 1 0 1 3600000 ∷ []))
     ++ rounds_told e.server e.channel (both_opened e) (rounds_in e turns)
 
--- what the answers tell the client: what was agreed to, the first token, and each call its own reply, or that it was given up as too large for the
--- client, and each further token
+-- what the answers tell the client: what was agreed, the first token, and each call its own reply,
+-- or that it was aborted as too large for the client, and each further token
 abbrev pub heard_in : Ends → List (List Outgoing) → List ClientTold
 heard_in e turns =
     (heard.Agreed (ack_to (hello_to e.client e.url) e.server) ∷ (heard.Opened e.channel 1 ∷ []))
     ++ rounds_heard e.server e.channel (both_opened e) (rounds_in e turns)
 
--- what the server writes to the opening
+-- what the server writes in answer to the opening
 abbrev pub opening_answer : Ends → List ℕ
 opening_answer e =
     frame_octets (ack_frame (ack_to (hello_to e.client e.url) e.server)) ++ frame_octets (opened_frame e.channel 1 1 0 1 3600000 (first_of e.times))
 
--- what the client asks in its turns, each where the answers to those before it end
+-- the client's operations, each at the end of the answers to those before it
 abbrev pub asks_in : Ends → List (List Outgoing) → List Placed
 asks_in e turns = rounds_asks e.server e.channel (length (opening_answer e)) (both_opened e) (rounds_in e turns)
 
--- the first turns are those of others, the last of them maybe in part
+-- the first operations are those of others, the last of them maybe in part
 abbrev pub AreFirstOf : List (List Outgoing) → List (List Outgoing) → Type 0
 AreFirstOf [] turns = Unit {0}
 AreFirstOf (os ∷ first) [] = ⊥
@@ -134,14 +138,14 @@ AreFirstOf (os ∷ (next ∷ first)) (us ∷ turns) = (os ≡ us) × AreFirstOf 
 
 -- ---- what is assumed
 
--- each turn can be written, and the client refuses nothing of it where both are then
+-- each operation can be encoded, and the client refuses none of it in the states of both then
 abbrev pub AreAccepted : Ends → BothEnds → List Round → Type 0
 AreAccepted e at [] = Unit {0}
 AreAccepted e at (r ∷ rounds) =
     (AreWritable r.outgoing × (outgoing_refusal at.client at.id r.outgoing ≡ None))
     × AreAccepted e (round_behind e.server e.channel at r) rounds
 
--- what both send to open the channel, and all times of answers, can be written
+-- what both send to open the channel, and all times of answers, can be encoded
 pub record CanOpen (e : Ends) : Type 0 where
   pub hello_fits : IsTrue (hello.encodable (hello_to e.client e.url))
   pub url_fits : url_length e.url ≤ 4095
@@ -150,7 +154,8 @@ pub record CanOpen (e : Ends) : Type 0 where
   pub opened_fits : IsTrue (date_time.encodable e.opened)
   pub times_fit : AllByRecursion (λ (time : DateTime). IsTrue (date_time.encodable time)) e.times
 
--- what such a server took is a prefix of what such a client sent, and that of its turns: of the last a part may be on its way, or not be sent yet
+-- what such a server took is a prefix of what such a client sent, and that of its operations: of
+-- the last a part may be in transit, or not be sent yet
 pub record TookOf (e : Ends) (turns : List (List Outgoing)) (x : ServerChannel) (took : List ℕ) : Type 0 where
   pub can : CanOpen e
   pub accepted : AreAccepted e (both_opened e) (rounds_in e turns)
@@ -160,7 +165,8 @@ pub record TookOf (e : Ends) (turns : List (List Outgoing)) (x : ServerChannel) 
   pub sent_is : IsPrefix sent (sent_in e turns)
   pub took_is : IsPrefix took sent
 
--- what such a client got, which asked each turn by then, is a prefix of what such a server wrote, by what it was told
+-- what such a client received, which had made each operation by then, is a prefix of what such a
+-- server wrote, by what it was told
 pub record GotOf (e : Ends) (turns : List (List Outgoing)) (x : ServerChannel) (y : ClientChannel) (asks : List Placed) (got : List ℕ) : Type 0 where
   pub took : List ℕ
   pub took_of : TookOf e turns x took

@@ -1,4 +1,5 @@
--- Which turns a client takes, and why the first that it does not take is refused.
+-- Which client operations (turns: calls at once, or a renewal) a client accepts, and why the first
+-- that it does not accept is refused.
 use Rattle.std.specs.Prelude.{◌≡◌, ℕ, zero, suc, ◌+◌, Bool, List, [], ◌∷◌, ◌++◌, length, map, Option, Some, None}
 use Rattle.ua_builtin.specs.Reasons.{first_reason, renamed_reason}
 use Rattle.ua_frame.specs.After.{AllAfter}
@@ -13,49 +14,53 @@ use Rattle.ua_client.specs.declared.fault.ClientFault.{ClientFault}
 use Rattle.ua_client.specs.declared.fault.ClientFault.TheVariants as fault
 use Rattle.ua_loopback.specs.Turns.{ids_behind}
 
--- what a server with these limits acknowledges to a client with those, for this URL (OPC 10000-6, 7.1.2.4)
+-- what a server with these limits acknowledges to a client with those, for this URL (OPC 10000-6,
+-- 7.1.2.4)
 abbrev pub acknowledged : Limits → Limits → Option (List ℕ) → Ack
 acknowledged server client url = ack_to (hello_to client url) server
 
 -- ---- the tokens that the client holds
 
--- how many it holds behind so many calls that are answered: all of these where there is no call, else just the one that the last reply used
+-- how many tokens it holds after this many calls that are answered: all of these if there is no
+-- call, else only the one that the last reply used
 abbrev pub held_behind_calls : ℕ → ℕ → ℕ
 held_behind_calls held zero = held
 held_behind_calls held (suc n) = 1
 
--- behind one turn: a renewal brings one more
+-- after one operation: a renewal brings one more
 abbrev pub held_behind : ℕ → Option (List Request) → ℕ
 held_behind held (Some requests) = held_behind_calls held (length requests)
 held_behind held None = held + 1
 
--- behind turns
+-- after operations
 abbrev pub tokens_held : ℕ → List (Option (List Request)) → ℕ
 tokens_held held [] = held
 tokens_held held (t ∷ turns) = tokens_held (held_behind held t) turns
 
--- ---- why a turn is not taken
+-- ---- why an operation is refused
 
--- why a turn is not taken of a server that sent this ACK, where so many tokens are held and this is the next request id, in the order in which
--- it is judged. Of requests: what is against the first of them, then what is against the next. Of a renewal: 16 tokens are held; all request
--- ids were used
+-- why an operation is refused with a server that sent this ACK, if this many tokens are held and
+-- this is the next RequestId, in the order in which it is judged. Of requests: what is against the
+-- first of them, then what is against the next. Of a renewal: 16 tokens are held; all RequestIds
+-- were used
 abbrev pub turn_reasons : Ack → ℕ → ℕ → Option (List Request) → List (ClientFault × Bool)
 turn_reasons a held id (Some requests) = group_reasons (Some a) id requests
 turn_reasons a held id None = map (renamed_reason by_channel) (reasons_of_token held id)
 
--- the first of these reasons against a turn behind others, if there is one; the token and the request id of the opening were used before
+-- the first of these reasons against an operation after others, if there is one; the token and the
+-- RequestId of the opening were used before
 abbrev pub turn_refusal : Ack → List (Option (List Request)) → Option (List Request) → Option ClientFault
 turn_refusal a before turn = first_reason (turn_reasons a (tokens_held 1 before) (ids_behind 2 before) turn)
 
--- a turn behind these is accepted
+-- an operation after these is accepted
 abbrev pub IsAccepted : Ack → List (Option (List Request)) → Option (List Request) → Type 0
 IsAccepted a before turn = turn_refusal a before turn ≡ None
 
--- each of the turns is, behind those before it
+-- each of the operations is accepted, after those before it
 abbrev pub AreAccepted : Ack → List (Option (List Request)) → Type 0
 AreAccepted a turns = AllAfter (IsAccepted a) turns
 
--- the first of the turns that is not accepted has this place, and this is why
+-- the first of the operations that is not accepted has this place, and this is why
 pub record FirstRefused (a : Ack) (turns : List (Option (List Request))) (place : ℕ) (reason : ClientFault) : Type 0 where
   pub before : List (Option (List Request))
   pub turn : Option (List Request)
@@ -65,7 +70,7 @@ pub record FirstRefused (a : Ack) (turns : List (Option (List Request))) (place 
   pub accepted : AreAccepted a before
   pub refused : turn_refusal a before turn ≡ Some reason
 
--- a fault that is a reason against a turn
+-- a fault that is a reason against an operation
 abbrev pub IsTurnFault : ClientFault → Type 0
 IsTurnFault fault.NotWritable = Unit {0}
 IsTurnFault fault.Exhausted = Unit {0}

@@ -1,11 +1,12 @@
--- How the server at the other end of a line began.
+-- How the server at the other end of a transport began.
 use Rattle.std.specs.Prelude.{ℕ, pos, [], None}
 use Rattle.std.proofs.Math.Nat.{le_refl}
 use Rattle.ua_builtin.specs.declared.date_time.DateTime.{DateTime}
 use Rattle.ua_frame.specs.declared.limits.Limits.{Limits}
 use Rattle.ua_server.specs.State.{State, fresh}
 
--- its limits, the id of its channel, its services as the connection began, and the moment of each of its answers
+-- its limits, its SecureChannelId, its services when the connection began, and the time of each of
+-- its answers
 pub record Beginning : Type 0 where
   pub limits : Limits
   pub channel : ℕ
@@ -26,6 +27,6 @@ least = record {
   takes_chunks = le_refl 1;
 }
 
--- a server with nothing to serve, of which no line is
+-- a server with nothing to serve, which is at the end of no transport
 abbrev pub no_server : Beginning
 no_server = record { limits = least; channel = 0; first = fresh [] (record { url = None; application_uri = None; name = None; message_limit = 0 }); moment = record { ticks = pos 0 } }

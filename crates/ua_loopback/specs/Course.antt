@@ -1,4 +1,5 @@
--- What comes of a client's turns over a line: which octets it sends, where it then stands, and the replies.
+-- The outcome of a client's operations over a transport: which bytes it sends, its state then, and
+-- the replies.
 use Rattle.std.specs.Prelude.{◌≡◌, ◌++◌, ℕ, List, [], ◌∷◌, Option, Some, None}
 use Rattle.ua_builtin.specs.declared.date_time.DateTime.{DateTime}
 use Rattle.ua_frame.specs.declared.limits.Limits.{Limits}
@@ -15,11 +16,12 @@ use Rattle.ua_client.specs.ClientPlace.{ClientPlace, StandsAt}
 use Rattle.ua_client.specs.declared.connection.Connection.{Connection}
 use Rattle.ua_client.specs.declared.reply.Reply.{Reply}
 
--- the turns of a client that stood here, each done where those before it left it, and all that it asks answered: where it then stands, what it
--- sent, and the replies
+-- the operations of a client in this state, each done in the state that those before it left, and
+-- all of them answered: its state then, what it sent, and the replies
 pub data Course (moment : DateTime) (s : ClientPlace) : List (Option (List Request)) → ClientPlace → List ℕ → List Reply → Type 0 where
   Begun : Course moment s [] s [] []
-  -- requests, in groups of 64, of which the last may have fewer, each call with its own reply, by the channel of a client
+  -- requests, in groups of 64, of which the last may have fewer, each call with its own reply, by
+  -- the channel of a client
   Asked : {x : ClientChannel} {turns : List (Option (List Request))} {m u : ClientPlace} {sent more taken : List ℕ} {replies added : List Reply} (t : Option (List Request)) (groups : List (List Request))
       → Course moment s turns m sent replies → t ≡ Some (all_of groups) → AreGroups groups → Rounds x m groups u more taken added → Course moment s (turns ++ t ∷ []) u (sent ++ more) (replies ++ added)
   -- a renewal
@@ -30,15 +32,15 @@ pub data Course (moment : DateTime) (s : ClientPlace) : List (Option (List Reque
 abbrev pub opening_octets : Limits → Option (List ℕ) → DateTime → List ℕ
 opening_octets limits url moment = hello_octets limits url ++ open_octets moment
 
--- all of it, from the HEL to the CLO, and what it took: these octets were sent and all of those were taken, by a client with these turns,
--- whose replies are these
+-- all of it, from the HEL to the CLO, and what it took: these bytes were sent and all of those were
+-- taken, by a client with these operations, whose replies are these
 pub record Converses (limits : Limits) (url : Option (List ℕ)) (moment : DateTime) (turns : List (Option (List Request))) (up down : List ℕ) (replies : List Reply) : Type 0 where
-  -- where the channel was open
+  -- the state in which the channel was open
   pub x : ClientChannel
   pub opened : ClientPlace
   pub opens : IsOpened x opened.octets
   pub opened_at : StandsAt x opened
-  -- and where the last turn left it
+  -- and the state that the last operation left
   pub last : ClientPlace
   pub sent : List ℕ
   pub course : Course moment opened turns last sent replies
@@ -47,7 +49,8 @@ pub record Converses (limits : Limits) (url : Option (List ℕ)) (moment : DateT
 
 -- ---- on the way
 
--- a client that did these turns over a line: where it stands, what went over the line, and the replies
+-- a client that did these operations over a transport: its state, what went over the transport, and
+-- the replies
 pub record Stays (moment : DateTime) (opening : List ℕ) (opened : ClientPlace) (turns : List (Option (List Request))) (x : Connection) (before now : Option Traffic) (replies : List Reply) : Type 0 where
   pub site : ClientPlace
   pub at : StandsAt (channel_of x) site

@@ -1,4 +1,5 @@
--- Why a call of a client may fail that talks to a server, and what was done before a turn that is refused.
+-- Why a call of a client may fail that talks to a server, and what was done before an operation
+-- that is refused.
 use Rattle.std.specs.Prelude.{◌≡◌, ◌≤◌, ℕ, ◌++◌, List, [], ◌∷◌, length, map, Option, Some, None}
 use Rattle.ua_builtin.specs.declared.date_time.DateTime.{DateTime}
 use Rattle.ua_frame.specs.Run.{Going}
@@ -19,8 +20,8 @@ use Rattle.ua_loopback.specs.declared.stage.Stage.TheVariants as far
 
 -- ---- faults
 
--- a fault that what the server says has no part in: the line failed to read or to write, memory was refused, or as many reads were made as a
--- call may make
+-- a fault that does not depend on what the server sends: the transport failed to read or to write,
+-- an allocation failed, or as many reads were made as a call may make
 abbrev pub IsOutside : ClientFault → Type 0
 IsOutside fault.Read = Unit {0}
 IsOutside fault.Write = Unit {0}
@@ -28,7 +29,8 @@ IsOutside fault.OutOfMemory = Unit {0}
 IsOutside fault.TooLong = Unit {0}
 IsOutside other = ⊥
 
--- a fault of a turn behind a talk: one of these, or a reason against the turn; or UnknownResponse, where this is so of the server's answers
+-- a fault of an operation after a talk: one of these, or a reason against the operation; or
+-- UnknownResponse, if this holds of the server's answers
 abbrev pub FailsBehind : Type 0 → ClientFault → Type 0
 FailsBehind Misanswers fault.UnknownResponse = Misanswers
 FailsBehind Misanswers fault.NotWritable = Unit {0}
@@ -37,15 +39,17 @@ FailsBehind Misanswers fault.TooLarge = Unit {0}
 FailsBehind Misanswers fault.TooManyTokens = Unit {0}
 FailsBehind Misanswers other = IsOutside other
 
--- what such a server makes of all octets that a client wrote to it up to such a fault: where the line failed it refuses nothing of them, no
--- CLO in them closed its channel, and it waits for more; behind as many reads as a call may make it said at least so many octets
+-- what such a server makes of all bytes that a client wrote to it up to such a fault: if the
+-- transport failed it rejects nothing of them, no CLO in them closed its channel, and it waits for
+-- more; after as many reads as a call may make it sent at least this many bytes
 pub record StopsAfter (f : ClientFault) (b : Beginning) (up : List ℕ) : Type 0 where
   pub read : f ≡ fault.Read → end_by b up ≡ Going
   pub write : f ≡ fault.Write → end_by b up ≡ Going
   pub long : f ≡ fault.TooLong → most_reads ≤ length (server_output b up)
 
--- why a client fails at a server in its own process, whose connection is so far: memory was refused, to the client, or to the server, so that
--- their line is broken; or there is a reason against a turn, and the connection goes on
+-- why a client fails at a server in its own process, whose connection has this progress: an
+-- allocation failed, in the client, or in the server, so that their transport is broken; or there
+-- is a reason against an operation, and the connection goes on
 abbrev pub FailsAt : Stage → ClientFault → Type 0
 FailsAt stage fault.Read = stage ≡ far.Broken
 FailsAt stage fault.Write = stage ≡ far.Broken
@@ -56,15 +60,15 @@ FailsAt stage fault.TooLarge = stage ≡ far.Going
 FailsAt stage fault.TooManyTokens = stage ≡ far.Going
 FailsAt stage other = ⊥
 
--- ---- a turn that is refused
+-- ---- an operation that is refused
 
--- what was done of these turns and of one behind them that is refused: of the requests that it asks the first, in the groups before the one
--- that is refused; of a renewal nothing
+-- what was done of these operations and of one after them that is refused: of its requests the
+-- first, in the groups before the one that is refused; of a renewal nothing
 abbrev pub IsDoneOf : List (Option (List Request)) → Option (List Request) → List (Option (List Request)) → Type 0
 IsDoneOf before None done = done ≡ before
 IsDoneOf before (Some requests) done = (asked : List Request) × (others : List Request) × (requests ≡ asked ++ others) × (done ≡ before ++ Some asked ∷ [])
 
--- what was done of turns of which the one at this place is refused
+-- what was done of operations of which the one at this place is refused
 pub record DoneBefore (turns : List (Option (List Request))) (place : ℕ) (done : List (Option (List Request))) : Type 0 where
   pub before : List (Option (List Request))
   pub turn : Option (List Request)
@@ -73,8 +77,9 @@ pub record DoneBefore (turns : List (Option (List Request))) (place : ℕ) (done
   pub place_is : length before ≡ place
   pub done_is : IsDoneOf before turn done
 
--- a client with these limits, at a server that began so, did what stands before the turn at this place, which is refused: what it sent, the
--- replies, and the state that it left are those of what was done, and of no more
+-- a client with these limits, at a server that began in this way, did the operations before the one
+-- at this place, which is refused: what it sent, the replies, and the state that it left are those
+-- of what was done, and of no more
 pub record BehindRefused (b : Beginning) (limits : Limits) (url : Option (List ℕ)) (moment : DateTime) (turns : List (Option (List Request))) (place : ℕ) (up : List ℕ) (replies : List Reply) : Type 0 where
   pub done : List (Option (List Request))
   pub done_is : DoneBefore turns place done

@@ -1,4 +1,4 @@
--- What a line to a server keeps.
+-- What a transport to a server keeps.
 use Rattle.std.specs.Prelude.{◌≡◌, ◌≤◌, ◌++◌, ℕ, List, length, drop}
 use Rattle.ua_builtin.specs.declared.date_time.DateTime.{DateTime}
 use Rattle.ua_channel.specs.Line.{Traffic}
@@ -15,8 +15,8 @@ use Rattle.ua_loopback.specs.Says.{end_by, services_after, server_output, times_
 use Rattle.ua_loopback.specs.declared.stage.Stage.{Stage}
 use Rattle.ua_loopback.specs.declared.stage.Stage.TheVariants.{Going, Ended, Broken}
 
--- what was written to it, and what the server said, of which so many octets were read; the services; how far the connection is; how
--- many calls failed
+-- what was written to it, and what the server sent, of which this many bytes were read; the
+-- services; the progress of the connection; how many calls failed
 pub record Served : Type 0 where
   pub up : List ℕ
   pub down : List ℕ
@@ -25,17 +25,19 @@ pub record Served : Type 0 where
   pub stage : Stage
   pub failures : ℕ
 
--- the octets of a line to a server that began so: what is to come is what the server says of all that is then written, behind what was read
+-- the bytes of a transport to a server that began in this way: what is to come is the response to
+-- all that is then written, after what was read
 abbrev pub traffic_of : Beginning → Served → Traffic
 traffic_of b l = record { coming = λ (more : List ℕ). drop l.read (server_output b (l.up ++ more)); written = l.up }
 
--- the connection goes no further: it ended, or memory was refused
+-- the connection goes no further: it ended, or an allocation failed
 abbrev pub IsOver : Stage → Type 0
 IsOver Going = ⊥
 IsOver (Ended end) = Unit {0}
 IsOver Broken = Unit {0}
 
--- how far the connection is before a write that fails, and behind it: it was over, and stays as it was; or it is broken from then on
+-- the progress of the connection before a write that fails, and after it: it was over, and stays
+-- unchanged; or it is broken from then on
 abbrev pub StopsWriting : Stage → Stage → Type 0
 StopsWriting Going new = new ≡ Broken
 StopsWriting (Ended end) new = new ≡ Ended end
@@ -48,20 +50,21 @@ pub record Serves (b : Beginning) (server : Server) (now : State) (up : List ℕ
   pub limits_are : limits_of (channel_in server) ≡ b.limits
   pub channel_is : channel_of (channel_in server) ≡ b.channel
 
--- where the server stands: behind all that was written while the connection goes on
+-- the state of the server: that after all that was written while the connection goes on
 abbrev pub ServesAt : Stage → Beginning → Server → State → List ℕ → Type 0
 ServesAt Going b server now up = Serves b server now up
 ServesAt (Ended end) b server now up = Unit {0}
 ServesAt Broken b server now up = Unit {0}
 
--- the services are what all that was written leaves, unless memory was refused
+-- the services are what all that was written leaves, unless an allocation failed
 abbrev pub LeavesAt : Stage → Beginning → List ℕ → State → Type 0
 LeavesAt Going b up now = now ≡ services_after b up
 LeavesAt (Ended end) b up now = now ≡ services_after b up
 LeavesAt Broken b up now = Unit {0}
 
--- how what was written ends at such a server, where the connection is so far: nothing of it is refused and nothing closed the channel, and it
--- goes on, or memory was refused; or a CLO closed the channel; or what stands there is refused with this code
+-- how what was written ends at such a server, if the connection has this progress: nothing of it is
+-- rejected and nothing closed the channel, and it goes on, or an allocation failed; or a CLO closed
+-- the channel; or what follows is rejected with this code
 abbrev pub EndsAt : Stage → Beginning → List ℕ → Type 0
 EndsAt Going b up = end_by b up ≡ run.Going
 EndsAt (Ended ending.Closed) b up = end_by b up ≡ run.Over
@@ -70,7 +73,7 @@ EndsAt (Ended ending.NoClose) b up = ⊥
 EndsAt (Ended ending.Cut) b up = ⊥
 EndsAt Broken b up = end_by b up ≡ run.Going
 
--- what a line to a server that began so keeps
+-- what a transport to a server that began in this way keeps
 pub record Keeps (b : Beginning) (server : Server) (now : State) (moment : DateTime) (up down : List ℕ) (read : ℕ) (stage : Stage) : Type 0 where
   pub moment_is : moment ≡ b.moment
   pub down_is : down ≡ server_output b up

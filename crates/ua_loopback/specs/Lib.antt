@@ -1,6 +1,8 @@
--- The definitions, in the order in which they are best read: how the server of a line began; what it says of octets, and what they leave
--- of its services; what its line keeps; what comes of turns over it; where both ends are between two turns; what turns tell the server; and
--- which turns are taken, what is sent of them and comes of them; why a call may fail; and a client over any line to a server, call by call.
+-- The definitions, in the order in which they are best read: how the server of a transport began;
+-- the response to bytes, and the state of its services after them; what its transport keeps; the
+-- outcome of operations over it; the states of both ends between two operations; what operations
+-- tell the server; and which operations are accepted, what is sent for them and their outcomes; why
+-- a call may fail; and a client over any transport to a server, call by call.
 pub mod Beginning
 pub mod Says
 pub mod Kept

@@ -1,4 +1,5 @@
--- What becomes of a client's requests at a server: each is answered in the state that those before it left.
+-- The outcomes of a client's requests at a server: each is answered in the state that those before
+-- it left.
 use Rattle.std.specs.Prelude.{IsTrue, ℕ, ◌⊎◌, ◌++◌, List, [], ◌∷◌, Option, Some, None, Result, Ok, Err}
 use Rattle.ua_builtin.specs.Status.{of_code}
 use Rattle.ua_builtin.specs.declared.date_time.DateTime.{DateTime}
@@ -21,12 +22,13 @@ use Rattle.ua_client.specs.declared.reply.Reply.TheVariants as reply
 use Rattle.ua_loopback.specs.Beginning.{Beginning}
 use Rattle.ua_loopback.specs.Turns.{token_behind}
 
--- the reply that octets are read as, if they are a response
+-- the reply that bytes are decoded as, if they are a response
 abbrev pub reply_read : Result Response ResponseFault → Option Reply
 reply_read (Ok r) = Some (reply.Response r)
 reply_read (Err fault) = None
 
--- the reply with this body: the response that the client reads, or where it takes no message of its size, the code Bad_ResponseTooLarge
+-- the reply with this body: the response that the client decodes, or if it takes no message of its
+-- size, the code Bad_ResponseTooLarge
 abbrev pub reply_unless : Option CutFault → List ℕ → Option Reply
 reply_unless None body = reply_read (response_read body)
 reply_unless (Some fault) body = Some (reply.Aborted (of_code 0x80B9_0000))
@@ -36,7 +38,8 @@ abbrev pub state_behind : State → DateTime → List Request → State
 state_behind s moment [] = s
 state_behind s moment (m ∷ ms) = state_behind (answer s moment m).0 moment ms
 
--- the answer to one of these requests, each in the state that those before it left, is no response that answers it, though it can be encoded
+-- the answer to one of these requests, each in the state that those before it left, is no response
+-- that answers it, though it can be encoded
 abbrev pub HaveMisanswer : State → DateTime → List Request → Type 0
 HaveMisanswer s moment [] = ⊥
 HaveMisanswer s moment (m ∷ ms) = (IsTrue (request.encodable m) × IsNoAnswer (kind_of m) (response.canonical (answer s moment m).1)) ⊎ HaveMisanswer (answer s moment m).0 moment ms
@@ -47,7 +50,7 @@ requests_replies back s moment [] = []
 requests_replies back s moment (m ∷ ms) =
     reply_unless (cut_refusal back (response.canonical (answer s moment m).1)) (response.canonical (answer s moment m).1) ∷ requests_replies back (answer s moment m).0 moment ms
 
--- of one turn; a renewal has none, and leaves the state
+-- of one operation; a renewal has none, and leaves the state unchanged
 abbrev pub turn_replies : Lane → State → DateTime → Option (List Request) → List (Option Reply)
 turn_replies back s moment (Some requests) = requests_replies back s moment requests
 turn_replies back s moment None = []
@@ -57,11 +60,13 @@ abbrev pub turn_state : State → DateTime → Option (List Request) → State
 turn_state s moment (Some requests) = state_behind s moment requests
 turn_state s moment None = s
 
--- where the replies go of a server that began so, to a client with these limits for this URL: under the token of their requests
+-- the lane of the replies of a server that began in this way, to a client with these limits for
+-- this URL: under the token of their requests
 abbrev pub lane_back : Beginning → Limits → Option (List ℕ) → ℕ → Lane
 lane_back b client url token = lane_of b.channel token (agreement_of b.limits (hello_to client url))
 
--- of turns in order, at a server that began so, where this is the newest token: each reply goes under the token of its request
+-- of operations in order, at a server that began in this way, if this is the newest token: each
+-- reply is sent under the token of its request
 abbrev pub turns_replies : Beginning → Limits → Option (List ℕ) → State → ℕ → List (Option (List Request)) → List (Option Reply)
 turns_replies b client url s token [] = []
 turns_replies b client url s token (t ∷ turns) =

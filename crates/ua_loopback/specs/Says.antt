@@ -1,4 +1,5 @@
--- What a server says of octets, and what they leave of its services: functions of how it began and of the octets, whatever the pieces.
+-- The response of a server to bytes, and the state of its services after them: functions of how it
+-- began and of the bytes, whatever the fragments.
 use Rattle.std.specs.Prelude.{ℕ, replicate, List}
 use Rattle.ua_builtin.specs.declared.date_time.DateTime.{DateTime}
 use Rattle.ua_frame.specs.Laws.{Reading}
@@ -10,11 +11,11 @@ use Rattle.ua_server.specs.Said.{state_after, output_of, used_in}
 use Rattle.ua_server.specs.State.{State}
 use Rattle.ua_loopback.specs.Beginning.{Beginning}
 
--- the one reading of octets at that server: their good frames, and how what stands behind them ends
+-- the one reading of bytes at that server: their good frames, and how what follows them ends
 abbrev pub reading_at_server : (b : Beginning) (octets : List ℕ) → Reading (server_rules b.limits b.channel) octets
 reading_at_server b octets = reading (server_rules b.limits b.channel) octets
 
--- what the frames of octets tell it
+-- what the frames of bytes tell it
 abbrev pub events_at_server : Beginning → List ℕ → List Told
 events_at_server b octets = events (server_rules b.limits b.channel) (reading_at_server b octets).frames
 
@@ -22,15 +23,15 @@ events_at_server b octets = events (server_rules b.limits b.channel) (reading_at
 abbrev pub end_by : Beginning → List ℕ → End ℕ
 end_by b octets = (reading_at_server b octets).end
 
--- its one moment, for each answer to what is told
+-- its one time, for each answer to what is told
 abbrev pub times_of_answers : List Told → DateTime → List DateTime
 times_of_answers told moment = replicate (used_in told) moment
 
--- all that it says of octets
+-- all that it sends for bytes
 unfoldable pub server_output : Beginning → List ℕ → List ℕ
 server_output b octets = output_of b.channel b.first (events_at_server b octets) (end_by b octets) (times_of_answers (events_at_server b octets) b.moment)
 
--- the state in which octets leave its services
+-- the state in which bytes leave its services
 unfoldable pub services_after : Beginning → List ℕ → State
 services_after b octets = (state_after b.channel b.first (events_at_server b octets) (times_of_answers (events_at_server b octets) b.moment)).state
 

@@ -1,4 +1,5 @@
--- A client over any line to a server, between two of its calls: what it did so far, and where both ends are.
+-- A client over any transport to a server, between two of its calls: what it did so far, and the
+-- states of both ends.
 use Rattle.std.specs.Prelude.{◌≡◌, ◌⊎◌, ℕ, ◌+◌, ◌<◌, ◌≤◌, ◌^◌, ◌++◌, IsTrue, List, [], ◌∷◌, length, map, Option, Some, None}
 use Rattle.ua_builtin.specs.DateTime.{date_time}
 use Rattle.ua_builtin.specs.declared.date_time.DateTime.{DateTime}
@@ -36,38 +37,40 @@ use Rattle.ua_loopback.specs.Sends.{closing_behind, turn_octets, turns_number}
 use Rattle.ua_loopback.specs.Together.{AreServing}
 use Rattle.ua_loopback.specs.Turns.{ids_behind, opening_told, tokens_behind, turns_told}
 
--- ---- the line
+-- ---- the transport
 
--- the octets down of a line are what a server that began so says of its octets up, behind these up and those down: whatever more is sent, to
--- come is what the server says of all of it, behind what was got
+-- the server-to-client bytes of a transport are the response of a server that began in this way to
+-- its client-to-server bytes, after these in the one and those in the other direction: whatever
+-- more is sent, to come is the response to all of it, after what was received
 abbrev pub IsLineTo : Beginning → List ℕ → List ℕ → Option Traffic → Type 0
 IsLineTo b sent got None = ⊥
 IsLineTo b sent got (Some traffic) = (more : List ℕ) → server_output b (sent ++ more) ≡ got ++ traffic.coming more
 
--- just these octets were sent over a line, if it tells them, between two moments
+-- exactly these bytes were sent over a transport, if it tells them, between two times
 abbrev pub IsSentOver : List ℕ → Option Traffic → Option Traffic → Type 0
 IsSentOver octets before after = IfTrafficKnown (λ (a b : Traffic). b.written ≡ a.written ++ octets) before after
 
--- behind a call of a client that failed so over a line, on which these octets stood before, some were sent, and this is what the server makes of
--- all of them
+-- after a call of a client that failed in this way over a transport, over which these bytes went
+-- before, some were sent, and this is what the server makes of all of them
 abbrev pub StopsOver : ClientFault → Beginning → List ℕ → Option Traffic → Option Traffic → Type 0
 StopsOver f b octets before after = (sent : List ℕ) × IsSentOver sent before after × StopsAfter f b (octets ++ sent)
 
--- the numbers of a server have 32 bits, as its ACK and its channel give them, and its moment can be written (OPC 10000-6, 7.1.2.4)
+-- the numbers of a server have 32 bits, as its ACK and its channel give them, and its time can be
+-- encoded (OPC 10000-6, 7.1.2.4)
 pub record CanBegin (b : Beginning) : Type 0 where
   pub octets : b.limits.max_message_size < 2 ^ 32
   pub chunks : b.limits.max_chunk_count < 2 ^ 32
   pub on : b.channel < 2 ^ 32
   pub dated : IsTrue (date_time.encodable b.moment)
 
--- such a server reads these octets, refuses nothing of them, and is told just this
+-- such a server decodes these bytes, rejects nothing of them, and is told exactly this
 abbrev pub Reads : Beginning → List ℕ → List Told → Type 0
 Reads b octets told = (at : AtServer) × ServerReads b.limits b.channel octets told at
 
 -- ---- what was done so far
 
--- how the server began; the limits of the client, and the URL that it named; the turns that it did, each by the requests that were asked in it,
--- none where it was a renewal; and all octets that it sent
+-- how the server began; the limits of the client, and the URL that it named; the operations that it
+-- did, each by its requests, none if it was a renewal; and all bytes that it sent
 pub record SoFar : Type 0 where
   pub server : Beginning
   pub limits : Limits
@@ -75,7 +78,7 @@ pub record SoFar : Type 0 where
   pub turns : List (Option (List Request))
   pub octets : List ℕ
 
--- a client opened its channel at this moment
+-- a client opened its channel at this time
 abbrev pub opening : Beginning → Limits → Option (List ℕ) → DateTime → SoFar
 opening b limits url moment = record { server = b; limits = limits; url = url; turns = []; octets = opening_octets limits url moment }
 
@@ -83,31 +86,33 @@ opening b limits url moment = record { server = b; limits = limits; url = url; t
 abbrev pub acked_in : SoFar → Ack
 acked_in t = acknowledged t.server.limits t.limits t.url
 
--- what the server was told of the opening and of the turns
+-- what the server was told of the opening and of the operations
 abbrev pub told_in : SoFar → List Told
 told_in t = opening_told t.server.limits t.limits t.url ++ turns_told 1 2 t.turns
 
--- the newest token, and the next request id
+-- the newest token, and the next RequestId
 abbrev pub newest_in : SoFar → ℕ
 newest_in t = tokens_behind 1 t.turns
 
 abbrev pub id_in : SoFar → ℕ
 id_in t = ids_behind 2 t.turns
 
--- the state that the turns left, each request in the state that those before it left
+-- the state that the operations left, each request in the state that those before it left
 abbrev pub state_in : SoFar → State
 state_in t = turns_state t.server.first t.server.moment t.turns
 
--- the octets of one turn more, taken at this moment: its requests under the newest token and the next request ids, or the OPN of a renewal
+-- the bytes of one more operation, made at this time: its requests under the newest token and the
+-- next RequestIds, or the OPN of a renewal
 abbrev pub octets_of : SoFar → DateTime → Option (List Request) → List ℕ
 octets_of t moment turn = turn_octets (call_lane (acked_in t) t.server.channel (newest_in t)) (turns_number (acked_in t) t.server.channel 1 2 t.turns) (id_in t) moment turn
 
--- with one turn more, taken at this moment
+-- with one more operation, made at this time
 abbrev pub with_turn : SoFar → DateTime → Option (List Request) → SoFar
 with_turn t moment turn = record { server = t.server; limits = t.limits; url = t.url; turns = t.turns ++ turn ∷ []; octets = t.octets ++ octets_of t moment turn }
 
--- the requests that begin a session which the server gave this token, asked at this moment by the token policy with this PolicyId: the
--- RequestHandle of each is its request id (OPC 10000-4, 5.7.2 and 5.7.3)
+-- the requests that begin a session to which the server gave this token, sent at this time by the
+-- token policy with this PolicyId: the RequestHandle of each is its RequestId (OPC 10000-4, 5.7.2
+-- and 5.7.3)
 abbrev pub session_requests : SoFar → Option (List ℕ) → NodeId → DateTime → List Request
 session_requests t policy_id token moment = create_session t.url moment (id_in t) ∷ activate_session_as policy_id token moment (id_in t + 1) ∷ []
 
@@ -128,19 +133,20 @@ pub record RefusesSession (t : SoFar) (policy_id : Option (List ℕ)) (moment : 
 abbrev pub MisanswersSession : SoFar → Option (List ℕ) → DateTime → Type 0
 MisanswersSession t policy_id moment = (requests : List Request) × AreSession t policy_id moment requests × HaveMisanswer (state_in t) t.server.moment requests
 
--- why a session is not begun behind a talk
+-- why a session is not begun after a talk
 abbrev pub FailsSession : SoFar → Option (List ℕ) → DateTime → ClientFault → Type 0
 FailsSession t policy_id moment (fault.Service code) = RefusesSession t policy_id moment code
 FailsSession t policy_id moment other = FailsBehind (MisanswersSession t policy_id moment) other
 
--- all octets with those of the CLO at this moment
+-- all bytes with those of the CLO at this time
 abbrev pub closed_octets : SoFar → DateTime → List ℕ
 closed_octets t moment = t.octets ++ closing_behind (acked_in t) t.server.channel moment t.turns
 
 -- ---- where both ends are
 
--- a client with these limits stands here, at a settled place: of these octets, which told such a server this, it took all that the server says,
--- and both are in step; this is the newest token, this the next request id, and it holds so many tokens
+-- a client with these limits is in this state, a settled one: of these bytes, which told such a
+-- server this, it took all that the server sends, and both are in step; this is the newest token,
+-- this the next RequestId, and it holds this many tokens
 pub record IsServed (b : Beginning) (limits : Limits) (url : Option (List ℕ)) (octets : List ℕ) (told : List Told) (token id held : ℕ) (site : ClientPlace) (x : ClientChannel) : Type 0 where
   pub limits_are : client_limits x ≡ limits
   pub on : b.channel < 2 ^ 32
@@ -154,14 +160,14 @@ pub record IsServed (b : Beginning) (limits : Limits) (url : Option (List ℕ)) 
   pub few : id ≤ 4294967295
   pub held_is : length at_client.tokens ≡ held
 
--- the same of a client over a line to such a server, which sent just these octets
+-- the same for a client over a transport to such a server, which sent exactly these bytes
 pub record AreTalking (b : Beginning) (limits : Limits) (url : Option (List ℕ)) (octets : List ℕ) (told : List Told) (token id held : ℕ) (site : ClientPlace) (x : Connection) (now : Option Traffic) : Type 0 where
   pub got : List ℕ
   pub line : IsLineTo b octets got now
   pub got_is : got ≡ site.octets ++ untaken_of x
   pub served : IsServed b limits url octets told token id held site (channel_of x)
 
--- the same behind the turns of a talk, each of which was accepted
+-- the same after the operations of a talk, each of which was accepted
 pub record TalksAt (t : SoFar) (site : ClientPlace) (x : Connection) (now : Option Traffic) : Type 0 where
   pub url_is : url_of (channel_of x) ≡ t.url
   pub dated : IsTrue (date_time.encodable t.server.moment)
@@ -170,14 +176,15 @@ pub record TalksAt (t : SoFar) (site : ClientPlace) (x : Connection) (now : Opti
   pub state_is : state_told t.server (told_in t) ≡ state_in t
   pub talking : AreTalking t.server t.limits t.url t.octets (told_in t) (newest_in t) (id_in t) (tokens_held 1 t.turns) site x now
 
--- a client over a line to a server is behind this talk, and may be called: the server read all that it sent and was told just its turns, the
--- client took all that the server says of that, and both are in step
+-- a client over a transport to a server is after this talk, and may be called: the server decoded
+-- all that it sent and was told exactly its operations, the client took all that the server sends
+-- for that, and both are in step
 pub record IsTalking (t : SoFar) (x : Client) (now : Option Traffic) : Type 0 where
   pub ready : IsReady x
   pub site : ClientPlace
   pub talks : TalksAt t site (connection_of x) now
 
--- it is behind this talk and the first of these requests, asked at this moment
+-- it is after this talk and the first of these requests, sent at this time
 pub record IsBehindFirst (t : SoFar) (moment : DateTime) (requests : List Request) (x : Client) (now : Option Traffic) : Type 0 where
   pub done : List Request
   pub others : List Request

@@ -1,4 +1,4 @@
--- Where both ends of a connection are between two turns of a client over a line.
+-- The states of both ends of a connection between two operations of a client over a transport.
 use Rattle.std.specs.Prelude.{◌≡◌, ◌<◌, ◌≤◌, ℕ, List, ◌++◌, map, Option, Some}
 use Rattle.std.specs.List.{AllByRecursion}
 use Rattle.ua_frame.specs.Agreement.{ack_to}
@@ -22,8 +22,9 @@ use Rattle.ua_server.specs.Said.{state_after}
 use Rattle.ua_loopback.specs.Beginning.{Beginning}
 use Rattle.ua_loopback.specs.Says.{server_output, times_of_answers}
 
--- a server with these limits on this channel read these octets, which told it this, and is here; a client stands where it read what the
--- server sent, and is there; both are in step, and the client's next number is the one that the server waits for
+-- a server with these limits on this channel decoded these bytes, which told it this, and has this
+-- state; a client has the state after what the server sent; both are in step, and the client's next
+-- number is the one that the server expects
 pub record AreTogether (limits : Limits) (url : Option (List ℕ)) (channel : ℕ) (octets : List ℕ) (told : List Told) (s : AtServer) (x : ClientChannel) (site : ClientPlace) (c : AtClient) : Type 0 where
   pub server_reads : ServerReads limits channel octets told s
   pub stands : StandsAt x site
@@ -31,26 +32,29 @@ pub record AreTogether (limits : Limits) (url : Option (List ℕ)) (channel : �
   pub in_step : AreInStep limits (client_limits x) url channel s c
   pub number_is : site.number ≡ s.next
 
--- the same in one process: the client took all that a server which began so says of these octets, and what the server says next goes by what
--- was agreed to, under the number that the client waits for
+-- the same in one process: the client took all that a server which began in this way sends for
+-- these bytes, and what the server sends next follows the agreement, under the number that the
+-- client expects
 pub record AreServing (b : Beginning) (url : Option (List ℕ)) (octets : List ℕ) (told : List Told) (s : AtServer) (x : ClientChannel) (site : ClientPlace) (c : AtClient) : Type 0 where
   pub together : AreTogether b.limits url b.channel octets told s x site c
   pub taken : site.octets ≡ server_output b octets
   pub agreed : (state_after b.channel b.first told (times_of_answers told b.moment)).agreement ≡ Some (agreement_of b.limits s.hello)
   pub says_next : (state_after b.channel b.first told (times_of_answers told b.moment)).number ≡ c.next
-  -- the server issued each token that the client holds, and it issued fewer than request ids were used
+  -- the server issued each token that the client holds, and it issued fewer than RequestIds were
+  -- used
   pub issued : AllByRecursion (λ (token : ℕ). token ≤ s.issued) c.tokens
   pub spare : s.issued < id_at site
 
--- what a server that began so answers to the opening of a client: its ACK, and the OPN response that brings the first token
--- (OPC 10000-6, 7.1.2.4 and 6.7.2)
+-- what a server that began in this way answers to the opening of a client: its ACK, and the OPN
+-- response that brings the first token (OPC 10000-6, 7.1.2.4 and 6.7.2)
 abbrev pub opening_answer : Beginning → Limits → Option (List ℕ) → List ℕ
 opening_answer b client url = frame_octets (ack_frame (ack_to (hello_to client url) b.limits)) ++ frame_octets (opened_frame b.channel 1 1 0 1 3600000 b.moment)
 
--- what it answers to a renewal under this request id, with this number: the OPN response that brings this token (OPC 10000-6, 6.7.2)
+-- what it answers to a renewal under this RequestId, with this SequenceNumber: the OPN response
+-- that brings this token (OPC 10000-6, 6.7.2)
 abbrev pub renewal_answer : Beginning → ℕ → ℕ → ℕ → List ℕ
 renewal_answer b number id token = frame_octets (opened_frame b.channel number id 0 token 3600000 b.moment)
 
--- where a server is behind calls of these bodies in a lane
+-- the state of a server after calls with these bodies in a lane
 abbrev pub behind_calls : AtServer → Lane → List (List ℕ) → AtServer
 behind_calls s lane bodies = server_behind lane s (map CallWith bodies)

@@ -1,2 +1,3 @@
--- Words that only contracts within this crate cite: what a client that takes all its turns at one moment did over a line to a server.
+-- Definitions that only contracts within this crate cite: what a client that does all its
+-- operations at one time did over a transport to a server.
 pub mod Talking

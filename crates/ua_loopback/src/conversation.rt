@@ -286,7 +286,7 @@ fn converse_with<T: AsTurn, W: Began>(
 /// services afterwards. No clause mentions the fragment lengths: the result is the same for all of
 /// them.
 ///
-/// `moment` is the timestamp of each answer, of each OPN and of the CLO. Where the client did not
+/// `moment` is the timestamp of each answer, of each OPN and of the CLO. If the client did not
 /// complete all operations, the outcome gives the reason, and the transcript has the bytes and the
 /// state up to then.
 pub fn converse<T: AsTurn>(

@@ -17,7 +17,7 @@ impl Cuts {
         Cuts { lengths, next: 0 }
     }
 
-    /// How many of so many bytes the next call moves: all, or fewer, but at least one where there
+    /// How many of this many bytes the next call moves: all, or fewer, but at least one where there
     /// is one.
     pub fn front(&mut self, count: usize) -> usize
         ensures within { result ≤ count }

@@ -30,7 +30,7 @@ pub enum Retry {
 pub trait Endings {
     ghost use Rattle.ua_poll.specs.News.{News, Over, Missed};
 
-    /// Relates the observer's state before a piece of news to that after it.
+    /// Relates the observer's state before news to that after it.
     ghost notes: { Self → News → Self → Type 0 };
 
     /// The connection of this number ended so. Returns whether more is to be served.

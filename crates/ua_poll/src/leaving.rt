@@ -36,7 +36,7 @@ pub struct Leaving {
 }
 
 impl Leaving {
-    /// So many places, whose tokens begin at this one.
+    /// This many places, whose tokens begin at this one.
     pub fn new(alloc: Global, count: usize, first: usize) -> Result<Leaving, AllocError> {
         let mut leavers = Vec::with_capacity(alloc, count)?;
         for _ in 0..count {
@@ -50,7 +50,7 @@ impl Leaving {
         })
     }
 
-    /// Takes a socket in, in place of the one that came so many before. What cannot be watched is
+    /// Takes a socket in, in place of the one that came this many before. What cannot be watched is
     /// dropped.
     pub fn add(&mut self, registry: &Registry, mut stream: TcpStream) {
         let place = self.next;

@@ -28,8 +28,8 @@ use ua_server::{End, Services};
 /// The most events that the system reports at once.
 const MOST_EVENTS: usize = 256;
 
-/// What is served: connections with these limits, at most so many at a time, up to the end of so
-/// many.
+/// What is served: connections with these limits, at most this many at a time, up to the end of
+/// this many.
 #[derive(Clone, Copy)]
 pub struct AtOnce {
     pub limits: Limits,
@@ -75,7 +75,7 @@ struct Watched {
     over: u32,
 }
 
-/// Serves the peers of a listener, as many at once as there are places, up to the end of so many
+/// Serves the peers of a listener, as many at once as there are places, up to the end of this many
 /// connections. The listener does not block.
 ///
 /// Each round accepts peers while a place is free, asks the system for events, waiting for them

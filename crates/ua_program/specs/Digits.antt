@@ -1,4 +1,4 @@
--- What a file holds: octets, or hexadecimal digits among white space.
+-- The content of a file: bytes, or hexadecimal digits among white space.
 use Rattle.std.specs.Prelude.{◌≡◌, ℕ, Bool, true, false, not, List, ◌++◌, Option, option_to_list, Ok}
 use Rattle.std.specs.Char.{is_ascii_whitespace}
 use Rattle.std.specs.List.{filter}
@@ -8,36 +8,37 @@ use Rattle.hex.specs.Hex.{decode_of}
 abbrev pub digits_in : List ℕ → List ℕ
 digits_in text = filter (λ octet. not (is_ascii_whitespace octet)) text
 
--- the text is octets as pairs of hexadecimal digits of either case, and white space
+-- the text is bytes as pairs of hexadecimal digits of either case, and white space
 abbrev pub IsHex : List ℕ → List ℕ → Type 0
 IsHex text octets = decode_of (digits_in text) ≡ Ok octets
 
--- the octets that a file with this content holds: the content itself, or with `--hex` what its digits stand for
+-- the bytes that a file with this content contains: the content itself, or with `--hex` what its
+-- digits stand for
 abbrev pub HoldsOctets : Bool → List ℕ → List ℕ → Type 0
 HoldsOctets false content octets = octets ≡ content
 HoldsOctets true content octets = IsHex content octets
 
--- a file with this content holds no octets: with `--hex`, where its digits stand for none
+-- a file with this content contains no bytes: with `--hex`, if its digits stand for none
 abbrev pub HoldsNone : Bool → List ℕ → Type 0
 HoldsNone hex content = (octets : List ℕ) → ¬ (HoldsOctets hex content octets)
 
--- ---- a text that comes in pieces
+-- ---- a text that comes in fragments
 
--- the text so far is pairs of digits that stand for these octets, and behind them this digit, if any
+-- the text so far is pairs of digits that stand for these bytes, and after them this digit, if any
 pub record HexSoFar (half : Option ℕ) (text octets : List ℕ) : Type 0 where
   pub pairs : List ℕ
   pub parts : digits_in text ≡ pairs ++ option_to_list half
   pub decoded : decode_of pairs ≡ Ok octets
 
--- whatever follows, the text stands for no octets
+-- whatever follows, the text stands for no bytes
 abbrev pub IsNeverHex : List ℕ → Type 0
 IsNeverHex text = (more octets : List ℕ) → ¬ (IsHex (text ++ more) octets)
 
--- the octets of a file whose content so far is this, with `--hex` where a digit may have no pair yet
+-- the bytes of a file whose content so far is this, with `--hex` if a digit may have no pair yet
 abbrev pub HoldsSoFar : Bool → Option ℕ → List ℕ → List ℕ → Type 0
 HoldsSoFar false half content octets = octets ≡ content
 HoldsSoFar true half content octets = HexSoFar half content octets
 
--- whatever follows, a file whose content begins so holds no octets
+-- whatever follows, a file whose content begins with this contains no bytes
 abbrev pub HoldsNever : Bool → List ℕ → Type 0
 HoldsNever hex content = (more octets : List ℕ) → ¬ (HoldsOctets hex (content ++ more) octets)

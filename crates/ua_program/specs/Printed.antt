@@ -10,19 +10,20 @@ use Rattle.ua_program.specs.Dissects.{HasBegunDissecting}
 use Rattle.ua_program.specs.Looped.{HasLoopedSome}
 use Rattle.ua_program.specs.Served.{HasServed, HasServedSome}
 
--- the text is the lines of some octets of one side
+-- the text is the lines of some bytes of one side
 pub record AreSomeLines (text : List ℕ) : Type 0 where
   pub options : DissectOptions
   pub octets : List ℕ
   pub lines : AreLines options octets text
 
--- a writer that held the old octets then holds the lines of some octets behind them
+-- a writer that had the old bytes then has the lines of some bytes after them
 pub record HasDissected (old new : Option (List ℕ)) : Type 0 where
   pub text : List ℕ
   pub lines : AreSomeLines text
   pub added : Appends old new text
 
--- a writer that held the old octets then holds behind them the lines of the answers of a server, in this style
+-- a writer that had the old bytes then has after them the lines of the answers of a server, in this
+-- style
 abbrev pub HasAnswered : AnswerStyle → Option (List ℕ) → Option (List ℕ) → Type 0
 HasAnswered style old new = HasAdded (AreAnswerLines style) old new
 
@@ -40,7 +41,8 @@ pub record HasListedSome (old new : Option (List ℕ)) : Type 0 where
   pub style : EndpointStyle
   pub listed : HasListed style old new
 
--- a writer that held the old octets then holds behind them the lines of `ua serve` on some port: of so many connections, or of fewer
+-- a writer that had the old bytes then has after them the lines of `ua serve` on some port: of this
+-- many connections, or of fewer
 pub record HasBegunServing (old new : Option (List ℕ)) : Type 0 where
   pub requests : Bool
   pub goes_on : Bool
@@ -48,14 +50,16 @@ pub record HasBegunServing (old new : Option (List ℕ)) : Type 0 where
   pub connections : ℕ
   pub lines : HasServed requests goes_on port connections old new ⊎ HasServedSome requests goes_on port connections old new
 
--- a writer that held the old octets then holds behind them the lines of the frames of one side that the front of some source holds, without a last line
+-- a writer that had the old bytes then has after them the lines of the frames of one side at the
+-- start of some source, without a last line
 pub record HasToldSome (old new : Option (List ℕ)) : Type 0 where
   pub hex : Bool
   pub options : DissectOptions
   pub source : Option (List ℕ)
   pub lines : HasBegunDissecting hex options source old new
 
--- what a run may add that then meets a fault: the lines of frames, the first lines of `ua serve`, lines of endpoints or of answers, or those of a script
+-- what a run may append that then meets a fault: the lines of frames, the first lines of
+-- `ua serve`, lines of endpoints or of answers, or those of a script
 abbrev pub HasBegun : Option (List ℕ) → Option (List ℕ) → Type 0
 HasBegun old new = HasToldSome old new ⊎ HasBegunServing old new ⊎ HasListedSome old new ⊎ HasAnsweredSome old new ⊎ HasLoopedSome old new
 
@@ -63,6 +67,6 @@ HasBegun old new = HasToldSome old new ⊎ HasBegunServing old new ⊎ HasListed
 abbrev pub version_line : List ℕ
 version_line = codes "ua 0.1.0 rattle-kit-13f logic dac8208d650f15bf\n"
 
--- what a run adds that does what its words ask for
+-- what a run appends that does what its words request
 abbrev pub HasPrinted : Option (List ℕ) → Option (List ℕ) → Type 0
 HasPrinted old new = HasDissected old new ⊎ HasBegun old new ⊎ Appends old new version_line

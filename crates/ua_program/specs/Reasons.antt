@@ -9,7 +9,7 @@ use Rattle.ua_program.specs.declared.fault.Fault.TheVariants.{Asking, CannotList
 use Rattle.ua_program.specs.declared.output.Stop.{Stop}
 use Rattle.ua_program.specs.declared.output.Stop.TheVariants as stop
 
--- a command stopped at a fault, of which this holds
+-- a command stopped at a fault with this property
 abbrev pub StopsBy : (Fault → Type 0) → Stop → Type 0
 StopsBy Is (stop.Fault fault) = Is fault
 StopsBy Is (stop.Because fault reason) = Is fault
@@ -20,21 +20,23 @@ abbrev pub StopsWriting : Stop → Type 0
 StopsWriting (stop.Output error) = Unit {0}
 StopsWriting other = ⊥
 
--- a command stopped since memory was refused
+-- a command stopped since an allocation failed
 abbrev pub is_starved : Stop → Bool
 is_starved (stop.Fault NoMemory) = true
 is_starved (stop.Because NoMemory reason) = true
 is_starved other = false
 
--- why serving a connection stops: what is printed cannot be written, or memory was refused
+-- why serving a connection stops: what is printed cannot be written, or an allocation failed
 abbrev pub StopsConnection : Stop → Type 0
 StopsConnection why = StopsWriting why ⊎ (is_starved why ≡ true)
 
--- a listener gave no connection, and no reason stands with that: an error of it has its reason. How often it was asked no clause says
+-- a listener gave no connection and no reason: an error of it has its reason. No clause tells how
+-- often it was asked
 abbrev pub NeverAccepts : Stop → Type 0
 NeverAccepts why = why ≡ stop.Fault CannotListen
 
--- what ends a server that goes on, once it listens: what it prints cannot be written, or its listener gives no connection and no reason
+-- what ends a server that goes on, once it listens: what it prints cannot be written, or its
+-- listener gives no connection and no reason
 abbrev pub EndsServing : Stop → Type 0
 EndsServing why = StopsWriting why ⊎ NeverAccepts why
 
@@ -43,18 +45,18 @@ abbrev pub stop_of : AskFault → Stop
 stop_of (Output error) = stop.Output error
 stop_of other = stop.Fault (Asking other)
 
--- a command stopped at this fault, or since memory was refused
+-- a command stopped at this fault, or since an allocation failed
 abbrev pub StopsAt : Fault → Stop → Type 0
 StopsAt fault why = StopsBy (λ told. (told ≡ fault) ⊎ (told ≡ NoMemory)) why
 
--- why a file is not read: it cannot be, or memory was refused
+-- why a file is not read: it cannot be, or an allocation failed
 abbrev pub StopsAtFile : Bor (List ℕ) → Stop → Type 0
 StopsAtFile file why = StopsAt (CannotRead file) why
 
--- why a record of this name is not written: one of its two files cannot be, or memory was refused
+-- why a record of this name is not written: one of its two files cannot be, or an allocation failed
 abbrev pub StopsRecording : Bor (List ℕ) → Stop → Type 0
 StopsRecording name why = StopsAt (CannotWriteUp name) why ⊎ StopsAt (CannotWriteDown name) why
 
--- why the nodes of a text are not served: its first bad line, or memory was refused
+-- why the nodes of a text are not served: its first bad line, or an allocation failed
 abbrev pub StopsAtNodes : List ℕ → Stop → Type 0
 StopsAtNodes text why = StopsBy (RefusesNodes text) why

@@ -25,11 +25,11 @@ use Rattle.ua_program.specs.declared.serve.RequestLines.{RequestLines}
 
 -- ---- what is served
 
--- what the program says of itself on a port of this machine
+-- how the program describes itself on a port of this machine
 abbrev pub endpoint_on : ℕ → Endpoint
 endpoint_on port = record { url = Some (local_url port); application_uri = Some (codes "urn:ua:server"); name = Some (codes "ua"); message_limit = message_size }
 
--- no session was made yet, over the nodes that the lines of this text write
+-- no session was made yet, over the nodes that the lines of this text define
 pub record BeginsWith (text : List ℕ) (port : ℕ) (services : State) : Type 0 where
   pub nodes : Nodes
   pub written : WriteNodes (node_lines text) nodes
@@ -37,7 +37,7 @@ pub record BeginsWith (text : List ℕ) (port : ℕ) (services : State) : Type 0
 
 -- ---- lines
 
--- what became of a connection; nothing is said of one at which memory was refused
+-- the outcome of a connection; nothing is printed of one at which an allocation failed
 abbrev pub outcome_text : Result End ServeFault → Option (List ℕ)
 outcome_text (Ok Closed) = Some (codes "Closed")
 outcome_text (Ok NoClose) = Some (codes "NoClose")
@@ -48,13 +48,13 @@ outcome_text (Err (Write n)) = Some (codes "Write")
 outcome_text (Err TooLong) = Some (codes "TooLong")
 outcome_text (Err OutOfMemory) = None
 
--- what became of a connection is said behind a text
+-- the outcome of a connection is appended to a text
 pub record AddsOutcome (outcome : Result End ServeFault) (old new : List ℕ) : Type 0 where
   pub text : List ℕ
   pub text_is : outcome_text outcome ≡ Some text
   pub added : new ≡ old ++ text
 
--- the line of a connection: its number, and what became of it
+-- the line of a connection: its number, and its outcome
 unfoldable pub connection_line : ℕ → List ℕ → List ℕ
 connection_line number outcome = codes "connection " ++ decimal number ++ codes " " ++ outcome ++ codes "\n"
 
@@ -68,26 +68,26 @@ pub record TellsOf (number : ℕ) (Served : Limits → Result End ServeFault →
   pub text_is : outcome_text outcome ≡ Some text
   pub line_is : line ≡ connection_line number text
 
--- the line of a connection that ended so
+-- the line of a connection that ended in this way
 pub record SaysOutcome (number : ℕ) (outcome : Result End ServeFault) (line : List ℕ) : Type 0 where
   pub text : List ℕ
   pub text_is : outcome_text outcome ≡ Some text
   pub line_is : line ≡ connection_line number text
 
--- the text says what became of a connection
+-- the text tells the outcome of a connection
 pub record IsOutcome (text : List ℕ) : Type 0 where
   pub outcome : Result End ServeFault
   pub text_is : outcome_text outcome ≡ Some text
 
--- what is said of a connection at which memory was refused, where the next one is served
+-- the text for a connection at which an allocation failed, if the next one is served
 abbrev pub no_memory : List ℕ
 no_memory = codes "NoMemory"
 
--- the text is what is said of a connection: what became of it, or that memory was refused at it, where the server goes on
+-- the text for a connection: its outcome, or that an allocation failed at it, if the server goes on
 abbrev pub IsSaid : Bool → List ℕ → Type 0
 IsSaid goes_on text = IsOutcome text ⊎ ((goes_on ≡ true) × (text ≡ no_memory))
 
--- the line of a connection, whatever became of it
+-- the line of a connection, whatever its outcome
 pub record IsConnectionLine (number : ℕ) (line : List ℕ) : Type 0 where
   pub text : List ℕ
   pub is : IsOutcome text
@@ -100,7 +100,8 @@ abbrev pub kind_name : Option RequestKind → List ℕ
 kind_name None = codes "unknown"
 kind_name (Some kind) = request_kind_name kind
 
--- the line of a request that was answered on a connection: its name, how many items it asks for, and the code of its answer
+-- the line of a request that was answered on a connection: its name, the number of its items, and
+-- the code of its response
 unfoldable pub request_line : ℕ → AnsweredRequest → List ℕ
 request_line number r = codes "connection " ++ decimal number ++ codes " " ++ kind_name r.kind ++ codes " " ++ decimal r.items ++ codes " " ++ code_text r.code.code ++ codes "\n"
 
@@ -108,7 +109,8 @@ request_line number r = codes "connection " ++ decimal number ++ codes " " ++ ki
 abbrev pub request_lines : ℕ → List AnsweredRequest → List ℕ
 request_lines number requests = flat_map (request_line number) requests
 
--- what printing the line of a request came to: it is added, or nothing is where memory was refused
+-- the outcome of printing the line of a request: it is appended, or nothing is if an allocation
+-- failed
 abbrev pub Prints : Option Halt → List ℕ → Option (List ℕ) → Option (List ℕ) → Type 0
 Prints None line old new = Appends old new line
 Prints (Some Memory) line old new = new ≡ old
@@ -125,7 +127,7 @@ pub record PrintsRequest {O : Type 0} (contents : O → Option (List ℕ)) (old 
   pub same_number : new.number ≡ old.number
   pub printed : PrintsNext old.halt new.halt (request_line old.number request) (contents old.out.now) (contents new.out.now)
 
--- the lines of some requests of a connection are added; of none where they are not wanted
+-- the lines of some requests of a connection are appended; of none if they are not wanted
 pub record HasTold (requests : Bool) (number : ℕ) (old new : Option (List ℕ)) : Type 0 where
   pub told : List AnsweredRequest
   pub wanted : requests ≡ false → told ≡ []
@@ -133,8 +135,9 @@ pub record HasTold (requests : Bool) (number : ℕ) (old new : Option (List ℕ)
 
 -- ---- a listener that fails
 
--- an error of `accept` is one of the connection that would have been next, by its number in Linux (accept(2)): EPERM, EINTR, ENONET, EPROTO, ENOPROTOOPT,
--- EOPNOTSUPP, ENETUNREACH, ECONNABORTED, EHOSTDOWN and EHOSTUNREACH; one without a number is none
+-- an error of `accept` is one of the connection that would have been next, by its number in Linux
+-- (accept(2)): EPERM, EINTR, ENONET, EPROTO, ENOPROTOOPT, EOPNOTSUPP, ENETUNREACH, ECONNABORTED,
+-- EHOSTDOWN and EHOSTUNREACH; one without a number is none
 abbrev pub is_of_connection : Option ℤ → Bool
 is_of_connection None = false
 is_of_connection (Some code) =
@@ -143,17 +146,17 @@ is_of_connection (Some code) =
 
 -- ---- all lines
 
--- what is said of a connection: which requests were answered, and what became of it
+-- what is printed of a connection: which requests were answered, and its outcome
 pub record Connection : Type 0 where
   pub told : List AnsweredRequest
   pub outcome : List ℕ
 
--- it is said what became of it, and of requests only where they are wanted
+-- its outcome is printed, and requests only if they are wanted
 pub record IsConnection (requests goes_on : Bool) (c : Connection) : Type 0 where
   pub is : IsSaid goes_on c.outcome
   pub wanted : requests ≡ false → c.told ≡ []
 
--- the lines of a connection: those of its requests, and its own behind them
+-- the lines of a connection: those of its requests, and its own after them
 abbrev pub connection_text : ℕ → Connection → List ℕ
 connection_text number c = request_lines number c.told ++ connection_line number c.outcome
 
@@ -166,14 +169,15 @@ connection_lines number (c ∷ cs) = connection_text number c ++ connection_line
 unfoldable pub listening_line : ℕ → List ℕ
 listening_line port = codes "listening " ++ decimal port ++ codes "\n"
 
--- a writer that held the old octets then holds the lines of so many connections on a port behind them
+-- a writer that had the old bytes then has the lines of this many connections on a port after them
 pub record HasServed (requests goes_on : Bool) (port connections : ℕ) (old new : Option (List ℕ)) : Type 0 where
   pub served : List Connection
   pub each : AllByRecursion (IsConnection requests goes_on) served
   pub count : length served ≡ connections
   pub added : Appends old new (listening_line port ++ connection_lines 1 served)
 
--- the same of some connections, fewer than this, and behind them the lines of requests of the next one
+-- the same for some connections, fewer than this, and after them the lines of requests of the next
+-- one
 pub record HasServedSome (requests goes_on : Bool) (port connections : ℕ) (old new : Option (List ℕ)) : Type 0 where
   pub served : ℕ
   pub fewer : served < connections
@@ -181,7 +185,7 @@ pub record HasServedSome (requests goes_on : Bool) (port connections : ℕ) (old
   pub lines : HasServed requests goes_on port served old between
   pub next : HasTold requests (served + 1) between new
 
--- one connection more was served on a port: its lines are added
+-- one more connection was served on a port: its lines are appended
 pub record ServesOne (requests goes_on : Bool) (number : ℕ) (old new : Option (List ℕ)) : Type 0 where
   pub connection : Connection
   pub is : IsConnection requests goes_on connection

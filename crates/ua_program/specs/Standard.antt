@@ -10,8 +10,8 @@ use Rattle.ua_server.specs.State.{State, with_nodes}
 use Rattle.ua_program.specs.Served.{BeginsWith}
 use Rattle.ua_program.specs.declared.time_keeper.TimeKeeper.{TimeKeeper}
 
--- the lines of a text write nodes and name namespaces, and this is the text with the standard's nodes that they lack; the server keeps its time where
--- CurrentTime is one of these
+-- the lines of a text define nodes and name namespaces, and this is the text with the standard's
+-- nodes that they lack; the server keeps its time if CurrentTime is one of these
 pub record IsWhole (text : List ℕ) (keeps_time : Bool) (whole : List ℕ) : Type 0 where
   pub nodes : Nodes
   pub written : WriteNodes (node_lines text) nodes
@@ -20,13 +20,14 @@ pub record IsWhole (text : List ℕ) (keeps_time : Bool) (whole : List ℕ) : Ty
   pub whole_is : whole ≡ standard_text nodes uris text
   pub keeps_is : keeps_time ≡ lacks nodes 2258
 
--- no session was made yet, over the nodes that the lines of this text write, and those of the standard that they lack
+-- no session was made yet, over the nodes that the lines of this text define, and those of the
+-- standard that they lack
 pub record BeginsStandard (text : List ℕ) (port : ℕ) (keeps_time : Bool) (services : State) : Type 0 where
   pub whole : List ℕ
   pub is : IsWhole text keeps_time whole
   pub begins : BeginsWith whole port services
 
--- CurrentTime was set to a moment, which is its source time too, and nothing else has changed
+-- CurrentTime was set to a time, which is its source timestamp too, and nothing else has changed
 pub record KeepsTime {M : Type 0} (gives : M → ℤ → M → Type 0) (before : TimeKeeper M) (old : State) (after : TimeKeeper M) (new : State) : Type 0 where
   pub ticks : ℤ
   pub given : gives before.moments ticks after.moments

@@ -1,4 +1,4 @@
--- What the words of the command line ask for.
+-- What the words of the command line request.
 use Rattle.std.specs.Prelude.{◌≡◌, ◌⊎◌, ◌≤◌, ◌++◌, Any, ℕ, ⊤, Bool, true, cond, List, Option, None, Some, codes}
 use Rattle.std.specs.Str.{bytes_eq}
 use Rattle.ua_services.specs.SessionRequests.{local_url}
@@ -22,25 +22,26 @@ CountsFromOne (Write asked) = 1 ≤ asked.server.port
 CountsFromOne (Loop asked) = 1 ≤ asked.cut
 CountsFromOne Version = ⊤
 
--- the URL by which a server on a port of this machine is asked, without its path: the one that is given, else that of the port
+-- the URL by which a server on a port of this machine is called, without its path: the one that is
+-- given, else that of the port
 abbrev pub base_url : ℕ → Option (List ℕ) → Option (List ℕ)
 base_url port None = Some (local_url port)
 base_url port (Some url) = Some url
 
--- a URL with a path behind it
+-- a URL with a path after it
 abbrev pub with_path : Option (List ℕ) → List ℕ → Option (List ℕ)
 with_path None path = None
 with_path (Some url) path = Some (url ++ path)
 
--- a word asks for all connections, in one of the two ways in which `--connections all` is written
+-- a word requests all connections, in one of the two ways in which `--connections all` is written
 abbrev pub SaysAll : {S : Type 0} → (S → List ℕ) → List S → Type 0
 SaysAll text words = Any (λ word. text word ≡ codes "all") words ⊎ Any (λ word. text word ≡ codes "--connections=all") words
 
--- a word asks for reasons
+-- a word requests reasons
 abbrev pub SaysWhy : {S : Type 0} → (S → List ℕ) → List S → Type 0
 SaysWhy text words = Any (λ word. text word ≡ codes "--why") words
 
--- a bad status code, or a frame that is refused, has a status of its own
+-- a bad StatusCode, or a frame that is rejected, has a status of its own
 abbrev pub IsStrict : Task → Type 0
 IsStrict (Dissect asked) = asked.strict ≡ true
 IsStrict (Read asked) = asked.strict ≡ true
@@ -48,14 +49,16 @@ IsStrict (Write asked) = asked.strict ≡ true
 IsStrict (Loop asked) = asked.strict ≡ true
 IsStrict other = ⊥
 
--- the text of a value behind its type: as it stands, or where people write decimals and times with their patterns and ticks
+-- the text of a value after its type: unchanged, or for the human-readable form with bit patterns
+-- and ticks in place of decimals and times
 abbrev pub value_given : Bool → List ℕ → List ℕ → List ℕ
 value_given plain kind text = cond plain (exact_typed kind text) text
 
--- a text as it stands, or the same of its lines
+-- a text unchanged, or the same of its lines
 abbrev pub form_given : Bool → List ℕ → List ℕ
 form_given plain text = cond plain (exact_lines text) text
 
--- the token policy that a word names: with `auto` the one that the server offers, else the one of this id
+-- the token policy that a word names: with `auto` the one that the server offers, else the one of
+-- this id
 abbrev pub policy_named : List ℕ → TokenPolicy
 policy_named word = cond (bytes_eq word (codes "auto")) Auto (Named (Some word))

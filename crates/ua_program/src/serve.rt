@@ -491,9 +491,9 @@ fn say_listening<'a, O: Write>(alloc: Global, port: u16, out: &mut O) -> Result<
     say(out, &text)
 }
 
-/// Serves so many connections, numbered from 1. Where the server goes on, as with `--connections
-/// all`, it is ended neither by a failed allocation, which is reported, nor by an error of the
-/// listener that has its reason.
+/// Serves this many connections, numbered from 1. Where the server goes on, as with
+/// `--connections all`, it is ended neither by a failed allocation, which is reported, nor by an
+/// error of the listener that has its reason.
 pub fn serve_all<'a, R: Net + Clock + AllocGlobal, O: Write, E: Write>(
     rt: &R,
     listener: &R::Listener,

@@ -1,4 +1,4 @@
--- What both ends said of a script.
+-- What both ends sent for a script.
 use Rattle.std.specs.Prelude.{◌≡◌, List, map, Some, Result, Ok, Err}
 use Rattle.ua_exchange.specs.Accepted.{AreAccepted}
 use Rattle.ua_exchange.specs.Exchanged.{down_octets}
@@ -13,7 +13,7 @@ use Rattle.ua_nodes.specs.Table.{Nodes}
 use Rattle.ua_server.specs.declared.step.End.TheVariants.{Closed}
 use Rattle.ua_texts.specs.declared.script.ScriptLine.{ScriptLine}
 
--- the transcript is that of the turns of a script
+-- the transcript is that of the client operations of a script
 pub record IsOfScript (nodes : Nodes) (lines : List ScriptLine) (t : Transcript) : Type 0 where
   pub accepted : AreAccepted (script_turns lines)
   pub up_is : t.up.items ≡ up_octets script_moment (script_turns lines)
@@ -21,7 +21,7 @@ pub record IsOfScript (nodes : Nodes) (lines : List ScriptLine) (t : Transcript)
   pub replies_are : map Some t.replies.items ≡ turns_replies (begun_over nodes) script_moment (script_turns lines)
   pub closed : t.end ≡ Closed
 
--- what came of it
+-- the outcome of running it
 abbrev pub Converses : Nodes → List ScriptLine → Result Transcript LoopFault → Type 0
 Converses nodes lines (Ok t) = IsOfScript nodes lines t
 Converses nodes lines (Err fault) = Stops lines fault

@@ -1,4 +1,4 @@
--- What `ua endpoints` asks a server, and what is printed of it.
+-- What `ua endpoints` requests of a server, and what is printed of it.
 use Rattle.std.specs.Prelude.{ℕ, ℤ, List, Option, Result}
 use Rattle.ua_builtin.specs.declared.date_time.DateTime.{DateTime}
 use Rattle.ua_client.specs.declared.client.Client.{Client}
@@ -11,12 +11,12 @@ use Rattle.ua_session.specs.Replies.{PrintsEndpoints}
 use Rattle.ua_session.specs.Steps.{Asks, Runs}
 use Rattle.ua_session.specs.declared.fault.AskFault.{AskFault}
 
--- GetEndpoints was asked of a server, by this URL, at this moment, as the first call of a client: its request id 2 is its
--- RequestHandle
+-- GetEndpoints was called on a server, by this URL, at this time, as the first call of a client:
+-- its RequestId 2 is its RequestHandle
 abbrev pub CallsEndpoints : Option (List ℕ) → DateTime → Client → Client → LineState → LineState → Result Reply AskFault → Type 0
 CallsEndpoints url moment old new before after called = Asks (get_endpoints url moment 2) old new before after called
 
--- GetEndpoints was asked at the next moment, and the reply was printed
+-- GetEndpoints was called at the next time, and the reply was printed
 pub record AsksEndpoints {M O : Type 0} (gives : M → ℤ → M → Type 0) (contents : O → Option (List ℕ)) (url : Option (List ℕ)) (style : EndpointStyle) (first last : M) (old new : Client) (before after : LineState) (had have : O) (result : Result (Unit {0}) AskFault) : Type 0 where
   pub moment : DateTime
   pub given : gives first moment.ticks last

@@ -1,6 +1,6 @@
--- What is asked over a line, in the order in which its definitions are best read: how faults are told, what words name, what
--- is said of a line, the steps of a conversation, what is made of replies, how a token policy is chosen, the conversations,
--- and what of them a text shows.
+-- Questions over a transport, in the order in which the definitions are best read: how faults are
+-- told, what words name, the state of a transport, the steps of a conversation, the handling of
+-- replies, how a token policy is chosen, the conversations, and what of them a text shows.
 pub mod Told
 pub mod FaultText
 pub mod Words
@@ -12,7 +12,8 @@ pub mod Endpoints
 pub mod Question
 pub mod Session
 pub mod Printed
--- A script that is run over nodes: what its lines ask, why it is not run, what is printed of it, and what both ends said.
+-- A script that is run over nodes: what its lines request, why it is not run, what is printed of
+-- it, and what both ends sent.
 pub mod Script
 pub mod ScriptFaults
 pub mod ScriptPrinted

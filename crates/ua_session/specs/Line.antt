@@ -1,4 +1,4 @@
--- What is said of a line before and after what is done over it.
+-- The state of a transport before and after what is done over it.
 use Rattle.std.specs.Prelude.{◌≡◌, ◌⊎◌, ℕ, Option, Result, Ok, Err}
 use Rattle.ua_channel.specs.Line.{Traffic, one_more}
 use Rattle.ua_client.specs.Hearing.{failures_behind}
@@ -7,18 +7,20 @@ use Rattle.ua_client.specs.declared.fault.ClientFault.TheVariants as client
 use Rattle.ua_session.specs.declared.fault.AskFault.{AskFault}
 use Rattle.ua_session.specs.declared.fault.AskFault.TheVariants.{Connection}
 
--- a line at a moment: its octets, where it tells them, and how many of its calls failed so far, by its own count
+-- a transport at a time: its bytes, if it tells them, and how many of its calls failed so far, by
+-- its own count
 pub record LineState : Type 0 where
   pub traffic : Option Traffic
   pub failures : ℕ
 
--- the line failed as often between two moments as a call of a client tells that answered so: once where it answers `Read` or `Write`, and else
--- not at all
+-- the transport failed between two times as often as a call of a client with this outcome tells:
+-- once if it returns `Read` or `Write`, otherwise not at all
 abbrev pub FailsBy : {A : Type 0} → Result A ClientFault → LineState → LineState → Type 0
 FailsBy answer before after = after.failures ≡ failures_behind before.failures answer
 
--- the count of a line's failures before and after a conversation that came to this: none more where nothing is told, one more where a fault of
--- the line is told, and behind another fault one more at the most, since the session is then still to be ended and the client to be closed
+-- the count of a transport's failures before and after a conversation with this outcome: none more
+-- if nothing is told, one more if a fault of the transport is told, and after another fault at most
+-- one more, since the session is then still to be ended and the client to be closed
 abbrev pub LineFailed : {A : Type 0} → ℕ → Result A AskFault → ℕ → Type 0
 LineFailed before (Ok found) after = after ≡ before
 LineFailed before (Err (Connection client.Read)) after = after ≡ one_more before

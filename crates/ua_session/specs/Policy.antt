@@ -1,4 +1,4 @@
--- By which token policy of a server a session is begun.
+-- The token policy of a server by which a session is begun.
 use Rattle.std.specs.Prelude.{ℕ, ◌≡◌, List, Option, Some, None, Result, Ok, Err}
 use Rattle.ua_structures.specs.declared.discovery.EndpointDescription.{EndpointDescription}
 use Rattle.ua_services.specs.Policy.{chosen_id, listed}
@@ -9,7 +9,7 @@ use Rattle.ua_session.specs.declared.fault.AskFault.TheVariants.{Connection, NoM
 
 -- ---- the choice among endpoints
 
--- the PolicyId that endpoints give; they give none; or memory ran out
+-- the PolicyId that endpoints give; they give none; or an allocation failed
 abbrev pub ChoosesAmong : List EndpointDescription → Result (Option (List ℕ)) AskFault → Type 0
 ChoosesAmong endpoints (Ok id) = chosen_id endpoints ≡ Some id
 ChoosesAmong endpoints (Err NoPolicy) = chosen_id endpoints ≡ None
@@ -20,7 +20,8 @@ ChoosesAmong endpoints (Err (Output error)) = ⊥
 
 -- ---- the choice by a reply
 
--- by a reply to GetEndpoints: the PolicyId that its list gives; it gives none; or why there is no list; a fault is handed on
+-- by a reply to GetEndpoints: the PolicyId that its list gives; it gives none; or why there is no
+-- list; a fault is returned unchanged
 abbrev pub ChoosesBy : Result Reply AskFault → Result (Option (List ℕ)) AskFault → Type 0
 ChoosesBy (Ok reply) (Ok id) = (list : Option (List EndpointDescription)) × (endpoints_of reply ≡ Some list) × (chosen_id (listed list) ≡ Some id)
 ChoosesBy (Ok reply) (Err NoPolicy) = (list : Option (List EndpointDescription)) × (endpoints_of reply ≡ Some list) × (chosen_id (listed list) ≡ None)

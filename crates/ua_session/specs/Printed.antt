@@ -22,7 +22,7 @@ pub data AreAnswerLines (style : AnswerStyle) : List ℕ → Type 0 where
 pub data AreEndpointLines (style : EndpointStyle) : List ℕ → Type 0 where
   OfEndpoints : (list : Option (List EndpointDescription)) → AreEndpointLines style (endpoint_lines style list)
 
--- a writer that held the old octets then holds behind them a text of which this holds
+-- a writer that had the old bytes then has after them a text with this property
 pub record HasAdded (Is : List ℕ → Type 0) (old new : Option (List ℕ)) : Type 0 where
   pub text : List ℕ
   pub is : Is text
@@ -33,6 +33,7 @@ abbrev pub IsOutput : AskFault → Type 0
 IsOutput (Output error) = Unit {0}
 IsOutput other = ⊥
 
--- what is left of a writer by a fault: it failed itself; else it is as it was, or such lines were written
+-- what a fault leaves of a writer: it failed itself; otherwise it is unchanged, or such lines were
+-- written
 abbrev pub LeavesLines : {O : Type 0} → (O → Option (List ℕ)) → (List ℕ → Type 0) → AskFault → O → O → Type 0
 LeavesLines contents AreLines fault had have = IsOutput fault ⊎ ((have ≡ had) ⊎ HasAdded AreLines (contents had) (contents have))

@@ -1,4 +1,4 @@
--- What is asked in a session, and what is printed of the answers.
+-- Questions in a session, and what is printed of the answers.
 use Rattle.std.specs.Prelude.{◌≡◌, ◌≢◌, ℕ, cond, List, [], ◌∷◌, map, length, Option, Some, None, Result, Ok, Err}
 use Rattle.ua_builtin.specs.declared.date_time.DateTime.{DateTime}
 use Rattle.ua_builtin.specs.declared.node_id.NodeId.{NodeId}
@@ -32,7 +32,7 @@ use Rattle.ua_session.specs.declared.verdict.Verdict.TheVariants.{AllGood, SomeB
 abbrev pub items_of : ℕ → Option (List ℕ) → List NodeId → List ReadValueId
 items_of attribute part nodes = map (λ (node : NodeId). attribute_of_node node attribute part) nodes
 
--- the item of a Write that sets the Value of a node, without status and times
+-- the item of a Write that sets the Value of a node, without status and timestamps
 abbrev pub item_for : NodeId → Variant → WriteValue
 item_for node value = value_for_node node (value_alone (variant_of value))
 
@@ -53,7 +53,7 @@ abbrev pub statuses_of : Reply → Option (List StatusCode)
 statuses_of (Responds m) = statuses_in m
 statuses_of (Aborted code) = None
 
--- a reply has as many results as a question has items, and their lines were added, in this style
+-- a reply has as many results as a question has items, and their lines were appended, in this style
 abbrev pub AnswersQuestion : AnswerStyle → Question → Reply → List ℕ → List ℕ → Type 0
 AnswersQuestion style (Read nodes attribute part) reply had have = HaveLines (values_of reply) (length nodes.items) (AreReads style nodes.items) had have
 AnswersQuestion style (Write node value) reply had have = AreAnswers (statuses_of reply) 1 (write_lines style.lines (node ∷ [])) had have
@@ -63,7 +63,8 @@ abbrev pub AnswersNothing : Question → Reply → Type 0
 AnswersNothing (Read nodes attribute part) reply = (each : List DataValue) → values_of reply ≡ Some each → length each ≢ length nodes.items
 AnswersNothing (Write node value) reply = (each : List StatusCode) → statuses_of reply ≡ Some each → length each ≢ 1
 
--- what is said of a reply to a Read or a Write: whether it has a bad code, its own or that of a result
+-- the verdict on a reply to a Read or a Write: whether it has a bad code, its own or that of a
+-- result
 abbrev pub verdict_of : Reply → Verdict
 verdict_of (Responds m) = cond (is_bad_response m) SomeBad AllGood
 verdict_of (Aborted code) = AllGood

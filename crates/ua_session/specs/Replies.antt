@@ -1,4 +1,4 @@
--- What is made of replies.
+-- The handling of replies.
 use Rattle.std.specs.Prelude.{◌≡◌, ◌⊎◌, ◌||◌, ℕ, Bool, false, List, [], Option, Some, None, Result, Ok, Err}
 use Rattle.ua_builtin.specs.Status.{is_bad}
 use Rattle.ua_builtin.specs.declared.status_code.StatusCode.{StatusCode}
@@ -16,7 +16,8 @@ use Rattle.ua_session.specs.Printed.{HasAdded, IsOutput}
 
 -- ---- what a reply has
 
--- the code of a reply by which the service failed: a ServiceFault, or that the server gave its answer up
+-- the code of a reply by which the service failed: a ServiceFault, or that the server aborted its
+-- response
 abbrev pub failure_in : Reply → Option StatusCode
 failure_in (Responds m) = fault_in m
 failure_in (Aborted code) = Some code
@@ -26,7 +27,8 @@ abbrev pub endpoints_of : Reply → Option (Option (List EndpointDescription))
 endpoints_of (Responds m) = endpoints_in m
 endpoints_of (Aborted code) = None
 
--- the response to a Read or a Write says that the service failed: its ServiceResult is bad (OPC 10000-4, 7.33)
+-- the service failed by the response to a Read or a Write: its ServiceResult is bad (OPC 10000-4,
+-- 7.33)
 abbrev pub has_failed : Response → Bool
 has_failed (Read m) = is_bad m.response_header.service_result
 has_failed (Write m) = is_bad m.response_header.service_result
@@ -38,14 +40,14 @@ is_bad_response response = has_bad response || has_failed response
 
 -- ---- what is made of it
 
--- a reply as a response; a fault, and that the server gave its answer up, are told
+-- a reply as a response; a fault, and that the server aborted its response, are told
 abbrev pub GivesResponse : Result Reply AskFault → Result Response AskFault → Type 0
 GivesResponse (Ok (Responds m)) result = result ≡ Ok m
 GivesResponse (Ok (Aborted code)) result = result ≡ Err (Service code)
 GivesResponse (Err fault) result = result ≡ Err fault
 
--- why a reply is not printed: the service failed with this code, or it is no answer to what was asked, of which this holds; or memory ran
--- out
+-- why a reply is not printed: the service failed with this code, or it does not answer the
+-- question, with this property; or an allocation failed
 abbrev pub IsRefusedBy : Type 0 → Reply → AskFault → Type 0
 IsRefusedBy IsUnknown reply (Service code) = failure_in reply ≡ Some code
 IsRefusedBy IsUnknown reply (Connection UnknownResponse) = (failure_in reply ≡ None) × IsUnknown
@@ -54,7 +56,7 @@ IsRefusedBy IsUnknown reply NoPolicy = ⊥
 IsRefusedBy IsUnknown reply (Output error) = ⊥
 IsRefusedBy IsUnknown reply NoMemory = Unit {0}
 
--- a reply that only says that the service is done; a fault, and that the service failed, are told
+-- a reply that only tells that the service is done; a fault, and that the service failed, are told
 abbrev pub Expects : Result Reply AskFault → Result (Unit {0}) AskFault → Type 0
 Expects (Ok reply) (Ok done) = failure_in reply ≡ None
 Expects (Ok reply) (Err (Service code)) = failure_in reply ≡ Some code
@@ -64,7 +66,8 @@ Expects (Ok reply) (Err (Output error)) = ⊥
 Expects (Ok reply) (Err NoMemory) = ⊥
 Expects (Err fault) result = result ≡ Err fault
 
--- why a reply was not printed: nothing was written, and it is no answer, for this reason; or the writer failed at its lines, of which this holds
+-- why a reply was not printed: nothing was written, and it is no answer, for this reason; or the
+-- writer failed at its lines, which have this property
 abbrev pub IsUnprinted : {O : Type 0} → (List ℕ → Type 0) → Type 0 → Reply → O → O → AskFault → Type 0
 IsUnprinted AreLines IsUnknown reply had have fault = ((have ≡ had) × IsRefusedBy IsUnknown reply fault) ⊎ (IsOutput fault × ((lines : List ℕ) × AreLines lines))
 

@@ -1,4 +1,5 @@
--- What a script asks, as the turns of a client: CreateSession, ActivateSession, what its lines ask for, CloseSession.
+-- A script as client operations: CreateSession, ActivateSession, what its lines request,
+-- CloseSession.
 use Rattle.std.specs.Prelude.{ℕ, ◌+◌, pos, min, length, List, [], ◌∷◌, ◌++◌, Option, Some, None}
 use Rattle.ua_builtin.specs.declared.date_time.DateTime.{DateTime}
 use Rattle.ua_builtin.specs.declared.node_id.NodeId.{NodeId}
@@ -21,7 +22,7 @@ use Rattle.ua_texts.specs.declared.script.Step.TheVariants.{Read, Write, Renew}
 use Rattle.ua_variant.specs.View.{variant_of}
 use Rattle.ua_variant.specs.declared.values.Variant.{Variant}
 
--- the moment of all that is said: 1970-01-01 00:00 UTC
+-- the time of all that is sent: 1970-01-01 00:00 UTC
 abbrev pub script_moment : DateTime
 script_moment = record { ticks = pos 116444736000000000 }
 
@@ -31,8 +32,9 @@ token = session_token 1
 
 -- ---- the request of a line
 
--- the RequestHandle of the request behind these lines, which is its request id: the OPN has 1, CreateSession 2, ActivateSession 3, and each
--- line the next one; from the last number on, which is the id of no request, it is that number
+-- the RequestHandle of the request after these lines, which is its RequestId: the OPN has 1,
+-- CreateSession 2, ActivateSession 3, and each line the next one; from the last number on, which is
+-- the id of no request, it is that number
 abbrev pub line_handle : List ScriptLine → ℕ
 line_handle before = min (length before + 4) no_id
 
@@ -40,39 +42,39 @@ line_handle before = min (length before + 4) no_id
 abbrev pub read_of_node : ℕ → NodeId → Option (List ℕ) → Request
 read_of_node handle node range = read token script_moment handle (part_of_node node range ∷ [])
 
--- a Write that sets the Value of a node, without status and times
+-- a Write that sets the Value of a node, without status and timestamps
 abbrev pub write_to_node : ℕ → NodeId → Variant → Request
 write_to_node handle node value = write token script_moment handle (value_for_node node (value_alone (variant_of value)) ∷ [])
 
--- the turn of a step: a request with this RequestHandle, or a renewal
+-- the operation of a step: a request with this RequestHandle, or a renewal
 abbrev pub step_turn : ℕ → Step → Turn
 step_turn handle (Read node range) = Ask (read_of_node handle node range)
 step_turn handle (Write node value) = Ask (write_to_node handle node value)
 step_turn handle Renew = Renewal
 
--- the turn of a line behind these
+-- the operation of a line after these
 abbrev pub line_turn : List ScriptLine → ScriptLine → Turn
 line_turn before line = step_turn (line_handle before) line.step
 
--- ---- all turns
+-- ---- all operations
 
 -- CreateSession at the server's address
 abbrev pub creating : Request
 creating = create_session (Some (local_url 4840)) script_moment 2
 
--- the turns that begin the session
+-- the operations that begin the session
 abbrev pub opening : List Turn
 opening = Ask creating ∷ Ask (activate_session token script_moment 3) ∷ []
 
--- the turns up to and with these lines, in their order
+-- the operations up to and including these lines, in their order
 abbrev pub turns_to : List ScriptLine → List Turn
 turns_to lines = opening ++ each_after (λ before line. line_turn before line ∷ []) lines
 
--- the turn that ends the session behind these lines
+-- the operation that ends the session after these lines
 abbrev pub closing : List ScriptLine → Turn
 closing lines = Ask (close_session token script_moment (line_handle lines))
 
--- all turns of a script
+-- all operations of a script
 abbrev pub script_turns : List ScriptLine → List Turn
 script_turns lines = turns_to lines ++ closing lines ∷ []
 

@@ -16,12 +16,13 @@ use Rattle.ua_texts.specs.declared.script.ScriptLine.{ScriptLine}
 
 -- ---- a text
 
--- a script that was not read: a line of it asks for nothing, or memory ran out
+-- a script that was not parsed: a line of it requests nothing, or an allocation failed
 abbrev pub of_script : ScriptFault → LoopFault
 of_script (script.Line number) = OfLine number
 of_script script.OutOfMemory = NoMemory
 
--- why no lines are read from a text: its first line that asks for nothing has this number; or memory ran out
+-- why no lines are parsed from a text: its first line that requests nothing has this number; or an
+-- allocation failed
 abbrev pub Unread : List ℕ → LoopFault → Type 0
 Unread text (OfLine number) = IsFirstBad (node_lines text) number
 Unread text Exhausted = ⊥
@@ -31,13 +32,13 @@ Unread text NoMemory = Unit {0}
 
 -- ---- lines
 
--- the place of the turn that is blamed, if one is
+-- the place of the operation that is blamed, if one is
 abbrev pub place_in : PairFault → Option ℕ
 place_in (Request index fault) = Some index
 place_in (NotWritable index) = Some index
 place_in OutOfMemory = None
 
--- the turn of the line of this number is the first that is not accepted
+-- the operation of the line with this number is the first that is not accepted
 pub record StopsAt (lines : List ScriptLine) (number : ℕ) : Type 0 where
   pub before : List ScriptLine
   pub line : ScriptLine
@@ -48,13 +49,13 @@ pub record StopsAt (lines : List ScriptLine) (number : ℕ) : Type 0 where
   pub reason : PairFault
   pub refused : turn_refusal (turns_to before) (line_turn before line) ≡ Some reason
 
--- the turns of all lines are accepted, and that which ends the session is not
+-- the operations of all lines are accepted, and that which ends the session is not
 pub record StopsBehind (lines : List ScriptLine) : Type 0 where
   pub accepted : AreAccepted (turns_to lines)
   pub reason : PairFault
   pub refused : turn_refusal (turns_to lines) (closing lines) ≡ Some reason
 
--- why lines are not run: a turn is not accepted, or memory ran out
+-- why lines are not run: an operation is not accepted, or an allocation failed
 abbrev pub Stops : List ScriptLine → LoopFault → Type 0
 Stops lines (OfLine number) = StopsAt lines number
 Stops lines Exhausted = StopsBehind lines
@@ -64,7 +65,8 @@ Stops lines NoMemory = Unit {0}
 
 -- ---- a response
 
--- answers that were not printed: the service failed, there is another number of them than were asked for, or memory ran out
+-- answers that were not printed: the service failed, their number is not that of the items
+-- requested, or an allocation failed
 abbrev pub of_line_answer : AnswerFault → LoopFault
 of_line_answer (answer.Service code) = Service code
 of_line_answer answer.Unknown = UnknownResponse

@@ -37,17 +37,17 @@ pub data Told : Type 0 where
   -- the line of an answer to the Read of a node
   answer : NodeId → DataValue → Told
 
--- the text of what is told, with the names of status codes where they are wanted
+-- the text of what is told, with the names of StatusCodes if they are wanted
 abbrev pub told_text : Bool → Told → List ℕ
 told_text names (said t) = t
 told_text names (answer node value) = read_line (plain names) node value
 
--- the same, or with values as people write them where this is wanted
+-- the same, or with values in the human-readable form if this is wanted
 abbrev pub IsTold : Bool → Bool → Told → List ℕ → Type 0
 IsTold people names (said t) shown = shown ≡ t
 IsTold people names (answer node value) shown = Either people (IsPlainRead (plain names) node value shown) (shown ≡ read_line (plain names) node value)
 
--- ---- one reply: what is told of it, with the names of status codes where they are wanted, or why nothing is
+-- ---- one reply: what is told of it, with the names of StatusCodes if wanted, or why nothing is
 
 -- the line of the one result of a Read of a node
 abbrev pub read_told : Bool → NodeId → Option (List DataValue) → Result Told LoopFault
@@ -63,19 +63,20 @@ write_told names node (Some []) = Err UnknownResponse
 write_told names node (Some (status ∷ [])) = Ok (said (write_line (plain names) node status))
 write_told names node (Some (status ∷ (other ∷ others))) = Err UnknownResponse
 
--- the code of a ServiceFault, where there is one
+-- the code of a ServiceFault, if there is one
 abbrev pub unless_failed : Option StatusCode → Result Told LoopFault → Result Told LoopFault
 unless_failed None told = told
 unless_failed (Some code) told = Err (Service code)
 
--- of a response to a step, or to a request that begins or ends the session, of which nothing is printed; a renewal asks no request
+-- of a response to a step, or to a request that begins or ends the session, of which nothing is
+-- printed; a renewal makes no request
 abbrev pub response_told : Bool → Option Step → Response → Result Told LoopFault
 response_told names None response = unless_failed (fault_in response) (Ok (said []))
 response_told names (Some (Read node range)) response = unless_failed (fault_in response) (read_told names node (values_in response))
 response_told names (Some (Write node value)) response = unless_failed (fault_in response) (write_told names node (statuses_in response))
 response_told names (Some Renew) response = Err UnknownResponse
 
--- of a reply, if there is one: the server may have given it up
+-- of a reply, if there is one: the server may have aborted it
 abbrev pub reply_told : Bool → Option Step → Option Reply → Result Told LoopFault
 reply_told names step None = Err UnknownResponse
 reply_told names step (Some (Responds response)) = response_told names step response
@@ -83,17 +84,18 @@ reply_told names step (Some (Aborted code)) = Err (Service code)
 
 -- ---- all replies
 
--- the step, if it asks a request: all but renewals do
+-- the step, if it makes a request: all but renewals do
 abbrev pub asking_step : Step → Option Step
 asking_step (Read node range) = Some (Read node range)
 asking_step (Write node value) = Some (Write node value)
 asking_step Renew = None
 
--- the steps of lines that ask requests, in their order
+-- the steps of lines that make requests, in their order
 abbrev pub steps_asked : List ScriptLine → List Step
 steps_asked lines = filter_map (λ line. asking_step line.step) lines
 
--- what the requests behind ActivateSession are for: the steps of the lines in their order, and the end of the session
+-- what the requests after ActivateSession are for: the steps of the lines in their order, and the
+-- end of the session
 abbrev pub asked_behind : List ScriptLine → List (Option Step)
 asked_behind lines = map Some (steps_asked lines) ++ None ∷ []
 
@@ -109,7 +111,7 @@ replies_told names (step ∷ steps) (reply ∷ replies) = reply_told names step 
 
 -- ---- bad codes
 
--- a reply has a bad code, its own or that of a result; one that the server gave up has none
+-- a reply has a bad code, its own or that of a result; one that the server aborted has none
 abbrev pub is_bad_reply : Reply → Bool
 is_bad_reply (Responds response) = is_bad_response response
 is_bad_reply (Aborted code) = false
@@ -131,19 +133,20 @@ end_text names NoClose = codes "NoClose"
 end_text names Cut = codes "Cut"
 end_text names (Refused status) = codes "Refused " ++ named_code names status.code
 
--- the last line: so many octets went up and so many down, and the connection ended so
+-- the last line: the client-to-server and the server-to-client bytes in number, and how the
+-- connection ended
 unfoldable pub totals_line : Bool → ℕ → ℕ → End → List ℕ
 totals_line names up down end = (codes "up " ++ (decimal up ++ (codes " down " ++ (decimal down ++ codes " end ")))) ++ (end_text names end ++ codes "\n")
 
 -- ---- a whole script
 
--- the texts in front of the first fault
+-- the texts before the first fault
 abbrev pub text_of : Bool → List (Result Told LoopFault) → List ℕ
 text_of names [] = []
 text_of names (Ok told ∷ rest) = told_text names told ++ text_of names rest
 text_of names (Err fault ∷ rest) = []
 
--- the same, with values as people write them
+-- the same, with values in the human-readable form
 abbrev pub IsPlainTextOf : Bool → List (Result Told LoopFault) → List ℕ → Type 0
 IsPlainTextOf names [] shown = shown ≡ []
 IsPlainTextOf names (Ok told ∷ rest) shown = (first : List ℕ) × (others : List ℕ) × (shown ≡ first ++ others) × IsTold true names told first × IsPlainTextOf names rest others
@@ -159,16 +162,18 @@ told_fault [] = None
 told_fault (Ok told ∷ rest) = told_fault rest
 told_fault (Err fault ∷ rest) = Some fault
 
--- the octets each way, and how the connection ended
+-- the number of bytes each way, and how the connection ended
 abbrev pub script_totals : Bool → Nodes → List ScriptLine → List ℕ
 script_totals names nodes lines = totals_line names (length (up_octets script_moment (script_turns lines))) (length (down_octets nodes script_moment (script_turns lines))) Closed
 
--- what is told of a script that is run over these nodes: of the reply to each request in order, and behind them the octets each way
+-- what is told of a script that is run over these nodes: of the reply to each request in order, and
+-- after them the number of bytes each way
 abbrev pub script_told : Bool → Nodes → List ScriptLine → List (Result Told LoopFault)
 script_told names nodes lines =
     replies_told names (asked_for lines) (turns_replies (begun_over nodes) script_moment (script_turns lines)) ++ Ok (said (script_totals names nodes lines)) ∷ []
 
--- the text is what is printed of a script, with names or without, with values and times as people write them or not
+-- the text is what is printed of a script, with names or without, with values and times in the
+-- human-readable form or not
 pub record AreLoopLines (people names : Bool) (shown : List ℕ) : Type 0 where
   pub nodes : Nodes
   pub lines : List ScriptLine
@@ -176,16 +181,17 @@ pub record AreLoopLines (people names : Bool) (shown : List ℕ) : Type 0 where
 
 -- ---- what a call adds to a text
 
--- the text of what is told was added; or nothing was, and the fault is the one that is told, or memory ran out
+-- the text of what is told was appended; or nothing was, and the fault is the one that is told, or
+-- an allocation failed
 abbrev pub AddsTold : Bool → Bool → Result Told LoopFault → Result (Unit {0}) LoopFault → List ℕ → List ℕ → Type 0
 AddsTold people names told (Ok done) had have = (line : Told) × (shown : List ℕ) × (told ≡ Ok line) × (have ≡ had ++ shown) × IsTold people names line shown
 AddsTold people names told (Err fault) had have = (fault ≡ NoMemory) ⊎ ((told ≡ Err fault) × (have ≡ had))
 
--- the texts in front of the first fault were added
+-- the texts before the first fault were appended
 abbrev pub AddsTexts : Bool → Bool → List (Result Told LoopFault) → List ℕ → List ℕ → Type 0
 AddsTexts people names told had have = (shown : List ℕ) × (have ≡ had ++ shown) × IsTextOf people names told shown
 
--- the same, and that fault was answered, or memory ran out
+-- the same, and that fault was returned, or an allocation failed
 abbrev pub AddsAll : Bool → Bool → List (Result Told LoopFault) → Result (Unit {0}) LoopFault → List ℕ → List ℕ → Type 0
 AddsAll people names told (Ok done) had have = (told_fault told ≡ None) × AddsTexts people names told had have
 AddsAll people names told (Err fault) had have = (fault ≡ NoMemory) ⊎ ((told_fault told ≡ Some fault) × AddsTexts people names told had have)

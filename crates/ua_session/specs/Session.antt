@@ -1,4 +1,5 @@
--- What `ua read` and `ua write` ask a server in a session of its own, and what is printed of it.
+-- What `ua read` and `ua write` request of a server in a session of its own, and what is printed of
+-- it.
 use Rattle.std.specs.Prelude.{◌≡◌, ◌⊎◌, ◌+◌, ◌-◌, ℕ, ℤ, List, Option, Some, None, Result, Ok, Err, MatchResult}
 use Rattle.ua_builtin.specs.declared.date_time.DateTime.{DateTime}
 use Rattle.ua_builtin.specs.declared.node_id.NodeId.{NodeId}
@@ -23,7 +24,7 @@ use Rattle.ua_session.specs.declared.verdict.Verdict.{Verdict}
 
 -- ---- the token policy
 
--- GetEndpoints was asked at the next moment, and a PolicyId chosen by the reply
+-- GetEndpoints was called at the next time, and a PolicyId chosen by the reply
 pub record AsksPolicy {M : Type 0} (gives : M → ℤ → M → Type 0) (url : Option (List ℕ)) (first last : M) (old new : Client) (before after : LineState) (result : Result (Option (List ℕ)) AskFault) : Type 0 where
   pub moment : DateTime
   pub given : gives first moment.ticks last
@@ -31,21 +32,21 @@ pub record AsksPolicy {M : Type 0} (gives : M → ℤ → M → Type 0) (url : O
   pub asks : CallsEndpoints url moment old new before after called
   pub chooses : ChoosesBy called result
 
--- the PolicyId by which a session is to be begun: the one that is named, unless memory ran out, and nothing was done; or the server was
--- asked for it
+-- the PolicyId by which a session is to be begun: the one that is named, unless an allocation
+-- failed, and nothing was done; or the server was asked for it
 abbrev pub FindsPolicy : {M : Type 0} → (M → ℤ → M → Type 0) → Option (List ℕ) → TokenPolicy → M → M → Client → Client → LineState → LineState → Result (Option (List ℕ)) AskFault → Type 0
 FindsPolicy gives url (Named id) first last old new before after result = ((result ≡ Ok id) ⊎ (result ≡ Err NoMemory)) × (last ≡ first) × (new ≡ old) × (after ≡ before)
 FindsPolicy gives url Auto first last old new before after result = AsksPolicy gives url first last old new before after result
 
 -- ---- the session
 
--- the request id of the first call in a session: the OPN has 1, the calls that begin the session have 2 and 3, and one more where the
--- server is asked for the token policy first
+-- the RequestId of the first call in a session: the OPN has 1, the calls that begin the session
+-- have 2 and 3, and one more if the server is asked for the token policy first
 abbrev pub first_call : TokenPolicy → ℕ
 first_call (Named id) = 4
 first_call Auto = 5
 
--- the request id of the call behind a question; a question that was not asked took none
+-- the RequestId of the call after a question; a question that was not sent used none
 abbrev pub handle_behind : ℕ → Result Reply AskFault → ℕ
 handle_behind handle (Ok reply) = handle + 1
 handle_behind handle (Err fault) = handle
@@ -56,26 +57,27 @@ pub record EndsSession (token : NodeId) (handle : ℕ) (moment : DateTime) (old 
   pub calls : Calls (close_session token moment handle) old new before after called
   pub expects : Expects called result
 
--- the request id of the call behind a session that was not begun, where that of the first call in it would have been this: one less, but where a
--- service answered that it failed
+-- the RequestId of the call after a session that was not begun, where that of the first call in it
+-- would have been this: one less, unless a service answered that it failed
 abbrev pub handle_unbegun : ℕ → AskFault → ℕ
 handle_unbegun handle (Service code) = handle
 handle_unbegun handle other = handle - 1
 
--- a session was not begun: one that stands at the server nevertheless is ended, whatever that comes to
+-- a session was not begun: one that stays at the server nevertheless is ended, whatever the outcome
 pub record ClosesUnbegun {M : Type 0} (gives : M → ℤ → M → Type 0) (token : NodeId) (handle : ℕ) (first last : M) (old new : Client) (before after : LineState) : Type 0 where
   pub moment : DateTime
   pub given : gives first moment.ticks last
   pub ended : Result (Unit {0}) AskFault
   pub ends : EndsSession token handle moment old new before after ended
 
--- the same, where there is such a session
+-- the same, if there is such a session
 abbrev pub EndsUnbegun : {M : Type 0} → (M → ℤ → M → Type 0) → Option NodeId → ℕ → M → M → Client → Client → LineState → LineState → Type 0
 EndsUnbegun gives None handle first last old new before after = (last ≡ first) × (new ≡ old) × (after ≡ before)
 EndsUnbegun gives (Some token) handle first last old new before after = ClosesUnbegun gives token handle first last old new before after
 
--- a question was asked under the token of a session, with this RequestHandle, the reply printed, and the session ended behind
--- that, also behind a fault; each RequestHandle is the request id of its call
+-- a question was asked under the token of a session, with this RequestHandle, the reply printed,
+-- and the session ended after that, also after a fault; each RequestHandle is the RequestId of its
+-- call
 pub record AsksUnder {M O : Type 0} (gives : M → ℤ → M → Type 0) (contents : O → Option (List ℕ)) (style : AnswerStyle) (question : Question) (token : NodeId) (handle : ℕ) (first last : M) (old new : Client) (before after : LineState) (had have : O) (result : Result Verdict AskFault) : Type 0 where
   pub asked_at : DateTime
   pub behind : M
@@ -92,8 +94,9 @@ pub record AsksUnder {M O : Type 0} (gives : M → ℤ → M → Type 0) (conten
   pub ends : EndsSession token (handle_behind handle called) ended_at asked new answered after ended
   pub result_is : result ≡ first_of printed ended
 
--- a session was begun by the token policy with this PolicyId, a question asked in it, and the session ended; where none was begun that is
--- told, and nothing was written, but one that stands at the server nevertheless was ended
+-- a session was begun by the token policy with this PolicyId, a question asked in it, and the
+-- session ended; if none was begun that is told, and nothing was written, but one that stays at the
+-- server nevertheless was ended
 pub record AsksInSession {M O : Type 0} (gives : M → ℤ → M → Type 0) (contents : O → Option (List ℕ)) (style : AnswerStyle) (question : Question) (policy_id : Option (List ℕ)) (handle : ℕ) (first last : M) (old new : Client) (before after : LineState) (had have : O) (result : Result Verdict AskFault) : Type 0 where
   pub begun_at : DateTime
   pub behind : M
@@ -106,7 +109,8 @@ pub record AsksInSession {M O : Type 0} (gives : M → ℤ → M → Type 0) (co
       (λ token. AsksUnder gives contents style question token handle behind last client new once_begun after had have result)
       (λ refused. (result ≡ Err refused.fault) × (have ≡ had) × EndsUnbegun gives refused.token (handle_unbegun handle refused.fault) behind last client new once_begun after)
 
--- the PolicyId was found, and a question asked in a session that is begun by it; where none was found that is told, and nothing was written
+-- the PolicyId was found, and a question asked in a session that is begun by it; if none was found
+-- that is told, and nothing was written
 pub record AsksByPolicy {M O : Type 0} (gives : M → ℤ → M → Type 0) (contents : O → Option (List ℕ)) (url : Option (List ℕ)) (policy : TokenPolicy) (style : AnswerStyle) (question : Question) (first last : M) (old new : Client) (before after : LineState) (had have : O) (result : Result Verdict AskFault) : Type 0 where
   pub found : Result (Option (List ℕ)) AskFault
   pub behind : M

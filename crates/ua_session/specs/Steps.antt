@@ -1,4 +1,5 @@
--- The steps of a conversation with a server, each a call of its client (`ua_client`), whose fault is told.
+-- The steps of a conversation with a server, each a call of its client (`ua_client`), whose fault
+-- is told.
 use Rattle.std.specs.Prelude.{◌≡◌, ◌⊎◌, ℕ, ℤ, List, [], ◌∷◌, Option, Result, Ok, Err, MatchResult}
 use Rattle.ua_builtin.specs.declared.date_time.DateTime.{DateTime}
 use Rattle.ua_builtin.specs.declared.node_id.NodeId.{NodeId}
@@ -20,13 +21,14 @@ use Rattle.ua_session.specs.declared.fault.AskFault.TheVariants.{NoMemory, Outpu
 
 -- ---- what is told
 
--- what a client answers, its fault as it is told
+-- the outcome of a client's call, its fault as it is told
 abbrev pub told : {A : Type 0} → Result A ClientFault → Result A AskFault
 told (Ok found) = Ok found
 told (Err fault) = Err (of_client fault)
 
--- the first fault of two results, or what the first one is where there is none; that the writer failed is told before all others, and that
--- memory ran out before any other, so that what was not done for want of it behind a fault is seen
+-- the first fault of two results, or what the first one is if there is none; that the writer failed
+-- is told before all others, and that an allocation failed before any other, so that what was left
+-- undone after a fault for lack of memory is seen
 abbrev pub first_of : {A : Type 0} → Result A AskFault → Result (Unit {0}) AskFault → Result A AskFault
 first_of (Ok found) (Ok done) = Ok found
 first_of (Ok found) (Err fault) = Err fault
@@ -36,22 +38,22 @@ first_of (Err fault) other = Err fault
 
 -- ---- opening
 
--- an opening of a client to a server, by this URL, and what it answers
+-- an opening of a client to a server, by this URL, and its outcome
 pub record OpensAt (limits : Limits) (url : Option (List ℕ)) (moment : DateTime) (before after : LineState) (result : Result Client AskFault) : Type 0 where
   pub answer : Result Client ClientFault
   pub opens : OpensNothing before.traffic after.traffic answer ⊎ OpensClient limits url moment before.traffic after.traffic answer
   pub fails : FailsBy answer before after
   pub told_is : result ≡ told answer
 
--- a client was opened to a server, by this URL, or it was not and this is told: memory ran out before anything was done, or
--- what the client answers
+-- a client was opened to a server, by this URL, or it was not and this is told: an allocation
+-- failed before anything was done, or the client's outcome
 abbrev pub OpensServer : Limits → Option (List ℕ) → DateTime → LineState → LineState → Result Client AskFault → Type 0
 OpensServer limits url moment before after result = ((result ≡ Err NoMemory) × (after ≡ before)) ⊎ OpensAt limits url moment before after result
 
 -- ---- calls
 
--- a call of a client: one that may be called does this, and may be called again but for a fault after which it is done; one that is done
--- answers `Closed` and changes nothing
+-- a call of a client: one that may be called does this, and may be called again except after a
+-- fault after which it is done; one that is done returns `Closed` and changes nothing
 pub record CallsClient {A : Type 0} (Does : Result A ClientFault → Type 0) (old new : Client) (before after : LineState) (result : Result A AskFault) : Type 0 where
   pub answer : Result A ClientFault
   pub does : IsReady old → Does answer × IsLeft answer new
@@ -59,7 +61,7 @@ pub record CallsClient {A : Type 0} (Does : Result A ClientFault → Type 0) (ol
   pub fails : FailsBy answer before after
   pub told_is : result ≡ told answer
 
--- a session is begun, or not: as it is told, of what the client answers
+-- a session is begun, or not: the client's outcome as it is told
 abbrev pub told_session : Result NodeId SessionFault → Result NodeId NotBegun
 told_session (Ok token) = Ok token
 told_session (Err refused) = Err (record { token = refused.token; fault = of_client refused.fault })
@@ -69,12 +71,13 @@ abbrev pub Calls : Request → Client → Client → LineState → LineState →
 Calls request old new before after result =
     CallsClient (λ answer. CallsAll (λ reply. reply ∷ []) (request ∷ []) (connection_of old) (connection_of new) before.traffic after.traffic answer) old new before after result
 
--- a request is called, or memory ran out before it was made, and nothing was done
+-- a request is called, or an allocation failed before it was made, and nothing was done
 abbrev pub Asks : Request → Client → Client → LineState → LineState → Result Reply AskFault → Type 0
 Asks request old new before after result = ((result ≡ Err NoMemory) × (new ≡ old) × (after ≡ before)) ⊎ Calls request old new before after result
 
--- a session is begun by the token policy with this PolicyId, or not: a client that may be called does this, and may be called again but for a
--- fault after which it is done; one that is done answers `Closed` and changes nothing
+-- a session is begun by the token policy with this PolicyId, or not: a client that may be called
+-- does this, and may be called again except after a fault after which it is done; one that is done
+-- returns `Closed` and changes nothing
 pub record Begins (policy_id : Option (List ℕ)) (moment : DateTime) (old new : Client) (before after : LineState) (result : Result NodeId NotBegun) : Type 0 where
   pub answer : Result NodeId SessionFault
   pub does : IsReady old → TriesSession policy_id moment (connection_of old) (connection_of new) before.traffic after.traffic answer × IsLeft (session_alone answer) new
@@ -84,7 +87,8 @@ pub record Begins (policy_id : Option (List ℕ)) (moment : DateTime) (old new :
 
 -- ---- closing
 
--- a client is closed: one that may be called writes its CLO, one that is done answers `Closed` and changes nothing
+-- a client is closed: one that may be called writes its CLO, one that is done returns `Closed` and
+-- changes nothing
 pub record ClosesClient (moment : DateTime) (client : Client) (before after : LineState) (result : Result (Unit {0}) AskFault) : Type 0 where
   pub answer : Result (Unit {0}) ClientFault
   pub closes : IsReady client → Closes moment (client_channel client) before.traffic after.traffic answer
@@ -94,8 +98,8 @@ pub record ClosesClient (moment : DateTime) (client : Client) (before after : Li
 
 -- ---- a whole conversation
 
--- something was asked of a client, of which this holds, and the client was closed behind it, also behind a fault; the first fault is told, or
--- that memory ran out
+-- a client was used, with this property, and the client was closed after it, also after a fault;
+-- the first fault is told, or that an allocation failed
 pub record Uses {A M : Type 0} (gives : M → ℤ → M → Type 0) (last : M) (after : LineState) (Asked : Client → M → LineState → Result A AskFault → Type 0) (result : Result A AskFault) : Type 0 where
   pub asked : Client
   pub behind : M
@@ -108,8 +112,8 @@ pub record Uses {A M : Type 0} (gives : M → ℤ → M → Type 0) (last : M) (
   pub closes : ClosesClient closed_at asked answered after closed
   pub result_is : result ≡ first_of printed closed
 
--- a client was opened to a server, by this URL, asked something, of which this holds, and closed, each step at the next
--- moment; where none was opened that is told, and nothing was written
+-- a client was opened to a server, by this URL, used, with this property, and closed, each step at
+-- the next time; if none was opened that is told, and nothing was written
 pub record Runs {A M O : Type 0} (gives : M → ℤ → M → Type 0) (limits : Limits) (url : Option (List ℕ)) (first last : M) (before after : LineState) (had have : O)
     (Asked : Client → Client → M → M → LineState → LineState → Result A AskFault → Type 0) (result : Result A AskFault) : Type 0 where
   pub opened_at : DateTime

@@ -1,4 +1,4 @@
--- As which fault a fault of a layer below is told.
+-- How a fault of a layer below is told.
 use Rattle.ua_builtin.specs.declared.fault.TextFault.{TextFault}
 use Rattle.ua_builtin.specs.declared.fault.TextFault.TheVariants as text
 use Rattle.ua_client.specs.declared.fault.ClientFault.{ClientFault}
@@ -12,24 +12,24 @@ use Rattle.ua_session.specs.declared.fault.AskFault.TheVariants.{Service, Connec
 use Rattle.ua_session.specs.declared.fault.WordFault.{WordFault}
 use Rattle.ua_session.specs.declared.fault.WordFault.TheVariants as word
 
--- a fault of a client: a service that failed is told as that, and want of memory as that
+-- a fault of a client: a service that failed is told as that, and OutOfMemory as that
 abbrev pub of_client : ClientFault → AskFault
 of_client (client.Service code) = Service code
 of_client client.OutOfMemory = NoMemory
 of_client other = Connection other
 
--- an answer that is not printed: the service failed, or it is no answer to what was asked
+-- an answer that is not printed: the service failed, or the reply does not answer the question
 abbrev pub of_answer : AnswerFault → AskFault
 of_answer (answer.Service code) = Service code
 of_answer answer.Unknown = Connection client.UnknownResponse
 of_answer answer.OutOfMemory = NoMemory
 
--- a text that was not read as a NodeId: it names none, or memory ran out
+-- a text that was not parsed as a NodeId: it names none, or an allocation failed
 abbrev pub of_text : TextFault → WordFault
 of_text text.NotNodeId = word.BadNode
 of_text text.OutOfMemory = word.NoMemory
 
--- a text that was not read as a value: it denotes none, or memory ran out
+-- a text that was not parsed as a value: it denotes none, or an allocation failed
 abbrev pub of_value : ValueFault → WordFault
 of_value value.NotValue = word.BadValue
 of_value value.OutOfMemory = word.NoMemory

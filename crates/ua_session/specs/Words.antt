@@ -1,4 +1,4 @@
--- What is asked by words of a command line: by NodeIds, a type and a value.
+-- What words of a command line request: NodeIds, a type and a value.
 use Rattle.std.specs.Prelude.{◌≡◌, ℕ, List, Option, Some, None, IsSome, Result, Ok, Err}
 use Rattle.std.specs.List.{AllZip, Any}
 use Rattle.ua_builtin.specs.NodeText.{NamesNode}
@@ -18,7 +18,7 @@ use Rattle.ua_session.specs.declared.question.Question.TheVariants.{Read, Write}
 abbrev pub NamesNone : List ℕ → Type 0
 NamesNone text = (node : NodeId) → NamesNode node text → ⊥
 
--- what a word is read as is the NodeId that it names, unless memory ran out
+-- what a word is parsed as is the NodeId that it names, unless an allocation failed
 abbrev pub GivesNode : List ℕ → Result NodeId WordFault → Type 0
 GivesNode text (Ok node) = NamesNode node text
 GivesNode text (Err BadNode) = NamesNone text
@@ -26,7 +26,7 @@ GivesNode text (Err BadValue) = ⊥
 GivesNode text (Err BadRange) = ⊥
 GivesNode text (Err NoMemory) = Unit {0}
 
--- what two words are read as is the value that they denote, unless memory ran out
+-- what two words are parsed as is the value that they denote, unless an allocation failed
 abbrev pub GivesTyped : List ℕ → List ℕ → Result Variant WordFault → Type 0
 GivesTyped kind text (Ok value) = typed_denoted kind text ≡ Some (variant_of value)
 GivesTyped kind text (Err BadNode) = ⊥
@@ -44,7 +44,8 @@ abbrev pub NamesNoRange : Option (List ℕ) → Type 0
 NamesNoRange None = ⊥
 NamesNoRange (Some text) = range text ≡ None
 
--- what the text of a range is read as is that text, null where there is none, unless memory ran out
+-- what the text of a range is parsed as is that text, null if there is none, unless an allocation
+-- failed
 abbrev pub GivesRange : Option (List ℕ) → Result (Option (List ℕ)) WordFault → Type 0
 GivesRange part (Ok found) = (found ≡ part) × IsRange part
 GivesRange part (Err BadNode) = ⊥
@@ -58,22 +59,23 @@ GivesRange part (Err NoMemory) = Unit {0}
 abbrev pub AreNodes : {A : Type 0} → (A → List ℕ) → List A → List NodeId → Type 0
 AreNodes text_of texts nodes = AllZip (λ text node. NamesNode node (text_of text)) texts nodes
 
--- why texts are not read as NodeIds: one of them names none, or memory ran out
+-- why texts are not parsed as NodeIds: one of them names none, or an allocation failed
 abbrev pub NamesNoNodes : {A : Type 0} → (A → List ℕ) → List A → WordFault → Type 0
 NamesNoNodes text_of texts BadNode = Any (λ text. NamesNone (text_of text)) texts
 NamesNoNodes text_of texts BadValue = ⊥
 NamesNoNodes text_of texts BadRange = ⊥
 NamesNoNodes text_of texts NoMemory = Unit {0}
 
--- what the texts of nodes and of a range are read as is a Read of this attribute of these nodes, in their order, or of this part of it; of two
--- bad ones the first is told, a node before the range
+-- what the texts of nodes and of a range are parsed as is a Read of this attribute of these nodes,
+-- in their order, or of this part of it; of two bad ones the first is told, a node before the range
 abbrev pub GivesRead : {A : Type 0} → (A → List ℕ) → List A → ℕ → Option (List ℕ) → Result Question WordFault → Type 0
 GivesRead text_of texts attribute part (Ok (Read nodes asked found)) = AreNodes text_of texts nodes.items × (asked ≡ attribute) × (found ≡ part) × IsRange part
 GivesRead text_of texts attribute part (Ok (Write node value)) = ⊥
 GivesRead text_of texts attribute part (Err BadRange) = ((nodes : List NodeId) × AreNodes text_of texts nodes) × NamesNoRange part
 GivesRead text_of texts attribute part (Err fault) = NamesNoNodes text_of texts fault
 
--- what the texts of a node, a type and a value are read as is a Write of this value to this node; of two bad ones the first is told
+-- what the texts of a node, a type and a value are parsed as is a Write of this value to this node;
+-- of two bad ones the first is told
 abbrev pub GivesWrite : List ℕ → List ℕ → List ℕ → Result Question WordFault → Type 0
 GivesWrite id kind text (Ok (Read nodes attribute part)) = ⊥
 GivesWrite id kind text (Ok (Write node value)) = NamesNode node id × (typed_denoted kind text ≡ Some (variant_of value))

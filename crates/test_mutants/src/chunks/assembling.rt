@@ -40,7 +40,7 @@ pub fn accept_by_reason(
     taken
 }
 
-/// Takes a sequence number that follows the last one.
+/// Takes a SequenceNumber that follows the last one.
 pub fn step_next(assembler: &mut Assembler, sequence: u32) -> Result<(), AssembleFault>
     ensures follows { (cs : List Chunk) → Stands assembler.old cs →
         MatchResult result (λ _. IsTrue (may_follow (last_number assembler.old) sequence))
@@ -49,7 +49,7 @@ pub fn step_next(assembler: &mut Assembler, sequence: u32) -> Result<(), Assembl
     assembler.step(sequence)
 }
 
-/// How many octets are held of the unfinished messages.
+/// How many bytes are held of the unfinished messages.
 pub fn held_by(assembler: &Assembler) -> usize
     ensures held { (cs : List Chunk) → Stands assembler.now cs → result ≡ open_octets cs }
 {

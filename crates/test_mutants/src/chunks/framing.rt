@@ -8,7 +8,7 @@ use bytes::Bytes;
 use std::alloc::Global;
 use ua_frame::{Frame, FrameFault, FrameReader};
 
-/// Takes octets up to the end of the first whole frame.
+/// Takes bytes up to the end of the first whole frame.
 pub fn take_frame(
     reader: &mut FrameReader,
     piece: &[u8],
@@ -19,7 +19,7 @@ pub fn take_frame(
     reader.take(piece)
 }
 
-/// Takes octets up to the end of the first whole frame, whose octets they are behind those held.
+/// Takes bytes up to the end of the first whole frame, whose bytes they are after those held.
 pub fn take_octets(
     reader: &mut FrameReader,
     alloc: Global,

@@ -44,7 +44,7 @@ pub fn answer_both(
     (one, two)
 }
 
-/// The response to a request behind a reading that the application sets.
+/// The response to a request after a reading that the application sets.
 pub fn answer_behind_set(
     services: &mut Services,
     alloc: Global,

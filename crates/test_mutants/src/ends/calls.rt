@@ -29,7 +29,7 @@ pub fn call_each<L: Line>(
     client.call_all(line, requests, moment)
 }
 
-/// Opens a client over a line.
+/// Opens a client over a transport.
 pub fn open_over<L: Line>(
     alloc: Global,
     line: &mut L,
@@ -43,7 +43,7 @@ pub fn open_over<L: Line>(
     Client::open(alloc, line, limits, url, moment)
 }
 
-/// Adds the replies to requests to those that are there.
+/// Adds the replies to requests to those that are present.
 pub fn call_behind<L: Line>(
     client: &mut Client,
     line: &mut L,

@@ -11,8 +11,8 @@ use ua_exchange::{PairFault, Transcript, Turn, exchange};
 use ua_nodes::NodeTable;
 use ua_server::Services;
 
-/// What comes of turns at a server over these nodes. Services over the same nodes, as a connection begins,
-/// stand beside them.
+/// The outcome of client operations at a server over these nodes. Services over the same nodes, as
+/// a connection begins, stand beside them.
 pub fn exchange_over(
     alloc: Global,
     table: NodeTable,

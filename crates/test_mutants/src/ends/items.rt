@@ -14,7 +14,7 @@ use ua_nodes::{NodeTable, Stamps};
 use ua_structures::{ReadValueId, TakesTypes, ValueType};
 use ua_variant::DataValue;
 
-/// The answer to an item of a Read, at a moment.
+/// The answer to an item of a Read, at a time.
 pub fn read_one_item(
     alloc: Global,
     nodes: &NodeTable,
@@ -27,7 +27,7 @@ pub fn read_one_item(
     nodes.read_item(alloc, item, stamps, moment)
 }
 
-/// Adds the answers to items of a Read at the end, up to the first behind which there are more octets
+/// Adds the answers to items of a Read at the end, up to the first after which there are more bytes
 /// than the most.
 pub fn append_answers(
     alloc: Global,
@@ -44,8 +44,8 @@ pub fn append_answers(
     nodes.append_items(alloc, items, stamps, moment, most, out)
 }
 
-/// Whether a node could take a value of a type: one of its own type, and an array just where it holds
-/// arrays.
+/// Whether a node could take a value of a type: one of its own type, and an array just where it
+/// holds arrays.
 pub fn could_take(nodes: &NodeTable, id: &NodeId, value_type: ValueType) -> bool
     ensures taken { result ≡ nodes_take nodes.now id.now value_type }
 {

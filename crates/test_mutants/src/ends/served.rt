@@ -22,15 +22,15 @@ use ua_frame::Limits;
 use ua_loopback::{Began, ServedLine, Transcript, Turn, converse, talking};
 use ua_server::Services;
 
-/// Writes octets to a line to a server.
+/// Writes bytes to a transport to a server.
 pub fn write_up<W: Began>(line: &mut ServedLine<W>, octets: &[u8]) -> Result<usize, LineFault>
     ensures octets { IfTrafficKnown (WriteTakes result octets.now) (Some (traffic_of W.beginning line.old)) (Some (traffic_of W.beginning line.new)) }
 {
     line.write(octets)
 }
 
-/// What comes of a client's turns over a line to a server over these services. Others that are the same
-/// stand beside them.
+/// The outcome of a client's operations over a transport to a server over these services. Others
+/// that are the same stand beside them.
 pub fn converse_over(
     alloc: Global,
     services: Services,

@@ -1,4 +1,4 @@
-//! A line that is served, and octets that are.
+//! A transport that is served, and bytes that are.
 
 ghost use Rattle.std.specs.Prelude.{◌≡◌, ◌++◌, ℕ, List, IfOk, OnOk};
 ghost use Rattle.example_callers.specs.Serve.{Answers, stage_of};
@@ -18,7 +18,7 @@ use ua_server::{
     Application, End, ServeFault, Server, Services, StepFault, Watch, serve, serve_application,
 };
 
-/// Serves the client at the other end of a line.
+/// Serves the client at the other end of a transport.
 pub fn serve_begun<L: Line, M: Moments>(
     alloc: Global,
     line: &mut L,
@@ -58,7 +58,7 @@ pub fn serve_beside<L: Line, M: Moments, W: Watch, A: Application>(
     )
 }
 
-/// Serves octets that came behind others.
+/// Serves bytes that came after others.
 pub fn serve_more(
     server: &mut Server,
     services: &mut Services,

@@ -9,7 +9,7 @@ ghost use Rattle.ua_builtin.specs.declared.node_id.NodeId.{NodeId};
 use std::alloc::Global;
 use ua_builtin::{MOST_LEVELS, NodeId, Octets, ReadFault, Wire};
 
-/// The NodeId that octets begin with, and what is behind it.
+/// The NodeId that bytes begin with, and what is after it.
 pub fn read_node_id<'a>(alloc: Global, octets: &'a [u8]) -> Result<(NodeId, Octets<'a>), ReadFault>
     ensures found { IfOk result (λ r. Begins node_id.encodes octets.now r.0 r.1) }
     ensures none { IsErrOf result NoValue → (v : NodeId) (front rest : List ℕ) → octets.now ≡ front ++ rest → ¬ (node_id.encodes v front) }

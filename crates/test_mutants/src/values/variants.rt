@@ -11,7 +11,7 @@ use std::alloc::Global;
 use ua_builtin::{MOST_LEVELS, Octets, ReadFault, Wire, WriteFault};
 use ua_variant::{DataValue, Variant};
 
-/// The Variant that octets begin with, and what is behind it.
+/// The Variant that bytes begin with, and what is after it.
 pub fn read_variant<'a>(alloc: Global, octets: &'a [u8]) -> Result<(Variant, Octets<'a>), ReadFault>
     ensures found { IfOk result (λ r. Begins variant_format.encodes octets.now r.0 r.1) }
     ensures none { IsErrOf result NoValue → (v : Variant) (front rest : List ℕ) → octets.now ≡ front ++ rest
@@ -22,7 +22,7 @@ pub fn read_variant<'a>(alloc: Global, octets: &'a [u8]) -> Result<(Variant, Oct
     Ok((value, source))
 }
 
-/// The Variant that octets begin with. An array of more elements than octets are there is none.
+/// The Variant that bytes begin with. An array of more elements than bytes are there is none.
 pub fn read_front(alloc: Global, octets: &[u8]) -> Result<Variant, ReadFault>
     ensures long { IsOverlongArray octets.now → IsErrOf result NoValue }
 {

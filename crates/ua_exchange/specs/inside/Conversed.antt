@@ -1,4 +1,4 @@
--- What an exchange needs of what a `Client` and a `Server` in one process come to.
+-- What an exchange needs of the outcome of a `Client` and a `Server` in one process.
 use Rattle.std.specs.Prelude.{◌≡◌, ◌≤◌, ℕ, List, map, Option, Some, OnOk, IfErr}
 use Rattle.ua_builtin.specs.declared.date_time.DateTime.{DateTime}
 use Rattle.ua_frame.specs.Agreement.{url_length}
@@ -24,8 +24,8 @@ use Rattle.ua_exchange.specs.declared.turn.Turn.{Turn}
 abbrev pub beginning_by : Limits → State → DateTime → Beginning
 beginning_by limits first moment = record { limits = limits; channel = channel; first = first; moment = moment }
 
--- what an exchange needs of what `converse` says of the transcript of these turns, of both ends with these limits, for this address, over
--- services in this state
+-- what an exchange needs of the clauses of `converse` for the transcript of these operations, of
+-- both ends with these limits, for this address, over services in this state
 pub record ConversesBy (limits : Limits) (address : Option (List ℕ)) (first : State) (moment : DateTime) (turns : List Turn) (t : Transcript) : Type 0 where
   pub down : t.down.items ≡ server_output (beginning_by limits first moment) t.up.items
   pub closed : OnOk t.outcome (t.stage ≡ Ended Closed)

@@ -1,4 +1,5 @@
--- How the renewals are found that are not asked, since too many tokens count as held: turns are counted one by one.
+-- How the renewals are found that are refused, since too many tokens count as held: operations are
+-- counted one by one.
 use Rattle.std.specs.Prelude.{◌≡◌, ℕ, ◌+◌, true, false, length, take, List, [], ◌∷◌, ◌++◌, Option, Some, None}
 use Rattle.ua_frame.specs.After.{AllAfter}
 use Rattle.ua_loopback.specs.Accepted.{tokens_held}
@@ -13,7 +14,8 @@ AreCalls [] = Unit {0}
 AreCalls (Ask m ∷ ts) = AreCalls ts
 AreCalls (Renew ∷ ts) = ⊥
 
--- of these turns so many stand last that are requests; in front of those a client holds a token for each of so many renewals, and one
+-- this many operations at the end of these are requests; before those a client holds a token for
+-- each of this many renewals, and one
 pub record CountsLast (before : List Turn) (renewals calls : ℕ) : Type 0 where
   pub front : List Turn
   pub last : List Turn
@@ -23,7 +25,7 @@ pub record CountsLast (before : List Turn) (renewals calls : ℕ) : Type 0 where
   pub no_more : last_calls front ≡ []
   pub held_is : tokens_held 1 (served_turns front) ≡ renewals + 1
 
--- no renewal among these turns is refused since too many tokens count as held
+-- no renewal among these operations is refused since too many tokens count as held
 abbrev pub HaveRoom : List Turn → Type 0
 HaveRoom turns = AllAfter (λ (before : List Turn) (t : Turn). is_crowded before t ≡ false) turns
 
@@ -37,12 +39,12 @@ pub record FirstCrowded (turns : List Turn) (place : ℕ) : Type 0 where
   pub have_room : HaveRoom before
   pub crowded : is_crowded before turn ≡ true
 
--- the place of the first that is, or none where none is
+-- the place of the first that is, or none if none is
 abbrev pub FindsCrowded : List Turn → Option ℕ → Type 0
 FindsCrowded turns (Some place) = FirstCrowded turns place
 FindsCrowded turns None = HaveRoom turns
 
--- the turns in front of such a place, or all of them
+-- the operations before such a place, or all of them
 abbrev pub front_of : Option ℕ → List Turn → List Turn
 front_of (Some place) turns = take place turns
 front_of None turns = turns

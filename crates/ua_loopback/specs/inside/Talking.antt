@@ -1,4 +1,5 @@
--- The turns of a client over a line to a server, one behind the other, each done where those before it left it.
+-- The operations of a client over a transport to a server, one after the other, each done in the
+-- state that those before it left.
 use Rattle.std.specs.Prelude.{◌≡◌, ◌⊎◌, ℕ, ◌<◌, ◌^◌, ◌++◌, IsTrue, List, [], ◌∷◌, map, Option, Some, None, Result, Ok, Err}
 use Rattle.ua_wire.specs.Counted.{text}
 use Rattle.ua_builtin.specs.DateTime.{date_time}
@@ -32,17 +33,17 @@ use Rattle.ua_loopback.specs.Turns.{conversation_told, opening_told, turns_told}
 use Rattle.ua_loopback.specs.declared.stage.Stage.{Stage}
 use Rattle.ua_loopback.specs.declared.stage.Stage.TheVariants as far
 
--- the answer to a request of a turn is no response that answers it
+-- the answer to a request of an operation is no response that answers it
 abbrev pub HasMisanswer : State → DateTime → Option (List Request) → Type 0
 HasMisanswer s moment (Some requests) = HaveMisanswer s moment requests
 HasMisanswer s moment None = ⊥
 
--- the same of turns, each in the state that those before it left
+-- the same for operations, each in the state that those before it left
 abbrev pub HaveMisanswers : State → DateTime → List (Option (List Request)) → Type 0
 HaveMisanswers s moment [] = ⊥
 HaveMisanswers s moment (t ∷ turns) = HasMisanswer s moment t ⊎ HaveMisanswers (turn_state s moment t) moment turns
 
--- what is told of a reason against a turn over a broken line: memory was refused
+-- what is told of a reason against an operation over a broken transport: OutOfMemory
 abbrev pub broken_fault : ClientFault → ClientFault
 broken_fault fault.NotWritable = fault.OutOfMemory
 broken_fault fault.Exhausted = fault.OutOfMemory
@@ -50,18 +51,19 @@ broken_fault fault.TooLarge = fault.OutOfMemory
 broken_fault fault.TooManyTokens = fault.OutOfMemory
 broken_fault other = other
 
--- what is told of a fault over a line to a server in the same process, whose connection is so far
+-- what is told of a fault over a transport to a server in the same process, whose connection has
+-- this progress
 abbrev pub fault_at : Stage → ClientFault → ClientFault
 fault_at far.Going f = f
 fault_at (far.Ended end) f = f
 fault_at far.Broken f = broken_fault f
 
--- and of what a client came to
+-- and of the outcome of a client
 abbrev pub outcome_at : Stage → Result (Unit {0}) ClientFault → Result (Unit {0}) ClientFault
 outcome_at stage (Ok done) = Ok done
 outcome_at stage (Err f) = Err (fault_at stage f)
 
--- what a client with these limits and such a server send to open a channel can be written
+-- what a client with these limits and such a server send to open a channel can be encoded
 pub record CanOpen (b : Beginning) (limits : Limits) (url : Option (List ℕ)) (moment : DateTime) : Type 0 where
   pub hello_fits : IsTrue (hello.encodable (hello_to limits url))
   pub url_fits : IsTrue (text.encodable url)
@@ -70,14 +72,15 @@ pub record CanOpen (b : Beginning) (limits : Limits) (url : Option (List ℕ)) (
   pub dated : IsTrue (date_time.encodable moment)
   pub answered : IsTrue (date_time.encodable b.moment)
 
--- a client did these turns over a line to such a server, all at this moment, and both are in step behind them
+-- a client did these operations over a transport to such a server, all at this time, and both are
+-- in step after them
 pub record StaysTalking (b : Beginning) (limits : Limits) (url : Option (List ℕ)) (moment : DateTime) (opened : ClientPlace) (turns : List (Option (List Request))) (x : Connection) (first now : Option Traffic) (replies : List Reply) : Type 0 where
   pub stays : Stays moment (opening_octets limits url moment) opened turns x first now replies
   pub sent_is : stays.sent ≡ turns_octets (acknowledged b.limits limits url) b.channel moment 1 2 2 turns
   pub replied : map (λ (r : Reply). Some r) replies ≡ turns_replies b limits url b.first 1 turns
   pub talks : TalksAt (record { server = b; limits = limits; url = url; turns = turns; octets = opening_octets limits url moment ++ stays.sent }) stays.site x now
 
--- a client opened its channel over a line to such a server
+-- a client opened its channel over a transport to such a server
 pub record Went (b : Beginning) (limits : Limits) (url : Option (List ℕ)) (moment : DateTime) (x : Connection) (first now : Option Traffic) : Type 0 where
   pub channel : ClientChannel
   pub opened : ClientPlace
@@ -85,7 +88,7 @@ pub record Went (b : Beginning) (limits : Limits) (url : Option (List ℕ)) (mom
   pub opened_at : StandsAt channel opened
   pub stays : StaysTalking b limits url moment opened [] x first now []
 
--- it did these turns, and closed behind them
+-- it did these operations, and closed after them
 pub record Talked (b : Beginning) (limits : Limits) (url : Option (List ℕ)) (moment : DateTime) (turns : List (Option (List Request))) (first now : Option Traffic) (replies : List Reply) : Type 0 where
   pub channel : ClientChannel
   pub opened : ClientPlace
@@ -103,19 +106,20 @@ pub record Talked (b : Beginning) (limits : Limits) (url : Option (List ℕ)) (m
   pub took : last.octets ≡ server_output b (opening_octets limits url moment ++ (sent ++ closing_at last moment))
   pub closes : ServerCloses b.limits b.channel (opening_octets limits url moment ++ (sent ++ closing_at last moment)) (conversation_told b.limits limits url turns)
 
--- it did what stands before the turn at this place, which is refused, and both are in step behind that
+-- it did the operations before the one at this place, which is refused, and both are in step after
+-- that
 pub record StaysBefore (b : Beginning) (limits : Limits) (url : Option (List ℕ)) (moment : DateTime) (opened : ClientPlace) (turns : List (Option (List Request))) (place : ℕ) (x : Connection) (first now : Option Traffic) (replies : List Reply) : Type 0 where
   pub done : List (Option (List Request))
   pub done_is : DoneBefore turns place done
   pub stays : StaysTalking b limits url moment opened done x first now replies
 
--- the same of one turn behind others
+-- the same for one operation after others
 pub record StaysBehind (b : Beginning) (limits : Limits) (url : Option (List ℕ)) (moment : DateTime) (opened : ClientPlace) (before : List (Option (List Request))) (turn : Option (List Request)) (x : Connection) (first now : Option Traffic) (replies : List Reply) : Type 0 where
   pub done : List (Option (List Request))
   pub done_is : IsDoneOf before turn done
   pub stays : StaysTalking b limits url moment opened done x first now replies
 
--- the same of a client that opened its channel before
+-- the same for a client that opened its channel before
 pub record WentBefore (b : Beginning) (limits : Limits) (url : Option (List ℕ)) (moment : DateTime) (turns : List (Option (List Request))) (place : ℕ) (first now : Option Traffic) (replies : List Reply) : Type 0 where
   pub opened : ClientPlace
   pub connection : Connection

@@ -46,7 +46,7 @@ fn token() -> NodeId
     NodeId::new(2, Identifier::Numeric(1))
 }
 
-/// The RequestHandle, which is the RequestId, of the request after so many lines.
+/// The RequestHandle, which is the RequestId, of the request after this many lines.
 fn handle_behind(count: usize) -> u32
     ensures { result ≡ min (count + 4) no_id }
 {
