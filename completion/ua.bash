@@ -5,11 +5,11 @@ _ua() {
     case $before in
         --policy) words='anonymous auto' ;;
         --connections) words='all' ;;
-        --attribute | --cut | --path | --range | --record | --url) return ;;
+        --answers | --at-once | --attribute | --cut | --path | --range | --record | --url) return ;;
     esac
     for ((at = 2; at < COMP_CWORD; at++)); do
         case ${COMP_WORDS[at]} in
-        --attribute | --connections | --cut | --path | --policy | --range | --record | --url) at=$((at + 1)) ;;
+        --answers | --at-once | --attribute | --connections | --cut | --path | --policy | --range | --record | --url) at=$((at + 1)) ;;
         -*) ;;
         *) place=$((place + 1)) ;;
         esac
@@ -19,7 +19,7 @@ _ua() {
     elif [ -z "$words" ]; then
         case ${COMP_WORDS[1]} in
         dissect) words='--help --hex --server --fields --names --strict --why'; files='0' ;;
-        serve) words='--help --connections --requests --plain --standard --why'; files='0' ;;
+        serve) words='--help --connections --at-once --answers --requests --plain --standard --why'; files='0' ;;
         endpoints) words='--help --policies --json --path --url --record --why' ;;
         read) words='--help --attribute --range --names --times --json --plain --policy --path --url --record --strict --why' ;;
         write) words='--help --names --json --plain --policy --path --url --record --strict --why' ;;

@@ -102,8 +102,9 @@ def large_write(number: int) -> tuple[bytes, int]:
     return chunks, number
 
 
-def ask_too_much() -> None:
-    """Writes a large value and reads it often at once, over a connection that the program ends."""
+def ask_too_much(limited: bool) -> None:
+    """Writes a large value and reads it often at once, over a connection that the program ends, or over one on which it gives up a
+    response that is larger than it allows itself, and answers the next request."""
     chunks, number = large_write(4)
     item = b'\x03\x01\0\x05\0\0\0Large' + struct.pack('<IiHi', 13, -1, 0, -1)
     hello, *begun = list(frames(CLIENT))[:4]
@@ -117,7 +118,15 @@ def ask_too_much() -> None:
         read = list(frames(CLIENT))[5]
         body = read[24:-25 - 4] + struct.pack('<I', TIMES) + TIMES * item
         line.sendall(struct.pack('<4sIIIII', b'MSGF', 24 + len(body), 1, 1, number, 5) + body)
-        check(not line.recv(1), 'an answer that takes more memory than there is')
+        if not limited:
+            check(not line.recv(1), 'an answer that takes more memory than there is')
+            return
+        # Bad_ResponseTooLarge in an abort chunk (OPC 10000-6, 6.7.3).
+        given_up = read_frame(line)
+        check(given_up[:4] == b'MSGA' and given_up[24:28] == struct.pack('<I', 0x80B90000), 'a response that is larger than the server allows')
+        body = read[24:-25 - 4] + struct.pack('<I', 1) + item.replace(struct.pack('<I', 13), struct.pack('<I', 2))
+        line.sendall(struct.pack('<4sIIIII', b'MSGF', 24 + len(body), 1, 1, number + 1, 6) + body)
+        check(read_frame(line)[24:28] == b'\x01\0\x7A\x02', 'no ReadResponse behind a response that was given up')
 
 
 def try_memory(program: str) -> None:
@@ -130,13 +139,19 @@ def try_memory(program: str) -> None:
         nodes.flush()
         served = Program(program, nodes.name, 'all', limit=limit)
         served.sessions += 1
-        ask_too_much()
+        ask_too_much(False)
         served.expect_outcome('NoMemory')
         served.whole(len(CLIENT))
         served.stop()
         served = Program(program, nodes.name, 2, limit=limit)
-        ask_too_much()
+        ask_too_much(False)
         served.end(b'ua: no memory\n')
+        for words in (('--answers', '1000000'), ('--standard',)):
+            served = Program(program, nodes.name, 'all', *words, limit=limit)
+            served.sessions += 1
+            ask_too_much(True)
+            served.expect_outcome('NoClose')
+            served.stop()
 
 
 def try_listener(program: str, nodes: str) -> None:

@@ -12,7 +12,9 @@ use crate::names::{client_fault, end, loop_fault, named_end, outcome};
 use crate::offline::{connected_row, offline_row};
 use crate::run::{broken_row, pipe_row, run_row, words_row};
 use crate::script::script;
-use crate::serve::{connections, memory_refused, request_lines, serve, serve_none, serve_tcp};
+use crate::serve::{
+    at_once, connections, memory_refused, request_lines, serve, serve_none, serve_tcp,
+};
 use crate::standard::standard;
 use crate::writers::{err_row, no_words_row, out_row, out_told_row};
 use std::alloc::AllocError;
@@ -63,6 +65,7 @@ fn answer<R: Files + Net + Clock + AllocGlobal>(
         "serve-tcp" => serve_tcp(rt, words),
         "connections" => connections(rt, words),
         "request-lines" => request_lines(rt, words),
+        "at-once" => at_once(rt, words),
         "serve-none" => serve_none(rt),
         "standard" => standard(rt, words),
         "accepts" => accepts(rt, words),

@@ -25,6 +25,8 @@ fn told<R: AllocGlobal>(rt: &R, task: &Task<'_>) -> Result<String, Fault> {
                 connections,
                 requests,
                 standard,
+                at_once,
+                answers,
                 ..
             } = *asked;
             let mut told = format!(in rt.alloc(); "port {port} connections {connections}")?;
@@ -33,6 +35,12 @@ fn told<R: AllocGlobal>(rt: &R, task: &Task<'_>) -> Result<String, Fault> {
             }
             if standard {
                 told.push_str(" standard")?;
+            }
+            if let Some(places) = at_once {
+                told.push_str(format!(in rt.alloc(); " at-once {places}")?.as_str())?;
+            }
+            if answers != 0 {
+                told.push_str(format!(in rt.alloc(); " answers {answers}")?.as_str())?;
             }
             Ok(told)
         }

@@ -119,6 +119,8 @@ pub fn accepts<R: Files + Net + Clock + AllocGlobal>(rt: &R, words: &str) -> Res
         requests: false,
         plain: false,
         standard: false,
+        at_once: None,
+        answers: 0,
     };
     let told = told(&listening, &listener, &asked);
     drop(clients);

@@ -8,12 +8,15 @@ use crate::tcp::pair;
 use crate::texts::{first_word, marked};
 use std::alloc::{AllocError, Global};
 use std::io::{Read, Write};
-use std::net::{Net, OpenListener, OpenStream, Shutdown, SocketAddr, TcpListener, TcpStream};
+use std::net::{
+    Ipv4Addr, Net, OpenListener, OpenStream, Shutdown, SocketAddr, TcpListener, TcpStream,
+};
 use std::rt::Files;
 use std::time::Clock;
 use ua_channel::{Line, ListMoments, MemoryLine};
 use ua_program::{
-    ALL_CONNECTIONS, Serve, Stop, Telling, say_no_memory, serve_all, serve_line, services,
+    ALL_CONNECTIONS, Serve, Stop, Telling, say_no_memory, serve_all, serve_line, serve_places,
+    services,
 };
 use ua_server::Services;
 
@@ -96,7 +99,7 @@ fn said<L: Line>(alloc: Global, line: &mut L, number: &str) -> Result<String, Fa
     };
     let mut moments = moments(alloc)?;
     let mut served = served_services(alloc)?;
-    let text = serve_line(alloc, line, &mut served, number, &mut moments)?;
+    let text = serve_line(alloc, line, &mut served, number, 0, &mut moments)?;
     drop(served);
     let text = marked(alloc, text.as_bytes())?;
     Ok(format!(in alloc; "\"{text}\"")?)
@@ -110,7 +113,7 @@ pub fn connections<R: Files + Net + Clock + AllocGlobal>(
     words: &str,
 ) -> Result<String, Fault> {
     let listener = TcpListener::bind(rt, "127.0.0.1:0")?;
-    let mut clients = clients(rt, &listener, words)?;
+    let mut clients = clients(rt, listener.local_addr()?, words)?;
     let text = served_all(rt, &listener, clients.len(), false)?;
     let mut told = format!(in rt.alloc(); "\"{text}\"")?;
     for client in &mut clients {
@@ -125,10 +128,27 @@ pub fn request_lines<R: Files + Net + Clock + AllocGlobal>(
     words: &str,
 ) -> Result<String, Fault> {
     let listener = TcpListener::bind(rt, "127.0.0.1:0")?;
-    let clients = clients(rt, &listener, words)?;
+    let clients = clients(rt, listener.local_addr()?, words)?;
     let text = served_all(rt, &listener, clients.len(), true)?;
     drop(clients);
     Ok(format!(in rt.alloc(); "\"{text}\"")?)
+}
+
+/// `at-once PLACES OCTETS..`: the same as `connections`, with so many served at a time.
+pub fn at_once<R: Files + Net + Clock + AllocGlobal>(rt: &R, words: &str) -> Result<String, Fault> {
+    let (places, words) = first_word(words);
+    let Ok(places) = places.parse::<u16>() else {
+        return Err(Fault::NoRow);
+    };
+    let home = SocketAddr::from((Ipv4Addr::LOCALHOST, 0));
+    let listener = mio::net::TcpListener::bind(rt, home)?;
+    let mut clients = clients(rt, listener.local_addr()?, words)?;
+    let text = served_places(rt, listener, clients.len(), places)?;
+    let mut told = format!(in rt.alloc(); "\"{text}\"")?;
+    for client in &mut clients {
+        push_sent(rt.alloc(), client, &mut told)?;
+    }
+    Ok(told)
 }
 
 /// `serve-none`: what is printed, and which fault is told, where nobody connects and the listener
@@ -170,6 +190,8 @@ fn asked(connections: u32, requests: bool) -> Serve<'static> {
         requests,
         plain: false,
         standard: false,
+        at_once: None,
+        answers: 0,
     }
 }
 
@@ -197,12 +219,12 @@ pub fn client<R: Files + Net + AllocGlobal>(
 /// Connections of which each has sent the bytes of a word.
 fn clients<R: Files + Net + AllocGlobal>(
     rt: &R,
-    listener: &R::Listener,
+    address: SocketAddr,
     words: &str,
 ) -> Result<Vec<R::Stream>, Fault> {
     let mut clients = Vec::new(rt.alloc());
     for word in words.split_whitespace() {
-        clients.push(client(rt, listener.local_addr()?, word)?)?;
+        clients.push(client(rt, address, word)?)?;
     }
     Ok(clients)
 }
@@ -227,6 +249,37 @@ fn served_all<R: Net + Clock + AllocGlobal>(
         listener,
         &mut served,
         &asked,
+        &mut out,
+        telling,
+        &mut err,
+    );
+    drop(served);
+    match stopped {
+        Ok(()) => marked(rt.alloc(), &out),
+        Err(_) => Err(Fault::Failed),
+    }
+}
+
+/// What is printed of so many connections, of which so many are served at a time.
+fn served_places<R: Net + Clock + AllocGlobal>(
+    rt: &R,
+    listener: mio::net::TcpListener,
+    count: usize,
+    places: u16,
+) -> Result<String, Fault> {
+    let Ok(connections) = u32::try_from(count) else {
+        return Err(Fault::NoRow);
+    };
+    let mut served = served_services(rt.alloc())?;
+    let (mut out, mut err) = (Vec::new(rt.alloc()), Vec::new(rt.alloc()));
+    let asked = asked(connections, false);
+    let telling = telling(rt.alloc());
+    let stopped = serve_places(
+        rt,
+        listener,
+        &mut served,
+        &asked,
+        places,
         &mut out,
         telling,
         &mut err,

@@ -1,3 +1,4 @@
+mod Ends
 mod HexParts
 mod Loops
 mod Readings

@@ -9,7 +9,8 @@ use Rattle.ua_pair.specs.Dissecting.{StandsBehind, TellsMore, EndsLines}
 use Rattle.hex.specs.Hex.{decode_of}
 use Rattle.hex.proofs.HexLemmas.{decode_of-ok}
 use Rattle.ua_program.specs.Looped.{HasLoopedUntil}
-use Rattle.ua_program.specs.Served.{HasServedSome}
+use Rattle.ua_program.specs.AtOnce.{ServesSomeAsked}
+use Rattle.ua_program.specs.declared.arguments.Serve.{Serve}
 use Rattle.ua_program.specs.Printed.{HasBegun, HasDissected, HasListed, HasToldSome}
 use Rattle.ua_texts.specs.declared.style.EndpointStyle.{EndpointStyle}
 use Rattle.ua_program.specs.Digits.{digits_in, HexSoFar, HoldsSoFar, HoldsOctets, HoldsNever, HoldsNone}
@@ -291,10 +292,10 @@ loop_stops people names why old new (inr (inl b)) = inr (inl b)
 loop_stops people names why old new (inr (inr h)) = inr (inr (inr (inr (inr (inr (record { people = people; names = names; fault = Some h.fault; looped = h.looped }))))))
 
 -- serving that stopped has begun
-pub serve_stops : {A B : Type 0} (requests goes_on : Bool) (port connections : ℕ) (old new : Option (List ℕ)) → A ⊎ (B ⊎ HasServedSome requests goes_on port connections old new) → A ⊎ (B ⊎ HasBegun old new)
-serve_stops requests goes_on port connections old new (inl a) = inl a
-serve_stops requests goes_on port connections old new (inr (inl b)) = inr (inl b)
-serve_stops requests goes_on port connections old new (inr (inr h)) = inr (inr (inr (inl (record { requests = requests; goes_on = goes_on; port = port; connections = connections; lines = inr h }))))
+pub serve_stops : {A B : Type 0} (asked : Serve) (old new : Option (List ℕ)) → A ⊎ (B ⊎ ServesSomeAsked asked old new) → A ⊎ (B ⊎ HasBegun old new)
+serve_stops asked old new (inl a) = inl a
+serve_stops asked old new (inr (inl b)) = inr (inl b)
+serve_stops asked old new (inr (inr h)) = inr (inr (inr (inl (record { asked = asked; lines = inr h }))))
 
 -- asking for endpoints that stopped has begun
 pub listed_stops : {A B : Type 0} (style : EndpointStyle) (old new : Option (List ℕ)) → A ⊎ (B ⊎ HasListed style old new) → A ⊎ (B ⊎ HasBegun old new)

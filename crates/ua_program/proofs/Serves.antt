@@ -18,7 +18,7 @@ use Rattle.ua_program.specs.declared.output.Stop.TheVariants as stop
 use Rattle.ua_program.specs.declared.serve.Halt.{Halt}
 use Rattle.ua_program.specs.declared.serve.Halt.TheVariants.{Memory, Output}
 use Rattle.ua_program.specs.declared.serve.RequestLines.{RequestLines}
-use Rattle.ua_program.specs.Served.{Connection, HasServed, HasServedSome, HasTold, IsConnection, IsConnectionLine, Prints, PrintsNext, PrintsRequest, SaysOutcome, ServesOne, TellsOf, connection_line, connection_lines, connection_text, endpoint_on, listening_line, no_memory, request_line, request_lines}
+use Rattle.ua_program.specs.Served.{Connection, HasServed, HasServedSome, HasTold, IsConnection, IsConnectionLine, Prints, PrintsNext, PrintsRequest, SaysOutcome, ServesOne, connection_line, connection_lines, connection_text, endpoint_on, listening_line, no_memory, request_line, request_lines}
 
 -- one more of which it holds
 all_then : {X : Type 0} (P : X → Type 0) (xs : List X) (x : X) → AllByRecursion P xs → P x → AllByRecursion P (xs ++ x ∷ [])
@@ -123,10 +123,7 @@ outlived_left {O} contents requests number old mid new first why left (inr same)
     subst (λ (o : O). StopsWriting why ⊎ HasTold requests number old (contents o)) (sym same.1)
     (subst (λ (w : Stop). StopsWriting w ⊎ HasTold requests number old (contents mid)) (sym same.0) left)
 
--- the line of a connection that was served, and of one that ended so
-pub line_told : (number : ℕ) (Served : Limits → Result End ServeFault → Type 0) (line : List ℕ) → TellsOf number Served line → IsConnectionLine number line
-line_told number Served line told = record { text = told.text; is = record { outcome = told.outcome; text_is = told.text_is }; line_is = told.line_is }
-
+-- the line of a connection that ended so
 pub line_said : (number : ℕ) (outcome : Result End ServeFault) (line : List ℕ) → SaysOutcome number outcome line → IsConnectionLine number line
 line_said number outcome line said = record { text = said.text; is = record { outcome = outcome; text_is = said.text_is }; line_is = said.line_is }
 

@@ -1,3 +1,4 @@
+pub mod AtOnce
 pub mod Digits
 pub mod Dissects
 pub mod Lines

@@ -8,7 +8,8 @@ use Rattle.ua_texts.specs.declared.style.AnswerStyle.{AnswerStyle}
 use Rattle.ua_texts.specs.declared.style.EndpointStyle.{EndpointStyle}
 use Rattle.ua_program.specs.Dissects.{HasBegunDissecting}
 use Rattle.ua_program.specs.Looped.{HasLoopedSome}
-use Rattle.ua_program.specs.Served.{HasServed, HasServedSome}
+use Rattle.ua_program.specs.AtOnce.{ServesAsked, ServesSomeAsked}
+use Rattle.ua_program.specs.declared.arguments.Serve.{Serve}
 
 -- the text is the lines of some bytes of one side
 pub record AreSomeLines (text : List ℕ) : Type 0 where
@@ -41,14 +42,11 @@ pub record HasListedSome (old new : Option (List ℕ)) : Type 0 where
   pub style : EndpointStyle
   pub listed : HasListed style old new
 
--- a writer that had the old bytes then has after them the lines of `ua serve` on some port: of this
--- many connections, or of fewer
+-- a writer that had the old bytes then has after them the lines of `ua serve` as some words ask for
+-- it: of this many connections, or of fewer
 pub record HasBegunServing (old new : Option (List ℕ)) : Type 0 where
-  pub requests : Bool
-  pub goes_on : Bool
-  pub port : ℕ
-  pub connections : ℕ
-  pub lines : HasServed requests goes_on port connections old new ⊎ HasServedSome requests goes_on port connections old new
+  pub asked : Serve
+  pub lines : ServesAsked asked old new ⊎ ServesSomeAsked asked old new
 
 -- a writer that had the old bytes then has after them the lines of the frames of one side at the
 -- start of some source, without a last line

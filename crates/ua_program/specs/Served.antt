@@ -6,6 +6,7 @@ use Rattle.std.specs.List.{AllByRecursion}
 use Rattle.std.specs.Ordering.{int_eq}
 use Rattle.ua_exchange.specs.Programs.{AreOurs, message_size}
 use Rattle.ua_frame.specs.declared.limits.Limits.{Limits}
+use Rattle.ua_frame.specs.Limits.{with_responses}
 use Rattle.ua_nodes.specs.NodeFile.{WriteNodes, node_lines}
 use Rattle.ua_nodes.specs.Table.{Nodes}
 use Rattle.ua_services.specs.SessionRequests.{local_url}
@@ -58,10 +59,16 @@ pub record AddsOutcome (outcome : Result End ServeFault) (old new : List ℕ) : 
 unfoldable pub connection_line : ℕ → List ℕ → List ℕ
 connection_line number outcome = codes "connection " ++ decimal number ++ codes " " ++ outcome ++ codes "\n"
 
--- the line of a connection that was served with this outcome, under the limits of the program
-pub record TellsOf (number : ℕ) (Served : Limits → Result End ServeFault → Type 0) (line : List ℕ) : Type 0 where
+-- the limits of the program, with so many octets as the most of a response's body, 0 for any
+pub record IsLimitedTo (most : ℕ) (limits : Limits) : Type 0 where
+  pub own : Limits
+  pub ours : AreOurs own
+  pub limits_are : limits ≡ with_responses own most
+
+-- the line of a connection that was served with this outcome, under these limits
+pub record TellsOf (number most : ℕ) (Served : Limits → Result End ServeFault → Type 0) (line : List ℕ) : Type 0 where
   pub limits : Limits
-  pub own : AreOurs limits
+  pub limited : IsLimitedTo most limits
   pub outcome : Result End ServeFault
   pub served : Served limits outcome
   pub text : List ℕ

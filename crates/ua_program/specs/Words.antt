@@ -1,5 +1,5 @@
 -- What the words of the command line request.
-use Rattle.std.specs.Prelude.{◌≡◌, ◌⊎◌, ◌≤◌, ◌++◌, Any, ℕ, ⊤, Bool, true, cond, List, Option, None, Some, codes}
+use Rattle.std.specs.Prelude.{◌≡◌, ◌⊎◌, ◌≤◌, ◌++◌, Any, ℕ, ⊤, Bool, true, cond, List, Option, None, Some, IfSome, codes}
 use Rattle.std.specs.Str.{bytes_eq}
 use Rattle.ua_services.specs.SessionRequests.{local_url}
 use Rattle.ua_session.specs.declared.policy.TokenPolicy.{TokenPolicy}
@@ -12,10 +12,18 @@ use Rattle.ua_program.specs.declared.arguments.Task.TheVariants.{Dissect, Serve,
 abbrev pub IsAttributeNumber : ℕ → Type 0
 IsAttributeNumber number = (1 ≤ number) × (number ≤ 27)
 
--- each number among them is at least 1
+-- a number of connections that are served at a time
+abbrev pub IsPlaces : ℕ → Type 0
+IsPlaces number = (1 ≤ number) × (number ≤ 1024)
+
+-- a server that is to last has a limit of responses, of which 0 is none
+abbrev pub IsLimited : Bool → ℕ → Type 0
+IsLimited lasts most = lasts ≡ true → 1 ≤ most
+
+-- each number among them is at least 1, and at most 1024 connections are served at a time
 abbrev pub CountsFromOne : Task → Type 0
 CountsFromOne (Dissect asked) = ⊤
-CountsFromOne (Serve asked) = (1 ≤ asked.port) × (1 ≤ asked.connections)
+CountsFromOne (Serve asked) = (1 ≤ asked.port) × (1 ≤ asked.connections) × IfSome asked.at_once IsPlaces
 CountsFromOne (Endpoints asked) = 1 ≤ asked.server.port
 CountsFromOne (Read asked) = (1 ≤ asked.server.port) × IsAttributeNumber asked.attribute
 CountsFromOne (Write asked) = 1 ≤ asked.server.port

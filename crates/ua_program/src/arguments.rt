@@ -1,10 +1,10 @@
 //! The command line.
 
-ghost use Rattle.std.specs.Prelude.{◌≤◌, IfOk};
-ghost use Rattle.ua_program.specs.Words.{CountsFromOne, IsAttributeNumber};
+ghost use Rattle.std.specs.Prelude.{◌≤◌, IfOk, IfSome};
+ghost use Rattle.ua_program.specs.Words.{CountsFromOne, IsAttributeNumber, IsLimited, IsPlaces};
 
 use crate::commands;
-use crate::number::{parse_attribute, parse_number};
+use crate::number::{parse_attribute, parse_number, parse_places, parse_size};
 use clap::{ArgMatches, Error};
 use std::alloc::{AllocError, Global};
 use std::convert::AsStr;
@@ -16,7 +16,7 @@ use ua_texts::{AnswerStyle, EndpointStyle, LineStyle};
 pub enum Task<'a> {
     /// Print the UA TCP messages of a file, and the messages that their chunks carry.
     Dissect(Dissect<'a>),
-    /// Serve connections, one after the other.
+    /// Serve connections, one after the other or many at a time.
     Serve(Serve<'a>),
     /// Print the endpoints of a server.
     Endpoints(ListEndpoints<'a>),
@@ -45,6 +45,12 @@ pub enum BadWord<'a> {
     /// The URL of a server, or the path that makes it too long (OPC 10000-6, 7.1.2.3).
     #[error("a URL has more than 4095 bytes")]
     Url(&'a str),
+    /// How many connections are served at a time.
+    #[error("a number of connections at once is not from 1 to 1024")]
+    AtOnce(&'a str),
+    /// The most bytes of a response.
+    #[error("a size of responses is not from 1 to 4294967295")]
+    Answers(&'a str),
 }
 
 impl<'a> BadWord<'a> {
@@ -54,7 +60,9 @@ impl<'a> BadWord<'a> {
             BadWord::Number(word)
             | BadWord::Attribute(word)
             | BadWord::Path(word)
-            | BadWord::Url(word) => word,
+            | BadWord::Url(word)
+            | BadWord::AtOnce(word)
+            | BadWord::Answers(word) => word,
         }
     }
 }
@@ -103,6 +111,10 @@ pub struct Serve<'a> {
     pub plain: bool,
     /// Whether the standard nodes that clients ask for first are added, and CurrentTime is kept.
     pub standard: bool,
+    /// How many connections are served at a time; `None` where one is served after the other.
+    pub at_once: Option<u16>,
+    /// The most bytes of a response's body; 0 is no limit but the client's.
+    pub answers: u32,
 }
 
 /// A server that is asked, on this machine.
@@ -269,6 +281,34 @@ fn server_of<'a>(matches: &ArgMatches<'a>) -> Result<Address<'a>, BadWord<'a>>
     }
 }
 
+/// How many connections are to be served at a time, a number from 1 to 1024, if that is said.
+fn at_once_of<'a>(matches: &ArgMatches<'a>) -> Result<Option<u16>, BadWord<'a>>
+    ensures { IfOk result (λ at_once. IfSome at_once IsPlaces) }
+{
+    let Some(word) = matches.get_str("at-once") else {
+        return Ok(None);
+    };
+    match parse_places(word) {
+        Some(places) => Ok(Some(places)),
+        None => Err(BadWord::AtOnce(word)),
+    }
+}
+
+/// The most bytes of a response's body, where nothing is said and a server is to last.
+const MOST_ANSWER: u32 = 16_777_216;
+
+/// The most bytes of a response's body: the number that is said, else [`MOST_ANSWER`] where the
+/// server is to last, else 0, which is no limit.
+fn answers_of<'a>(matches: &ArgMatches<'a>, lasts: bool) -> Result<u32, BadWord<'a>>
+    ensures { IfOk result (IsLimited lasts) }
+{
+    match matches.get_str("answers") {
+        Some(word) => parse_size(word).ok_or(BadWord::Answers(word)),
+        None if lasts => Ok(MOST_ANSWER),
+        None => Ok(0),
+    }
+}
+
 fn endpoints_of<'a>(matches: &ArgMatches<'a>) -> Result<Task<'a>, BadWord<'a>>
     ensures { IfOk result CountsFromOne }
 {
@@ -305,6 +345,9 @@ fn serve_of<'a>(matches: &ArgMatches<'a>) -> Result<Task<'a>, BadWord<'a>>
 {
     let port = number_of(matches, "PORT")?;
     let connections = connections_of(matches)?;
+    let at_once = at_once_of(matches)?;
+    let standard = matches.get_flag("standard");
+    let answers = answers_of(matches, standard || at_once.is_some())?;
     Ok(Task::Serve(Serve {
         nodes: text_of(matches, "NODES"),
         port,
@@ -312,7 +355,9 @@ fn serve_of<'a>(matches: &ArgMatches<'a>) -> Result<Task<'a>, BadWord<'a>>
         goes_on: serves_all(matches),
         requests: matches.get_flag("requests"),
         plain: matches.get_flag("plain"),
-        standard: matches.get_flag("standard"),
+        standard,
+        at_once,
+        answers,
     }))
 }
 

@@ -20,6 +20,8 @@ enum Kind {
     TextOr(&'static str, &'static str),
     /// A number with this default, as `--cut 7`; the help names it N.
     NumberOr(&'static str),
+    /// A number that does not stand beside this flag, as `--at-once 16`; the help names it N.
+    NumberWithout(&'static str),
 }
 
 /// A word of a command: its name, what it is, and its help.
@@ -147,6 +149,16 @@ const SERVE: &[Word] = &[
         help: "how many connections are served, from 1 to 65535, or all",
     },
     Word {
+        name: "at-once",
+        kind: Kind::NumberWithout("requests"),
+        help: "how many connections are served at a time, from 1 to 1024, and not one after the other",
+    },
+    Word {
+        name: "answers",
+        kind: Kind::Text("N"),
+        help: "the most bytes of a response; 16777216 beside --at-once or --standard, else only the client's limit",
+    },
+    Word {
         name: "requests",
         kind: Kind::Flag,
         help: "each request has a line as it is answered",
@@ -267,7 +279,7 @@ const COMMANDS: &[Words] = &[
     },
     Words {
         name: "serve",
-        help: "serves connections on a port, one after the other",
+        help: "serves connections on a port, one after the other or many at a time",
         words: SERVE,
     },
     Words {
@@ -303,9 +315,9 @@ fn commands() -> &'static [Words] {
 }
 
 /// A word as `clap` takes it.
-fn arg<'a>(alloc: Global, word: &Word) -> Arg<'a> {
+fn arg<'a>(alloc: Global, word: &Word) -> Result<Arg<'a>, AllocError> {
     let arg = Arg::new(alloc, word.name).help(word.help);
-    match word.kind {
+    Ok(match word.kind {
         Kind::Needed => arg.required(true),
         // A negative number is a word that is no number of those that are taken, and not an option.
         Kind::Number => arg.required(true).allow_negative_numbers(true),
@@ -321,14 +333,19 @@ fn arg<'a>(alloc: Global, word: &Word) -> Arg<'a> {
             .value_name("N")
             .default_value(text)
             .allow_negative_numbers(true),
-    }
+        Kind::NumberWithout(flag) => arg
+            .long(word.name)
+            .value_name("N")
+            .allow_negative_numbers(true)
+            .conflicts_with(flag)?,
+    })
 }
 
 /// A command as `clap` takes it.
 fn command<'a>(alloc: Global, words: &Words) -> Result<Command<'a>, AllocError> {
     let mut command = Command::new(alloc, words.name).about(words.help);
     for word in words.words {
-        match command.arg(arg(alloc, word)) {
+        match command.arg(arg(alloc, word)?) {
             Ok(longer) => command = longer,
             Err(error) => return Err(error),
         }

@@ -12,6 +12,7 @@
 
 mod arguments;
 mod ask;
+mod at_once;
 mod commands;
 mod dissect;
 mod fault;
@@ -36,6 +37,7 @@ pub use arguments::{
     Task, WriteNode, parse,
 };
 pub use ask::{policy_of, read_question, url_of, write_question};
+pub use at_once::serve_places;
 pub use fault::Fault;
 pub use loop_line::{LoopLine, MOST_OCTETS};
 pub use looping::{carry_over, run_script};

@@ -1,16 +1,18 @@
-//! `ua serve`: serves connections on a port of this machine, one after the other.
+//! `ua serve`: serves connections on a port of this machine, one after the other or many at a time.
 
-ghost use Rattle.std.specs.Prelude.{◌≡◌, ◌⊎◌, Some, IfOk, IfErr, OnOk, string_bytes, true, false};
+ghost use Rattle.std.specs.Prelude.{◌≡◌, ◌⊎◌, None, Some, IfOk, IfErr, OnOk, string_bytes, true, false};
 ghost use Rattle.std.specs.Io.KnownBytes.{Appends};
 ghost use Rattle.std.specs.IoError.{raw_os_error};
 ghost use Rattle.ua_server.specs.Serving.{Serves};
 ghost use Rattle.ua_server.specs.State.{begun};
 ghost use Rattle.ua_program.specs.Refused.{RefusesNodes};
-ghost use Rattle.ua_program.specs.Served.{AddsOutcome, BeginsWith, HasServed, HasServedSome, HasTold, IsConnectionLine, Prints, SaysOutcome, ServesOne, TellsOf, connection_line, endpoint_on, is_of_connection, kind_name, listening_line, no_memory, request_line};
+ghost use Rattle.ua_program.specs.AtOnce.{ServesAsked, ServesSomeAsked};
+ghost use Rattle.ua_program.specs.Served.{AddsOutcome, BeginsWith, HasServed, HasServedSome, HasTold, IsConnectionLine, IsLimitedTo, Prints, SaysOutcome, ServesOne, TellsOf, connection_line, endpoint_on, is_of_connection, kind_name, listening_line, no_memory, request_line};
 ghost use Rattle.ua_program.specs.Reasons.{EndsServing, NeverAccepts, StopsAt, StopsConnection, StopsWriting, is_starved};
 ghost use Rattle.ua_program.specs.declared.fault.Fault.TheVariants.{CannotListen};
 
 use crate::arguments::Serve;
+use crate::at_once::{self, serve_places};
 use crate::fault::Fault;
 use crate::input::{parse_nodes, read_lines};
 use crate::output::{Stop, say, write_text};
@@ -27,6 +29,7 @@ use std::{io, thread};
 use ua_builtin::UaString;
 use ua_channel::{Line, Moments};
 use ua_exchange::{MESSAGE_SIZE, limits};
+use ua_frame::Limits;
 use ua_server::{
     AnsweredRequest, Application, End, Endpoint, NoApplication, ServeFault, Services, Unwatched,
     Watch, serve, serve_application,
@@ -77,23 +80,42 @@ pub fn push_outcome(out: &mut String, outcome: Result<End, ServeFault>) -> Resul
     }
 }
 
-/// Serves the client at the other end of a transport. Returns the line of text with the outcome of
-/// the connection.
+/// The limits of the program, with this many bytes as the most of a response's body; 0 is no limit.
+pub fn limits_for(most: u32) -> Limits
+    ensures { IsLimitedTo most result }
+{
+    limits().with_responses(most)
+}
+
+/// How a connection is served.
+#[derive(Clone, Copy)]
+struct Terms {
+    /// The connection's number.
+    number: u32,
+    /// Whether each request has a line.
+    requests: bool,
+    limits: Limits,
+}
+
+/// Serves the client at the other end of a transport, with this many bytes as the most of a
+/// response's body; 0 is no limit. Returns the line of text with the outcome of the connection.
 pub fn serve_line<L: Line, M: Moments>(
     alloc: Global,
     line: &mut L,
     services: &mut Services,
     number: u32,
+    most: u32,
     moments: &mut M,
 ) -> Result<String, AllocError>
-    ensures { IfOk result (λ text. TellsOf number (λ limits outcome. Serves limits number M.gives (begun services.old) moments.old outcome services.new moments.new (L.traffic line.old) (L.traffic line.new)) (string_bytes text)) }
+    ensures { IfOk result (λ text. TellsOf number most (λ limits outcome. Serves limits number M.gives (begun services.old) moments.old outcome services.new moments.new (L.traffic line.old) (L.traffic line.new)) (string_bytes text)) }
 {
-    let outcome = serve(alloc, line, services, limits(), number, moments);
+    let limits = limits_for(most);
+    let outcome = serve(alloc, line, services, limits, number, moments);
     outcome_line(alloc, number, outcome)
 }
 
 /// The line of text with the outcome of a connection.
-fn outcome_line(
+pub fn outcome_line(
     alloc: Global,
     number: u32,
     outcome: Result<End, ServeFault>,
@@ -185,18 +207,18 @@ fn tell_beside<'a, L: Line, M: Moments, A: Application, O: Write>(
     alloc: Global,
     line: &mut L,
     services: &mut Services,
-    number: u32,
+    terms: Terms,
     moments: &mut M,
     application: &mut A,
     out: &mut O,
 ) -> Result<String, Stop<'a>>
-    ensures served { IfOk result (λ text. HasTold true number (O.contents out.old) (O.contents out.new) × IsConnectionLine number (string_bytes text)) }
-    ensures stopped { IfErr result (λ stop. StopsWriting stop ⊎ HasTold true number (O.contents out.old) (O.contents out.new)) }
+    ensures served { IfOk result (λ text. HasTold true terms.number (O.contents out.old) (O.contents out.new) × IsConnectionLine terms.number (string_bytes text)) }
+    ensures stopped { IfErr result (λ stop. StopsWriting stop ⊎ HasTold true terms.number (O.contents out.old) (O.contents out.new)) }
     ensures only { IfErr result StopsConnection }
 {
     let mut lines = RequestLines {
         alloc,
-        number,
+        number: terms.number,
         out,
         halt: None,
     };
@@ -204,8 +226,8 @@ fn tell_beside<'a, L: Line, M: Moments, A: Application, O: Write>(
         alloc,
         line,
         services,
-        limits(),
-        number,
+        terms.limits,
+        terms.number,
         moments,
         &mut lines,
         application,
@@ -219,7 +241,7 @@ fn tell_beside<'a, L: Line, M: Moments, A: Application, O: Write>(
     // No effect at run time. The proof reads what the writer holds from this use of it.
     let _ = &*out;
     match halt {
-        None => Ok(outcome_line(alloc, number, outcome)?),
+        None => Ok(outcome_line(alloc, terms.number, outcome)?),
         Some(Halt::Memory) => Err(Stop::Fault(Fault::NoMemory)),
         Some(Halt::Output(error)) => Err(Stop::Output(error)),
     }
@@ -231,30 +253,29 @@ fn serve_beside<'a, L: Line, M: Moments, A: Application, O: Write>(
     alloc: Global,
     line: &mut L,
     services: &mut Services,
-    number: u32,
-    requests: bool,
+    terms: Terms,
     moments: &mut M,
     application: &mut A,
     out: &mut O,
 ) -> Result<String, Stop<'a>>
-    ensures served { IfOk result (λ text. HasTold requests number (O.contents out.old) (O.contents out.new) × IsConnectionLine number (string_bytes text)) }
-    ensures stopped { IfErr result (λ stop. StopsWriting stop ⊎ HasTold requests number (O.contents out.old) (O.contents out.new)) }
+    ensures served { IfOk result (λ text. HasTold terms.requests terms.number (O.contents out.old) (O.contents out.new) × IsConnectionLine terms.number (string_bytes text)) }
+    ensures stopped { IfErr result (λ stop. StopsWriting stop ⊎ HasTold terms.requests terms.number (O.contents out.old) (O.contents out.new)) }
     ensures only { IfErr result StopsConnection }
 {
-    if requests {
-        return tell_beside(alloc, line, services, number, moments, application, out);
+    if terms.requests {
+        return tell_beside(alloc, line, services, terms, moments, application, out);
     }
     let outcome = serve_application(
         alloc,
         line,
         services,
-        limits(),
-        number,
+        terms.limits,
+        terms.number,
         moments,
         &mut Unwatched,
         application,
     );
-    Ok(outcome_line(alloc, number, outcome)?)
+    Ok(outcome_line(alloc, terms.number, outcome)?)
 }
 
 /// Serves the client of a connection beside an application, after which the connection has ended.
@@ -264,27 +285,17 @@ fn serve_stream<'a, S: Read + Write + Drop, M: Moments, A: Application, O: Write
     alloc: Global,
     stream: S,
     services: &mut Services,
-    number: u32,
-    requests: bool,
+    terms: Terms,
     moments: &mut M,
     application: &mut A,
     out: &mut O,
 ) -> Result<String, Stop<'a>>
-    ensures served { IfOk result (λ text. HasTold requests number (O.contents out.old) (O.contents out.new) × IsConnectionLine number (string_bytes text)) }
-    ensures stopped { IfErr result (λ stop. StopsWriting stop ⊎ HasTold requests number (O.contents out.old) (O.contents out.new)) }
+    ensures served { IfOk result (λ text. HasTold terms.requests terms.number (O.contents out.old) (O.contents out.new) × IsConnectionLine terms.number (string_bytes text)) }
+    ensures stopped { IfErr result (λ stop. StopsWriting stop ⊎ HasTold terms.requests terms.number (O.contents out.old) (O.contents out.new)) }
     ensures only { IfErr result StopsConnection }
 {
     let mut line = GatheringLine::new(alloc, TcpLine::new(stream));
-    let served = serve_beside(
-        alloc,
-        &mut line,
-        services,
-        number,
-        requests,
-        moments,
-        application,
-        out,
-    );
+    let served = serve_beside(alloc, &mut line, services, terms, moments, application, out);
     // the last responses, or the ERR message: no connection tells whether the client receives them
     let _ = line.flush();
     served
@@ -303,7 +314,12 @@ fn serve_asked<'a, R: Clock + AllocGlobal, S: Read + Write + Drop, O: Write>(
     ensures stopped { IfErr result (λ stop. StopsWriting stop ⊎ HasTold asked.now.requests number (O.contents out.old) (O.contents out.new)) }
     ensures only { IfErr result StopsConnection }
 {
-    let (alloc, requests) = (rt.alloc(), asked.requests);
+    let alloc = rt.alloc();
+    let terms = Terms {
+        number,
+        requests: asked.requests,
+        limits: limits_for(asked.answers),
+    };
     let mut moments = ClockMoments::new(rt);
     if asked.standard {
         let mut keeper = TimeKeeper {
@@ -313,8 +329,7 @@ fn serve_asked<'a, R: Clock + AllocGlobal, S: Read + Write + Drop, O: Write>(
             alloc,
             stream,
             services,
-            number,
-            requests,
+            terms,
             &mut moments,
             &mut keeper,
             out,
@@ -324,8 +339,7 @@ fn serve_asked<'a, R: Clock + AllocGlobal, S: Read + Write + Drop, O: Write>(
             alloc,
             stream,
             services,
-            number,
-            requests,
+            terms,
             &mut moments,
             &mut NoApplication,
             out,
@@ -338,7 +352,7 @@ const PAUSE: u64 = 1;
 
 /// Whether an error of a listener concerns the connection that would have been next, and not those
 /// after it.
-fn is_of_connection(error: &io::Error) -> bool
+pub fn is_of_connection(error: &io::Error) -> bool
     ensures { result ≡ is_of_connection (raw_os_error error.now) }
 {
     match error.raw_os_error() {
@@ -396,7 +410,7 @@ pub fn say_no_memory<'a, O: Write>(number: u32, out: &mut O) -> Result<(), Stop<
 }
 
 /// Writes the line of a connection at which an allocation failed, and flushes it.
-fn write_no_memory<O: Write>(number: u32, out: &mut O) -> io::Result<()>
+pub fn write_no_memory<O: Write>(number: u32, out: &mut O) -> io::Result<()>
     ensures { OnOk result (Appends (O.contents out.old) (O.contents out.new) (connection_line number no_memory)) }
 {
     write!(out, "connection {number} NoMemory\n")?;
@@ -483,7 +497,7 @@ fn listen<'a, R: Net>(rt: &R, port: u16) -> Result<R::Listener, Stop<'a>> {
 }
 
 /// Prints that connections are accepted.
-fn say_listening<'a, O: Write>(alloc: Global, port: u16, out: &mut O) -> Result<(), Stop<'a>>
+pub fn say_listening<'a, O: Write>(alloc: Global, port: u16, out: &mut O) -> Result<(), Stop<'a>>
     ensures said { OnOk result (Appends (O.contents out.old) (O.contents out.new) (listening_line port)) }
     ensures stopped { IfErr result (λ stop. StopsWriting stop ⊎ (out.new ≡ out.old)) }
 {
@@ -517,8 +531,8 @@ pub fn serve_all<'a, R: Net + Clock + AllocGlobal, O: Write, E: Write>(
     Ok(())
 }
 
-/// Serves connections on a port of this machine, one after the other, and prints the outcome of
-/// each.
+/// Serves connections on a port of this machine, one after the other or many at a time, and prints
+/// the outcome of each.
 pub fn serve_connections<'a, R: Files + Net + Clock + AllocGlobal, O: Write, E: Write>(
     rt: &R,
     asked: &Serve<'a>,
@@ -526,20 +540,38 @@ pub fn serve_connections<'a, R: Files + Net + Clock + AllocGlobal, O: Write, E: 
     telling: Telling,
     err: &mut E,
 ) -> Result<(), Stop<'a>>
-    ensures served { OnOk result (HasServed asked.now.requests asked.now.goes_on asked.now.port asked.now.connections (O.contents out.old) (O.contents out.new)) }
-    ensures stopped { IfErr result (λ stop. StopsWriting stop ⊎ (out.new ≡ out.old) ⊎ HasServedSome asked.now.requests asked.now.goes_on asked.now.port asked.now.connections (O.contents out.old) (O.contents out.new)) }
-    ensures lasts { asked.now.goes_on ≡ true → IfErr result (λ why. EndsServing why ⊎ (out.new ≡ out.old)) }
+    ensures served { OnOk result (ServesAsked asked.now (O.contents out.old) (O.contents out.new)) }
+    ensures stopped { IfErr result (λ stop. StopsWriting stop ⊎ (out.new ≡ out.old) ⊎ ServesSomeAsked asked.now (O.contents out.old) (O.contents out.new)) }
+    // Where one is served after the other.
+    ensures lasts { asked.now.at_once ≡ None → asked.now.goes_on ≡ true → IfErr result (λ why. EndsServing why ⊎ (out.new ≡ out.old)) }
     ensures quiet { telling.aloud ≡ false → err.new ≡ err.old }
 {
     let StandardServices {
         mut services,
         keeps_time,
     } = load_asked(rt, asked)?;
-    let listener = listen(rt, asked.port)?;
     // the server keeps CurrentTime where the file does not have it
     let asked = Serve {
         standard: keeps_time,
         ..*asked
     };
-    serve_all(rt, &listener, &mut services, &asked, out, telling, err)
+    match asked.at_once {
+        None => {
+            let listener = listen(rt, asked.port)?;
+            serve_all(rt, &listener, &mut services, &asked, out, telling, err)
+        }
+        Some(places) => {
+            let listener = at_once::listen(rt, asked.port)?;
+            serve_places(
+                rt,
+                listener,
+                &mut services,
+                &asked,
+                places,
+                out,
+                telling,
+                err,
+            )
+        }
+    }
 }

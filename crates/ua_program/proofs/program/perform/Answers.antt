@@ -8,7 +8,7 @@ returns-in-Loop-clause-stopped g c =
 
 pub returns-in-Err-clause-stopped : goal.returns-in-Err-clause-stopped
 returns-in-Err-clause-stopped g c =
-    serve_stops c.in-Serve.asked.requests c.in-Serve.asked.goes_on c.in-Serve.asked.port c.in-Serve.asked.connections (g.O.Write.contents c.args.out.now) (g.O.Write.contents c.serve_connections.new.out) c.in-Err.ensures.stopped
+    serve_stops c.in-Serve.asked (g.O.Write.contents c.args.out.now) (g.O.Write.contents c.serve_connections.new.out) c.in-Err.ensures.stopped
 
 pub returns-in-Err-endpoints-clause-stopped : goal.returns-in-Err-endpoints-clause-stopped
 returns-in-Err-endpoints-clause-stopped g c =

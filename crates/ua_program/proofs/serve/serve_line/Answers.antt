@@ -3,8 +3,8 @@ use Rattle.ua_program.proofs.serve.serve_line.Goals as goal
 
 pub returns : goal.returns
 returns g c = IfOk-weaker c.outcome_line.result _ _ (λ text said. record {
-  limits = c.limits.result;
-  own = c.limits.ensures;
+  limits = c.limits_for-limits.result;
+  limited = c.limits_for-limits.ensures;
   outcome = c.serve-outcome.result;
   served = c.serve-outcome.ensures.serves;
   text = said.text;
