@@ -7,6 +7,7 @@ use crate::client::client;
 use crate::failing_listener::accepts;
 use crate::fault::Fault;
 use crate::files::{file, holds, text};
+use crate::heard::heard;
 use crate::lines::{carried, gathering, moment, stream};
 use crate::names::{client_fault, end, loop_fault, named_end, outcome};
 use crate::offline::{connected_row, offline_row};
@@ -61,6 +62,7 @@ fn answer<R: Files + Net + Clock + AllocGlobal>(
         "ask-tcp" => ask_tcp(rt, words),
         "ask-out" => ask_out(rt, words),
         "flushed" => flushed(rt, words),
+        "heard" => heard(rt, words),
         "serve" => serve(rt, words),
         "serve-tcp" => serve_tcp(rt, words),
         "connections" => connections(rt, words),

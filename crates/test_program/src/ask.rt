@@ -147,7 +147,7 @@ fn told<L: Line>(alloc: Global, line: &mut L, question: &str) -> Result<String, 
 }
 
 /// Asks what the words of a command ask for, without its port, and gives what came of it.
-fn asked<L: Line, O: Write>(
+pub fn asked<L: Line, O: Write>(
     alloc: Global,
     line: &mut L,
     words: &str,

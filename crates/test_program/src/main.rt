@@ -13,6 +13,7 @@ mod client;
 mod failing_listener;
 mod fault;
 mod files;
+mod heard;
 mod lines;
 mod names;
 mod octets;

@@ -1,6 +1,7 @@
 mod Ends
 mod HexParts
 mod Loops
+mod Places
 mod Readings
 mod Serves
 mod Standards

@@ -7,7 +7,7 @@ use Rattle.ua_program.specs.declared.output.Stop.TheVariants as stop
 use Rattle.ua_session.specs.Printed.{IsOutput}
 use Rattle.ua_session.specs.declared.fault.AskFault.{AskFault}
 use Rattle.ua_session.specs.declared.fault.AskFault.TheVariants as ask
-use Rattle.ua_program.specs.Reasons.{StopsAt, StopsAtNodes, StopsWriting, stop_of}
+use Rattle.ua_program.specs.Reasons.{StopsAsking, StopsAt, StopsAtNodes, StopsWriting}
 use Rattle.ua_program.specs.Refused.{RefusesNodes}
 
 -- what is told of a refused node file refuses it, too
@@ -22,14 +22,10 @@ stops_at_nodes text fault (stop.Because told reason) refused at = told_of text f
 stops_at_nodes text fault (stop.Output error) refused at = at
 
 -- what a fault of a conversation leaves is left by what stops the command
-pub left_stops : {R : Type 0} (fault : AskFault) → IsOutput fault ⊎ R → StopsWriting (stop_of fault) ⊎ R
-left_stops (ask.Output e) (inl output) = inl tt
-left_stops (ask.Service code) (inl output) = absurd output
-left_stops (ask.Connection f) (inl output) = absurd output
-left_stops ask.NoPolicy (inl output) = absurd output
-left_stops ask.NoMemory (inl output) = absurd output
-left_stops fault (inr left) = inr left
-
--- the same of the stop that a fault became
-pub left_at : {R : Type 0} (fault : AskFault) (why : Stop) → why ≡ stop_of fault → IsOutput fault ⊎ R → StopsWriting why ⊎ R
-left_at {R} fault why is left = subst (λ (w : Stop). StopsWriting w ⊎ R) (sym is) (left_stops fault left)
+pub left_asking : {R : Type 0} (fault : AskFault) (why : Stop) → StopsAsking fault why → IsOutput fault ⊎ R → StopsWriting why ⊎ R
+left_asking (ask.Output e) why at left = inl (subst (λ (w : Stop). StopsWriting w) (sym at) tt)
+left_asking (ask.Service code) why at (inl output) = absurd output
+left_asking (ask.Connection f) why at (inl output) = absurd output
+left_asking ask.NoPolicy why at (inl output) = absurd output
+left_asking ask.NoMemory why at (inl output) = absurd output
+left_asking fault why at (inr left) = inr left

@@ -1,8 +1,9 @@
 -- The content of a file: bytes, or hexadecimal digits among white space.
-use Rattle.std.specs.Prelude.{◌≡◌, ℕ, Bool, true, false, not, List, ◌++◌, Option, option_to_list, Ok}
-use Rattle.std.specs.Char.{is_ascii_whitespace}
-use Rattle.std.specs.List.{filter}
+use Rattle.std.specs.Prelude.{◌≡◌, ◌+◌, ◌-◌, ◌^◌, ◌&&◌, ℕ, nat_lt, Bool, true, false, not, List, ◌++◌, length, min, Option, option_to_list, Ok}
+use Rattle.std.specs.Char.{is_ascii_hexdigit, is_ascii_whitespace}
+use Rattle.std.specs.List.{filter, position_or_len}
 use Rattle.hex.specs.Hex.{decode_of}
+use Rattle.ua_program.specs.declared.digit_place.DigitPlace.{DigitPlace}
 
 -- a text without spaces, tabs, line feeds, form feeds and carriage returns
 abbrev pub digits_in : List ℕ → List ℕ
@@ -21,6 +22,24 @@ HoldsOctets true content octets = IsHex content octets
 -- a file with this content contains no bytes: with `--hex`, if its digits stand for none
 abbrev pub HoldsNone : Bool → List ℕ → Type 0
 HoldsNone hex content = (octets : List ℕ) → ¬ (HoldsOctets hex content octets)
+
+-- ---- where a text stops being hexadecimal
+
+-- the byte is neither a hexadecimal digit nor white space
+abbrev pub is_no_digit : ℕ → Bool
+is_no_digit octet = not (is_ascii_hexdigit octet) && not (is_ascii_whitespace octet)
+
+-- how many bytes of a text stand before its first such one; where it has none, all of them
+abbrev pub digits_before : List ℕ → ℕ
+digits_before text = position_or_len is_no_digit text
+
+-- how far a fragment is hexadecimal, after so many bytes, and whether it has such a byte
+abbrev pub GoesOn : ℕ → List ℕ → DigitPlace → Type 0
+GoesOn before piece new = (new.found ≡ nat_lt (digits_before piece) (length piece)) × (new.count ≡ min (before + digits_before piece) (2 ^ 64 - 1))
+
+-- how far a text is hexadecimal, up to 2^64 - 1 bytes, and whether it has such a byte
+abbrev pub IsPlaceIn : List ℕ → DigitPlace → Type 0
+IsPlaceIn text place = (place.found ≡ nat_lt (digits_before text) (length text)) × (place.count ≡ min (digits_before text) (2 ^ 64 - 1))
 
 -- ---- a text that comes in fragments
 

@@ -9,3 +9,5 @@ pub mod Looped
 pub mod Printed
 pub mod Reasons
 pub mod Standard
+pub mod Known
+pub mod Blamed

@@ -40,14 +40,15 @@ NeverAccepts why = why ≡ stop.Fault CannotListen
 abbrev pub EndsServing : Stop → Type 0
 EndsServing why = StopsWriting why ⊎ NeverAccepts why
 
--- why a command stops at a fault of a conversation: the writer failed in it, or the fault is told
-abbrev pub stop_of : AskFault → Stop
-stop_of (Output error) = stop.Output error
-stop_of other = stop.Fault (Asking other)
-
 -- a command stopped at this fault, or since an allocation failed
 abbrev pub StopsAt : Fault → Stop → Type 0
 StopsAt fault why = StopsBy (λ told. (told ≡ fault) ⊎ (told ≡ NoMemory)) why
+
+-- a command stopped at a fault of a conversation: the writer failed in it, or the fault is told,
+-- with what more is known of it or without
+abbrev pub StopsAsking : AskFault → Stop → Type 0
+StopsAsking (Output error) why = why ≡ stop.Output error
+StopsAsking other why = StopsAt (Asking other) why
 
 -- why a file is not read: it cannot be, or an allocation failed
 abbrev pub StopsAtFile : Bor (List ℕ) → Stop → Type 0

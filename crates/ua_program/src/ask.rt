@@ -2,6 +2,7 @@
 
 ghost use Rattle.std.specs.Prelude.{◌≡◌, ◌⊎◌, true, false, option_map, IsTrue, OnOk, IfOk, IfErr};
 ghost use Rattle.ua_wire.specs.Counted.{text};
+ghost use Rattle.ua_session.specs.Printed.{AreAnswerLines, AreEndpointLines, LeavesLines};
 ghost use Rattle.ua_session.specs.Words.{GivesRead, GivesWrite};
 ghost use Rattle.ua_session.specs.declared.verdict.Verdict.TheVariants.{AllGood, SomeBad};
 ghost use Rattle.ua_program.specs.Printed.{HasAnswered, HasListed};
@@ -9,12 +10,14 @@ ghost use Rattle.ua_program.specs.Words.{base_url, policy_named, value_given, wi
 ghost use Rattle.ua_program.specs.Reasons.{StopsWriting, is_starved};
 
 use crate::arguments::{Address, ListEndpoints, ReadNodes, WriteNode};
+use crate::blame::{blame_read, blame_write};
 use crate::fault::Fault;
+use crate::heard::Heard;
 use crate::output::Stop;
 use crate::reason::cannot_connect;
 use crate::record::write_record;
 use std::alloc::{AllocError, Global};
-use std::io::Write;
+use std::io::{Read, Write};
 use std::net::{Ipv4Addr, Net, TcpStream};
 use std::rt::Files;
 use std::time::Clock;
@@ -22,14 +25,19 @@ use ua_builtin::{UaString, Wire};
 use ua_channel::Line;
 use ua_exchange::limits;
 use ua_services::session_requests::local_url;
-use ua_session::{Question, TokenPolicy, Verdict, WordFault, ask_over, endpoints_over};
+use ua_session::{AskFault, Question, TokenPolicy, Verdict, WordFault, ask_over, endpoints_over};
 use ua_tcp::{ClockMoments, RecordedLine, TcpLine, without_delay};
 use ua_texts::AnswerStyle;
 
-/// A transport to the server on a port of this machine.
-fn connect<'a, R: Net>(rt: &R, port: u16) -> Result<TcpLine<R::Stream>, Stop<'a>> {
+/// A connection to the server on a port of this machine. `why` says whether the Reason of an ERR
+/// frame is kept.
+fn connect<'a, R: Net + AllocGlobal>(
+    rt: &R,
+    port: u16,
+    why: bool,
+) -> Result<Heard<R::Stream>, Stop<'a>> {
     match TcpStream::connect(rt, (Ipv4Addr::LOCALHOST, port)) {
-        Ok(stream) => Ok(TcpLine::new(without_delay(stream))),
+        Ok(stream) => Ok(Heard::new(rt.alloc(), without_delay(stream), why)),
         Err(error) => Err(cannot_connect(error)),
     }
 }
@@ -77,18 +85,20 @@ pub fn url_of<'a>(alloc: Global, server: &Address<'_>) -> Result<UaString, Stop<
 }
 
 /// Prints the endpoints of the server over a transport.
-fn endpoints_line<'a, R: Clock + AllocGlobal, L: Line, O: Write>(
+fn endpoints_line<R: Clock + AllocGlobal, L: Line, O: Write>(
     rt: &R,
     line: &mut L,
-    asked: &ListEndpoints<'a>,
+    asked: &ListEndpoints<'_>,
     out: &mut O,
-) -> Result<(), Stop<'a>>
+) -> Result<(), AskFault>
     ensures answered { OnOk result (HasListed asked.now.style (O.contents out.old) (O.contents out.new)) }
-    ensures stopped { IfErr result (λ stop. StopsWriting stop ⊎ (out.new ≡ out.old) ⊎ HasListed asked.now.style (O.contents out.old) (O.contents out.new)) }
+    ensures left { IfErr result (λ fault. LeavesLines O.contents (AreEndpointLines asked.now.style) fault out.old out.new) }
 {
-    let url = url_of(rt.alloc(), &asked.server)?;
+    let Ok(url) = url_of(rt.alloc(), &asked.server) else {
+        return Err(AskFault::NoMemory);
+    };
     let mut moments = ClockMoments::new(rt);
-    let ended = endpoints_over(
+    endpoints_over(
         rt.alloc(),
         line,
         limits(),
@@ -96,25 +106,41 @@ fn endpoints_line<'a, R: Clock + AllocGlobal, L: Line, O: Write>(
         asked.style,
         &mut moments,
         out,
-    );
-    drop(url);
-    Ok(ended?)
+    )
 }
 
-/// Prints the endpoints of the server on a port of this machine.
-pub fn endpoints<'a, R: Files + Net + Clock + AllocGlobal, O: Write>(
+/// Prints the endpoints of the server over a connection.
+fn endpoints_heard<'a, R: Clock + AllocGlobal, S: Read + Write, O: Write>(
     rt: &R,
+    heard: &mut Heard<S>,
     asked: &ListEndpoints<'a>,
     out: &mut O,
 ) -> Result<(), Stop<'a>>
     ensures answered { OnOk result (HasListed asked.now.style (O.contents out.old) (O.contents out.new)) }
     ensures stopped { IfErr result (λ stop. StopsWriting stop ⊎ (out.new ≡ out.old) ⊎ HasListed asked.now.style (O.contents out.old) (O.contents out.new)) }
 {
-    let mut line = connect(rt, asked.server.port)?;
-    let Some(name) = asked.record else {
-        return endpoints_line(rt, &mut line, asked, out);
-    };
-    let mut line = RecordedLine::new(rt.alloc(), line);
+    let mut line = TcpLine::new(&mut *heard);
+    let ended = endpoints_line(rt, &mut line, asked, out);
+    drop(line);
+    match ended {
+        Ok(()) => Ok(()),
+        Err(fault) => Err(heard.blame(rt.alloc(), fault)),
+    }
+}
+
+/// Prints the endpoints of the server over a connection, and then writes the bytes in each
+/// direction to files of this name.
+fn endpoints_recorded<'a, R: Files + Clock + AllocGlobal, S: Read + Write, O: Write>(
+    rt: &R,
+    heard: &mut Heard<S>,
+    name: &'a str,
+    asked: &ListEndpoints<'a>,
+    out: &mut O,
+) -> Result<(), Stop<'a>>
+    ensures answered { OnOk result (HasListed asked.now.style (O.contents out.old) (O.contents out.new)) }
+    ensures stopped { IfErr result (λ stop. StopsWriting stop ⊎ (out.new ≡ out.old) ⊎ HasListed asked.now.style (O.contents out.old) (O.contents out.new)) }
+{
+    let mut line = RecordedLine::new(rt.alloc(), TcpLine::new(&mut *heard));
     let ended = endpoints_line(rt, &mut line, asked, out);
     let recorded = write_record(rt, name, &line);
     drop(line);
@@ -124,7 +150,25 @@ pub fn endpoints<'a, R: Files + Net + Clock + AllocGlobal, O: Write>(
             Ok(()) => Ok(()),
             Err(stop) => Err(stop),
         },
-        Err(stop) => Err(stop),
+        Err(fault) => Err(heard.blame(rt.alloc(), fault)),
+    }
+}
+
+/// Prints the endpoints of the server on a port of this machine. `why` says whether a fault has the
+/// Reason of an ERR frame.
+pub fn endpoints<'a, R: Files + Net + Clock + AllocGlobal, O: Write>(
+    rt: &R,
+    asked: &ListEndpoints<'a>,
+    why: bool,
+    out: &mut O,
+) -> Result<(), Stop<'a>>
+    ensures answered { OnOk result (HasListed asked.now.style (O.contents out.old) (O.contents out.new)) }
+    ensures stopped { IfErr result (λ stop. StopsWriting stop ⊎ (out.new ≡ out.old) ⊎ HasListed asked.now.style (O.contents out.old) (O.contents out.new)) }
+{
+    let mut heard = connect(rt, asked.server.port, why)?;
+    match asked.record {
+        None => endpoints_heard(rt, &mut heard, asked, out),
+        Some(name) => endpoints_recorded(rt, &mut heard, name, asked, out),
     }
 }
 
@@ -152,23 +196,29 @@ struct Asking<'a> {
     strict: bool,
     /// The name of the files that keep the bytes in each direction, if they are kept.
     record: Option<&'a str>,
+    /// Whether a fault has the Reason of an ERR frame.
+    why: bool,
 }
 
 /// Asks a question of the server over a transport, and prints the answers.
-fn ask_line<'a, R: Clock + AllocGlobal, L: Line, O: Write>(
+fn ask_line<R: Clock + AllocGlobal, L: Line, O: Write>(
     rt: &R,
     line: &mut L,
     question: &Question,
-    how: &Asking<'a>,
+    how: &Asking<'_>,
     out: &mut O,
-) -> Result<Verdict, Stop<'a>>
+) -> Result<Verdict, AskFault>
     ensures answered { OnOk result (HasAnswered how.now.style (O.contents out.old) (O.contents out.new)) }
-    ensures stopped { IfErr result (λ stop. StopsWriting stop ⊎ (out.new ≡ out.old) ⊎ HasAnswered how.now.style (O.contents out.old) (O.contents out.new)) }
+    ensures left { IfErr result (λ fault. LeavesLines O.contents (AreAnswerLines how.now.style) fault out.old out.new) }
 {
-    let policy = policy_of(rt.alloc(), how.policy)?;
-    let url = url_of(rt.alloc(), &how.server)?;
+    let Ok(policy) = policy_of(rt.alloc(), how.policy) else {
+        return Err(AskFault::NoMemory);
+    };
+    let Ok(url) = url_of(rt.alloc(), &how.server) else {
+        return Err(AskFault::NoMemory);
+    };
     let mut moments = ClockMoments::new(rt);
-    let ended = ask_over(
+    ask_over(
         rt.alloc(),
         line,
         limits(),
@@ -178,10 +228,54 @@ fn ask_line<'a, R: Clock + AllocGlobal, L: Line, O: Write>(
         how.style,
         &mut moments,
         out,
-    );
-    drop(url);
-    drop(policy);
-    Ok(ended?)
+    )
+}
+
+/// Asks a question of the server over a connection, and prints the answers.
+fn ask_heard<'a, R: Clock + AllocGlobal, S: Read + Write, O: Write>(
+    rt: &R,
+    heard: &mut Heard<S>,
+    question: &Question,
+    how: &Asking<'a>,
+    out: &mut O,
+) -> Result<Verdict, Stop<'a>>
+    ensures answered { OnOk result (HasAnswered how.now.style (O.contents out.old) (O.contents out.new)) }
+    ensures stopped { IfErr result (λ stop. StopsWriting stop ⊎ (out.new ≡ out.old) ⊎ HasAnswered how.now.style (O.contents out.old) (O.contents out.new)) }
+{
+    let mut line = TcpLine::new(&mut *heard);
+    let ended = ask_line(rt, &mut line, question, how, out);
+    drop(line);
+    match ended {
+        Ok(verdict) => Ok(verdict),
+        Err(fault) => Err(heard.blame(rt.alloc(), fault)),
+    }
+}
+
+/// Asks a question of the server over a connection, prints the answers, and then writes the bytes
+/// in each direction to files of this name.
+fn ask_recorded<'a, R: Files + Clock + AllocGlobal, S: Read + Write, O: Write>(
+    rt: &R,
+    heard: &mut Heard<S>,
+    name: &'a str,
+    question: &Question,
+    how: &Asking<'a>,
+    out: &mut O,
+) -> Result<Verdict, Stop<'a>>
+    ensures answered { OnOk result (HasAnswered how.now.style (O.contents out.old) (O.contents out.new)) }
+    ensures stopped { IfErr result (λ stop. StopsWriting stop ⊎ (out.new ≡ out.old) ⊎ HasAnswered how.now.style (O.contents out.old) (O.contents out.new)) }
+{
+    let mut line = RecordedLine::new(rt.alloc(), TcpLine::new(&mut *heard));
+    let ended = ask_line(rt, &mut line, question, how, out);
+    let recorded = write_record(rt, name, &line);
+    drop(line);
+    // The fault of the command is told first.
+    match ended {
+        Ok(verdict) => match recorded {
+            Ok(()) => Ok(verdict),
+            Err(stop) => Err(stop),
+        },
+        Err(fault) => Err(heard.blame(rt.alloc(), fault)),
+    }
 }
 
 /// Asks a question of the server on a port of this machine, and prints the answers.
@@ -194,21 +288,10 @@ fn ask<'a, R: Files + Net + Clock + AllocGlobal, O: Write>(
     ensures answered { OnOk result (HasAnswered how.now.style (O.contents out.old) (O.contents out.new)) }
     ensures stopped { IfErr result (λ stop. StopsWriting stop ⊎ (out.new ≡ out.old) ⊎ HasAnswered how.now.style (O.contents out.old) (O.contents out.new)) }
 {
-    let mut line = connect(rt, how.server.port)?;
-    let Some(name) = how.record else {
-        return ask_line(rt, &mut line, question, how, out);
-    };
-    let mut line = RecordedLine::new(rt.alloc(), line);
-    let ended = ask_line(rt, &mut line, question, how, out);
-    let recorded = write_record(rt, name, &line);
-    drop(line);
-    // The fault of the command is told first.
-    match ended {
-        Ok(verdict) => match recorded {
-            Ok(()) => Ok(verdict),
-            Err(stop) => Err(stop),
-        },
-        Err(stop) => Err(stop),
+    let mut heard = connect(rt, how.server.port, how.why)?;
+    match how.record {
+        None => ask_heard(rt, &mut heard, question, how, out),
+        Some(name) => ask_recorded(rt, &mut heard, name, question, how, out),
     }
 }
 
@@ -239,10 +322,10 @@ pub fn write_question(alloc: Global, asked: &WriteNode<'_>) -> Result<Question, 
     }
 }
 
-/// Asks the question of the words, if they have one, and returns what counts of the answers.
+/// Asks a question, and returns what counts of the answers.
 fn ask_counted<'a, R: Files + Net + Clock + AllocGlobal, O: Write>(
     rt: &R,
-    question: Result<Question, WordFault>,
+    question: &Question,
     how: &Asking<'a>,
     out: &mut O,
 ) -> Result<Verdict, Stop<'a>>
@@ -250,8 +333,7 @@ fn ask_counted<'a, R: Files + Net + Clock + AllocGlobal, O: Write>(
     ensures strict { IfOk result (λ verdict. verdict ≡ SomeBad → how.now.strict ≡ true) }
     ensures stopped { IfErr result (λ stop. StopsWriting stop ⊎ (out.new ≡ out.old) ⊎ HasAnswered how.now.style (O.contents out.old) (O.contents out.new)) }
 {
-    let question = question?;
-    match ask(rt, &question, how, out) {
+    match ask(rt, question, how, out) {
         Ok(verdict) => Ok(counted(verdict, how.strict)),
         Err(stop) => Err(stop),
     }
@@ -261,6 +343,7 @@ fn ask_counted<'a, R: Files + Net + Clock + AllocGlobal, O: Write>(
 pub fn read<'a, R: Files + Net + Clock + AllocGlobal, O: Write>(
     rt: &R,
     asked: &ReadNodes<'a>,
+    why: bool,
     out: &mut O,
 ) -> Result<Verdict, Stop<'a>>
     ensures answered { OnOk result (HasAnswered asked.now.style (O.contents out.old) (O.contents out.new)) }
@@ -273,14 +356,20 @@ pub fn read<'a, R: Files + Net + Clock + AllocGlobal, O: Write>(
         style: asked.style,
         strict: asked.strict,
         record: asked.record,
+        why,
     };
-    ask_counted(rt, read_question(rt.alloc(), asked), &how, out)
+    let question = match read_question(rt.alloc(), asked) {
+        Ok(question) => question,
+        Err(fault) => return Err(blame_read(rt.alloc(), asked, fault)),
+    };
+    ask_counted(rt, &question, &how, out)
 }
 
 /// Sets the Value of a node of the server on a port of this machine, and prints the result.
 pub fn write<'a, R: Files + Net + Clock + AllocGlobal, O: Write>(
     rt: &R,
     asked: &WriteNode<'a>,
+    why: bool,
     out: &mut O,
 ) -> Result<Verdict, Stop<'a>>
     ensures answered { OnOk result (HasAnswered asked.now.style (O.contents out.old) (O.contents out.new)) }
@@ -293,6 +382,11 @@ pub fn write<'a, R: Files + Net + Clock + AllocGlobal, O: Write>(
         style: asked.style,
         strict: asked.strict,
         record: asked.record,
+        why,
     };
-    ask_counted(rt, write_question(rt.alloc(), asked), &how, out)
+    let question = match write_question(rt.alloc(), asked) {
+        Ok(question) => question,
+        Err(fault) => return Err(blame_write(rt.alloc(), asked, fault)),
+    };
+    ask_counted(rt, &question, &how, out)
 }

@@ -49,7 +49,7 @@ const PORT: Word = Word {
 const NODE_FILE: Word = Word {
     name: "NODES",
     kind: Kind::Needed,
-    help: "the node file",
+    help: "the node file, or - for standard input",
 };
 
 const NAMES: Word = Word {

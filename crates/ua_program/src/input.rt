@@ -1,6 +1,6 @@
 //! Files.
 
-ghost use Rattle.std.specs.Prelude.{◌≡◌, IfOk, IfErr, string_bytes};
+ghost use Rattle.std.specs.Prelude.{◌≡◌, IfOk, IfErr, IfSome, string_bytes};
 ghost use Rattle.ua_nodes.specs.NodeFile.{WriteNodes, node_lines};
 ghost use Rattle.ua_nodes.specs.Sound.{IsSound};
 ghost use Rattle.ua_program.specs.Reasons.{StopsAtFile, StopsAtNodes};
@@ -12,6 +12,7 @@ use crate::output::Stop;
 use crate::reason::{Reason, blame_line, cannot_read};
 use std::alloc::{AllocError, Global};
 use std::fs;
+use std::io::Read;
 use std::rt::Files;
 use ua_nodes::{LoadFault, NodeTable};
 use ua_texts::exact_lines;
@@ -36,17 +37,38 @@ pub fn open_file<'a, R: Files>(rt: &R, file: &'a str) -> Result<R::File, Stop<'a
     }
 }
 
+/// The octets of the input, to its end; in faults it is a file of this name.
+fn read_input<'a, I: Read>(alloc: Global, file: &'a str, input: &mut I) -> Result<Vec<u8>, Stop<'a>>
+    ensures octets { IfOk result (λ octets. IfSome (I.remaining input.old) (λ all. octets.items ≡ all)) }
+    ensures faults { IfErr result (λ stop. StopsAtFile file.entry stop) }
+{
+    let mut octets = Vec::new(alloc);
+    match input.read_to_end(&mut octets) {
+        Ok(_) => Ok(octets),
+        Err(error) => Err(cannot_read(file, error)),
+    }
+}
+
+/// The text of a file with these octets; one that is not UTF-8 cannot be read.
+fn text_of<'a>(alloc: Global, file: &'a str, octets: Vec<u8>) -> Result<String, Stop<'a>>
+    ensures text { IfOk result (λ text. string_bytes text ≡ octets.items) }
+    ensures faults { IfErr result (λ stop. StopsAtFile file.entry stop) }
+{
+    match String::from_utf8(octets) {
+        Ok(text) => Ok(text),
+        Err(error) => {
+            let text = format!(in alloc; "{error}")?;
+            Err(Stop::Because(Fault::CannotRead(file), Reason::Text(text)))
+        }
+    }
+}
+
 /// The text of a file; one that is not UTF-8 cannot be read.
 pub fn read_text<'a, R: Files + AllocGlobal>(rt: &R, file: &'a str) -> Result<String, Stop<'a>>
     ensures { IfErr result (λ stop. StopsAtFile file.entry stop) }
 {
-    match String::from_utf8(read_file(rt, file)?) {
-        Ok(text) => Ok(text),
-        Err(error) => {
-            let text = format!(in rt.alloc(); "{error}")?;
-            Err(Stop::Because(Fault::CannotRead(file), Reason::Text(text)))
-        }
-    }
+    let octets = read_file(rt, file)?;
+    text_of(rt.alloc(), file, octets)
 }
 
 /// The text itself; or its lines in their exact form, where people write decimals and times in it.
@@ -71,6 +93,37 @@ pub fn read_lines<'a, R: Files + AllocGlobal>(
 {
     let text = read_text(rt, file)?;
     Ok(exact_form(rt.alloc(), text, plain)?)
+}
+
+/// The same of the input, to its end.
+fn read_input_lines<'a, I: Read>(
+    alloc: Global,
+    file: &'a str,
+    plain: bool,
+    input: &mut I,
+) -> Result<String, Stop<'a>>
+    ensures lines { IfOk result (λ lines. IfSome (I.remaining input.old) (λ all. string_bytes lines ≡ form_given plain all)) }
+    ensures faults { IfErr result (λ stop. StopsAtFile file.entry stop) }
+{
+    let octets = read_input(alloc, file, input)?;
+    let text = text_of(alloc, file, octets)?;
+    Ok(exact_form(alloc, text, plain)?)
+}
+
+/// The text of a node file, or of the input where it is named `-`, in its exact form where people
+/// write decimals and times in it.
+pub fn read_nodes<'a, R: Files + AllocGlobal, I: Read>(
+    rt: &R,
+    file: &'a str,
+    plain: bool,
+    input: &mut I,
+) -> Result<String, Stop<'a>>
+    ensures { IfErr result (λ stop. StopsAtFile file.entry stop) }
+{
+    if file == "-" {
+        return read_input_lines(rt.alloc(), file, plain, input);
+    }
+    read_lines(rt, file, plain)
 }
 
 /// The nodes that the lines of a text write.

@@ -9,7 +9,7 @@ ghost use Rattle.ua_server.specs.declared.step.End.TheVariants.{Closed};
 
 use crate::arguments::Loop;
 use crate::fault::Fault;
-use crate::input::{load_nodes, read_lines};
+use crate::input::{load_nodes, read_lines, read_nodes};
 use crate::loop_line::LoopLine;
 use crate::output::{Stop, say_lines};
 use crate::reason::{blame_step, cannot_connect, cannot_listen};
@@ -156,18 +156,20 @@ fn counted(has_bad: bool, strict: bool) -> Verdict
     }
 }
 
-/// Runs the script of a file over the nodes of another, and prints the answers to its lines and the
-/// number of bytes in each direction. Where a reply is a fault, the answers before it are printed.
-pub fn run_files<'a, R: Files + Net + AllocGlobal, O: Write>(
+/// Runs the script of a file over the nodes of another, or of standard input where that is named
+/// `-`, and prints the answers to its lines and the number of bytes in each direction. Where a
+/// reply is a fault, the answers before it are printed.
+pub fn run_files<'a, R: Files + Net + AllocGlobal, I: Read, O: Write>(
     rt: &R,
     asked: &Loop<'a>,
+    input: &mut I,
     out: &mut O,
 ) -> Result<Verdict, Stop<'a>>
     ensures strict { IfOk result (λ verdict. verdict ≡ SomeBad → asked.now.strict ≡ true) }
     ensures looped { OnOk result (HasLooped asked.now.plain asked.now.names None (O.contents out.old) (O.contents out.new)) }
     ensures stopped { IfErr result (λ stop. StopsWriting stop ⊎ (out.new ≡ out.old) ⊎ HasLoopedUntil asked.now.plain asked.now.names stop (O.contents out.old) (O.contents out.new)) }
 {
-    let text = read_lines(rt, asked.nodes, asked.plain)?;
+    let text = read_nodes(rt, asked.nodes, asked.plain, input)?;
     let nodes = load_nodes(rt.alloc(), &text)?;
     let script = read_lines(rt, asked.script, asked.plain)?;
     let looped = run_text(

@@ -9,7 +9,7 @@ use crate::reason::Reason;
 use std::alloc::AllocError;
 use std::io;
 use std::io::Write;
-use ua_session::{AskFault, LoopFault, WordFault};
+use ua_session::LoopFault;
 
 /// Why a command stops.
 #[derive(Drop, Debug)]
@@ -54,32 +54,6 @@ impl From<AllocError> for Stop<'_> {
 
     fn from(_: AllocError) -> Self {
         Stop::Fault(Fault::NoMemory)
-    }
-}
-
-impl From<WordFault> for Stop<'_> {
-    ghost use Rattle.std.specs.Prelude.{◌≡◌};
-    ghost use Rattle.ua_program.specs.declared.fault.Fault.TheVariants.{Words};
-    ghost use Rattle.ua_program.specs.declared.output.Stop.TheVariants as stop;
-
-    ghost from_gives = { λ fault stopped. stopped ≡ stop.Fault (Words fault) };
-
-    fn from(fault: WordFault) -> Self {
-        Stop::Fault(Fault::Words(fault))
-    }
-}
-
-impl From<AskFault> for Stop<'_> {
-    ghost use Rattle.std.specs.Prelude.{◌≡◌};
-    ghost use Rattle.ua_program.specs.Reasons.{stop_of};
-
-    ghost from_gives = { λ fault stopped. stopped ≡ stop_of fault };
-
-    fn from(fault: AskFault) -> Self {
-        match fault {
-            AskFault::Output(error) => Stop::Output(error),
-            fault => Stop::Fault(Fault::Asking(fault)),
-        }
     }
 }
 

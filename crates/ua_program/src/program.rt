@@ -84,7 +84,7 @@ fn tell_stop<S: AsStr, E: Write>(words: &[S], telling: Telling, stop: &Stop<'_>,
     match stop {
         // That the word is there where reasons are told is known, but by no clause.
         Stop::Output(error) if telling.why && has_word(words, "--why") => {
-            telling.tell_why(&Fault::CannotWrite, &Reason::System(*error), err)
+            telling.tell_why(&Fault::CannotWrite, Some(&Reason::System(*error)), err)
         }
         Stop::Output(_) => 1,
         _ => telling.tell(stop, err),
@@ -127,15 +127,15 @@ fn perform<'a, R: Files + Net + Clock + AllocGlobal, I: Read, O: Write, E: Write
     ensures quiet { telling.aloud ≡ false → err.new ≡ err.old }
 {
     match task {
-        Task::Read(asked) => read(rt, &asked, out),
-        Task::Write(asked) => write(rt, &asked, out),
-        Task::Loop(asked) => run_files(rt, &asked, out),
+        Task::Read(asked) => read(rt, &asked, telling.why, out),
+        Task::Write(asked) => write(rt, &asked, telling.why, out),
+        Task::Loop(asked) => run_files(rt, &asked, input, out),
         Task::Dissect(asked) => dissect(rt, &asked, input, out),
-        Task::Serve(asked) => match serve_connections(rt, &asked, out, telling, err) {
+        Task::Serve(asked) => match serve_connections(rt, &asked, input, out, telling, err) {
             Ok(()) => Ok(Verdict::AllGood),
             Err(stop) => Err(stop),
         },
-        Task::Endpoints(asked) => match endpoints(rt, &asked, out) {
+        Task::Endpoints(asked) => match endpoints(rt, &asked, telling.why, out) {
             Ok(()) => Ok(Verdict::AllGood),
             Err(stop) => Err(stop),
         },
@@ -209,7 +209,7 @@ fn dissect_watched<'a, I: Read, O: Write>(
     ensures dissected { OnOk result (HasDissected (O.contents out.old) (O.contents out.new)) }
     ensures stopped { IfErr result (λ stop. StopsWriting stop ⊎ HasToldSome (O.contents out.old) (O.contents out.new)) }
 {
-    let mut watched = Watched::new(source);
+    let mut watched = Watched::new(source, asked.hex);
     match dissect_some(alloc, asked, &mut watched, out) {
         Err(Stop::Fault(fault)) => Err(watched.blame(fault)),
         ended => ended,

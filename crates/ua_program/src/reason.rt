@@ -1,9 +1,13 @@
 //! The reason of a fault beside its own text.
 
+ghost use Rattle.std.specs.Prelude.{◌≡◌, ◌++◌, false, option_map, string_bytes, IfOk, IfSome, OnOk};
+ghost use Rattle.ua_session.specs.Words.{NamesNone};
+ghost use Rattle.ua_program.specs.Known.{code_in, known_text, reason_line, word_line};
 ghost use Rattle.ua_program.specs.Reasons.{StopsAt, StopsAtFile};
 ghost use Rattle.ua_program.specs.declared.fault.Fault.TheVariants.{CannotConnect, CannotListen, Looping};
 
 use crate::fault::Fault;
+use crate::known::{code_of, push_code_line};
 use crate::output::Stop;
 use std::alloc::{AllocError, Global};
 use std::fmt::Write;
@@ -18,8 +22,13 @@ use ua_texts::push_escaped;
 pub enum Reason {
     /// The error of the system.
     System(io::Error),
-    /// The text to blame: a field of a line, a line, or what is wrong with a file.
+    /// The text to blame: a field of a line, a line, a word, what is wrong with a file, or what a
+    /// server says.
     Text(String),
+    /// The place of the first byte of a file that is no hexadecimal digit, counted from 0.
+    NoDigit(u64),
+    /// That the last digit of a file has no pair.
+    HalfPair,
 }
 
 /// The fault of a file that cannot be read, with the system's error.
@@ -58,22 +67,45 @@ pub fn cannot_connect<'a>(error: io::Error) -> Stop<'a>
 
 /// Appends the line of a reason. In a text, each byte in UTF-8 of a control character is written as
 /// `\x` and two digits, and a backslash is doubled.
-pub fn push_reason(out: &mut String, reason: &Reason) -> Result<(), AllocError> {
+fn push_reason(out: &mut String, reason: &Reason) -> Result<(), AllocError>
+    ensures { IfSome (reason_line reason.now) (λ line. OnOk result (string_bytes out.new ≡ string_bytes out.old ++ line)) }
+{
     match reason {
         Reason::System(error) => write!(out, "  because {error}\n"),
         Reason::Text(text) => push_word(out, text),
+        Reason::NoDigit(place) => write!(out, "  because no digit at index {place}\n"),
+        Reason::HalfPair => out.push_str("  because an odd number of digits\n"),
+    }
+}
+
+/// Appends the line of what is known of a fault: of its StatusCode, with the text of a server, or
+/// of its reason.
+pub fn push_known(
+    out: &mut String,
+    fault: &Fault<'_>,
+    reason: Option<&Reason>,
+) -> Result<(), AllocError>
+    ensures { IfSome (known_text (code_in fault.now) (option_map (λ r. r.now) reason.entry)) (λ line. OnOk result (string_bytes out.new ≡ string_bytes out.old ++ line)) }
+{
+    match (code_of(fault), reason) {
+        (Some(code), Some(Reason::Text(said))) => push_code_line(out, code, Some(said)),
+        (Some(code), _) => push_code_line(out, code, None),
+        (None, Some(reason)) => push_reason(out, reason),
+        (None, None) => Ok(()),
     }
 }
 
 /// Appends the line of a word to blame.
-pub fn push_word(out: &mut String, word: &str) -> Result<(), AllocError> {
+pub fn push_word(out: &mut String, word: &str) -> Result<(), AllocError>
+    ensures { OnOk result (string_bytes out.new ≡ string_bytes out.old ++ word_line word.now) }
+{
     out.push_str("  because ")?;
     push_escaped(out, word)?;
     out.push_str("\n")
 }
 
 /// A fault with the text that is blamed for it.
-fn blame<'a>(alloc: Global, fault: Fault<'a>, text: &str) -> Stop<'a>
+pub fn blame<'a>(alloc: Global, fault: Fault<'a>, text: &str) -> Stop<'a>
     ensures { StopsAt fault.entry result }
 {
     match String::from_str(alloc, text) {
@@ -144,13 +176,23 @@ fn bad_field(alloc: Global, line: &str) -> Result<&str, AllocError> {
     }
 }
 
-/// Whether a text names a NodeId.
+/// Whether the field of a script names a NodeId.
 fn is_node(alloc: Global, text: &str) -> Result<bool, AllocError> {
     if text.len() > MOST_OCTETS {
         return Ok(false);
     }
+    names_node(alloc, text)
+}
+
+/// Whether a text names a NodeId.
+pub fn names_node(alloc: Global, text: &str) -> Result<bool, AllocError>
+    ensures { IfOk result (λ named. named ≡ false → NamesNone text.now) }
+{
     match NodeId::parse_text(alloc, text) {
-        Ok(_) => Ok(true),
+        Ok(node) => {
+            drop(node);
+            Ok(true)
+        }
         Err(TextFault::NotNodeId) => Ok(false),
         Err(TextFault::OutOfMemory) => Err(AllocError),
     }

@@ -14,7 +14,7 @@ ghost use Rattle.ua_program.specs.declared.fault.Fault.TheVariants.{CannotListen
 use crate::arguments::Serve;
 use crate::at_once::{self, serve_places};
 use crate::fault::Fault;
-use crate::input::{parse_nodes, read_lines};
+use crate::input::{parse_nodes, read_nodes};
 use crate::output::{Stop, say, write_text};
 use crate::reason::{blame_line, cannot_listen};
 use crate::standard::{StandardServices, standard_services};
@@ -460,28 +460,33 @@ fn outlive<'a, O: Write>(
     Err(stop)
 }
 
-/// The services over the nodes of a file.
-fn load<'a, R: Files + AllocGlobal>(rt: &R, asked: &Serve<'a>) -> Result<Services, Stop<'a>> {
-    let text = read_lines(rt, asked.nodes, asked.plain)?;
+/// The services over the nodes of a file, or of the input where it is named `-`.
+fn load<'a, R: Files + AllocGlobal, I: Read>(
+    rt: &R,
+    asked: &Serve<'a>,
+    input: &mut I,
+) -> Result<Services, Stop<'a>> {
+    let text = read_nodes(rt, asked.nodes, asked.plain, input)?;
     match services(rt.alloc(), &text, asked.port) {
         Ok(services) => Ok(services),
         Err(fault) => Err(blame_line(rt.alloc(), &text, fault)),
     }
 }
 
-/// The services over the nodes of a file, with the standard ones where they are asked for, and
-/// whether the server itself keeps CurrentTime.
-fn load_asked<'a, R: Files + AllocGlobal>(
+/// The services over the nodes of a file, or of standard input where it is named `-`, with the
+/// standard ones where they are asked for, and whether the server itself keeps CurrentTime.
+fn load_asked<'a, R: Files + AllocGlobal, I: Read>(
     rt: &R,
     asked: &Serve<'a>,
+    input: &mut I,
 ) -> Result<StandardServices, Stop<'a>> {
     if !asked.standard {
         return Ok(StandardServices {
-            services: load(rt, asked)?,
+            services: load(rt, asked, input)?,
             keeps_time: false,
         });
     }
-    let text = read_lines(rt, asked.nodes, asked.plain)?;
+    let text = read_nodes(rt, asked.nodes, asked.plain, input)?;
     match standard_services(rt.alloc(), &text, asked.port) {
         Ok(made) => Ok(made),
         Err(fault) => Err(blame_line(rt.alloc(), &text, fault)),
@@ -533,9 +538,10 @@ pub fn serve_all<'a, R: Net + Clock + AllocGlobal, O: Write, E: Write>(
 
 /// Serves connections on a port of this machine, one after the other or many at a time, and prints
 /// the outcome of each.
-pub fn serve_connections<'a, R: Files + Net + Clock + AllocGlobal, O: Write, E: Write>(
+pub fn serve_connections<'a, R: Files + Net + Clock + AllocGlobal, I: Read, O: Write, E: Write>(
     rt: &R,
     asked: &Serve<'a>,
+    input: &mut I,
     out: &mut O,
     telling: Telling,
     err: &mut E,
@@ -549,7 +555,7 @@ pub fn serve_connections<'a, R: Files + Net + Clock + AllocGlobal, O: Write, E: 
     let StandardServices {
         mut services,
         keeps_time,
-    } = load_asked(rt, asked)?;
+    } = load_asked(rt, asked, input)?;
     // the server keeps CurrentTime where the file does not have it
     let asked = Serve {
         standard: keeps_time,

@@ -5,7 +5,7 @@ ghost use Rattle.std.specs.Io.KnownBytes.{Appends};
 
 use crate::fault::Fault;
 use crate::output::{Stop, write_text};
-use crate::reason::{Reason, push_reason};
+use crate::reason::{Reason, push_known};
 use std::alloc::{AllocError, Global};
 use std::io::Write;
 
@@ -26,7 +26,8 @@ impl Telling {
         ensures { result ≡ 1 }
     {
         match stop {
-            Stop::Because(fault, reason) if self.why => self.tell_why(fault, reason, err),
+            Stop::Because(fault, reason) if self.why => self.tell_why(fault, Some(reason), err),
+            Stop::Fault(fault) if self.why => self.tell_why(fault, None, err),
             Stop::Fault(fault) | Stop::Because(fault, _) => self.tell_fault(fault, err),
             Stop::Output(_) => self.tell_fault(&Fault::CannotWrite, err),
         }
@@ -52,8 +53,8 @@ impl Telling {
         }
     }
 
-    /// Prints a fault, and its reason after it. The status is 1.
-    pub fn tell_why<E: Write>(self, fault: &Fault<'_>, reason: &Reason, err: &mut E) -> u8
+    /// Prints a fault, and what is known of it after it. The status is 1.
+    pub fn tell_why<E: Write>(self, fault: &Fault<'_>, reason: Option<&Reason>, err: &mut E) -> u8
         ensures { result ≡ 1 }
     {
         match fault_text(self.alloc, fault, reason) {
@@ -63,10 +64,14 @@ impl Telling {
     }
 }
 
-/// The text of a fault and its reason.
-fn fault_text(alloc: Global, fault: &Fault<'_>, reason: &Reason) -> Result<String, AllocError> {
+/// The text of a fault and of what is known of it.
+fn fault_text(
+    alloc: Global,
+    fault: &Fault<'_>,
+    reason: Option<&Reason>,
+) -> Result<String, AllocError> {
     let mut text = format!(in alloc; "ua: {fault}\n")?;
-    push_reason(&mut text, reason)?;
+    push_known(&mut text, fault, reason)?;
     Ok(text)
 }
 

@@ -1,0 +1,5 @@
+use Rattle.ua_program.proofs.Stops.{left_asking}
+use Rattle.ua_program.proofs.ask.endpoints_recorded.Goals as goal
+
+pub returns-clause-stopped : goal.returns-clause-stopped
+returns-clause-stopped g c = left_asking _ _ c.blame.ensures c.in-Err.ensures.left
