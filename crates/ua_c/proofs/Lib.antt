@@ -11,5 +11,5 @@ mod Parts
 mod Replied
 mod Seen
 mod Served
-mod Spaced
+mod Spelling
 pub mod Values

@@ -1,8 +1,8 @@
 //! Values as texts that denote them.
 
-ghost use Rattle.std.specs.Prelude.{◌≡◌, ◌⊎◌, ◌++◌, ◌∷◌, IfErr, IfOk, IfSome, Ok, true, string_bytes};
+ghost use Rattle.std.specs.Prelude.{◌≡◌, ◌⊎◌, ◌++◌, ◌∷◌, IfErr, IfOk, MatchOption, Ok, false, true, string_bytes};
 ghost use Rattle.ua_variant.specs.View.{variant_of};
-ghost use Rattle.ua_c.specs.Spelled.{EncodesBy, IsBack, IsSpelled, IsSpelling, IsSpellingOf, LacksSpelling, SpellsTo, is_plain};
+ghost use Rattle.ua_c.specs.Spelled.{EncodesBy, HasNoSpace, IsBack, IsNotBack, IsSpelled, IsSpelling, IsSpellingOf, LacksSpelling, SpellsTo, is_plain};
 ghost use Rattle.ua_c.specs.Status.{no_memory, no_text};
 
 use crate::status::{BAD_OCTETS, NO_MEMORY, NO_TEXT, TEXT_VALUE};
@@ -33,6 +33,7 @@ fn spell(alloc: Global, value: &Variant, plain: bool) -> Result<String, AllocErr
 }
 
 /// Whether a type and a text denote the value with this canonical encoding.
+#[tactic(auto, using(crate::proofs::Spelling::not_named, crate::proofs::Spelling::not_same, crate::proofs::Spelling::not_encoded))]
 fn is_back(
     alloc: Global,
     kind: &[u8],
@@ -41,6 +42,7 @@ fn is_back(
     canonical: &[u8],
 ) -> Result<bool, u32>
     ensures back { result ≡ Ok true → IsBack plain kind.now text.now canonical.now }
+    ensures not_back { result ≡ Ok false → ¬ (IsBack plain kind.now text.now canonical.now) }
     ensures fault { IfErr result (λ status. status ≡ no_memory) }
 {
     let value = match value_by(alloc, kind, text, plain) {
@@ -59,12 +61,13 @@ fn is_back(
 
 /// What comes before the first space, and what after it.
 fn part(text: &str) -> Option<(&str, &str)>
-    ensures { IfSome result (λ x. text.now ≡ x.0.now ++ 32 ∷ x.1.now) }
+    ensures { MatchOption result (HasNoSpace text.now) (λ x. (text.now ≡ x.0.now ++ 32 ∷ x.1.now) × HasNoSpace x.0.now) }
 {
     text.split_once(' ')
 }
 
 /// The type and the text of a value with this canonical encoding, where they denote it.
+#[tactic(auto, using(crate::proofs::Spelling::without_space, crate::proofs::Spelling::not_parts))]
 fn spell_back(
     alloc: Global,
     value: &Variant,
@@ -72,7 +75,8 @@ fn spell_back(
     canonical: &[u8],
 ) -> Result<Spelling, u32>
     ensures spelling { IfOk result (λ made. IsSpellingOf plain canonical.now (string_bytes made.text) made.kind) }
-    ensures fault { IfErr result (λ status. (status ≡ no_memory) ⊎ (status ≡ no_text)) }
+    ensures printed { IfOk result (λ made. IsSpelled plain (variant_of value.now) (string_bytes made.text)) }
+    ensures fault { IfErr result (λ status. (status ≡ no_memory) ⊎ ((status ≡ no_text) × IsNotBack plain (variant_of value.now) canonical.now)) }
 {
     let Ok(text) = spell(alloc, value, plain) else {
         return Err(NO_MEMORY);
@@ -90,9 +94,10 @@ fn spell_back(
 }
 
 /// The type and the text of the value that bytes encode, where they denote it.
+#[tactic(auto, using(crate::proofs::Spelling::not_written))]
 fn spelling_of(alloc: Global, octets: &[u8], plain: bool) -> Result<Spelling, u32>
     ensures spelling { IfOk result (λ made. IsSpelling plain octets.now (string_bytes made.text) made.kind) }
-    ensures fault { IfErr result (λ status. LacksSpelling octets.now status) }
+    ensures fault { IfErr result (λ status. LacksSpelling plain octets.now status) }
 {
     let value = match Variant::read_whole(alloc, octets) {
         Ok(Some(value)) => value,

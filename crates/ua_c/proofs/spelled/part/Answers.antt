@@ -1,6 +1,7 @@
-use Rattle.ua_c.proofs.Spaced.{spaced}
+use Rattle.std.proofs.Common.{lit<}
+use Rattle.std.proofs.lemmas.Str.Pattern.{split_parts}
 use Rattle.ua_c.proofs.spelled.part.Goals as goal
 
 -- the two sides
 pub returns : goal.returns
-returns c = spaced c.args.text.now c.split_once.result c.split_once.ensures.cases
+returns c = split_parts 32 c.args.text.now c.split_once.result c.split_once.ensures.cases (lit< tt)
