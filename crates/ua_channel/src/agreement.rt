@@ -13,7 +13,7 @@ use ua_frame::{Ack, Hello, Limits, agree};
 
 /// The agreement of a server and a client: the Acknowledge, and the limits of a response, which are
 /// the client's limits of a message, and no more bytes than the server allows itself.
-#[derive(Clone, Copy)]
+#[derive(Clone, Copy, Debug)]
 pub struct Agreement {
     ack: Ack,
     octets: u32,

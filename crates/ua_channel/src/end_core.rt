@@ -58,7 +58,7 @@ pub trait EndRules<P> {
 }
 
 /// What an end of a connection keeps, whichever it is.
-#[derive(Drop)]
+#[derive(Debug, Drop)]
 pub struct EndCore<R, P> {
     pub alloc: Global,
     pub rules: R,
@@ -129,7 +129,7 @@ impl<R: EndRules<P>, P: Drop> EndCore<R, P> {
         }
     }
 
-    /// Takes bytes up to the end of the first frame that has an event, or else the whole piece, and
+    /// Takes bytes up to the end of the first frame that has an event, or else the whole fragment, and
     /// returns how many it took.
     pub fn next_event(&mut self, piece: &[u8]) -> (usize, Result<Option<R::Event>, StepFault>)
         ensures nexts { (k : R.side.Key) (octets : List ℕ) (told : List R.side.Told) → EndGoes R.side self.old k octets told

@@ -9,7 +9,7 @@ use std::alloc::Global;
 use std::marker::Model;
 
 /// The calls of one direction: the maximum that each moves, and which of them fails.
-#[derive(Drop)]
+#[derive(Debug, Drop)]
 struct Pace {
     limits: Vec<usize>,
     fails: Option<usize>,
@@ -48,7 +48,7 @@ impl Pace {
 
 /// A transport over memory, for tests: it delivers given bytes and keeps those written, in
 /// fragments of given lengths, and fails where it is told to.
-#[derive(Drop)]
+#[derive(Debug, Drop)]
 pub struct MemoryLine {
     octets: Vec<u8>,
     read: usize,

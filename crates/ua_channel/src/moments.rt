@@ -16,7 +16,7 @@ pub trait Moments {
 }
 
 /// The timestamps of a list in turn, then its last one again and again; 0 where the list is empty.
-#[derive(Drop)]
+#[derive(Debug, Drop)]
 pub struct ListMoments {
     moments: Vec<i64>,
     place: usize,

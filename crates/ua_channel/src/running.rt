@@ -15,7 +15,7 @@ use ua_frame::{Frame, Limits};
 const FIRST_TOKEN: u32 = 1;
 
 /// A channel of a server that has a token.
-#[derive(Drop)]
+#[derive(Debug, Drop)]
 pub struct Running {
     agreement: Agreement,
     assembler: Assembler,

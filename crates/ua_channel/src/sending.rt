@@ -58,7 +58,7 @@ pub fn append_opening(
 }
 
 /// The content of an OPN response.
-#[derive(Clone, Copy)]
+#[derive(Clone, Copy, Debug)]
 pub struct Opening {
     pub channel: u32,
     pub request: u32,

@@ -1,7 +1,7 @@
 //! The bytes that a server sends for a reply.
 
 /// The bytes that a server sends for a reply.
-#[derive(Drop)]
+#[derive(Debug, Drop)]
 pub struct SentReply {
     /// The frames, one after the other.
     pub octets: Vec<u8>,

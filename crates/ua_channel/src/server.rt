@@ -17,7 +17,7 @@ use ua_chunk::Lane;
 use ua_frame::{FrameReader, LEAST_BUFFER_SIZE, Limits};
 
 /// The phases of a connection.
-#[derive(Drop)]
+#[derive(Debug, Drop)]
 pub enum Phase {
     /// It waits for the HEL.
     Waiting,
@@ -37,7 +37,7 @@ pub enum Phase {
 /// holds nothing and takes nothing more.
 ///
 /// [`take`]: ServerChannel::take
-#[derive(Drop)]
+#[derive(Debug, Drop)]
 pub struct ServerChannel {
     end: EndCore<ServerRules, Phase>,
 }
@@ -154,7 +154,7 @@ impl ServerChannel {
         }
     }
 
-    /// Takes bytes up to the end of the first frame that has an event, or else the whole piece, and
+    /// Takes bytes up to the end of the first frame that has an event, or else the whole fragment, and
     /// returns how many it took. `moment` is the timestamp of an OPN response.
     fn go_on(
         &mut self,
@@ -179,7 +179,7 @@ impl ServerChannel {
         }
     }
 
-    /// Takes bytes as [`take`](ServerChannel::take) does, and returns also at a refusal how many it
+    /// Takes bytes as [`take`](ServerChannel::take) does, and returns also at an error how many it
     /// took: up to the end of the refused frame, or to the eighth byte of the refused header.
     pub fn advance(
         &mut self,
@@ -219,7 +219,7 @@ impl ServerChannel {
     }
 
     /// Takes bytes up to the end of the first frame at which bytes are to be sent, a message is
-    /// complete or aborted, or the channel is closed; or else the whole piece. Returns how many it
+    /// complete or aborted, or the channel is closed; or else the whole fragment. Returns how many it
     /// took. `moment` is the timestamp of an OPN response. After a fault, and after a close, it
     /// returns `Closed`.
     pub fn take(

@@ -6,7 +6,7 @@ use crate::agreement::Agreement;
 use ua_chunk::{Delivered, Message};
 
 /// The event of the bytes so far.
-#[derive(Drop)]
+#[derive(Debug, Drop)]
 pub enum ServerEvent {
     /// No event; more bytes are needed.
     NeedMore,
@@ -21,7 +21,7 @@ pub enum ServerEvent {
 }
 
 /// The event of a frame.
-#[derive(Drop)]
+#[derive(Debug, Drop)]
 pub enum Event {
     /// The ACK is to be sent.
     Agreed(Agreement),

@@ -23,7 +23,7 @@ use ua_chunk::{MOST_OPEN, read_chunk};
 use ua_frame::{Frame, Gate, Kind, LEAST_BUFFER_SIZE, Limits};
 
 /// The rules of a server for frames: its limits, and its SecureChannelId.
-#[derive(Drop)]
+#[derive(Debug, Drop)]
 pub struct ServerRules {
     pub limits: Limits,
     pub channel: u32,

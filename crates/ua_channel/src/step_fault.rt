@@ -8,7 +8,7 @@ use ua_chunk::{AssembleFault, OpenFault};
 use ua_frame::FrameFault;
 
 /// Why a frame is not taken.
-#[derive(Clone, Copy)]
+#[derive(Clone, Copy, Debug)]
 pub enum StepFault {
     /// This end refuses it.
     Refused(StatusCode),

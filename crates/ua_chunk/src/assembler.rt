@@ -23,7 +23,7 @@ const RESTART_LIMIT: u32 = 1024;
 
 /// Reassembles messages from the chunks of one direction of a SecureChannel. Chunks of several
 /// messages may be interleaved.
-#[derive(Drop)]
+#[derive(Debug, Drop)]
 pub struct Assembler {
     alloc: Global,
     octets: u32,

@@ -14,7 +14,7 @@ use ua_wire::front_number;
 const HEADERS: usize = 16;
 
 /// A MessageChunk: a MSG or a CLO frame under the SecurityPolicy None (OPC 10000-6, 6.7.2).
-#[derive(Drop)]
+#[derive(Debug, Drop)]
 pub struct Chunk {
     /// The SecureChannelId.
     pub channel: u32,

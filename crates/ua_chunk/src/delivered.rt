@@ -4,7 +4,7 @@ use crate::message::Message;
 use ua_builtin::{StatusCode, UaString};
 
 /// A message whose last chunk has arrived, with its RequestId.
-#[derive(Drop)]
+#[derive(Debug, Drop)]
 pub enum Delivered {
     /// A complete message, as the bodies of its chunks.
     Whole(u32, Message),

@@ -8,7 +8,7 @@ use std::alloc::{AllocError, Global};
 use std::{mem, slice};
 
 /// Parts that follow one another. A single one is kept in the value itself, without an allocation.
-#[derive(Drop)]
+#[derive(Debug, Drop)]
 pub(crate) enum HeldParts {
     None,
     One(Bytes),

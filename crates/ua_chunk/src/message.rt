@@ -8,6 +8,7 @@ use ua_wire::Parts;
 
 /// A message: the non-empty bodies of its chunks, in order and as they arrived. Its bytes are those
 /// of the joined bodies.
+#[derive(Debug)]
 pub struct Message {
     parts: HeldParts,
     /// The length of all bodies together, in bytes.

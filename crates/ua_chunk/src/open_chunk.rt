@@ -13,7 +13,7 @@ use ua_wire::{split_counted, split_number};
 pub const NONE_POLICY: &str = "http://opcfoundation.org/UA/SecurityPolicy#None";
 
 /// The chunk of an OPN frame under the SecurityPolicy None (OPC 10000-6, 6.7.2).
-#[derive(Drop)]
+#[derive(Debug, Drop)]
 pub struct OpenChunk {
     /// The SecureChannelId.
     pub channel: u32,

@@ -6,7 +6,7 @@ use std::alloc::{AllocError, Global};
 use std::marker::Model;
 
 /// The part of a message that has arrived.
-#[derive(Drop)]
+#[derive(Debug, Drop)]
 pub struct Pending {
     pub request: u32,
     /// The number of chunks that have arrived. It stops at its greatest value.
@@ -34,7 +34,7 @@ impl Pending {
 }
 
 /// The messages that are unfinished, in the order of their last chunks.
-#[derive(Drop)]
+#[derive(Debug, Drop)]
 pub struct PendingMessages {
     messages: Vec<Pending>,
     held: usize,

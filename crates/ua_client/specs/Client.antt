@@ -17,7 +17,7 @@ use Rattle.ua_client.specs.declared.connection.Connection.{Connection}
 use Rattle.ua_client.specs.declared.fault.ClientFault.{ClientFault}
 use Rattle.ua_client.specs.declared.fault.ClientFault.TheVariants as fault
 
--- ---- a client, which is a channel over a line and whether it is done
+-- ---- a client, which is a channel over a transport and whether it is done
 
 -- the connection of a client
 abbrev pub connection_of : Client → Connection

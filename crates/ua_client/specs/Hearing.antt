@@ -41,7 +41,7 @@ pub record Keeps (old new : Connection) : Type 0 where
   pub same : SameClient (channel_of old) (channel_of new)
   pub next : client_next (channel_of new) ≡ client_next (channel_of old)
 
--- ---- faults of the line
+-- ---- faults of the transport
 
 -- the transport failed
 abbrev pub is_line_fault : ClientFault → Bool

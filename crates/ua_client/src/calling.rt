@@ -22,7 +22,7 @@ use ua_services::Request;
 /// The most calls of a group.
 const MOST_CALLS: usize = 64;
 
-/// Where the group of calls that begins at a place ends, among so many calls.
+/// Where the group of calls that begins at a place ends, among this many calls.
 fn group_end(start: usize, count: usize) -> usize
     requires { start < count }
     ensures some { start < result }

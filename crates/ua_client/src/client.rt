@@ -22,7 +22,7 @@ const ANONYMOUS: &str = "anonymous";
 const NO_ID: u32 = u32::MAX;
 
 /// A client whose channel is open, until the client fails or is closed.
-#[derive(Drop)]
+#[derive(Debug, Drop)]
 pub struct Client {
     alloc: Global,
     connection: Connection,

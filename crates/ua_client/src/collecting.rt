@@ -71,7 +71,7 @@ fn is_waiting(slots: &[Option<Reply>]) -> bool
     slots.iter().any(|slot| slot.is_none())
 }
 
-/// No replies, with memory reserved for so many unless the allocation fails.
+/// No replies, with memory reserved for this many unless the allocation fails.
 pub fn no_replies(alloc: Global, count: usize) -> Vec<Reply>
     ensures { result.items ≡ [] }
 {
@@ -80,7 +80,7 @@ pub fn no_replies(alloc: Global, count: usize) -> Vec<Reply>
     replies
 }
 
-/// Reserves memory for so many more replies.
+/// Reserves memory for this many more replies.
 pub fn make_room(replies: &mut Vec<Reply>, count: usize) -> Result<(), ClientFault>
     ensures same { replies.new.items ≡ replies.old.items }
     ensures room { OnOk result (vec_len replies.new + count ≤ vec_capacity replies.new) }

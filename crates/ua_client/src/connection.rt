@@ -9,7 +9,7 @@ use ua_builtin::{DateTime, StatusCode};
 use ua_channel::{ClientChannel, ClientEvent, ClientTakeFault, Line};
 
 /// A channel, and the bytes that were read from its transport and are not yet taken.
-#[derive(Drop)]
+#[derive(Debug, Drop)]
 pub struct Connection {
     pub channel: ClientChannel,
     pub piece: Piece,

@@ -30,7 +30,7 @@ pub enum ClientFault {
     /// aborted, or of a bad ServiceResult.
     #[error("the service failed")]
     Service(StatusCode),
-    /// The server does not accept a request of so many bytes or chunks.
+    /// The server does not accept a request of this many bytes or chunks.
     #[error("the request is too large")]
     TooLarge,
     /// A request cannot be encoded.
@@ -90,7 +90,7 @@ pub struct CallsFault {
 impl CallsFault {
     ghost use Rattle.std.specs.Prelude.{◌≡◌, ◌+◌, ◌<◌, ◌^◌};
 
-    /// The same fault, where so many requests come before those among which it has its index.
+    /// The same fault, where this many requests come before those among which it has its index.
     pub(crate) fn behind(self, before: usize) -> CallsFault
         requires { before + self.request < 2 ^ 64 }
         ensures request { result.request ≡ before + self.request }

@@ -18,7 +18,7 @@ use ua_channel::{AskFault, AskedCall, ClientChannel};
 use ua_services::{Request, empty_body, write_request};
 
 /// The body of a call, which is not empty.
-#[derive(Drop)]
+#[derive(Debug, Drop)]
 pub struct Body {
     octets: Vec<u8>,
 }
@@ -73,7 +73,7 @@ fn of_ask(fault: AskFault) -> ClientFault
     }
 }
 
-/// Whether a channel would send a call with a body after so many others.
+/// Whether a channel would send a call with a body after this many others.
 fn judge_body(channel: &ClientChannel, before: usize, body: &Body) -> Result<(), ClientFault>
     ensures { AnswersBy (of_ask (ask_refusal (phase_of channel.now) before body.now)) result }
 {
@@ -83,7 +83,7 @@ fn judge_body(channel: &ClientChannel, before: usize, body: &Body) -> Result<(),
     }
 }
 
-/// The body of a request, where a channel would send it after so many others.
+/// The body of a request, where a channel would send it after this many others.
 fn judge_request(
     alloc: Global,
     channel: &ClientChannel,

@@ -65,7 +65,7 @@ pub fn clients_are_settled()
 /// interleaved or not, and let its further operations be placed at the end of the prefix or after
 /// it. Then it has reported a prefix of the events of all the bytes, and the replies to an answered
 /// group of calls are those of all the bytes. After such a prefix a group does not end for a
-/// refusal, of the peer or of the client.
+/// error, of the peer or of the client.
 pub fn clients_follow_asking()
     ensures told { (x : ClientChannel) (s : ClientPlace) (later : List Placed) (more : List ℕ) (all : List ClientTold) (at : AtClient) → StandsAt x s →
         AllByRecursion (λ (a : Placed). length s.octets ≤ a.0) later → ClientReads (client_limits x) (s.asks ++ later) (s.octets ++ more) all at →

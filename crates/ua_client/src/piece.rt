@@ -12,7 +12,7 @@ use ua_channel::{Line, LineFault};
 const MOST_OCTETS: usize = 4096;
 
 /// The bytes of one read of a transport that are not yet taken.
-#[derive(Drop)]
+#[derive(Debug, Drop)]
 pub struct Piece {
     octets: Vec<u8>,
     start: usize,
@@ -55,7 +55,7 @@ impl Piece {
         self.start == self.end
     }
 
-    /// Takes so many bytes.
+    /// Takes this many bytes.
     pub fn skip(&mut self, count: usize)
         requires { count ≤ length self.old }
         ensures { self.new ≡ drop count self.old }

@@ -21,7 +21,7 @@ use ua_services::laws::bodies_of_responses_differ;
 use ua_services::{Request, RequestKind, Response, ResponseFault, read_response};
 
 /// The reply to a request.
-#[derive(Drop)]
+#[derive(Debug, Drop)]
 pub enum Reply {
     /// The server answered by a response of the request's own kind, or by a ServiceFault.
     Response(Response),
@@ -57,7 +57,7 @@ fn read_answer(alloc: Global, kind: RequestKind, message: &Message) -> Result<Re
     }
 }
 
-/// The index of a RequestId among so many that are counted from the first.
+/// The index of a RequestId among this many that are counted from the first.
 fn place_of(first: u32, id: u32, count: usize) -> Option<usize>
     ensures { IsPlace first id count result }
 {

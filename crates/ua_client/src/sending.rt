@@ -19,7 +19,7 @@ pub fn send_whole<L: Line>(line: &mut L, octets: &[u8]) -> Result<(), LineFault>
     }
 }
 
-/// The end of the frame that begins at a place among so many bytes: the frame has `frame_len`
+/// The end of the frame that begins at a place among this many bytes: the frame has `frame_len`
 /// bytes, or those that are left.
 fn frame_end(at: usize, frame_len: usize, len: usize) -> usize
     requires some { 0 < frame_len }

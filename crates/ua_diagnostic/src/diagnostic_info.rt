@@ -14,7 +14,7 @@ use ua_wire::MOST_LEVELS;
 /// A DiagnosticInfo: vendor-specific details of a StatusCode (OPC 10000-6, 5.2.2.12). The ids are
 /// indexes into the StringTable of the response header.
 #[cycle(diagnostics)]
-#[derive(Drop)]
+#[derive(Debug, Drop)]
 pub struct DiagnosticInfo {
     pub symbolic_id: Option<i32>,
     pub namespace_uri: Option<i32>,
@@ -28,6 +28,7 @@ pub struct DiagnosticInfo {
 
 /// A DiagnosticInfo inside another value, on the heap; one without any field is not allocated.
 #[cycle(diagnostics)]
+#[derive(Debug)]
 pub struct BoxedDiagnostic {
     inner: Option<Box<DiagnosticInfo>>,
 }

@@ -13,7 +13,7 @@ use ua_builtin::{ReadFault, Source, Wire};
 use ua_wire::FIRST_NEGATIVE;
 
 /// The ArrayDimensions of an array; empty if the array has a single dimension.
-#[derive(Drop)]
+#[derive(Debug, Drop)]
 pub struct Dimensions {
     items: Vec<i32>,
 }

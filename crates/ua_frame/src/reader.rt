@@ -12,7 +12,7 @@ use std::alloc::Global;
 use std::marker::Model;
 
 /// Reads frames from a byte stream, however it is fragmented.
-#[derive(Drop)]
+#[derive(Debug, Drop)]
 pub struct FrameReader {
     alloc: Global,
     unfinished: Unfinished,
@@ -69,7 +69,7 @@ impl FrameReader {
         self.failed = true;
     }
 
-    /// Takes bytes: what it does depends on the held bytes and the piece alone.
+    /// Takes bytes: what it does depends on the held bytes and the fragment alone.
     #[inline(always)]
     fn advance(&mut self, piece: &[u8]) -> Result<(usize, Option<Frame>), FrameFault>
         ensures { Takes self.old piece.now result self.new }
@@ -82,7 +82,7 @@ impl FrameReader {
         taken
     }
 
-    /// Takes bytes up to the end of the first complete frame, or else the whole piece, and returns
+    /// Takes bytes up to the end of the first complete frame, or else the whole fragment, and returns
     /// how many it took. A fault of a header is returned as soon as its eight bytes have arrived.
     /// After a fault the reader is closed.
     #[inline(always)]

@@ -14,7 +14,7 @@ use std::mem;
 
 /// The bytes of an incomplete frame. The header is kept apart from the body, so that it is checked
 /// before anything is allocated, and the body is handed over as it is, in memory of its own.
-#[derive(Drop)]
+#[derive(Debug, Drop)]
 pub struct Unfinished {
     pub gate: Gate,
     header: [u8; HEADER_LEN],
@@ -22,7 +22,7 @@ pub struct Unfinished {
     body: Vec<u8>,
 }
 
-/// Copies the first bytes of a piece to where the header continues.
+/// Copies the first bytes of a fragment to where the header continues.
 #[inline(always)]
 fn fill(header: &mut [u8], have: usize, piece: &[u8]) -> usize
     requires { have ≤ length header.old }
@@ -34,7 +34,7 @@ fn fill(header: &mut [u8], have: usize, piece: &[u8]) -> usize
     n
 }
 
-/// Appends the first bytes of a piece to a body, up to the length that the body will have. Reserves
+/// Appends the first bytes of a fragment to a body, up to the length that the body will have. Reserves
 /// at most twice the bytes that have arrived, and never more than that length.
 #[inline(always)]
 fn extend(body: &mut Vec<u8>, len: usize, piece: &[u8]) -> Result<usize, AllocError>
@@ -122,7 +122,7 @@ impl Unfinished {
         Ok((n + m, frame))
     }
 
-    /// Takes bytes up to the end of the frame, or else the whole piece. A fault leaves nothing.
+    /// Takes bytes up to the end of the frame, or else the whole fragment. A fault leaves nothing.
     #[inline(always)]
     pub fn take(
         &mut self,

@@ -13,6 +13,7 @@ use std::marker::Model;
 use ua_builtin::{FIRST_NEGATIVE, NULL_COUNT, ReadFault, Skip, Source, Wire};
 
 /// An array of values, or null, which differs from an array of no values (OPC 10000-6, 5.2.5).
+#[derive(Debug)]
 pub struct UaArray<T> {
     items: Option<Vec<T>>,
 }

@@ -29,7 +29,7 @@ const NOTHING_MORE: u64 = 0x0000_00FF_FFFF_FF00;
 const NO_TEXTS: u64 = 0;
 
 /// The header of each request (OPC 10000-4, 7.33).
-#[derive(Drop)]
+#[derive(Debug, Drop)]
 pub struct RequestHeader {
     /// The AuthenticationToken from CreateSession; null without a session.
     pub authentication_token: NodeId,
@@ -219,7 +219,7 @@ impl Wire for RequestHeader {
 }
 
 /// The header of each response (OPC 10000-4, 7.34).
-#[derive(Drop)]
+#[derive(Debug, Drop)]
 pub struct ResponseHeader {
     /// The time at which the server sent the response.
     pub timestamp: DateTime,
@@ -376,7 +376,7 @@ impl Wire for ResponseHeader {
 }
 
 /// The response to a request whose service call failed (OPC 10000-4, 7.35).
-#[derive(Drop)]
+#[derive(Debug, Drop)]
 pub struct ServiceFault {
     pub response_header: ResponseHeader,
 }

@@ -14,7 +14,7 @@ use std::alloc::Global;
 use ua_builtin::{MOST_LEVELS, NodeId, ReadFault, Source, Wire, WriteFault};
 
 /// The response to an OpenSecureChannel request.
-#[derive(Drop)]
+#[derive(Debug, Drop)]
 pub enum OpenAnswer {
     Open(OpenResponse),
     Fault(ServiceFault),

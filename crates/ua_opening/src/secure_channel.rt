@@ -13,7 +13,7 @@ use ua_wire::{append_three, append_two};
 
 /// The OpenSecureChannel request: asks for a SecureChannel, or for a new token of one (OPC 10000-4,
 /// 5.6.2).
-#[derive(Drop)]
+#[derive(Debug, Drop)]
 pub struct OpenRequest {
     pub request_header: RequestHeader,
     pub client_protocol_version: u32,
@@ -108,7 +108,7 @@ impl Wire for OpenRequest {
 }
 
 /// The response to an [`OpenRequest`] (OPC 10000-4, 5.6.2).
-#[derive(Drop)]
+#[derive(Debug, Drop)]
 pub struct OpenResponse {
     pub response_header: ResponseHeader,
     pub server_protocol_version: u32,
@@ -183,7 +183,7 @@ impl Wire for OpenResponse {
 
 /// The CloseSecureChannel request: closes the SecureChannel. It has no response. (OPC 10000-4,
 /// 5.6.3).
-#[derive(Drop)]
+#[derive(Debug, Drop)]
 pub struct CloseRequest {
     pub request_header: RequestHeader,
 }

@@ -35,7 +35,7 @@ macro_rules! requests {
 }
 
 /// The kinds of requests, each with its own encoding (OPC 10000-6, A.3).
-#[derive(Clone, Copy, PartialEq, Eq)]
+#[derive(Clone, Copy, PartialEq, Eq, Debug)]
 pub enum RequestKind {
     GetEndpoints,
     CreateSession,
@@ -58,6 +58,7 @@ impl RequestKind {
 }
 
 /// A request, as the body of a message (OPC 10000-6, 5.2.9).
+#[derive(Debug)]
 pub enum Request {
     GetEndpoints(GetEndpointsRequest),
     CreateSession(CreateSessionRequest),

@@ -36,7 +36,7 @@ macro_rules! responses {
 }
 
 /// The kinds of responses, each with its own encoding (OPC 10000-6, A.3).
-#[derive(Clone, Copy, PartialEq, Eq)]
+#[derive(Clone, Copy, PartialEq, Eq, Debug)]
 pub enum ResponseKind {
     GetEndpoints,
     CreateSession,
@@ -60,6 +60,7 @@ impl ResponseKind {
 }
 
 /// A response, as the body of a message (OPC 10000-6, 5.2.9).
+#[derive(Debug)]
 pub enum Response {
     GetEndpoints(GetEndpointsResponse),
     CreateSession(CreateSessionResponse),

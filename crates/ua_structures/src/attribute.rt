@@ -25,7 +25,7 @@ use ua_variant::{DataValue, DiagnosticInfo};
 use ua_wire::{append_three, append_two};
 
 /// An item of a Read: an attribute of a node, or a part of it (OPC 10000-4, 7.29).
-#[derive(Drop)]
+#[derive(Debug, Drop)]
 pub struct ReadValueId {
     pub node_id: NodeId,
     /// The attribute; [`VALUE_ATTRIBUTE`] is the Value.
@@ -103,7 +103,7 @@ impl Skip for ReadValueId {
 }
 
 /// The Read request: asks for attributes of nodes (OPC 10000-4, 5.11.2).
-#[derive(Drop)]
+#[derive(Debug, Drop)]
 pub struct ReadRequest {
     pub request_header: RequestHeader,
     /// The greatest age of a value, in milliseconds.
@@ -221,7 +221,7 @@ impl Skip for ReadRequest {
 }
 
 /// The response to a [`ReadRequest`] (OPC 10000-4, 5.11.2).
-#[derive(Drop)]
+#[derive(Debug, Drop)]
 pub struct ReadResponse {
     pub response_header: ResponseHeader,
     /// One result for each item of the request, in its order.
@@ -366,7 +366,7 @@ pub fn append_read_response<R: ReadResults>(
 }
 
 /// An item of a Write: a value for an attribute of a node (OPC 10000-4, 5.11.4).
-#[derive(Drop)]
+#[derive(Debug, Drop)]
 pub struct WriteValue {
     pub node_id: NodeId,
     /// The attribute; [`VALUE_ATTRIBUTE`] is the Value.
@@ -425,7 +425,7 @@ impl Skip for WriteValue {
 }
 
 /// The Write request: sets attributes of nodes (OPC 10000-4, 5.11.4).
-#[derive(Drop)]
+#[derive(Debug, Drop)]
 pub struct WriteRequest {
     pub request_header: RequestHeader,
     pub nodes_to_write: UaArray<WriteValue>,
@@ -493,7 +493,7 @@ impl Skip for WriteRequest {
 }
 
 /// The response to a [`WriteRequest`] (OPC 10000-4, 5.11.4).
-#[derive(Drop)]
+#[derive(Debug, Drop)]
 pub struct WriteResponse {
     pub response_header: ResponseHeader,
     /// One result for each item of the request, in its order.

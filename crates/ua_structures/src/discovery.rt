@@ -15,7 +15,7 @@ use ua_opening::{
 use ua_wire::{append_three, append_two};
 
 /// The description of a server or a client (OPC 10000-4, 7.2).
-#[derive(Drop)]
+#[derive(Debug, Drop)]
 pub struct ApplicationDescription {
     /// The globally unique identifier of the application instance.
     pub application_uri: UaString,
@@ -114,7 +114,7 @@ impl Wire for ApplicationDescription {
 }
 
 /// A kind of user identity token that an endpoint accepts (OPC 10000-4, 7.42).
-#[derive(Drop)]
+#[derive(Debug, Drop)]
 pub struct UserTokenPolicy {
     /// The PolicyId by which an identity token refers to this policy.
     pub policy_id: UaString,
@@ -154,7 +154,7 @@ impl Wire for UserTokenPolicy {
 }
 
 /// An endpoint of a server: its URL and its security settings (OPC 10000-4, 7.14).
-#[derive(Drop)]
+#[derive(Debug, Drop)]
 pub struct EndpointDescription {
     pub endpoint_url: UaString,
     pub server: ApplicationDescription,
@@ -200,7 +200,7 @@ impl Wire for EndpointDescription {
 }
 
 /// The GetEndpoints request: asks for the endpoints of a server (OPC 10000-4, 5.5.4).
-#[derive(Drop)]
+#[derive(Debug, Drop)]
 pub struct GetEndpointsRequest {
     pub request_header: RequestHeader,
     /// The URL by which the client reached the server.
@@ -251,7 +251,7 @@ impl Wire for GetEndpointsRequest {
 }
 
 /// The response to a [`GetEndpointsRequest`] (OPC 10000-4, 5.5.4).
-#[derive(Drop)]
+#[derive(Debug, Drop)]
 pub struct GetEndpointsResponse {
     pub response_header: ResponseHeader,
     pub endpoints: UaArray<EndpointDescription>,

@@ -33,7 +33,7 @@ fn timeout_is_encodable(timeout: &DoubleBits)
 }
 
 /// The identity token of an anonymous user, the body of an ExtensionObject (OPC 10000-4, 7.41.3).
-#[derive(Drop)]
+#[derive(Debug, Drop)]
 pub struct AnonymousIdentityToken {
     /// The `policy_id` of the [`UserTokenPolicy`](crate::UserTokenPolicy) that the token is for.
     pub policy_id: UaString,
@@ -62,7 +62,7 @@ impl Wire for AnonymousIdentityToken {
 }
 
 /// The CreateSession request: asks for a session (OPC 10000-4, 5.7.2).
-#[derive(Drop)]
+#[derive(Debug, Drop)]
 pub struct CreateSessionRequest {
     pub request_header: RequestHeader,
     pub client_description: ApplicationDescription,
@@ -141,7 +141,7 @@ impl Wire for CreateSessionRequest {
 }
 
 /// The response to a [`CreateSessionRequest`] (OPC 10000-4, 5.7.2).
-#[derive(Drop)]
+#[derive(Debug, Drop)]
 pub struct CreateSessionResponse {
     pub response_header: ResponseHeader,
     /// The NodeId of the session.
@@ -227,7 +227,7 @@ impl Wire for CreateSessionResponse {
 }
 
 /// The ActivateSession request: gives the identity of the session's user (OPC 10000-4, 5.7.3).
-#[derive(Drop)]
+#[derive(Debug, Drop)]
 pub struct ActivateSessionRequest {
     pub request_header: RequestHeader,
     pub client_signature: SignatureData,
@@ -291,7 +291,7 @@ impl Wire for ActivateSessionRequest {
 }
 
 /// The response to an [`ActivateSessionRequest`] (OPC 10000-4, 5.7.3).
-#[derive(Drop)]
+#[derive(Debug, Drop)]
 pub struct ActivateSessionResponse {
     pub response_header: ResponseHeader,
     pub server_nonce: UaBytes,
@@ -340,7 +340,7 @@ impl Wire for ActivateSessionResponse {
 }
 
 /// The CloseSession request: closes a session (OPC 10000-4, 5.7.4).
-#[derive(Drop)]
+#[derive(Debug, Drop)]
 pub struct CloseSessionRequest {
     pub request_header: RequestHeader,
     pub delete_subscriptions: bool,
@@ -371,7 +371,7 @@ impl Wire for CloseSessionRequest {
 }
 
 /// The response to a [`CloseSessionRequest`] (OPC 10000-4, 5.7.4).
-#[derive(Drop)]
+#[derive(Debug, Drop)]
 pub struct CloseSessionResponse {
     pub response_header: ResponseHeader,
 }

@@ -9,7 +9,7 @@ use ua_opening::{append_fields, are_encodable, read_fields};
 use ua_wire::append_two;
 
 /// A software certificate and its signature (OPC 10000-4, 7.38).
-#[derive(Drop)]
+#[derive(Debug, Drop)]
 pub struct SignedSoftwareCertificate {
     pub certificate_data: UaBytes,
     pub signature: UaBytes,
@@ -38,7 +38,7 @@ impl Wire for SignedSoftwareCertificate {
 }
 
 /// A signature and the algorithm that made it (OPC 10000-4, 7.37).
-#[derive(Drop)]
+#[derive(Debug, Drop)]
 pub struct SignatureData {
     pub algorithm: UaString,
     pub signature: UaBytes,

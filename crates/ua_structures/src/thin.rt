@@ -25,7 +25,7 @@ const ARRAY: u8 = 0x80;
 const TYPE_ID: u8 = 0x3F;
 
 /// The type of a value: a scalar's, or an array's.
-#[derive(Clone, Copy)]
+#[derive(Clone, Copy, Debug)]
 pub struct ValueType {
     /// The type id of the scalar, or of the elements of the array (OPC 10000-6, 5.1.2).
     pub kind: u8,

@@ -14,7 +14,7 @@ const NANOSECONDS_OF_A_TICK: u128 = 100;
 
 /// The times of a clock, each read when it is asked for. Where the clock fails, or its time is not
 /// that of a DateTime, the timestamp is 1970-01-01.
-#[derive(Drop)]
+#[derive(Debug, Drop)]
 pub struct ClockMoments<'a, C> {
     clock: &'a C,
 }

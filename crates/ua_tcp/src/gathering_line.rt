@@ -17,7 +17,7 @@ const MOST_GATHERED: usize = 16384;
 /// bytes are waited for. Bytes that are buffered when the value is dropped are not sent. Its
 /// traffic is known where that of the transport beneath is: each call has an effect on it that the
 /// same call of the transport beneath may have, and buffered bytes count as written.
-#[derive(Drop)]
+#[derive(Debug, Drop)]
 pub struct GatheringLine<L> {
     line: L,
     gathered: Vec<u8>,

@@ -11,7 +11,7 @@ use ua_channel::{Line, LineFault};
 ///
 /// A call reserves memory for the bytes that it may move before it calls the transport beneath.
 /// Where that allocation fails the call fails, and nothing is read, written or kept.
-#[derive(Drop)]
+#[derive(Debug, Drop)]
 pub struct RecordedLine<L> {
     line: L,
     read: Vec<u8>,

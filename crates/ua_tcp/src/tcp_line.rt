@@ -10,7 +10,7 @@ use ua_channel::{Line, LineFault};
 
 /// The transport over a connection. Its traffic is not known: the contract says nothing of what a
 /// peer sends and receives.
-#[derive(Drop)]
+#[derive(Debug, Drop)]
 pub struct TcpLine<S> {
     stream: S,
     /// The number of calls that failed so far; after the greatest number it restarts at 0.

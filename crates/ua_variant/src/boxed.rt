@@ -6,7 +6,7 @@ use std::alloc::{AllocError, Global};
 use std::marker::Model;
 
 /// A value on the heap, so that what holds it stays small. Contracts see the value itself.
-#[derive(Drop)]
+#[derive(Debug, Drop)]
 pub struct Boxed<T> {
     inner: Box<T>,
 }

@@ -15,7 +15,7 @@ use ua_builtin::{DateTime, ReadFault, Source, StatusCode};
 use ua_diagnostic::field::read_field;
 
 /// The fields of a DataValue other than its value.
-#[derive(Clone, Copy)]
+#[derive(Clone, Copy, Debug)]
 pub struct Fields {
     status: Option<StatusCode>,
     source_timestamp: Option<DateTime>,

@@ -17,7 +17,7 @@ use ua_builtin::{DateTime, DoubleBits, FloatBits, Guid, StatusCode};
 
 /// The elements of an array of one of the types whose values are all encoded in the same number of
 /// bytes.
-#[derive(Drop)]
+#[derive(Debug, Drop)]
 pub enum Packed {
     Booleans(Vec<bool>),
     SBytes(Vec<i8>),

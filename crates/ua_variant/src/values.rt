@@ -17,6 +17,7 @@ use ua_diagnostic::{BoxedDiagnostic, Dimensions};
 
 /// A value of any built-in type, or an array of them (OPC 10000-6, 5.2.2.16).
 #[cycle(values)]
+#[derive(Debug)]
 pub enum Variant {
     /// No value.
     Null,
@@ -53,7 +54,7 @@ impl Drop for Variant {
 }
 
 /// A value of a built-in type (OPC 10000-6, 5.1.2).
-#[derive(Drop)]
+#[derive(Debug, Drop)]
 #[cycle(values)]
 pub enum Scalar {
     Boolean(bool),
@@ -88,7 +89,7 @@ pub enum Scalar {
 /// A value with its status and its timestamps (OPC 10000-6, 5.2.2.17). Picoseconds are preserved as
 /// they are, also above 9999 or without their timestamp.
 #[cycle(values)]
-#[derive(Drop)]
+#[derive(Debug, Drop)]
 pub struct DataValue {
     pub value: Option<HeldVariant>,
     pub status: Option<StatusCode>,
@@ -102,6 +103,7 @@ pub struct DataValue {
 
 /// A Variant inside a Variant, on the heap; a null one is not allocated.
 #[cycle(values)]
+#[derive(Debug)]
 pub struct BoxedVariant {
     inner: Option<Box<Variant>>,
 }
@@ -141,6 +143,7 @@ impl Model for BoxedVariant {
 
 /// A Variant inside a DataValue, stored in place.
 #[cycle(values)]
+#[derive(Debug)]
 pub struct HeldVariant {
     inner: Variant,
 }
@@ -177,6 +180,7 @@ impl Model for HeldVariant {
 
 /// A DataValue inside a Variant, on the heap; one without any field is not allocated.
 #[cycle(values)]
+#[derive(Debug)]
 pub struct BoxedDataValue {
     inner: Option<Box<DataValue>>,
 }
@@ -216,7 +220,7 @@ impl Model for BoxedDataValue {
 
 /// The elements of an array, as they are stored.
 #[cycle(values)]
-#[derive(Drop)]
+#[derive(Debug, Drop)]
 pub enum Elements {
     /// Elements of one type, in a vector of that type.
     Packed(Packed),
@@ -226,6 +230,7 @@ pub enum Elements {
 
 /// The elements of an array.
 #[cycle(values)]
+#[derive(Debug)]
 pub struct Scalars {
     elements: Elements,
 }

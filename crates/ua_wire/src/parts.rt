@@ -9,7 +9,7 @@ use std::marker::Model;
 
 /// A source over parts that follow one another, as if they were joined. Empty parts are skipped. It
 /// allocates nothing, and the cost of a byte does not depend on the number of parts.
-#[derive(Drop)]
+#[derive(Debug, Drop)]
 pub struct Parts<'a> {
     /// What is left of the part that is being read.
     front: &'a [u8],

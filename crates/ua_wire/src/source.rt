@@ -30,7 +30,7 @@ pub trait Source: Drop {
 }
 
 /// A source over a slice.
-#[derive(Drop)]
+#[derive(Debug, Drop)]
 pub struct Octets<'a> {
     rest: &'a [u8],
 }

@@ -3,7 +3,7 @@
 ghost use Rattle.std.specs.Prelude.{◌<◌};
 
 /// A call that a client sends.
-#[derive(Drop)]
+#[derive(Debug, Drop)]
 pub struct AskedCall {
     /// The RequestId of the call, under which it is answered.
     pub id: u32,

@@ -36,7 +36,7 @@ use ua_frame::{FrameReader, Gate, Kind, LEAST_BUFFER_SIZE, Limits};
 ///
 /// First send [`hello`](ClientChannel::hello), then what [`take`](ClientChannel::take) returns with
 /// `Send`; after `Open` the client may send calls.
-#[derive(Drop)]
+#[derive(Debug, Drop)]
 pub struct ClientChannel {
     address: Address,
     end: EndCore<ClientRules, Phase>,
@@ -284,7 +284,7 @@ impl ClientChannel {
     }
 
     /// Takes bytes up to the end of the first frame that has an event, and returns that event, or
-    /// else takes the whole piece; returns how many it took. `moment` is the timestamp of the OPN
+    /// else takes the whole fragment; returns how many it took. `moment` is the timestamp of the OPN
     /// request.
     fn go_on(
         &mut self,
@@ -311,7 +311,7 @@ impl ClientChannel {
     }
 
     /// Takes bytes up to the end of the first frame that has an event or needs bytes to be sent, or
-    /// else the whole piece, and returns how many it took. `moment` is the timestamp of the OPN
+    /// else the whole fragment, and returns how many it took. `moment` is the timestamp of the OPN
     /// request. At a header that is refused, the bytes taken end at its eighth byte. After a
     /// failure the channel is closed.
     pub fn take(

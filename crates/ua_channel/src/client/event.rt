@@ -7,7 +7,7 @@ use ua_chunk::Message;
 use ua_frame::Ack;
 
 /// The event of the bytes so far.
-#[derive(Drop)]
+#[derive(Debug, Drop)]
 pub enum ClientEvent {
     /// More bytes are needed.
     NeedMore,
@@ -31,7 +31,7 @@ pub enum ClientEvent {
 }
 
 /// The event of a frame.
-#[derive(Drop)]
+#[derive(Debug, Drop)]
 pub enum Event {
     /// The server acknowledged.
     Agreed(Ack),

@@ -7,7 +7,7 @@ use crate::client::talking::Talking;
 use ua_frame::{Gate, Kind, LEAST_BUFFER_SIZE};
 
 /// The phases of a client's channel, in order.
-#[derive(Drop)]
+#[derive(Debug, Drop)]
 pub enum Phase {
     /// An ACK is to come.
     Waiting,

@@ -22,7 +22,7 @@ use ua_chunk::MOST_OPEN;
 use ua_frame::{Frame, Gate, Limits};
 
 /// The rules of a client for frames: its limits.
-#[derive(Drop)]
+#[derive(Debug, Drop)]
 pub struct ClientRules {
     pub limits: Limits,
 }

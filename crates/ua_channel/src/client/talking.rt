@@ -43,7 +43,7 @@ const MOST_TOKENS: usize = 16;
 const NO_ID: usize = 4_294_967_295;
 
 /// What a client keeps of an open channel.
-#[derive(Drop)]
+#[derive(Debug, Drop)]
 pub struct Talking {
     pub agreed: Agreed,
     pub channel: u32,
