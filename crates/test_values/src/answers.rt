@@ -1,7 +1,7 @@
 //! The answer to each kind of row.
 
 use crate::fault::Fault;
-use crate::items::{read, values, write};
+use crate::items::{memory, read, values, write, write_within};
 use crate::lines::{bad_results, endpoint, named_code, read_line, response_lines, write_line};
 use crate::message_fields::{body_fields, fields};
 use crate::node_table::{State, insert, load, moment, node, nodes};
@@ -48,6 +48,8 @@ fn table_answer(
         "read" => read(alloc, state, words),
         "values" => values(alloc, state, words),
         "write" => write(alloc, state, words),
+        "write-within" => write_within(alloc, state, words),
+        "memory" => memory(alloc, state),
         "ask" => ask(alloc, state.moment, words),
         _ => text_answer(alloc, kind, words),
     }

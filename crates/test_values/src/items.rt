@@ -80,6 +80,24 @@ pub fn write(alloc: Global, state: &mut State, words: &str) -> Result<String, Fa
     codes(alloc, statuses.as_slice())
 }
 
+/// The same under a limit of memory, which stands in front.
+pub fn write_within(alloc: Global, state: &mut State, words: &str) -> Result<String, Fault> {
+    let (most, words) = cut(words)?;
+    let most = number(most)?;
+    let items = write_items(alloc, words)?;
+    let mut statuses = Vec::with_capacity(alloc, items.len())?;
+    let moment = state.moment;
+    state
+        .table
+        .write_items_within(items, moment, most, &mut statuses);
+    codes(alloc, statuses.as_slice())
+}
+
+/// The bytes of memory that the values of the table take.
+pub fn memory(alloc: Global, state: &State) -> Result<String, Fault> {
+    Ok(format!(in alloc; "{}", state.table.memory())?)
+}
+
 fn write_items(alloc: Global, words: &str) -> Result<Vec<WriteValue>, Fault> {
     let mut items = Vec::new(alloc);
     for item in words.split('|') {

@@ -6,6 +6,9 @@ pub mod Files
 pub mod Fits
 pub mod IdFits
 pub mod Judged
+pub mod Limits
+pub mod LimitKept
+pub mod Memories
 pub mod OneLoad
 pub mod Parsed
 pub mod Pieces
@@ -18,6 +21,7 @@ pub mod SoundRead
 pub mod SoundWrite
 pub mod SoundTest
 pub mod Thinned
+pub mod ThinnedWithin
 pub mod Utf8Pieces
 pub mod ValueFits
 pub mod Writes

@@ -76,7 +76,7 @@ with_value item d = record { node_id = item.node_id; attribute_id = item.attribu
 abbrev with_kept : (ValueType → Bool) → WriteValue → WriteValue
 with_kept takes item = with_value item (kept_value takes item.value)
 
-same_reasons : (v : Variable) (item : WriteValue) (takes : ValueType → Bool) → takes ≡ variable_takes (Some v) → write_item_reasons v (with_kept takes item) ≡ write_item_reasons v item
+pub same_reasons : (v : Variable) (item : WriteValue) (takes : ValueType → Bool) → takes ≡ variable_takes (Some v) → write_item_reasons v (with_kept takes item) ≡ write_item_reasons v item
 same_reasons v item takes is =
     ap (λ (t : ValueType → Bool). write_item_reasons v (with_kept t item)) is
     ∙ reasons_kept v item.attribute_id item.index_range item.value item.value.value refl
@@ -103,14 +103,14 @@ good_kept : (v : Variable) (attribute : ℕ) (range : Option (List ℕ)) (d : Da
 good_kept v attribute range d None is good = refl
 good_kept v attribute range d (Some value) is good = good_by v attribute range d value (is_kept (variable_takes (Some v)) (type_of value)) is refl good
 
-same_item : (v : Variable) (item : WriteValue) (takes : ValueType → Bool) → takes ≡ variable_takes (Some v) → is_none (first_reason (write_item_reasons v item)) ≡ true → with_kept takes item ≡ item
+pub same_item : (v : Variable) (item : WriteValue) (takes : ValueType → Bool) → takes ≡ variable_takes (Some v) → is_none (first_reason (write_item_reasons v item)) ≡ true → with_kept takes item ≡ item
 same_item v item takes is good =
     ap (λ (t : ValueType → Bool). with_kept t item) is
     ∙ ap (with_value item) (good_kept v item.attribute_id item.index_range item.value item.value.value refl good)
 
 -- ---- the answers
 
-answer_by : (takes : NodeId → ValueType → Bool) (o : Option Variable) (item : WriteValue) → takes item.node_id ≡ variable_takes o → write_answer o (thinned takes item) ≡ write_answer o item
+pub answer_by : (takes : NodeId → ValueType → Bool) (o : Option Variable) (item : WriteValue) → takes item.node_id ≡ variable_takes o → write_answer o (thinned takes item) ≡ write_answer o item
 answer_by takes None item is = refl
 answer_by takes (Some v) item is = ap (λ (rs : List (StatusCode × Bool)). good_or (first_reason rs)) (same_reasons v item (takes item.node_id) is)
 

@@ -54,7 +54,7 @@ among_keys id [] h = tt
 among_keys id (node ∷ nodes) h = (h.0, among_keys id nodes h.1)
 
 -- no node behind the one that it names
-past_head : (id : NodeId) (node : Node) (nodes : Nodes) → IsDistinct same_id (keys_of (node ∷ nodes)) → same_id id node.0 ≡ true → NonePasses (same_id id) nodes
+pub past_head : (id : NodeId) (node : Node) (nodes : Nodes) → IsDistinct same_id (keys_of (node ∷ nodes)) → same_id id node.0 ≡ true → NonePasses (same_id id) nodes
 unfolding IsDistinct
 past_head id node nodes d e =
     let P : NodeId → Type 0 = λ k. NonePasses (same_id k) nodes in

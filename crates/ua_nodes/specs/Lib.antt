@@ -1,5 +1,7 @@
 pub mod Attribute
+pub mod Limit
 pub mod LineFault
+pub mod Memory
 pub mod NodeFile
 pub mod Range
 pub mod Read

@@ -5,6 +5,10 @@ use Rattle.ua_builtin.specs.declared.status_code.StatusCode.{StatusCode}
 abbrev pub good : StatusCode
 good = record { code = 0 }
 
+-- BadOutOfMemory: there is not enough memory to store the value
+abbrev pub bad_out_of_memory : StatusCode
+bad_out_of_memory = record { code = 0x8003_0000 }
+
 -- BadNodeIdUnknown: there is no node of the NodeId
 abbrev pub bad_node_id_unknown : StatusCode
 bad_node_id_unknown = record { code = 0x8034_0000 }

@@ -1,5 +1,6 @@
 -- A table of nodes, as a finite map.
 use Rattle.std.specs.Prelude.{ℕ, Bool, List, Option, slice_get}
+use Rattle.std.specs.List.{position}
 use Rattle.std.specs.Map.{keys_of, lookup}
 use Rattle.ua_builtin.specs.declared.node_id.NodeId.{NodeId}
 use Rattle.ua_builtin.specs.contracts.node_id.NodeIdPartialEq.TheImpl.{ghosts}
@@ -22,6 +23,10 @@ node_at nodes id = lookup (same_id id) nodes
 -- the NodeId of the node at a place in this order
 abbrev pub id_at : Nodes → ℕ → Option NodeId
 id_at nodes index = slice_get (keys_of nodes) index
+
+-- the place in this order of the node that the NodeId names
+abbrev pub index_of_id : Nodes → NodeId → Option ℕ
+index_of_id nodes id = position (same_id id) (keys_of nodes)
 
 -- what a table keeps of a node besides its NodeId
 abbrev pub variable_of : Node → Variable

@@ -1,6 +1,6 @@
 //! Laws of node files, of Reads and of Writes, each carried by a function without a body.
 
-ghost use Rattle.std.specs.Prelude.{◌≡◌, ◌↔◌, ◌++◌, ◌∷◌, [], false, IsTrue, map, ℕ, List, None, Some};
+ghost use Rattle.std.specs.Prelude.{◌≡◌, ◌≤◌, ◌↔◌, ◌++◌, ◌∷◌, [], false, max, IsTrue, map, ℕ, List, Option, None, Some};
 ghost use Rattle.std.specs.Str.{IsUtf8};
 ghost use Rattle.ua_nodes.specs.declared.fault.LineReason.{LineReason};
 ghost use Rattle.ua_nodes.specs.declared.node.Access.{Access};
@@ -13,7 +13,8 @@ ghost use Rattle.ua_nodes.specs.Sound.{IsSoundNode, IsSound, is_sound_node};
 ghost use Rattle.ua_nodes.specs.Table.{Nodes, node_at, same_id};
 ghost use Rattle.ua_nodes.specs.Set.{after_set, set_node, set_refusal};
 ghost use Rattle.ua_nodes.specs.declared.set.Reading.{Reading};
-ghost use Rattle.ua_nodes.specs.Write.{after_write, last_good, nodes_take, write_answers, written_by};
+ghost use Rattle.ua_nodes.specs.Limit.{after_limited, limited_answers, nodes_memory};
+ghost use Rattle.ua_nodes.specs.Write.{after_write, last_good, nodes_take, written_by};
 ghost use Rattle.std.specs.Option.{option_map};
 ghost use Rattle.ua_builtin.specs.DateTime.{date_time};
 ghost use Rattle.ua_variant.specs.Encodable.{data_value_encodable};
@@ -48,10 +49,19 @@ pub fn a_node_keeps_the_last_good_item()
 
 /// A Write of the items without the values that their nodes could not take, where each node takes
 /// the values of its own type, gives the same results and the same nodes as a Write of the items
-/// themselves (OPC 10000-4, 5.11.4). Allocates nothing.
+/// themselves (OPC 10000-4, 5.11.4), with a limit of memory or without one. Allocates nothing.
 pub fn values_that_their_nodes_cannot_take_change_no_write(table: &NodeTable)
-    ensures answers { (items : List WriteValue) → write_answers table.now (map (thinned (nodes_take table.now)) items) ≡ write_answers table.now items }
-    ensures nodes { (items : List WriteValue) (moment : DateTime) → after_write (map (thinned (nodes_take table.now)) items) moment table.now ≡ after_write items moment table.now }
+    ensures answers { (most : Option ℕ) (items : List WriteValue) → limited_answers most table.now (map (thinned (nodes_take table.now)) items) ≡ limited_answers most table.now items }
+    ensures nodes { (most : Option ℕ) (items : List WriteValue) (moment : DateTime) → after_limited most (map (thinned (nodes_take table.now)) items) moment table.now ≡ after_limited most items moment table.now }
+{
+    // Called for its clause that no two nodes are of one NodeId.
+    let _count = table.nodes.len();
+}
+
+/// A Write under a limit leaves the values of the nodes with at most as much memory as the limit, or
+/// as they had before. Allocates nothing.
+pub fn a_write_keeps_memory_within_its_limit(table: &NodeTable)
+    ensures { (most : ℕ) (items : List WriteValue) (moment : DateTime) → nodes_memory (after_limited (Some most) items moment table.now) ≤ max most (nodes_memory table.now) }
 {
     // Called for its clause that no two nodes are of one NodeId.
     let _count = table.nodes.len();

@@ -31,7 +31,7 @@ impl Access {
 }
 
 /// A node of the NodeClass Variable, with its Value (OPC 10000-3, 5.6.2).
-#[derive(Drop)]
+#[derive(Debug, Drop)]
 pub struct Node {
     pub id: NodeId,
     pub name: UaString,
@@ -72,7 +72,7 @@ impl Node {
 }
 
 /// A node in a table, which has its NodeId as the key.
-#[derive(Drop)]
+#[derive(Debug, Drop)]
 pub struct Variable {
     pub name: UaString,
     /// The type id of the value, or of its elements.
@@ -89,7 +89,7 @@ pub struct Variable {
 }
 
 /// The value of a node in a table.
-#[derive(Drop)]
+#[derive(Debug, Drop)]
 pub struct NodeValue {
     inner: Variant,
 }

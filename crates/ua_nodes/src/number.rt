@@ -6,7 +6,7 @@ ghost use Rattle.ua_nodes.specs.ValueText.{pattern_denoted};
 
 use std::str::FromStr;
 
-/// A whole number, as texts denote it: decimal digits, with `-` in front below zero.
+/// A whole number, as texts denote it: decimal digits, with a `-` before them below zero.
 pub trait WholeNumber: FromStr {
     /// The number that a text denotes.
     ghost denoted: { List ℕ → Option Self };

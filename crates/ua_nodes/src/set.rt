@@ -14,7 +14,7 @@ use ua_builtin::{DateTime, NodeId, StatusCode};
 use ua_variant::{DataValue, HeldVariant, Variant};
 
 /// A value with its status and its SourceTimestamp.
-#[derive(Drop)]
+#[derive(Debug, Drop)]
 pub struct Reading {
     pub value: Variant,
     pub status: Option<StatusCode>,

@@ -6,7 +6,7 @@ ghost use Rattle.std.specs.Map.{keys_of};
 ghost use Rattle.std.specs.Map.Iter.{ShowsInOrder, deref_pair};
 ghost use Rattle.std.specs.Option.{option_copied, option_map};
 ghost use Rattle.ua_nodes.specs.Sound.{IsSoundNode, IsSound};
-ghost use Rattle.ua_nodes.specs.Table.{node_at, same_id, variable_of};
+ghost use Rattle.ua_nodes.specs.Table.{index_of_id, node_at, same_id, variable_of};
 ghost use Rattle.ua_nodes.specs.declared.fault.InsertFault.TheVariants.{Duplicate};
 
 use crate::fault::InsertFault;
@@ -19,7 +19,7 @@ use ua_builtin::NodeId;
 use ua_structures::{TakesTypes, ValueType};
 
 /// Nodes with their NodeIds as keys, in the order of their insertion.
-#[derive(Drop)]
+#[derive(Debug, Drop)]
 pub struct NodeTable {
     pub(crate) nodes: IndexMap<NodeId, Variable>,
 }
@@ -82,6 +82,13 @@ impl NodeTable {
         ensures { option_copied result ≡ node_at self.now id.now }
     {
         self.nodes.get(id)
+    }
+
+    /// The position of the node with this NodeId in the order of insertion.
+    pub fn index_of(&self, id: &NodeId) -> Option<usize>
+        ensures { result ≡ index_of_id self.now id.now }
+    {
+        self.nodes.get_index_of(id)
     }
 
     /// Asks for room for so many nodes more. Where it is refused, the table grows as nodes come.

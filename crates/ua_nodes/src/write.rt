@@ -39,7 +39,7 @@ impl NodeTable {
         }
     }
 
-    fn write_item(&mut self, item: WriteValue, moment: DateTime) -> StatusCode
+    pub(crate) fn write_item(&mut self, item: WriteValue, moment: DateTime) -> StatusCode
         ensures answer { result ≡ write_answer (node_at self.old item.node_id) item }
         ensures nodes { self.new ≡ after_item item moment self.old }
     {
@@ -68,7 +68,7 @@ impl Variable {
     }
 
     /// The StatusCode with which an item for this node is rejected.
-    fn write_refusal(&self, item: &WriteValue) -> Option<StatusCode>
+    pub(crate) fn write_refusal(&self, item: &WriteValue) -> Option<StatusCode>
         ensures { result ≡ first_reason (write_item_reasons self.now item.now) }
     {
         if Attribute::of_id(item.attribute_id).is_none() {

@@ -81,11 +81,12 @@ history-became x octets hs first now nodes made s =
     }
 
 -- another connection, or the program, changed the state; this one has its own session
-pub history-beside : (x : ServerChannel) (octets : List ℕ) (hs : List ConnectionEvent) (first s s' : State) (mine : Option Session) → s'.endpoint ≡ s.endpoint
+pub history-beside : (x : ServerChannel) (octets : List ℕ) (hs : List ConnectionEvent) (first s s' : State) (mine : Option Session) → s'.endpoint ≡ s.endpoint → s'.memory_limit ≡ s.memory_limit
     → StandsOver x octets hs first (with_session s mine) → StandsOver x octets (hs ++ Became s'.nodes s'.made ∷ []) first (with_session s' mine)
-history-beside x octets hs first s s' mine e h =
+history-beside x octets hs first s s' mine e l h =
     subst (λ (n : State). StandsOver x octets (hs ++ Became s'.nodes s'.made ∷ []) first n)
-    (ap (λ (p : Endpoint). record { nodes = s'.nodes; endpoint = p; made = s'.made; session = mine }) (sym e))
+    (ap (λ (p : Endpoint). record { nodes = s'.nodes; endpoint = p; memory_limit = s.memory_limit; made = s'.made; session = mine }) (sym e)
+    ∙ ap (λ (o : Option ℕ). record { nodes = s'.nodes; endpoint = s'.endpoint; memory_limit = o; made = s'.made; session = mine }) (sym l))
     (history-became x octets hs first (with_session s mine) s'.nodes s'.made h)
 
 -- ---- a step

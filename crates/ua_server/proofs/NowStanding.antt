@@ -13,6 +13,7 @@ use Rattle.ua_server.specs.Requests.{request_at, requests_of, with_first}
 use Rattle.ua_server.specs.Said.{last_words, course_after, said_of, say}
 use Rattle.ua_server.specs.State.{State}
 use Rattle.ua_server.specs.Stepping.{AdvanceBy, Advances, ServerStands, StepAnswers, StepBy, StepCloses, StepGoes, StepRefuses, Stops, Tells, given_up}
+use Rattle.ua_server.specs.declared.step.Advanced.{Advanced}
 use Rattle.ua_server.specs.declared.step.End.{End as Ending}
 use Rattle.ua_server.specs.declared.step.End.TheVariants as ending
 use Rattle.ua_server.specs.declared.step.Step.{Step}
@@ -89,13 +90,13 @@ module _ (old new : ServerChannel) (moment : DateTime) (piece octets : List ℕ)
       tells-by n out g.goes.quiet g.goes.more answered request g.goes.stops g.goes.goes g.goes.out_is g.goes.state_is g.goes.number_is g.answered_is g.requests_are
   advanced-by answered request (Some end) n out g = (ends-by (Some end) n out g.0, g.1)
 
-  advance-by : (result : Result (Step × Bool × Option AnsweredRequest) StepFault) → AdvanceNow (limits_of old) (channel_of old) (next_of old) moment piece result new octets told before now
+  advance-by : (result : Result Advanced StepFault) → AdvanceNow (limits_of old) (channel_of old) (next_of old) moment piece result new octets told before now
       → Advances (limits_of old) (channel_of old) moment piece result new octets told first ms before now
-  advance-by (Ok found) g = advanced-by found.1 found.2 found.0.end found.0.taken found.0.out.items g
+  advance-by (Ok found) g = advanced-by found.answered found.request found.step.end found.step.taken found.step.out.items g
   advance-by (Err f) g = step-by (Err f) g
 
 -- the same of a step that tells which request it answered
-pub as-advanced : (old new : ServerChannel) (moment : DateTime) (piece octets : List ℕ) (told : List Told) (first : State) (moments : List DateTime) (before now : State) (result : Result (Step × Bool × Option AnsweredRequest) StepFault)
+pub as-advanced : (old new : ServerChannel) (moment : DateTime) (piece octets : List ℕ) (told : List Told) (first : State) (moments : List DateTime) (before now : State) (result : Result Advanced StepFault)
     → ServerStands old octets told first moments before → channel_of new ≡ channel_of old
     → AdvanceNow (limits_of old) (channel_of old) (next_of old) moment piece result new octets told before now
     → Advances (limits_of old) (channel_of old) moment piece result new octets told first moments before now

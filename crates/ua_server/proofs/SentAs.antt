@@ -10,7 +10,7 @@ use Rattle.ua_server.specs.Status.{bad_response_too_large}
 use Rattle.ua_server.specs.declared.watch.AnsweredRequest.{AnsweredRequest}
 
 abbrev pub with-code : AnsweredRequest → StatusCode → AnsweredRequest
-with-code r code = record { kind = r.kind; items = r.items; code = code }
+with-code r code = record { kind = r.kind; encoding = r.encoding; items = r.items; code = code }
 
 code-aborted : (o : Option CutFault) (code : StatusCode) → is_some o ≡ true → of_code bad_response_too_large ≡ code_by o code
 code-aborted None code e = absurd cc

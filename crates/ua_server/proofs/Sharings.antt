@@ -20,7 +20,7 @@ use Rattle.ua_server.specs.declared.step.End.TheVariants as ending
 use Rattle.ua_server.specs.declared.step.Step.{Step}
 use Rattle.ua_server.specs.declared.step.StepFault.{StepFault}
 use Rattle.ua_server.specs.declared.step.StepFault.TheVariants as step_fault
-use Rattle.ua_server.proofs.EndpointStays.{answered-stays}
+use Rattle.ua_server.proofs.EndpointStays.{answered-limit, answered-stays}
 
 -- ---- numbers of connections
 
@@ -37,22 +37,25 @@ not-true false h = refl
 pub other-number : (j k : ℕ) → (j ≡ k → ⊥) → nat_eq j k ≡ false
 other-number j k apart = not-true (nat_eq j k) (λ e. apart (number-is j k e))
 
--- ---- no event changes what the server says of itself
+-- ---- no event changes what the server says of itself, nor its limit of memory
 
-say-stays : (channel : ℕ) (c : Course) (t : Told) → (say channel c t).1.state.endpoint ≡ c.state.endpoint
-say-stays channel c (Agreed agreement) = refl
-say-stays channel c (Opened id handle token lifetime) = refl
-say-stays channel c (Asked id token octets) = answered-stays c.state (first_of c.moments) octets
-say-stays channel c (GaveUp id) = refl
-say-stays channel c Closed = refl
+abbrev Stays : State → State → Type 0
+Stays s t = (t.endpoint ≡ s.endpoint) × (t.memory_limit ≡ s.memory_limit)
 
-answer-stays : (channels : ℕ → ℕ) (p : SharedState) (k : ℕ) (t : Told) (moment : DateTime) → (answer_at channels p k t moment).1.state.endpoint ≡ p.state.endpoint
+say-stays : (channel : ℕ) (c : Course) (t : Told) → Stays c.state (say channel c t).1.state
+say-stays channel c (Agreed agreement) = (refl, refl)
+say-stays channel c (Opened id handle token lifetime) = (refl, refl)
+say-stays channel c (Asked id token octets) = (answered-stays c.state (first_of c.moments) octets, answered-limit c.state (first_of c.moments) octets)
+say-stays channel c (GaveUp id) = (refl, refl)
+say-stays channel c Closed = (refl, refl)
+
+answer-stays : (channels : ℕ → ℕ) (p : SharedState) (k : ℕ) (t : Told) (moment : DateTime) → Stays p.state (answer_at channels p k t moment).1.state
 answer-stays channels p k t moment = say-stays (channels k) (record { state = with_session p.state (p.own k).session; number = (p.own k).number; moments = times_of_answers (t ∷ []) moment; agreement = (p.own k).agreement }) t
 
 -- ---- one event, as a connection sees it
 
 -- how far a connection is where it has come so far, and where another has
-course-own : (p : SharedState) (k : ℕ) (c : Course) → c.moments ≡ [] → c.state.endpoint ≡ p.state.endpoint → course_at (with_course p k c) k ≡ c
+course-own : (p : SharedState) (k : ℕ) (c : Course) → c.moments ≡ [] → Stays p.state c.state → course_at (with_course p k c) k ≡ c
 course-own p k c none same =
     ap (λ (b : Bool). record {
       state = with_session (with_changes p.state c.state.nodes c.state.made) (cond b (record { session = c.state.session; number = c.number; agreement = c.agreement }) (p.own k)).session;
@@ -60,7 +63,8 @@ course-own p k c none same =
       moments = [];
       agreement = (cond b (record { session = c.state.session; number = c.number; agreement = c.agreement }) (p.own k)).agreement;
     }) (same-number k)
-    ∙ (ap (λ (e : Endpoint). record { state = record { nodes = c.state.nodes; endpoint = e; made = c.state.made; session = c.state.session }; number = c.number; moments = []; agreement = c.agreement }) (sym same)
+    ∙ (ap (λ (e : Endpoint). record { state = record { nodes = c.state.nodes; endpoint = e; memory_limit = p.state.memory_limit; made = c.state.made; session = c.state.session }; number = c.number; moments = []; agreement = c.agreement }) (sym same.0)
+    ∙ ap (λ (o : Option ℕ). record { state = record { nodes = c.state.nodes; endpoint = c.state.endpoint; memory_limit = o; made = c.state.made; session = c.state.session }; number = c.number; moments = []; agreement = c.agreement }) (sym same.1)
     ∙ ap (λ (ms : List DateTime). record { state = c.state; number = c.number; moments = ms; agreement = c.agreement }) (sym none))
 
 course-other : (p : SharedState) (j k : ℕ) (c : Course) → nat_eq k j ≡ false → course_at (with_course p j c) k ≡ (event_answer 0 (course_at p k) (Became c.state.nodes c.state.made)).1
@@ -193,8 +197,8 @@ session-apart channels p (Changed nodes ∷ es) = session-apart channels (shared
 
 same-state : (a b : State) (mine theirs : Option Session) → with_session a mine ≡ with_session b theirs → a.session ≡ b.session → a ≡ b
 same-state a b mine theirs e s =
-    ap (λ (x : State). record { nodes = x.nodes; endpoint = x.endpoint; made = x.made; session = a.session }) e
-    ∙ ap (λ (o : Option Session). record { nodes = b.nodes; endpoint = b.endpoint; made = b.made; session = o }) s
+    ap (λ (x : State). record { nodes = x.nodes; endpoint = x.endpoint; memory_limit = x.memory_limit; made = x.made; session = a.session }) e
+    ∙ ap (λ (o : Option Session). record { nodes = b.nodes; endpoint = b.endpoint; memory_limit = b.memory_limit; made = b.made; session = o }) s
 
 -- a connection that stands among others stands over what it sees
 pub stands-over : (channels : ℕ → ℕ) (k : ℕ) (x : ServerChannel) (session : Option Session) (octets : List ℕ) (es : List SharedEvent) (first now : State) → StandsAmong channels k x session octets es first now

@@ -43,7 +43,7 @@ use Rattle.ua_nodes.specs.Read.{read_answer, stamps_numbered}
 use Rattle.ua_nodes.specs.Sound.{IsSound}
 use Rattle.ua_nodes.specs.Table.{Nodes, node_at}
 use Rattle.ua_nodes.specs.declared.stamps.Stamps.{Stamps}
-use Rattle.ua_nodes.specs.Write.{write_answers}
+use Rattle.ua_nodes.specs.Limit.{limited_answers, roomy_items}
 use Rattle.ua_nodes.proofs.Fits.{both_are}
 use Rattle.ua_nodes.proofs.SoundRead.{read_sound}
 use Rattle.ua_nodes.proofs.SoundWrite.{write_sound}
@@ -112,7 +112,7 @@ answer_sound s moment (CloseSession m) h dated =
 answer_sound s moment (Read m) h dated = unless_sound (first_reason (read_reasons s m)) s moment m.request_header (s, values_given s moment m) h (λ free. h)
 answer_sound s moment (Write m) h dated =
     unless_sound (first_reason (write_reasons s m)) s moment m.request_header (with_written s moment m, statuses_given s moment m) h
-    (λ free. record { nodes = write_sound (items_of m.nodes_to_write) moment s.nodes dated h.nodes; endpoint = h.endpoint; limit = h.limit; made = h.made })
+    (λ free. record { nodes = write_sound (roomy_items s.memory_limit s.nodes (items_of m.nodes_to_write)) moment s.nodes dated h.nodes; endpoint = h.endpoint; limit = h.limit; made = h.made })
 
 -- ---- faults
 
@@ -268,6 +268,7 @@ answer_fits s moment (Write m) h dated fits =
     unless_fits (write_reasons s m) s moment m.request_header (with_written s moment m, statuses_given s moment m) (lit< tt, (lit< tt, (lit< tt, (lit< tt, tt)))) dated small
     (λ free.
     let few = few_written s m free in
-    let count = answers_count s.nodes items in
-    statuses_fit (statuses_of (good_header moment m.request_header) (write_answers s.nodes items))
-    (write_response_fits (good_header moment m.request_header) (write_answers s.nodes items) (good_fits moment m.request_header dated small) (omega (arith, few, count)) (answers_fit s.nodes items)))
+    let limit = s.memory_limit in
+    let count = answers_count limit s.nodes items in
+    statuses_fit (statuses_of (good_header moment m.request_header) (limited_answers limit s.nodes items))
+    (write_response_fits (good_header moment m.request_header) (limited_answers limit s.nodes items) (good_fits moment m.request_header dated small) (omega (arith, few, count)) (answers_fit limit s.nodes items)))

@@ -11,6 +11,8 @@ use Rattle.ua_channel.specs.ServerTold.{Told, Agreed, Opened, Asked, GaveUp, Clo
 use Rattle.ua_channel.specs.declared.server.ServerChannel.{ServerChannel}
 use Rattle.ua_channel.specs.declared.server_event.ServerEvent.TheVariants as event
 use Rattle.ua_nodes.specs.Table.{Nodes, node_at}
+use Rattle.ua_nodes.specs.Limit.{answers_within, items_within, limited_answers, outgrows, room_after, room_of}
+use Rattle.ua_nodes.specs.Status.{bad_out_of_memory}
 use Rattle.ua_nodes.specs.Write.{write_answer, write_answers}
 use Rattle.ua_services.specs.Request.{request_read}
 use Rattle.ua_services.specs.declared.fault.RequestFault.{RequestFault}
@@ -36,13 +38,29 @@ pub good_nothing : (items : List WriteValue) → good_items items [] ≡ []
 good_nothing [] = refl
 good_nothing (item ∷ items) = good_nothing items
 
-good-stored : (nodes : Nodes) (items : List WriteValue) → good_items items (write_answers nodes items) ≡ stored_items nodes items
-good-stored nodes [] = refl
-good-stored nodes (item ∷ items) = ap (λ (r : List WriteValue). cond (is_good (write_answer (node_at nodes item.node_id) item)) (item ∷ r) r) (good-stored nodes items)
+good-all : (nodes : Nodes) (items : List WriteValue) → good_items items (write_answers nodes items) ≡ stored_items None nodes items
+good-all nodes [] = refl
+good-all nodes (item ∷ items) = ap (λ (r : List WriteValue). cond (is_good (write_answer (node_at nodes item.node_id) item)) (item ∷ r) r) (good-all nodes items)
+
+-- under a limit
+good-within : (room : ℕ) (nodes : Nodes) (items : List WriteValue) → good_items items (answers_within room nodes items) ≡ stored_items None nodes (items_within room nodes items)
+good-within room nodes [] = refl
+good-within room nodes (item ∷ items) =
+    by (outgrows room (node_at nodes item.node_id) item) _ (items_within (room_after room (node_at nodes item.node_id) item) nodes items)
+    (good-within (room_after room (node_at nodes item.node_id) item) nodes items)
+  where
+    by : (t : Bool) (were are : List WriteValue) → were ≡ stored_items None nodes are
+        → cond (is_good (cond t bad_out_of_memory (write_answer (node_at nodes item.node_id) item))) (item ∷ were) were ≡ stored_items None nodes (cond t are (item ∷ are))
+    by true were are same = same
+    by false were are same = ap (λ (r : List WriteValue). cond (is_good (write_answer (node_at nodes item.node_id) item)) (item ∷ r) r) same
+
+good-stored : (most : Option ℕ) (nodes : Nodes) (items : List WriteValue) → good_items items (limited_answers most nodes items) ≡ stored_items most nodes items
+good-stored None nodes items = good-all nodes items
+good-stored (Some most) nodes items = good-within (room_of most nodes) nodes items
 
 good-unless : (o : Option ℕ) (s : State) (moment : DateTime) (m : WriteRequest)
-    → good_items (items_of m.nodes_to_write) (items_of (results_of (unless o s moment m.request_header (with_written s moment m, statuses_given s moment m)).1)) ≡ unless_refused o (stored_items s.nodes (items_of m.nodes_to_write))
-good-unless None s moment m = good-stored s.nodes (items_of m.nodes_to_write)
+    → good_items (items_of m.nodes_to_write) (items_of (results_of (unless o s moment m.request_header (with_written s moment m, statuses_given s moment m)).1)) ≡ unless_refused o (stored_items s.memory_limit s.nodes (items_of m.nodes_to_write))
+good-unless None s moment m = good-stored s.memory_limit s.nodes (items_of m.nodes_to_write)
 good-unless (Some code) s moment m = good_nothing (items_of m.nodes_to_write)
 
 good-by : (r : Result Request RequestFault) (s : State) (moment : DateTime) → good_items (items_written r) (items_of (results_of (answered_by r s moment).1)) ≡ stored_as s r

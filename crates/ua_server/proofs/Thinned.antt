@@ -7,7 +7,8 @@ use Rattle.ua_builtin.specs.declared.date_time.DateTime.{DateTime}
 use Rattle.ua_builtin.specs.declared.node_id.NodeId.{NodeId}
 use Rattle.ua_builtin.specs.declared.status_code.StatusCode.{StatusCode}
 use Rattle.ua_nodes.specs.Table.{Nodes}
-use Rattle.ua_nodes.specs.Write.{after_write, nodes_take, write_answers}
+use Rattle.ua_nodes.specs.Limit.{after_limited, limited_answers}
+use Rattle.ua_nodes.specs.Write.{nodes_take}
 use Rattle.ua_services.specs.Request.{kind_of, thin_read, thin_request}
 use Rattle.ua_services.specs.declared.fault.RequestFault.{RequestFault}
 use Rattle.ua_services.specs.declared.fault.RequestFault.TheVariants.{OutOfMemory}
@@ -50,8 +51,8 @@ kind_of-kept takes m = refl
 
 -- what is kept of items is answered as they are, and leaves what they leave
 pub record ChangesNothing (nodes : Nodes) : Type 0 where
-  pub answers : (items : List WriteValue) → write_answers nodes (map (thinned (nodes_take nodes)) items) ≡ write_answers nodes items
-  pub left : (items : List WriteValue) (moment : DateTime) → after_write (map (thinned (nodes_take nodes)) items) moment nodes ≡ after_write items moment nodes
+  pub answers : (most : Option ℕ) (items : List WriteValue) → limited_answers most nodes (map (thinned (nodes_take nodes)) items) ≡ limited_answers most nodes items
+  pub left : (most : Option ℕ) (items : List WriteValue) (moment : DateTime) → after_limited most (map (thinned (nodes_take nodes)) items) moment nodes ≡ after_limited most items moment nodes
 
 -- why a Write with so many items is refused, by whether its session is its own, and is activated
 abbrev reasons : Bool → Bool → ℕ → List (ℕ × Bool)
@@ -71,21 +72,23 @@ answered_alike : (s : State) (moment : DateTime) (m : WriteRequest) (active : Bo
     → write_items s moment (thinned_request (λ id t. active && nodes_take s.nodes id t) m) ≡ write_items s moment m
 answered_alike s moment m true same is =
     let items = items_of m.nodes_to_write in
+    let most = s.memory_limit in
     let f = thinned (nodes_take s.nodes) in
     let kept = items_of (option_map (map f) m.nodes_to_write) in
     let each : kept ≡ map f items = items_kept f m.nodes_to_write in
-    ap (λ (n : ℕ). answer_with s moment m.request_header (is_activated s.session) n (after_write kept moment s.nodes) (write_answers s.nodes kept)) (count_kept f m.nodes_to_write)
-    ∙ ap (λ (k : List WriteValue). answer_with s moment m.request_header (is_activated s.session) (length items) (after_write k moment s.nodes) (write_answers s.nodes k)) each
-    ∙ ap (λ (nodes : Nodes). answer_with s moment m.request_header (is_activated s.session) (length items) nodes (write_answers s.nodes (map f items))) (same.left items moment)
-    ∙ ap (λ (codes : List StatusCode). answer_with s moment m.request_header (is_activated s.session) (length items) (after_write items moment s.nodes) codes) (same.answers items)
+    ap (λ (n : ℕ). answer_with s moment m.request_header (is_activated s.session) n (after_limited most kept moment s.nodes) (limited_answers most s.nodes kept)) (count_kept f m.nodes_to_write)
+    ∙ ap (λ (k : List WriteValue). answer_with s moment m.request_header (is_activated s.session) (length items) (after_limited most k moment s.nodes) (limited_answers most s.nodes k)) each
+    ∙ ap (λ (nodes : Nodes). answer_with s moment m.request_header (is_activated s.session) (length items) nodes (limited_answers most s.nodes (map f items))) (same.left most items moment)
+    ∙ ap (λ (codes : List StatusCode). answer_with s moment m.request_header (is_activated s.session) (length items) (after_limited most items moment s.nodes) codes) (same.answers most items)
 answered_alike s moment m false same is =
     let items = items_of m.nodes_to_write in
+    let most = s.memory_limit in
     let kept = items_of (option_map (map (thinned (λ (id : NodeId) (t : ValueType). false))) m.nodes_to_write) in
-    ap (λ (active : Bool). answer_with s moment m.request_header active (length kept) (after_write kept moment s.nodes) (write_answers s.nodes kept)) is
+    ap (λ (active : Bool). answer_with s moment m.request_header active (length kept) (after_limited most kept moment s.nodes) (limited_answers most s.nodes kept)) is
     ∙ refused_alike (is_own m.request_header.authentication_token s.session) (length kept) (length items) s moment m.request_header
-    (with_nodes s (after_write kept moment s.nodes), WriteAnswer (statuses_of (good_header moment m.request_header) (write_answers s.nodes kept)))
-    (with_nodes s (after_write items moment s.nodes), WriteAnswer (statuses_of (good_header moment m.request_header) (write_answers s.nodes items)))
-    ∙ sym (ap (λ (active : Bool). answer_with s moment m.request_header active (length items) (after_write items moment s.nodes) (write_answers s.nodes items)) is)
+    (with_nodes s (after_limited most kept moment s.nodes), WriteAnswer (statuses_of (good_header moment m.request_header) (limited_answers most s.nodes kept)))
+    (with_nodes s (after_limited most items moment s.nodes), WriteAnswer (statuses_of (good_header moment m.request_header) (limited_answers most s.nodes items)))
+    ∙ sym (ap (λ (active : Bool). answer_with s moment m.request_header active (length items) (after_limited most items moment s.nodes) (limited_answers most s.nodes items)) is)
 
 write_kept : (s : State) (moment : DateTime) (m : WriteRequest) → ChangesNothing s.nodes → write_items s moment (thinned_request (takes_now s) m) ≡ write_items s moment m
 write_kept s moment m same = answered_alike s moment m (is_activated s.session) same refl

@@ -28,7 +28,7 @@ abbrev pub unless : Option ℕ → State → DateTime → RequestHeader → Stat
 unless None s moment asking given = given
 unless (Some code) s moment asking given = (s, fault_of asking.request_handle code moment)
 
--- ---- the services, each with its refusals: the state that a request leaves, and the response to it
+-- ---- the services, each with its errors: the state that a request leaves, and the response to it
 
 -- CreateSession (OPC 10000-4, 5.7.2)
 abbrev pub create_session : State → DateTime → CreateSessionRequest → State × Response

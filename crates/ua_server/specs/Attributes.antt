@@ -4,7 +4,8 @@ use Rattle.ua_builtin.specs.declared.date_time.DateTime.{DateTime}
 use Rattle.ua_builtin.specs.declared.node_id.NodeId.{NodeId}
 use Rattle.ua_nodes.specs.Read.{read_answer, stamps_numbered}
 use Rattle.ua_nodes.specs.Table.{Nodes, node_at}
-use Rattle.ua_nodes.specs.Write.{write_answers, after_write, nodes_take}
+use Rattle.ua_nodes.specs.Limit.{limited_answers, after_limited}
+use Rattle.ua_nodes.specs.Write.{nodes_take}
 use Rattle.ua_nodes.specs.declared.stamps.Stamps.{Stamps}
 use Rattle.ua_nodes.specs.declared.stamps.Stamps.TheVariants.{Neither}
 use Rattle.ua_services.specs.declared.response.Response.{Response}
@@ -83,9 +84,9 @@ takes_now s id t = is_activated s.session && nodes_take s.nodes id t
 abbrev pub write_reasons : State → WriteRequest → List (ℕ × Bool)
 write_reasons s m = items_reasons s m.request_header (length (items_of m.nodes_to_write))
 
--- the state with its nodes after the items of a Write
+-- the state with its nodes after the items of a Write, under the limit of memory if there is one
 abbrev pub with_written : State → DateTime → WriteRequest → State
-with_written s moment m = with_nodes s (after_write (items_of m.nodes_to_write) moment s.nodes)
+with_written s moment m = with_nodes s (after_limited s.memory_limit (items_of m.nodes_to_write) moment s.nodes)
 
 abbrev pub statuses_given : State → DateTime → WriteRequest → Response
-statuses_given s moment m = Write (statuses_of (good_header moment m.request_header) (write_answers s.nodes (items_of m.nodes_to_write)))
+statuses_given s moment m = Write (statuses_of (good_header moment m.request_header) (limited_answers s.memory_limit s.nodes (items_of m.nodes_to_write)))

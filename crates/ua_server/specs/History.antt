@@ -40,7 +40,7 @@ used_up c = record { state = c.state; number = c.number; moments = []; agreement
 
 -- the state with these nodes and this number of sessions made; its own session stays
 abbrev pub with_changes : State → Nodes → ℕ → State
-with_changes s nodes made = record { nodes = nodes; endpoint = s.endpoint; made = made; session = s.session }
+with_changes s nodes made = record { nodes = nodes; endpoint = s.endpoint; memory_limit = s.memory_limit; made = made; session = s.session }
 
 -- the course with these nodes and this number of sessions made
 abbrev pub course_with : Course → Nodes → ℕ → Course

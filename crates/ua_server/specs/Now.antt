@@ -17,6 +17,7 @@ use Rattle.ua_server.specs.Requests.{requests_of}
 use Rattle.ua_server.specs.Said.{Course, last_words, course_after, said_of}
 use Rattle.ua_server.specs.State.{State}
 use Rattle.ua_server.specs.Stepping.{ClosesAt, RefusesAt, StepBreaks, Stops, given_up, times_of_answers}
+use Rattle.ua_server.specs.declared.step.Advanced.{Advanced}
 use Rattle.ua_server.specs.declared.step.End.{End as Ending}
 use Rattle.ua_server.specs.declared.step.End.TheVariants as ending
 use Rattle.ua_server.specs.declared.step.Step.{Step}
@@ -77,6 +78,6 @@ AdvanceNowBy answered request channel number moment piece None n out new octets 
 AdvanceNowBy answered request channel number moment piece (Some end) n out new octets told before now = NowBy channel number moment piece (Some end) n out new octets told before now × (answered ≡ false)
 
 -- the outcome of a step, with whether something was answered, and which request
-abbrev pub AdvanceNow : Limits → ℕ → ℕ → DateTime → List ℕ → Result (Step × Bool × Option AnsweredRequest) StepFault → ServerChannel → List ℕ → List Told → State → State → Type 0
-AdvanceNow limits channel number moment piece (Ok found) new octets told before now = AdvanceNowBy found.1 found.2 channel number moment piece found.0.end found.0.taken found.0.out.items new octets told before now
+abbrev pub AdvanceNow : Limits → ℕ → ℕ → DateTime → List ℕ → Result Advanced StepFault → ServerChannel → List ℕ → List Told → State → State → Type 0
+AdvanceNow limits channel number moment piece (Ok found) new octets told before now = AdvanceNowBy found.answered found.request channel number moment piece found.step.end found.step.taken found.step.out.items new octets told before now
 AdvanceNow limits channel number moment piece (Err f) new octets told before now = StepNow limits channel number moment piece (Err f) new octets told before now

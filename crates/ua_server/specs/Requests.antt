@@ -1,6 +1,7 @@
 -- The requests that a server answers, as it tells them to a watcher: the contents of each, and the
 -- code of its response.
 use Rattle.std.specs.Prelude.{ℕ, List, [], ◌∷◌, length, Option, Some, None, Result, Ok, Err}
+use Rattle.ua_builtin.specs.Exact.{◌>>=◌}
 use Rattle.ua_builtin.specs.Status.{of_code}
 use Rattle.ua_builtin.specs.declared.date_time.DateTime.{DateTime}
 use Rattle.ua_builtin.specs.declared.status_code.StatusCode.{StatusCode}
@@ -8,6 +9,7 @@ use Rattle.ua_chunk.specs.Cutting.{cut_refusal}
 use Rattle.ua_chunk.specs.declared.fault.CutFault.{CutFault}
 use Rattle.ua_chunk.specs.declared.lane.Lane.{Lane}
 use Rattle.ua_channel.specs.ServerTold.{Told, Agreed, Opened, Asked, GaveUp, Closed}
+use Rattle.ua_opening.specs.Message.{id_of, standard_number}
 use Rattle.ua_services.specs.Request.{kind_of, request_read}
 use Rattle.ua_services.specs.Response.{header_of, response}
 use Rattle.ua_services.specs.declared.fault.RequestFault.{RequestFault}
@@ -35,6 +37,15 @@ abbrev pub kind_asked : Result Request RequestFault → Option RequestKind
 kind_asked (Ok m) = Some (kind_of m)
 kind_asked (Err fault) = None
 
+-- the number of the encoding that bytes begin with, if it is one of namespace 0
+abbrev pub encoding_number : List ℕ → Option ℕ
+encoding_number octets = id_of octets >>= standard_number
+
+-- the same if they are no request
+abbrev pub encoding_asked : Result Request RequestFault → List ℕ → Option ℕ
+encoding_asked (Ok m) octets = None
+encoding_asked (Err fault) octets = encoding_number octets
+
 -- the number of items of what bytes are decoded as
 abbrev pub count_asked : Result Request RequestFault → ℕ
 count_asked (Ok m) = items_asked m
@@ -56,6 +67,7 @@ code_at (Some lane) r = code_by (cut_refusal lane (response.canonical r)) (heade
 abbrev pub request_answered : Option Lane → State → DateTime → List ℕ → AnsweredRequest
 request_answered lane s moment octets = record {
   kind = kind_asked (request_read octets);
+  encoding = encoding_asked (request_read octets) octets;
   items = count_asked (request_read octets);
   code = code_at lane (answered s moment octets).1;
 }

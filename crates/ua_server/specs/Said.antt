@@ -15,7 +15,7 @@ use Rattle.ua_services.specs.declared.response.Response.{Response}
 use Rattle.ua_server.specs.Reply.{answered}
 use Rattle.ua_server.specs.State.{State}
 
--- ---- what is said
+-- ---- what is sent
 
 -- the course of a server: its state, the number of the chunk that it sends next, the timestamps
 -- that are not used yet, and the agreement

@@ -215,7 +215,7 @@ TellsBy (Err (fault.Write n)) limits channel first read written moments now comi
 TellsBy (Err fault.OutOfMemory) limits channel first read written moments now coming b told = FailTells fault.OutOfMemory limits channel first read written moments now b told
 TellsBy (Err fault.TooLong) limits channel first read written moments now coming a told = TellsAll limits channel first moments a.0.frames told
 
--- ---- by the line
+-- ---- by the transport
 
 -- the bytes that are to come from a transport before more is written; none if it does not tell them
 abbrev pub coming_now : Option Traffic → List ℕ

@@ -149,7 +149,7 @@ ServesOver (Err (fault.Write n)) limits channel first read written moments reque
 ServesOver (Err fault.OutOfMemory) limits channel first read written moments requested history now coming = FailedOver fault.OutOfMemory limits channel first read written moments requested history now
 ServesOver (Err fault.TooLong) limits channel first read written moments requested history now coming = AllAnswered limits channel first read written moments requested history now Going × (greatest ≤ length read)
 
--- ---- by the line
+-- ---- by the transport
 
 -- a transport was served from this state on, beside an application: bytes were read and written,
 -- exactly these if the transport tells its bytes, timestamps were given and requests told in turn,

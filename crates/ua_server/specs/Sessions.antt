@@ -90,7 +90,7 @@ activate_reasons s m = token_reasons s m.request_header ++ ((bad_identity_token_
 
 -- the state with its session activated
 abbrev pub with_activated : State → State
-with_activated s = record { nodes = s.nodes; endpoint = s.endpoint; made = s.made; session = activated s.session }
+with_activated s = record { nodes = s.nodes; endpoint = s.endpoint; memory_limit = s.memory_limit; made = s.made; session = activated s.session }
 
 abbrev pub activation_given : DateTime → ActivateSessionRequest → Response
 activation_given moment m = ActivateSession (activated_of (good_header moment m.request_header))

@@ -19,7 +19,7 @@ use Rattle.ua_server.specs.declared.step.Step.{Step}
 use Rattle.ua_server.specs.declared.step.StepFault.{StepFault}
 use Rattle.ua_server.specs.declared.step.StepFault.TheVariants as step_fault
 
--- ---- one server, which handles every message in the order in which the last bytes of their frames were taken
+-- ---- one server that handles every message in the order of completion
 
 -- an event of a server: a frame of a connection tells this, which is answered at this time, if it
 -- is answered; or the application changed the nodes to these. Each connection has a number of its

@@ -8,33 +8,39 @@ use Rattle.ua_nodes.specs.Table.{Nodes, same_id}
 use Rattle.ua_server.specs.declared.endpoint.Endpoint.{Endpoint}
 use Rattle.ua_server.specs.declared.session.Session.{Session}
 
--- the nodes as a finite map, the endpoint, the number of sessions made, and the session, if there
--- is one
+-- the nodes as a finite map, the endpoint, the most bytes of memory that Writes may make the values
+-- of the nodes take, if there is a limit, the number of sessions made, and the session, if there is
+-- one
 pub record State : Type 0 where
   pub nodes : Nodes
   pub endpoint : Endpoint
+  pub memory_limit : Option ℕ
   pub made : ℕ
   pub session : Option Session
 
--- the state before any session
+-- the state before any session, without a limit
 abbrev pub fresh : Nodes → Endpoint → State
-fresh nodes endpoint = record { nodes = nodes; endpoint = endpoint; made = 0; session = None }
+fresh nodes endpoint = record { nodes = nodes; endpoint = endpoint; memory_limit = None; made = 0; session = None }
 
 -- the state as a connection begins: without a session
 abbrev pub begun : State → State
-begun s = record { nodes = s.nodes; endpoint = s.endpoint; made = s.made; session = None }
+begun s = record { nodes = s.nodes; endpoint = s.endpoint; memory_limit = s.memory_limit; made = s.made; session = None }
 
 -- the state with one more session, which is not activated yet
 abbrev pub with_next_session : State → State
-with_next_session s = record { nodes = s.nodes; endpoint = s.endpoint; made = s.made + 1; session = Some (record { number = s.made + 1; activated = false }) }
+with_next_session s = record { nodes = s.nodes; endpoint = s.endpoint; memory_limit = s.memory_limit; made = s.made + 1; session = Some (record { number = s.made + 1; activated = false }) }
 
 -- the state with these nodes
 abbrev pub with_nodes : State → Nodes → State
-with_nodes s nodes = record { nodes = nodes; endpoint = s.endpoint; made = s.made; session = s.session }
+with_nodes s nodes = record { nodes = nodes; endpoint = s.endpoint; memory_limit = s.memory_limit; made = s.made; session = s.session }
+
+-- the state with this limit
+abbrev pub with_memory_limit : State → ℕ → State
+with_memory_limit s most = record { nodes = s.nodes; endpoint = s.endpoint; memory_limit = Some most; made = s.made; session = s.session }
 
 -- the state with this session, or none
 abbrev pub with_session : State → Option Session → State
-with_session s session = record { nodes = s.nodes; endpoint = s.endpoint; made = s.made; session = session }
+with_session s session = record { nodes = s.nodes; endpoint = s.endpoint; memory_limit = s.memory_limit; made = s.made; session = session }
 
 -- the SessionId of the nth session: ns=1;i=n
 abbrev pub session_id : ℕ → NodeId

@@ -18,6 +18,7 @@ use Rattle.ua_server.specs.Reply.{answered}
 use Rattle.ua_server.specs.Requests.{requests}
 use Rattle.ua_server.specs.Said.{is_answered, lane_at, state_after, replied_at, output_of, used_in}
 use Rattle.ua_server.specs.State.{State}
+use Rattle.ua_server.specs.declared.step.Advanced.{Advanced}
 use Rattle.ua_server.specs.declared.step.End.{End as Ending}
 use Rattle.ua_server.specs.declared.step.End.TheVariants as ending
 use Rattle.ua_server.specs.declared.step.Step.{Step}
@@ -189,13 +190,13 @@ AdvanceBy answered request channel moment piece None n out new octets told first
 AdvanceBy answered request channel moment piece (Some end) n out new octets told first moments before now = StepBy channel moment piece (Some end) n out new octets told first moments before now × (answered ≡ false)
 
 -- the outcome of a step, with whether something was answered, and which request
-abbrev pub Advances : Limits → ℕ → DateTime → List ℕ → Result (Step × Bool × Option AnsweredRequest) StepFault → ServerChannel → List ℕ → List Told → State → List DateTime → State → State → Type 0
-Advances limits channel moment piece (Ok found) new octets told first moments before now = AdvanceBy found.1 found.2 channel moment piece found.0.end found.0.taken found.0.out.items new octets told first moments before now
+abbrev pub Advances : Limits → ℕ → DateTime → List ℕ → Result Advanced StepFault → ServerChannel → List ℕ → List Told → State → List DateTime → State → State → Type 0
+Advances limits channel moment piece (Ok found) new octets told first moments before now = AdvanceBy found.answered found.request channel moment piece found.step.end found.step.taken found.step.out.items new octets told first moments before now
 Advances limits channel moment piece (Err f) new octets told first moments before now = StepAnswers limits channel moment piece (Err f) new octets told first moments before now
 
 -- the state in which it leaves a server, with whether something was answered
-abbrev pub AdvanceStands : List ℕ → Result (Step × Bool × Option AnsweredRequest) StepFault → ServerChannel → List ℕ → List Told → Type 0
-AdvanceStands piece (Ok found) new octets told = StandsBy piece found.0.end found.0.taken found.0.out.items new octets told
+abbrev pub AdvanceStands : List ℕ → Result Advanced StepFault → ServerChannel → List ℕ → List Told → Type 0
+AdvanceStands piece (Ok found) new octets told = StandsBy piece found.step.end found.step.taken found.step.out.items new octets told
 AdvanceStands piece (Err f) new octets told = StepStands piece (Err f) new octets told
 
 -- these bytes are a reply by the agreement, and the number after them is this

@@ -3,6 +3,7 @@ use Rattle.std.specs.Prelude.{ℕ, nat_eq, Bool, false, cond, List, [], ◌∷�
 use Rattle.std.specs.List.{concat, filter}
 use Rattle.ua_builtin.specs.Reasons.{first_reason}
 use Rattle.ua_builtin.specs.declared.status_code.StatusCode.{StatusCode}
+use Rattle.ua_nodes.specs.Limit.{roomy_items}
 use Rattle.ua_nodes.specs.Table.{Nodes, node_at}
 use Rattle.ua_nodes.specs.Write.{write_answer}
 use Rattle.ua_services.specs.Request.{request_read}
@@ -21,14 +22,14 @@ use Rattle.ua_server.specs.State.{State}
 abbrev pub is_good : StatusCode → Bool
 is_good code = nat_eq code.code 0
 
--- an item of a Write is stored exactly if its result is Good; it is judged by the nodes before the
--- Write
+-- an item of a Write that has room under the limit of memory is stored exactly if its result is
+-- Good; it is judged by the nodes before the Write
 abbrev pub is_stored : Nodes → WriteValue → Bool
 is_stored nodes item = is_good (write_answer (node_at nodes item.node_id) item)
 
 -- the items that are stored, in the order of the Write
-abbrev pub stored_items : Nodes → List WriteValue → List WriteValue
-stored_items nodes items = filter (is_stored nodes) items
+abbrev pub stored_items : Option ℕ → Nodes → List WriteValue → List WriteValue
+stored_items most nodes items = filter (is_stored nodes) (roomy_items most nodes items)
 
 -- none of a Write that is rejected as a whole
 abbrev pub unless_refused : Option ℕ → List WriteValue → List WriteValue
@@ -37,7 +38,7 @@ unless_refused (Some code) items = []
 
 -- what a request stores; none but a Write stores anything
 abbrev pub stored_by : State → Request → List WriteValue
-stored_by s (Write m) = unless_refused (first_reason (write_reasons s m)) (stored_items s.nodes (items_of m.nodes_to_write))
+stored_by s (Write m) = unless_refused (first_reason (write_reasons s m)) (stored_items s.memory_limit s.nodes (items_of m.nodes_to_write))
 stored_by s m = []
 
 -- what bytes store by what they are decoded as

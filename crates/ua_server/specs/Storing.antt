@@ -1,15 +1,15 @@
 -- Which step tells of what a Write stored.
-use Rattle.std.specs.Prelude.{◌≡◌, ℕ, Bool, List, [], ◌∷◌, Option, None, Some, Result, Ok, Err}
+use Rattle.std.specs.Prelude.{◌≡◌, ℕ, List, [], ◌∷◌, Option, None, Some, Result, Ok, Err}
 use Rattle.ua_channel.specs.ServerTold.{Told, Agreed, Opened, Asked, GaveUp, Closed}
 use Rattle.ua_channel.specs.declared.server.ServerChannel.{ServerChannel}
 use Rattle.ua_structures.specs.declared.attribute.WriteValue.{WriteValue}
 use Rattle.ua_server.specs.State.{State}
 use Rattle.ua_server.specs.Stepping.{StandsOn}
 use Rattle.ua_server.specs.Stored.{stored_of}
+use Rattle.ua_server.specs.declared.step.Advanced.{Advanced}
 use Rattle.ua_server.specs.declared.step.End.{End as Ending}
 use Rattle.ua_server.specs.declared.step.Step.{Step}
 use Rattle.ua_server.specs.declared.step.StepFault.{StepFault}
-use Rattle.ua_server.specs.declared.watch.AnsweredRequest.{AnsweredRequest}
 
 -- ---- what is told
 
@@ -47,6 +47,6 @@ StepStores piece (Err f) written new octets told before = Unit {0}
 -- ---- inside
 
 -- the same for a step that tells which request it answered
-abbrev pub AdvanceStores : List ℕ → Result (Step × Bool × Option AnsweredRequest) StepFault → List WriteValue → ServerChannel → List ℕ → List Told → State → Type 0
-AdvanceStores piece (Ok found) written new octets told before = StoresBy piece found.0.end found.0.taken found.0.out.items written new octets told before
+abbrev pub AdvanceStores : List ℕ → Result Advanced StepFault → List WriteValue → ServerChannel → List ℕ → List Told → State → Type 0
+AdvanceStores piece (Ok found) written new octets told before = StoresBy piece found.step.end found.step.taken found.step.out.items written new octets told before
 AdvanceStores piece (Err f) written new octets told before = Unit {0}

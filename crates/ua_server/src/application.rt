@@ -20,7 +20,7 @@ pub trait Application {
 }
 
 /// No application: clients alone change nodes.
-#[derive(Clone, Copy)]
+#[derive(Clone, Copy, Debug)]
 pub struct NoApplication;
 
 impl Application for NoApplication {

@@ -1,6 +1,6 @@
 //! The services Read and Write.
 
-ghost use Rattle.std.specs.Prelude.{◌≡◌, ◌<◌, ◌≤◌, ◌++◌, IsTrue, IfOk, OnOk, OnErr, None, option_map, length};
+ghost use Rattle.std.specs.Prelude.{◌≡◌, ◌+◌, ◌<◌, ◌≤◌, ◌++◌, IsTrue, IfOk, OnOk, OnErr, None, option_map, length, vec_len, vec_capacity};
 ghost use Rattle.std.specs.List.{list_all};
 ghost use Rattle.ua_builtin.specs.Format.{Extends};
 ghost use Rattle.ua_builtin.specs.NodeId.{node_id};
@@ -11,7 +11,7 @@ ghost use Rattle.ua_services.specs.Response.{header_of, response};
 ghost use Rattle.ua_builtin.specs.Status.{status_code};
 ghost use Rattle.ua_nodes.specs.Read.{read_answer};
 ghost use Rattle.ua_nodes.specs.Table.{node_at};
-ghost use Rattle.ua_nodes.specs.Write.{write_answers, after_write};
+ghost use Rattle.ua_nodes.specs.Limit.{limited_answers, after_limited};
 ghost use Rattle.ua_variant.specs.Formats.{data_value_format};
 ghost use Rattle.ua_server.specs.State.{with_nodes};
 ghost use Rattle.ua_server.specs.Answer.{read_items, write_items};
@@ -51,7 +51,7 @@ pub(crate) fn item_count<T>(items: &UaArray<T>) -> usize
     }
 }
 
-/// Why a request with so many items is refused before they are looked at.
+/// Why a request with this many items is refused before they are looked at.
 pub(crate) fn count_refusal(items: usize) -> Option<StatusCode>
     ensures refusal { option_map (λ s. s.code) result ≡ first_reason (count_reasons items) }
     ensures few { result ≡ None → items ≤ most_items }
@@ -196,8 +196,8 @@ impl Services {
     }
 
     /// The body of the response to a Read that is not refused: its results are written one by one,
-    /// each Value from where it stands among the nodes. A body of more than `most` bytes is given
-    /// up.
+    /// each Value in place from the nodes. A body of more than `most` bytes is
+    /// abandoned.
     fn granted_body(
         &self,
         alloc: Global,
@@ -227,7 +227,7 @@ impl Services {
     }
 
     /// The body of the response to a Read, and its ServiceResult. A body of more than `most` bytes
-    /// is given up.
+    /// is abandoned.
     pub(crate) fn read_body(
         &self,
         alloc: Global,
@@ -248,7 +248,7 @@ impl Services {
         Ok((body, StatusCode::GOOD))
     }
 
-    /// Why a request with so many items is refused before they are looked at: for its session, or
+    /// Why a request with this many items is refused before they are looked at: for its session, or
     /// for how many they are.
     pub(crate) fn items_refusal(&self, asking: &RequestHeader, items: usize) -> Option<StatusCode>
         ensures refusal { option_map (λ s. s.code) result ≡ first_reason (items_reasons self.now asking.now items) }
@@ -260,6 +260,24 @@ impl Services {
         count_refusal(items)
     }
 
+    /// Writes items in order, under the limit of memory if there is one, and pushes the StatusCode
+    /// of each. Allocates nothing.
+    fn store_items(
+        &mut self,
+        items: Vec<WriteValue>,
+        moment: DateTime,
+        statuses: &mut Vec<StatusCode>,
+    )
+        requires { vec_len statuses.old + vec_len items ≤ vec_capacity statuses.old }
+        ensures answers { statuses.new.items ≡ statuses.old.items ++ limited_answers self.old.memory_limit self.old.nodes items.items }
+        ensures state { self.new ≡ with_nodes self.old (after_limited self.old.memory_limit items.items moment self.old.nodes) }
+    {
+        match self.memory_limit {
+            None => self.nodes.write_items(items, moment, statuses),
+            Some(most) => self.nodes.write_items_within(items, moment, most, statuses),
+        }
+    }
+
     /// Writes items in order, and gives the result of each. All memory is allocated first.
     #[tactic(auto, using(crate::proofs::Statuses::answers_fit, crate::proofs::Statuses::answers_count))]
     fn write_items(
@@ -268,8 +286,8 @@ impl Services {
         items: UaArray<WriteValue>,
         moment: DateTime,
     ) -> Result<Vec<StatusCode>, AllocError>
-        ensures answers { IfOk result (λ v. v.items ≡ write_answers self.old.nodes (items_of items)) }
-        ensures state { IfOk result (λ v. self.new ≡ with_nodes self.old (after_write (items_of items) moment self.old.nodes)) }
+        ensures answers { IfOk result (λ v. v.items ≡ limited_answers self.old.memory_limit self.old.nodes (items_of items)) }
+        ensures state { IfOk result (λ v. self.new ≡ with_nodes self.old (after_limited self.old.memory_limit (items_of items) moment self.old.nodes)) }
         ensures kept { OnErr result (self.new ≡ self.old) }
         ensures count { IfOk result (λ v. length v.items ≡ length (items_of items)) }
         ensures encodable { IfOk result (λ v. IsTrue (list_all status_code.encodable v.items)) }
@@ -279,7 +297,7 @@ impl Services {
             None => Vec::new(alloc),
         };
         let mut statuses = Vec::with_capacity(alloc, items.len())?;
-        self.nodes.write_items(items, moment, &mut statuses);
+        self.store_items(items, moment, &mut statuses);
         Ok(statuses)
     }
 

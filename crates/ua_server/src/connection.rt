@@ -1,6 +1,7 @@
 //! One of several connections over one node table.
 
 ghost use Rattle.std.specs.Prelude.{◌≡◌, ◌≤◌, ◌↔◌, [], ℕ, List, Err, None, IfOk, OnErr, IsErrOf, IsTrue};
+ghost use Rattle.std.specs.Map.{keys_of};
 ghost use Rattle.ua_channel.specs.Received.{received};
 ghost use Rattle.ua_channel.specs.ServerStands.{limits_of, channel_of, next_of, bound_of, bound_after, held_after, Goes, IsDone, ChannelStands as Holds};
 ghost use Rattle.ua_channel.specs.ServerTold.{Told};
@@ -28,7 +29,7 @@ use ua_frame::Limits;
 ///
 /// It answers each message from the nodes as left by all messages completed before it, on whichever
 /// connection, and by all changes of the application.
-#[derive(Drop)]
+#[derive(Debug, Drop)]
 pub struct Connection {
     server: Server,
     slot: SessionSlot,
@@ -103,6 +104,9 @@ impl Connection {
         ensures stands { (octets : List ℕ) (told : List Told) → Goes (channel_at self.old) octets told → StepStands piece.now result (channel_at self.new) octets told }
         ensures apart { services.new.session ≡ services.old.session }
         ensures endpoint { services.new.endpoint ≡ services.old.endpoint }
+        ensures memory_limit { services.new.memory_limit ≡ services.old.memory_limit }
+        // No node comes, goes or moves.
+        ensures ids { keys_of services.new.nodes ≡ keys_of services.old.nodes }
         ensures progress { IfOk result (λ step. StepTakes piece.now step) }
         // After a failed allocation, the bound is what it was before the call.
         ensures starved { (octets : List ℕ) (told : List Told) → Goes (channel_at self.old) octets told
@@ -143,6 +147,9 @@ impl Connection {
         ensures failed { OnErr result (written.new ≡ []) }
         ensures apart { services.new.session ≡ services.old.session }
         ensures endpoint { services.new.endpoint ≡ services.old.endpoint }
+        ensures memory_limit { services.new.memory_limit ≡ services.old.memory_limit }
+        // No node comes, goes or moves.
+        ensures ids { keys_of services.new.nodes ≡ keys_of services.old.nodes }
         ensures progress { IfOk result (λ step. StepTakes piece.now step) }
         // After a failed allocation, the bound is what it was before the call.
         ensures starved { (octets : List ℕ) (told : List Told) → Goes (channel_at self.old) octets told

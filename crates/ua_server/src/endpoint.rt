@@ -16,7 +16,7 @@ const NONE_POLICY: &str = "http://opcfoundation.org/UA/SecurityPolicy#None";
 const TRANSPORT_PROFILE: &str = "http://opcfoundation.org/UA-Profile/Transport/uatcp-uasc-uabinary";
 
 /// What GetEndpoints and CreateSession answer about a server. Its texts must be encodable.
-#[derive(Drop)]
+#[derive(Debug, Drop)]
 pub struct Endpoint {
     /// The URL of the server.
     pub url: UaString,

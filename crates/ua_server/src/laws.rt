@@ -13,6 +13,7 @@ ghost use Rattle.ua_channel.specs.ServerRules.{server_rules};
 ghost use Rattle.ua_channel.specs.ServerTold.{Told};
 ghost use Rattle.ua_builtin.specs.declared.node_id.NodeId.{NodeId};
 ghost use Rattle.ua_nodes.specs.Table.{Nodes, node_at};
+ghost use Rattle.ua_nodes.specs.Limit.{after_limited};
 ghost use Rattle.ua_nodes.specs.Write.{after_write};
 ghost use Rattle.ua_server.specs.History.{ConnectionEvent, Became, IsUndisturbed, StandsOver, StepOver, course_over, with_changes, moments_of, output_over, told_in};
 ghost use Rattle.ua_server.specs.Now.{StepNow};
@@ -90,7 +91,7 @@ pub fn what_stands_answers_as_all_that_was_told()
 pub fn a_history_goes_on_by_changes_and_steps()
     ensures became { (x : ServerChannel) (octets : List ℕ) (hs : List ConnectionEvent) (first now : State) (nodes : Nodes) (made : ℕ)
         → StandsOver x octets hs first now → StandsOver x octets (hs ++ Became nodes made ∷ []) first (with_changes now nodes made) }
-    ensures beside { (x : ServerChannel) (octets : List ℕ) (hs : List ConnectionEvent) (first s s' : State) (mine : Option Session) → s'.endpoint ≡ s.endpoint
+    ensures beside { (x : ServerChannel) (octets : List ℕ) (hs : List ConnectionEvent) (first s s' : State) (mine : Option Session) → s'.endpoint ≡ s.endpoint → s'.memory_limit ≡ s.memory_limit
         → StandsOver x octets hs first (with_session s mine) → StandsOver x octets (hs ++ Became s'.nodes s'.made ∷ []) first (with_session s' mine) }
     ensures steps { (old new : ServerChannel) (moment : DateTime) (piece octets : List ℕ) (hs : List ConnectionEvent) (first before now : State) (result : Result Step StepFault)
         → StandsOver old octets hs first before → channel_of new ≡ channel_of old
@@ -190,5 +191,5 @@ pub fn a_token_of_another_connection_is_no_token()
 /// The stored items of a Write are all that it changes: each node is left as by these items alone
 /// (OPC 10000-4, 5.11.4).
 pub fn what_a_write_stores_is_what_it_changes()
-    ensures { (items : List WriteValue) (moment : DateTime) (nodes : Nodes) (id : NodeId) → node_at (after_write (stored_items nodes items) moment nodes) id ≡ node_at (after_write items moment nodes) id }
+    ensures { (most : Option ℕ) (items : List WriteValue) (moment : DateTime) (nodes : Nodes) (id : NodeId) → node_at (after_write (stored_items most nodes items) moment nodes) id ≡ node_at (after_limited most items moment nodes) id }
 {}

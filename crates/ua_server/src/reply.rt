@@ -6,15 +6,16 @@ ghost use Rattle.ua_services.specs.Request.{kind_of, request_read};
 ghost use Rattle.ua_services.specs.Response.{header_of, response};
 ghost use Rattle.ua_server.specs.Answer.{answer, fault_of};
 ghost use Rattle.ua_server.specs.Reply.{IsBodyWithin, answered};
-ghost use Rattle.ua_server.specs.Requests.{count_asked, items_asked, kind_asked, request_answered};
+ghost use Rattle.ua_server.specs.Requests.{count_asked, encoding_number, items_asked, kind_asked, request_answered};
 ghost use Rattle.ua_server.specs.Stored.{results_of};
 
 use crate::services::Services;
 use crate::watch::{AnsweredRequest, items_asked};
 use std::alloc::{AllocError, Global};
 use std::mem;
-use ua_builtin::{DateTime, Source, StatusCode, WriteFault};
+use ua_builtin::{DateTime, MOST_LEVELS, NodeId, ReadFault, Source, StatusCode, Wire, WriteFault};
 use ua_nodes::values_that_their_nodes_cannot_take_change_no_write;
+use ua_opening::standard_number;
 use ua_services::{
     Request, RequestFault, Response, UaArray, empty_body, read_request_for, write_response,
 };
@@ -45,7 +46,7 @@ impl Services {
     }
 
     /// Does what [`reply`](Services::reply) does, and also gives the answered request and the
-    /// results of a Write. The results of a Read are given up once the body has more than `most`
+    /// results of a Write. The results of a Read are dropped once the body has more than `most`
     /// bytes. Of a Write no value is kept that its node could not take: its item is refused, at the
     /// latest for the type, or all are before a session is activated.
     pub(crate) fn reply_telling<S: Source>(
@@ -62,13 +63,16 @@ impl Services {
         ensures state { IfOk result (λ told. self.new ≡ (answered self.old moment (S.octets src.old)).0) }
         ensures refused { OnErr result ((self.new ≡ self.old) ⊎ (self.new ≡ (answered self.old moment (S.octets src.old)).0)) }
     {
+        let mut head = src.fork();
         match self.read_kept(alloc, src) {
             Ok(request) => self.body_for(alloc, request, moment, most),
             Err(RequestFault::Unsupported(handle)) => {
-                self.misread(alloc, handle, StatusCode::BAD_SERVICE_UNSUPPORTED, moment)
+                let code = StatusCode::BAD_SERVICE_UNSUPPORTED;
+                self.misread(alloc, &mut head, handle, code, moment)
             }
             Err(RequestFault::Unreadable(handle)) => {
-                self.misread(alloc, handle, StatusCode::BAD_DECODING_ERROR, moment)
+                let code = StatusCode::BAD_DECODING_ERROR;
+                self.misread(alloc, &mut head, handle, code, moment)
             }
             Err(RequestFault::OutOfMemory) => Err(AllocError),
         }
@@ -97,7 +101,7 @@ impl Services {
     ) -> Result<(Vec<u8>, AnsweredRequest, UaArray<StatusCode>), AllocError>
         ensures body { IfOk result (λ told. IsBodyWithin most (response.canonical (answer self.old moment request).1) told.0.items) }
         ensures some { IfOk result (λ told. 0 < length told.0.items) }
-        ensures request { IfOk result (λ told. told.1 ≡ record { kind = Some (kind_of request); items = items_asked request; code = (header_of (answer self.old moment request).1).service_result }) }
+        ensures request { IfOk result (λ told. told.1 ≡ record { kind = Some (kind_of request); encoding = None; items = items_asked request; code = (header_of (answer self.old moment request).1).service_result }) }
         ensures results { IfOk result (λ told. told.2 ≡ results_of (answer self.old moment request).1) }
         ensures state { IfOk result (λ told. self.new ≡ (answer self.old moment request).0) }
         ensures refused { OnErr result ((self.new ≡ self.old) ⊎ (self.new ≡ (answer self.old moment request).0)) }
@@ -118,30 +122,50 @@ impl Services {
                 (body, code, results)
             }
         };
-        Ok((body, AnsweredRequest { kind, items, code }, results))
+        let told = AnsweredRequest {
+            kind,
+            encoding: None,
+            items,
+            code,
+        };
+        Ok((body, told, results))
     }
 
-    /// The body of the ServiceFault that answers what is no request, and what a
-    /// [`Watch`](crate::Watch) gets of it.
-    fn misread(
+    /// The body of the ServiceFault that answers what is no request, which the source begins with,
+    /// and what a [`Watch`](crate::Watch) gets of it.
+    fn misread<S: Source>(
         &self,
         alloc: Global,
+        head: &mut S,
         handle: u32,
         code: StatusCode,
         moment: DateTime,
     ) -> Result<(Vec<u8>, AnsweredRequest, UaArray<StatusCode>), AllocError>
         ensures body { IfOk result (λ told. told.0.items ≡ response.canonical (fault_of handle code.code moment)) }
         ensures some { IfOk result (λ told. 0 < length told.0.items) }
-        ensures request { IfOk result (λ told. told.1 ≡ record { kind = None; items = 0; code = code }) }
+        ensures request { IfOk result (λ told. told.1 ≡ record { kind = None; encoding = encoding_number (S.octets head.old); items = 0; code = code }) }
         ensures results { IfOk result (λ told. told.2 ≡ None) }
     {
+        let encoding = encoding_ahead(alloc, head)?;
         let body = body_of(alloc, self.fault(handle, code, moment))?;
         let request = AnsweredRequest {
             kind: None,
+            encoding,
             items: 0,
             code,
         };
         Ok((body, request, UaArray::null()))
+    }
+}
+
+/// The number of the encoding that bytes begin with, if it is one of namespace 0.
+fn encoding_ahead<S: Source>(alloc: Global, src: &mut S) -> Result<Option<u32>, AllocError>
+    ensures { IfOk result (λ number. number ≡ encoding_number (S.octets src.old)) }
+{
+    match NodeId::read_value(alloc, src, MOST_LEVELS) {
+        Ok(id) => Ok(standard_number(&id)),
+        Err(ReadFault::NoValue) => Ok(None),
+        Err(ReadFault::OutOfMemory) => Err(AllocError),
     }
 }
 

@@ -8,8 +8,8 @@ pub enum ServeFault {
     /// A read of the transport failed.
     #[error("the line cannot be read")]
     Read,
-    /// A write to the transport failed, after so many bytes in all; the count stops at its greatest
-    /// value.
+    /// A write to the transport failed, after this many bytes in all; the count stops at its
+    /// greatest value.
     #[error("the line cannot be written behind {0} octets")]
     Write(u64),
     /// An allocation failed. Nothing more was written.

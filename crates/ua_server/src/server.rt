@@ -20,7 +20,7 @@ ghost use Rattle.ua_server.specs.Stored.{stored_of};
 ghost use Rattle.ua_server.specs.declared.step.StepFault.TheVariants as step_fault;
 
 use crate::services::Services;
-use crate::step::{End, Step, StepFault};
+use crate::step::{Advanced, End, Step, StepFault};
 use crate::watch::AnsweredRequest;
 use crate::written::Written;
 use std::alloc::Global;
@@ -29,7 +29,7 @@ use ua_channel::{ChannelFault, ReplyFault, ServerChannel, ServerEvent};
 use ua_chunk::Message;
 use ua_frame::Limits;
 
-/// Whether a message was given up.
+/// Whether a message was aborted.
 fn is_given_up(answer: &Result<ServerEvent, ChannelFault>) -> bool
     ensures { result ≡ is_given_up answer.now }
 {
@@ -40,7 +40,7 @@ fn is_given_up(answer: &Result<ServerEvent, ChannelFault>) -> bool
     }
 }
 
-/// Takes bytes as the channel does, and passes over messages that were given up.
+/// Takes bytes as the channel does, and passes over messages that were aborted.
 fn next_answered(
     channel: &mut ServerChannel,
     piece: &[u8],
@@ -127,7 +127,7 @@ fn reply_to(
     }
 }
 
-/// The step for a fault of the channel after so many bytes: its output is the ERR frame with the
+/// The step for a fault of the channel after this many bytes: its output is the ERR frame with the
 /// reason for the refusal.
 fn refusal(alloc: Global, taken: usize, fault: ChannelFault) -> Result<Step, StepFault>
     ensures stands { (old mid : ServerChannel) (moment : DateTime) (piece octets : List ℕ) (told : List Told)
@@ -159,7 +159,7 @@ fn refusal(alloc: Global, taken: usize, fault: ChannelFault) -> Result<Step, Ste
 /// them from its services, and gives the bytes to be sent (OPC 10000-6, 6.7 and 7.1).
 ///
 /// After a fault, and once the connection ended, it holds nothing and takes nothing more.
-#[derive(Drop)]
+#[derive(Debug, Drop)]
 pub struct Server {
     alloc: Global,
     channel: ServerChannel,
@@ -167,6 +167,7 @@ pub struct Server {
 
 impl Server {
     ghost use Rattle.std.specs.Prelude.{◌≡◌, ◌≤◌, ◌↔◌, ◌++◌, [], ℕ, List, length, take, None, false, Ok, Err, IfOk, OnErr, IsErrOf, IsTrue};
+    ghost use Rattle.std.specs.Map.{keys_of};
     ghost use Rattle.ua_builtin.specs.declared.date_time.DateTime.{DateTime};
     ghost use Rattle.ua_channel.specs.Received.{received};
     ghost use Rattle.ua_channel.specs.ServerStands.{limits_of, channel_of, next_of, bound_of, Goes, IsDone, bound_after, held_after, ChannelStands as Holds};
@@ -240,6 +241,9 @@ impl Server {
         // The state of the channel afterwards is the same whatever the services are.
         ensures stands { (octets : List ℕ) (told : List Told) → Goes (channel_in self.old) octets told → StepStands piece.now result (channel_in self.new) octets told }
         ensures endpoint { services.new.endpoint ≡ services.old.endpoint }
+        ensures memory_limit { services.new.memory_limit ≡ services.old.memory_limit }
+        // No node comes, goes or moves.
+        ensures ids { keys_of services.new.nodes ≡ keys_of services.old.nodes }
         ensures progress { IfOk result (λ step. StepTakes piece.now step) }
         // After a failed allocation, the bound is what it was before the call.
         ensures starved { (octets : List ℕ) (told : List Told) → Goes (channel_in self.old) octets told
@@ -252,9 +256,9 @@ impl Server {
         self.step_telling(services, piece, moment, &mut unasked)
     }
 
-    /// Does what [`step`](Server::step) does, and keeps in `written` what the Write that was answered
-    /// stored: its message, instead of dropping it. What `written` had before is dropped; behind any
-    /// other step, and behind a fault, it is empty.
+    /// Does what [`step`](Server::step) does, and keeps in `written` what the Write that was
+    /// answered stored: its message, instead of dropping it. What `written` had before is dropped;
+    /// after any other step, and after a fault, it is empty.
     pub fn step_telling(
         &mut self,
         services: &mut Services,
@@ -277,6 +281,9 @@ impl Server {
         ensures stores { (octets : List ℕ) (told : List Told) → Goes (channel_in self.old) octets told → StepStores piece.now result written.new (channel_in self.new) octets told services.old }
         ensures failed { OnErr result (written.new ≡ []) }
         ensures endpoint { services.new.endpoint ≡ services.old.endpoint }
+        ensures memory_limit { services.new.memory_limit ≡ services.old.memory_limit }
+        // No node comes, goes or moves.
+        ensures ids { keys_of services.new.nodes ≡ keys_of services.old.nodes }
         ensures progress { IfOk result (λ step. StepTakes piece.now step) }
         // After a failed allocation, the bound is what it was before the call.
         ensures starved { (octets : List ℕ) (told : List Told) → Goes (channel_in self.old) octets told
@@ -286,7 +293,7 @@ impl Server {
         ensures channel { channel_of (channel_in self.new) ≡ channel_of (channel_in self.old) }
     {
         match self.advance(services, piece, moment, written) {
-            Ok(found) => Ok(found.0),
+            Ok(found) => Ok(found.step),
             Err(fault) => Err(fault),
         }
     }
@@ -306,7 +313,7 @@ impl Server {
         piece: &[u8],
         moment: DateTime,
         written: &mut Written,
-    ) -> Result<(Step, bool, Option<AnsweredRequest>), StepFault>
+    ) -> Result<Advanced, StepFault>
         ensures answers { (octets : List ℕ) (told : List Told) (first : State) (moments : List DateTime) → ServerStands (channel_in self.old) octets told first moments services.old
             → Advances (limits_of (channel_in self.old)) (channel_of (channel_in self.old)) moment piece.now result (channel_in self.new) octets told first moments services.old services.new }
         ensures now { (octets : List ℕ) (told : List Told) → Goes (channel_in self.old) octets told
@@ -315,7 +322,10 @@ impl Server {
         ensures stores { (octets : List ℕ) (told : List Told) → Goes (channel_in self.old) octets told → AdvanceStores piece.now result written.new (channel_in self.new) octets told services.old }
         ensures failed { OnErr result (written.new ≡ []) }
         ensures endpoint { services.new.endpoint ≡ services.old.endpoint }
-        ensures progress { IfOk result (λ found. StepTakes piece.now found.0) }
+        ensures memory_limit { services.new.memory_limit ≡ services.old.memory_limit }
+        // No node comes, goes or moves.
+        ensures ids { keys_of services.new.nodes ≡ keys_of services.old.nodes }
+        ensures progress { IfOk result (λ found. StepTakes piece.now found.step) }
         ensures starved { (octets : List ℕ) (told : List Told) → Goes (channel_in self.old) octets told
             → IsErrOf result step_fault.OutOfMemory → bound_of (channel_in self.new) ≡ bound_of (channel_in self.old) }
         ensures closed { IsDone (channel_in self.old) → (result ≡ Err step_fault.Closed) × (self.new ≡ self.old) × (services.new ≡ services.old) }
@@ -327,14 +337,18 @@ impl Server {
         match answer {
             Ok(event) => self.answer(services, taken, event, moment, written),
             Err(fault) => match refusal(self.alloc, taken, fault) {
-                Ok(step) => Ok((step, false, None)),
+                Ok(step) => Ok(Advanced {
+                    step,
+                    answered: false,
+                    request: None,
+                }),
                 Err(fault) => Err(fault),
             },
         }
     }
 
-    /// The step for an event after so many bytes.
-    #[tactic(auto, using(crate::proofs::EndpointStays::left_stays, crate::proofs::EndpointStays::broken_stays))]
+    /// The step for an event after this many bytes.
+    #[tactic(auto, using(crate::proofs::EndpointStays::left_stays, crate::proofs::EndpointStays::broken_stays, crate::proofs::EndpointStays::broken_ids))]
     fn answer(
         &mut self,
         services: &mut Services,
@@ -342,7 +356,7 @@ impl Server {
         event: ServerEvent,
         moment: DateTime,
         written: &mut Written,
-    ) -> Result<(Step, bool, Option<AnsweredRequest>), StepFault>
+    ) -> Result<Advanced, StepFault>
         requires some { is_given_up (Ok event) ≡ false }
         requires empty { written.old ≡ [] }
         ensures now { (old : ServerChannel) (piece octets : List ℕ) (told : List Told)
@@ -354,7 +368,10 @@ impl Server {
             → AnswersBehind (channel_of old) (next_of old) moment piece taken (Ok event) (channel_in self.old) octets told → AdvanceStores piece result written.new (channel_in self.new) octets told services.old }
         ensures failed { OnErr result (written.new ≡ []) }
         ensures endpoint { services.new.endpoint ≡ services.old.endpoint }
-        ensures taken { IfOk result (λ found. found.0.taken ≡ taken) }
+        ensures memory_limit { services.new.memory_limit ≡ services.old.memory_limit }
+        // No node comes, goes or moves.
+        ensures ids { keys_of services.new.nodes ≡ keys_of services.old.nodes }
+        ensures taken { IfOk result (λ found. found.step.taken ≡ taken) }
         ensures starved { (old : ServerChannel) (piece octets : List ℕ) (told : List Told) → Goes old octets told → limits_of (channel_in self.old) ≡ limits_of old
             → AnswersBehind (channel_of old) (next_of old) moment piece taken (Ok event) (channel_in self.old) octets told
             → IsErrOf result step_fault.OutOfMemory → bound_of (channel_in self.new) ≡ bound_of old }
@@ -362,19 +379,35 @@ impl Server {
         ensures channel { channel_of (channel_in self.new) ≡ channel_of (channel_in self.old) }
     {
         match event {
-            ServerEvent::NeedMore => Ok((Step::silent(self.alloc, taken, None), false, None)),
-            ServerEvent::Send(out) => Ok((Step::saying(taken, out), true, None)),
+            ServerEvent::NeedMore => Ok(Advanced {
+                step: Step::silent(self.alloc, taken, None),
+                answered: false,
+                request: None,
+            }),
+            ServerEvent::Send(out) => Ok(Advanced {
+                step: Step::saying(taken, out),
+                answered: true,
+                request: None,
+            }),
             ServerEvent::Asked(id, message) => {
                 let channel = &mut self.channel;
                 match reply_to(self.alloc, channel, services, id, message, moment, written) {
-                    Ok(told) => Ok((Step::saying(taken, told.0), true, Some(told.1))),
+                    Ok(told) => Ok(Advanced {
+                        step: Step::saying(taken, told.0),
+                        answered: true,
+                        request: Some(told.1),
+                    }),
                     Err(fault) => Err(fault),
                 }
             }
             ServerEvent::Aborted(_) => unreachable!(),
             ServerEvent::Closed => {
                 let step = Step::silent(self.alloc, taken, Some(End::Closed));
-                Ok((step, false, None))
+                Ok(Advanced {
+                    step,
+                    answered: false,
+                    request: None,
+                })
             }
         }
     }

@@ -9,7 +9,7 @@ ghost use Rattle.ua_services.specs.Response.{response};
 ghost use Rattle.ua_server.specs.Answer.{fault_of, answer};
 ghost use Rattle.ua_server.specs.Endpoint.{Fits};
 ghost use Rattle.ua_server.specs.Served.{session_in};
-ghost use Rattle.ua_server.specs.State.{fresh, begun, with_nodes, with_session};
+ghost use Rattle.ua_server.specs.State.{fresh, begun, with_memory_limit, with_nodes, with_session};
 
 use crate::endpoint::Endpoint;
 use crate::session::{Session, SessionSlot};
@@ -22,10 +22,12 @@ use ua_services::{Request, Response, ServiceFault};
 
 /// The state of a server, and how it answers: its nodes, its endpoint, how many sessions it made,
 /// and at most one session.
-#[derive(Drop)]
+#[derive(Debug, Drop)]
 pub struct Services {
     pub(crate) nodes: NodeTable,
     pub(crate) endpoint: Endpoint,
+    /// The most bytes of memory that Writes may make the values of the nodes take.
+    pub(crate) memory_limit: Option<usize>,
     /// How many sessions were made.
     pub(crate) made: u32,
     pub(crate) session: Option<Session>,
@@ -42,7 +44,7 @@ impl Model for Services {
 
     ghost coded = { Prim.hlevel (codes, value.the_row.coded) };
 
-    ghost view = { λ s. record { nodes = s.nodes; endpoint = s.endpoint; made = s.made; session = s.session } };
+    ghost view = { λ s. record { nodes = s.nodes; endpoint = s.endpoint; memory_limit = s.memory_limit; made = s.made; session = s.session } };
 
     ghost invariant = { λ s. IsSound s.nodes × Fits s.endpoint };
 }
@@ -57,8 +59,25 @@ impl Services {
         Services {
             nodes,
             endpoint,
+            memory_limit: None,
             made: 0,
             session: None,
+        }
+    }
+
+    /// The same services with a limit of memory: a Write does not store a value with which the
+    /// values of all nodes would take more than `most` bytes, as
+    /// [`NodeTable::write_items_within`] counts them, and answers BadOutOfMemory for its item.
+    /// Allocates nothing.
+    pub fn with_memory_limit(self, most: usize) -> Services
+        ensures { result ≡ with_memory_limit self most }
+    {
+        Services {
+            nodes: self.nodes,
+            endpoint: self.endpoint,
+            memory_limit: Some(most),
+            made: self.made,
+            session: self.session,
         }
     }
 

@@ -11,7 +11,7 @@ use crate::application::{Application, NoApplication};
 use crate::serve_fault::ServeFault;
 use crate::server::Server;
 use crate::services::Services;
-use crate::step::{End, Step, StepFault};
+use crate::step::{Advanced, End, Step, StepFault};
 use crate::watch::{Unwatched, Watch, tell};
 use crate::written::Written;
 use std::alloc::{AllocError, Global};
@@ -113,7 +113,7 @@ fn piece(alloc: Global) -> Result<Vec<u8>, AllocError>
 }
 
 /// A connection that is served, as far as it has come.
-#[derive(Drop)]
+#[derive(Debug, Drop)]
 pub struct Serving {
     server: Server,
     /// The timestamp that was asked for and is not used yet.
@@ -200,10 +200,11 @@ impl Serving {
         application.act(services);
         let moment = self.moment(moments);
         let mut unasked = Written::nothing();
-        let (step, answered, request) = match self
-            .server
-            .advance(services, piece, moment, &mut unasked)
-        {
+        let Advanced {
+            step,
+            answered,
+            request,
+        } = match self.server.advance(services, piece, moment, &mut unasked) {
             Ok(found) => found,
             Err(fault) => return Err(fault),
         };

@@ -7,7 +7,7 @@ ghost use Rattle.ua_server.specs.State.{session_id, session_token};
 use ua_builtin::{Identifier, NodeId};
 
 /// A session, by its number; the first has the number 1.
-#[derive(Clone, Copy)]
+#[derive(Clone, Copy, Debug)]
 pub struct Session {
     pub number: u32,
     pub activated: bool,
@@ -21,7 +21,7 @@ pub struct Session {
 /// from one `Services` and emptied into another names a session of another client there. Nothing
 /// keeps a program from that; a [`Connection`](crate::Connection) that takes steps over one
 /// `Services` never does it.
-#[derive(Drop)]
+#[derive(Debug, Drop)]
 pub struct SessionSlot {
     pub(crate) session: Option<Session>,
 }

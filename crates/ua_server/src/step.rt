@@ -2,6 +2,7 @@
 
 ghost use Rattle.std.specs.Prelude.{◌≡◌, [], None};
 
+use crate::watch::AnsweredRequest;
 use std::alloc::Global;
 use thiserror::Error;
 use ua_builtin::StatusCode;
@@ -20,7 +21,7 @@ pub enum End {
 }
 
 /// The result of taking a fragment.
-#[derive(Drop)]
+#[derive(Debug, Drop)]
 pub struct Step {
     /// How many bytes of the fragment were taken.
     pub taken: usize,
@@ -54,6 +55,16 @@ impl Step {
             end: None,
         }
     }
+}
+
+/// A step, and what it answered.
+#[derive(Debug, Drop)]
+pub(crate) struct Advanced {
+    pub step: Step,
+    /// Whether something was answered.
+    pub answered: bool,
+    /// Which request that was, if it was one.
+    pub request: Option<AnsweredRequest>,
 }
 
 /// Why a server takes no bytes. After that it takes nothing more.

@@ -9,10 +9,13 @@ use ua_builtin::StatusCode;
 use ua_services::{Request, RequestKind};
 
 /// A request that was answered.
-#[derive(Clone, Copy)]
+#[derive(Clone, Copy, Debug)]
 pub struct AnsweredRequest {
     /// Its kind; `None` where the answered message is no request of these services.
     pub kind: Option<RequestKind>,
+    /// If it is no such request, the number of the encoding that it begins with, if that is one of
+    /// namespace 0.
+    pub encoding: Option<u32>,
     /// How many items it asks for: those of its array, where its service is one with items, else 0.
     pub items: usize,
     /// The ServiceResult of its response; where the client takes no response of that size, the code
@@ -33,7 +36,7 @@ pub trait Watch {
 }
 
 /// No observer: drops what it is told.
-#[derive(Clone, Copy)]
+#[derive(Clone, Copy, Debug)]
 pub struct Unwatched;
 
 impl Watch for Unwatched {
@@ -79,6 +82,7 @@ impl AnsweredRequest {
         if is_abort {
             AnsweredRequest {
                 kind: self.kind,
+                encoding: self.encoding,
                 items: self.items,
                 code: StatusCode::BAD_RESPONSE_TOO_LARGE,
             }

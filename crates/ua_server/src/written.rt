@@ -15,7 +15,7 @@ use ua_services::{Request, RequestFault, UaArray, WriteValue, read_request};
 
 /// The items that a Write stored (OPC 10000-4, 5.11.4), as the message that brought them and the
 /// results of its items. Nothing is decoded again before [`values`](Written::values) is called.
-#[derive(Drop)]
+#[derive(Debug, Drop)]
 pub struct Written {
     message: Option<Message>,
     results: UaArray<StatusCode>,

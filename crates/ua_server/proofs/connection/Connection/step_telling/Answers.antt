@@ -1,4 +1,5 @@
 use Rattle.std.specs.Prelude.{◌≡◌, Option}
+use Rattle.std.specs.Map.{keys_of}
 use Rattle.std.proofs.Common.{sym, ◌∙◌, ap, subst}
 use Rattle.ua_channel.specs.ServerStands.{channel_of, limits_of}
 use Rattle.ua_server.specs.History.{StandsOver, StepOver}
@@ -28,3 +29,7 @@ returns-clause-among c = λ channels k octets es first s.
     c.step_telling-step.ensures.channel
     (ap (λ (n : State). n.session) c.swap_session-2.ensures.services ∙ c.swap_session.ensures.slot)
     (λ hs begins h. returns-clause-history c octets hs begins h)
+
+pub returns-clause-ids : goal.returns-clause-ids
+returns-clause-ids c =
+    ap (λ (s : State). keys_of s.nodes) c.swap_session-2.ensures.services ∙ (c.step_telling-step.ensures.ids ∙ ap (λ (s : State). keys_of s.nodes) c.swap_session.ensures.services)

@@ -66,7 +66,7 @@ returns-in-Ok-clause-answers c = λ octets told first moments s.
 
 pub returns-in-Ok-refusal-clause-answers : goal.returns-in-Ok-refusal-clause-answers
 returns-in-Ok-refusal-clause-answers c = λ octets told first moments s.
-    as-advanced (channel_in c.args.self.now) c.next_answered-taken.new.channel c.args.moment c.args.piece.now octets told first moments c.args.services.now c.args.services.now (Ok (c.in-Ok-refusal.step, false, None)) s
+    as-advanced (channel_in c.args.self.now) c.next_answered-taken.new.channel c.args.moment c.args.piece.now octets told first moments c.args.services.now c.args.services.now (Ok (record { step = c.in-Ok-refusal.step; answered = false; request = None })) s
     c.next_answered-taken.ensures.channel (returns-in-Ok-refusal-clause-now c octets told s.goes)
 
 pub returns-in-Err-refusal-clause-answers : goal.returns-in-Err-refusal-clause-answers

@@ -9,7 +9,7 @@ use Rattle.ua_server.specs.declared.step.Step.{Step}
 use Rattle.ua_server.proofs.Bounds.{asked-bound}
 use Rattle.ua_server.proofs.Standing.{event-as, silent-stands, saying-stands, stands-quiet, stands-sent, stands-replied, stands-closed, stands-broken}
 use Rattle.ua_server.proofs.Nows.{now-event, now-silently, now-saying, now-quiet, now-send, now-reply, now-break, now-breaks, now-close}
-use Rattle.ua_server.proofs.EndpointStays.{left_stays}
+use Rattle.ua_server.proofs.EndpointStays.{broken_limit, left_stays, left_ids, left_limit}
 use Rattle.ua_server.proofs.Stores.{silent-stores, saying-stores, stores-quiet, stores-sent, stores-replied}
 use Rattle.ua_server.proofs.server.Server.answer.Goals as goal
 
@@ -118,3 +118,12 @@ returns-in-Closed-clause-stores c = λ old piece octets told b.
 
 pub returns-in-Ok-clause-endpoint : goal.returns-in-Ok-clause-endpoint
 returns-in-Ok-clause-endpoint c = left_stays c.args.services.now c.reply_to.new.services c.args.moment (concat c.in-Asked.message) c.in-Ok.ensures.state
+
+pub returns-in-Ok-clause-ids : goal.returns-in-Ok-clause-ids
+returns-in-Ok-clause-ids c = left_ids c.args.services.now c.reply_to.new.services c.args.moment (concat c.in-Asked.message) c.in-Ok.ensures.state
+
+pub returns-in-Ok-clause-memory_limit : goal.returns-in-Ok-clause-memory_limit
+returns-in-Ok-clause-memory_limit c = left_limit c.args.services.now c.reply_to.new.services c.args.moment (concat c.in-Asked.message) c.in-Ok.ensures.state
+
+pub returns-in-Err-clause-memory_limit : goal.returns-in-Err-clause-memory_limit
+returns-in-Err-clause-memory_limit c = broken_limit c.args.services.now c.reply_to.new.services c.args.moment (concat c.in-Asked.message) c.in-Err.ensures.broken
