@@ -134,7 +134,7 @@ pub fn serve_sensor(
 }
 
 /// Why bytes of a client were not taken, or not all that they stored was passed on.
-#[derive(Drop)]
+#[derive(Debug, Drop)]
 pub enum SetpointFault {
     /// The step failed.
     Step(StepFault),
@@ -206,7 +206,7 @@ pub fn step_both(
 
 /// A switch whose state a node holds: each time that it acts it sets the node to its state, and
 /// then changes over.
-#[derive(Drop)]
+#[derive(Debug, Drop)]
 pub struct Pulse {
     pub id: NodeId,
     pub is_on: bool,

@@ -18,7 +18,7 @@ use Rattle.ua_client.specs.declared.reply.Reply.{Reply}
 use Rattle.ua_loopback.specs.Accepted as judged
 use Rattle.ua_loopback.specs.Faults.{FailsAt}
 use Rattle.ua_loopback.specs.Says.{times_of_answers}
-use Rattle.ua_loopback.specs.declared.conversation.Transcript.{Transcript}
+use Rattle.ua_loopback.specs.declared.conversation.ConversationLog.{ConversationLog}
 use Rattle.ua_loopback.specs.declared.stage.Stage.{Stage}
 use Rattle.ua_loopback.proofs.Conversing.{conversation_read}
 use Rattle.ua_loopback.proofs.Saying.{said_by_run}
@@ -48,11 +48,11 @@ turns-closed moment turns dated accepted = conversation_read program_limits prog
 -- ---- the turns that it was to take
 
 -- where none is a renewal for which too many tokens are held, all of them
-pub all-conversed : (first : State) (moment : DateTime) (turns asked : List Turn) (found : Option ℕ) (t : Transcript) → asked ≡ front_of found turns → found ≡ None → IsConversed first moment asked t → IsConversed first moment turns t
+pub all-conversed : (first : State) (moment : DateTime) (turns asked : List Turn) (found : Option ℕ) (t : ConversationLog) → asked ≡ front_of found turns → found ≡ None → IsConversed first moment asked t → IsConversed first moment turns t
 all-conversed first moment turns asked found t front none k = subst (λ (ts : List Turn). IsConversed first moment ts t) (front ∙ ap (λ (o : Option ℕ). front_of o turns) none) k
 
 -- else those in front of it
-pub front-conversed : (first : State) (moment : DateTime) (turns asked : List Turn) (found : Option ℕ) (place : ℕ) (t : Transcript) → asked ≡ front_of found turns → found ≡ Some place → IsConversed first moment asked t
+pub front-conversed : (first : State) (moment : DateTime) (turns asked : List Turn) (found : Option ℕ) (place : ℕ) (t : ConversationLog) → asked ≡ front_of found turns → found ≡ Some place → IsConversed first moment asked t
     → IsConversed first moment (take place turns) t
 front-conversed first moment turns asked found place t front some k = subst (λ (ts : List Turn). IsConversed first moment ts t) (front ∙ ap (λ (o : Option ℕ). front_of o turns) some) k
 
@@ -62,7 +62,7 @@ on_ok : (X : Type 0) (r : Result (Unit {0}) ClientFault) (done : Unit {0}) → r
 on_ok X (Ok found) done e x = x
 on_ok X (Err fault) done e x = absurd cc
 
-module _ (first : State) (moment : DateTime) (turns : List Turn) (t : Transcript) (k : IsConversed first moment turns t) (done : Unit {0}) (is : t.outcome ≡ Ok done) where
+module _ (first : State) (moment : DateTime) (turns : List Turn) (t : ConversationLog) (k : IsConversed first moment turns t) (done : Unit {0}) (is : t.outcome ≡ Ok done) where
   pub up-all : t.up.items ≡ up_octets moment turns
   unfolding up_octets
   up-all = on_ok (t.up.items ≡ up_octets moment turns) t.outcome done is k.sent
@@ -98,7 +98,7 @@ behind-front turns None = ([], append-nil turns)
 behind-front turns (Some place) = (drop place turns, take-append-drop place turns)
 
 -- a turn was not taken, or memory was refused
-pub refused-turn : (first : State) (moment : DateTime) (turns : List Turn) (found : Option ℕ) (t : Transcript) (fault : ClientFault) → FindsCrowded turns found → IsConversed first moment (front_of found turns) t → t.outcome ≡ Err fault
+pub refused-turn : (first : State) (moment : DateTime) (turns : List Turn) (found : Option ℕ) (t : ConversationLog) (fault : ClientFault) → FindsCrowded turns found → IsConversed first moment (front_of found turns) t → t.outcome ≡ Err fault
     → IsRefusedFor turns (fault_at t.taken fault)
 refused-turn first moment turns found t fault f k is =
     let more = behind-front turns found in
@@ -107,13 +107,13 @@ refused-turn first moment turns found t fault f k is =
     subst (λ (ts : List Turn). IsRefusedFor ts (fault_at t.taken fault)) more.1 (refused-for (front_of found turns) more.0 t.taken fault refused (room-front turns found f))
 
 -- and what it failed for
-pub served-fault : (first : State) (moment : DateTime) (turns : List Turn) (t : Transcript) (fault : ClientFault) → IsConversed first moment turns t → t.outcome ≡ Err fault → (stage : Stage) × FailsAt stage fault
+pub served-fault : (first : State) (moment : DateTime) (turns : List Turn) (t : ConversationLog) (fault : ClientFault) → IsConversed first moment turns t → t.outcome ≡ Err fault → (stage : Stage) × FailsAt stage fault
 served-fault first moment turns t fault k is =
     let fails = subst (λ (r : Result (Unit {0}) ClientFault). IfErr r (λ g. url_length (Some url) ≤ 4095 → FailsAt t.stage g)) is k.fails in
     (t.stage, fails (omega arith))
 
 -- it took all in front of a renewal for which too many tokens are held
-pub refused-crowded : (first : State) (moment : DateTime) (turns : List Turn) (place : ℕ) (t : Transcript) (done : Unit {0}) → FirstCrowded turns place → IsConversed first moment (take place turns) t → t.outcome ≡ Ok done
+pub refused-crowded : (first : State) (moment : DateTime) (turns : List Turn) (place : ℕ) (t : ConversationLog) (done : Unit {0}) → FirstCrowded turns place → IsConversed first moment (take place turns) t → t.outcome ≡ Ok done
     → IsRefusedFor turns (Request place TooManyTokens)
 refused-crowded first moment turns place t done f k is =
     crowded-refused turns place f

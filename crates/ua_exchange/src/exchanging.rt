@@ -20,7 +20,7 @@ use crate::turn::Turn;
 use std::alloc::{AllocError, Global};
 use ua_builtin::DateTime;
 use ua_channel::AskFault;
-use ua_loopback::{Stage, Transcript as Conversed, converse};
+use ua_loopback::{ConversationLog as Conversed, Stage, converse};
 use ua_nodes::NodeTable;
 use ua_server::Services;
 

@@ -4,7 +4,7 @@ use ua_client::Reply;
 use ua_server::{End, Services};
 
 /// The bytes that went over a connection, from the HEL to the CLO, and its result.
-#[derive(Drop)]
+#[derive(Debug, Drop)]
 pub struct Transcript {
     /// The client-to-server bytes.
     pub up: Vec<u8>,

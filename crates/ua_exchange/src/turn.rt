@@ -1,11 +1,11 @@
 //! What a client does next.
 
 use std::slice;
-use ua_loopback::AsTurn;
+use ua_loopback::AsOperation;
 use ua_services::Request;
 
 /// An operation of a client on an open channel.
-#[derive(Drop)]
+#[derive(Debug, Drop)]
 pub enum Turn {
     /// Asks a request.
     Ask(Request),
@@ -13,7 +13,7 @@ pub enum Turn {
     Renew,
 }
 
-impl AsTurn for Turn {
+impl AsOperation for Turn {
     ghost use Rattle.ua_exchange.specs.Turns.{served_turn};
 
     ghost turn = { served_turn };

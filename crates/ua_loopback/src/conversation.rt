@@ -24,10 +24,10 @@ ghost use Rattle.ua_services.specs.declared.request.Request.{Request};
 ghost use Rattle.ua_loopback.specs.Talking.{IsLineTo, StopsOver};
 ghost use Rattle.ua_loopback.specs.inside.Talking.{CanOpen, HasMisanswer, HaveMisanswers, StaysBefore, StaysBehind, StaysTalking, Talked, Went, WentBefore, fault_at, outcome_at};
 
+use crate::operation::AsOperation;
 use crate::served_line::{Began, ServedLine};
 use crate::stage::Stage;
 use crate::talking;
-use crate::turn::AsTurn;
 use std::alloc::Global;
 use std::marker::Brand;
 use ua_builtin::{DateTime, UaString};
@@ -39,8 +39,8 @@ use ua_server::Services;
 use ua_server::laws::services_are_sound;
 
 /// The bytes that went over a connection, and the state afterwards.
-#[derive(Drop)]
-pub struct Transcript {
+#[derive(Debug, Drop)]
+pub struct ConversationLog {
     /// The client-to-server bytes.
     pub up: Vec<u8>,
     /// The server-to-client bytes.
@@ -81,7 +81,7 @@ fn begin<L: Line>(
 }
 
 /// Performs an operation, and adds the replies.
-fn take_turn<T: AsTurn, L: Line>(
+fn take_turn<T: AsOperation, L: Line>(
     client: &mut Client,
     line: &mut L,
     turn: &T,
@@ -116,7 +116,7 @@ fn take_turn<T: AsTurn, L: Line>(
 }
 
 /// Performs all operations, adds the replies, and counts the operations.
-fn take_turns<T: AsTurn, L: Line>(
+fn take_turns<T: AsOperation, L: Line>(
     client: &mut Client,
     line: &mut L,
     turns: &[T],
@@ -151,7 +151,7 @@ fn take_turns<T: AsTurn, L: Line>(
 
 /// Opens a client, performs all operations and closes it; adds the replies, and counts the
 /// operations.
-fn talk<T: AsTurn, L: Line>(
+fn talk<T: AsOperation, L: Line>(
     alloc: Global,
     line: &mut L,
     limits: Limits,
@@ -221,7 +221,7 @@ fn outcome_at(stage: Stage, outcome: Result<(), ClientFault>) -> Result<(), Clie
 }
 
 /// Runs a client against a server over these services, of the beginning that the parameter names.
-fn converse_with<T: AsTurn, W: Began>(
+fn converse_with<T: AsOperation, W: Began>(
     alloc: Global,
     services: Services,
     limits: Limits,
@@ -231,7 +231,7 @@ fn converse_with<T: AsTurn, W: Began>(
     moment: DateTime,
     writes: Vec<usize>,
     reads: Vec<usize>,
-) -> Transcript
+) -> ConversationLog
     requires url { IsTrue (text.encodable url) }
     requires began { W.beginning ≡ record { limits = limits; channel = channel_id; first = services; moment = moment } }
     ensures down { result.down.items ≡ server_output W.beginning result.up.items }
@@ -270,7 +270,7 @@ fn converse_with<T: AsTurn, W: Began>(
     let stage = line.stage();
     let (up, down, services) = line.into_parts();
     let told = outcome_at(stage, outcome);
-    Transcript {
+    ConversationLog {
         up,
         down,
         taken,
@@ -289,7 +289,7 @@ fn converse_with<T: AsTurn, W: Began>(
 /// `moment` is the timestamp of each answer, of each OPN and of the CLO. If the client did not
 /// complete all operations, the outcome gives the reason, and the transcript has the bytes and the
 /// state up to then.
-pub fn converse<T: AsTurn>(
+pub fn converse<T: AsOperation>(
     alloc: Global,
     services: Services,
     limits: Limits,
@@ -299,7 +299,7 @@ pub fn converse<T: AsTurn>(
     moment: DateTime,
     writes: Vec<usize>,
     reads: Vec<usize>,
-) -> Transcript
+) -> ConversationLog
     requires { IsTrue (text.encodable url) }
 
     // The server's bytes are its output for the client's bytes, and the services are as these leave

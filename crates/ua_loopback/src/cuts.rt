@@ -4,7 +4,7 @@ ghost use Rattle.std.specs.Prelude.{◌<◌, ◌≤◌};
 
 /// The most bytes that each call moves, in turn and again from the first; 0 counts as 1, and an
 /// empty list sets no limit.
-#[derive(Drop)]
+#[derive(Debug, Drop)]
 pub struct Cuts {
     lengths: Vec<usize>,
     /// The place of the next length.

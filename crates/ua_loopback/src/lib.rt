@@ -9,12 +9,12 @@
 mod conversation;
 mod cuts;
 pub mod laws;
+mod operation;
 mod served_line;
 mod stage;
 pub mod talking;
-mod turn;
 
-pub use conversation::{Transcript, converse};
+pub use conversation::{ConversationLog, converse};
+pub use operation::{AsOperation, Operation};
 pub use served_line::{Began, ServedLine};
 pub use stage::Stage;
-pub use turn::{AsTurn, Turn};

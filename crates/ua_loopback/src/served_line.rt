@@ -57,7 +57,7 @@ fn add_both(
 ///
 /// A write fails once the connection ended at the server. Where a write fails before that, the
 /// transport is broken from then on.
-#[derive(Drop)]
+#[derive(Debug, Drop)]
 pub struct ServedLine<W: Began> {
     server: Server,
     services: Services,

@@ -9,9 +9,9 @@ use Rattle.ua_nodes.proofs.Files.{IsPiece, length_first, lines_at, lines_more, o
 use Rattle.ua_nodes.proofs.Pieces.{pieces}
 use Rattle.ua_nodes.specs.NodeFile.{FileLine, fields, is_read, lines_of, node_lines}
 use Rattle.ua_texts.specs.Script.{Asks, AsksFor, AsksNothing, GivesStep, IsFirstBad, IsLineOf, Refuses}
-use Rattle.ua_texts.specs.StepFault.{script_fault}
-use Rattle.ua_texts.specs.declared.fault.StepFault.{StepFault}
-use Rattle.ua_texts.specs.declared.fault.StepFault.TheVariants.{Bad, NoMemory}
+use Rattle.ua_texts.specs.ScriptLineFault.{script_fault}
+use Rattle.ua_texts.specs.declared.fault.ScriptLineFault.{ScriptLineFault}
+use Rattle.ua_texts.specs.declared.fault.ScriptLineFault.TheVariants.{Bad, NoMemory}
 use Rattle.ua_texts.specs.declared.script.ScriptLine.{ScriptLine}
 use Rattle.ua_texts.specs.declared.script.Step.{Step}
 
@@ -80,7 +80,7 @@ turn_bad text n k x steps e h read all nothing =
       bad = nothing;
     }
 
-pub turn_fault : (text : List ℕ) (n k : ℕ) (x : List ℕ) (steps : List ScriptLine) (fault : StepFault) → n ≡ k → IsPiece text k x → is_read (strip_carriage_return x) ≡ true → StepsOf text n steps → GivesStep (fields (strip_carriage_return x)) (Err fault)
+pub turn_fault : (text : List ℕ) (n k : ℕ) (x : List ℕ) (steps : List ScriptLine) (fault : ScriptLineFault) → n ≡ k → IsPiece text k x → is_read (strip_carriage_return x) ≡ true → StepsOf text n steps → GivesStep (fields (strip_carriage_return x)) (Err fault)
     → Refuses text (script_fault (n + 1) fault)
 turn_fault text n k x steps Bad e h read all nothing = turn_bad text n k x steps e h read all nothing
 turn_fault text n k x steps NoMemory e h read all nothing = tt

@@ -13,9 +13,9 @@ use Rattle.ua_nodes.proofs.Pieces.{pieces, at_least_one}
 use Rattle.ua_variant.specs.Data.{VariantData}
 use Rattle.ua_variant.specs.View.{variant_of}
 use Rattle.ua_texts.specs.Script.{AsksNothing, GivesId, GivesStep, GivesValue, AsksRead, AsksWrite, IsCutBehindFirst, range_denoted, range_of, typed_denoted}
-use Rattle.ua_texts.specs.StepFault.{id_fault}
-use Rattle.ua_texts.specs.declared.fault.StepFault.{StepFault}
-use Rattle.ua_texts.specs.declared.fault.StepFault.TheVariants.{Bad, NoMemory}
+use Rattle.ua_texts.specs.ScriptLineFault.{id_fault}
+use Rattle.ua_texts.specs.declared.fault.ScriptLineFault.{ScriptLineFault}
+use Rattle.ua_texts.specs.declared.fault.ScriptLineFault.TheVariants.{Bad, NoMemory}
 use Rattle.ua_texts.specs.declared.script.Step.TheVariants.{Read, Write, Renew}
 
 -- ---- words
@@ -137,15 +137,15 @@ not_short text h = grind (arith, nat_tests)
 pub short_enough : (text : List ℕ) → length text ≤ 1073741824 → is_short text ≡ true
 short_enough text h = grind (arith, nat_tests)
 
-pub read_refused : (text id behind : List ℕ) (x : StepFault) → IsCutBehindFirst text id behind → GivesId id (Err x) → GivesStep (codes "read" ∷ pieces 9 text) (Err x)
+pub read_refused : (text id behind : List ℕ) (x : ScriptLineFault) → IsCutBehindFirst text id behind → GivesId id (Err x) → GivesStep (codes "read" ∷ pieces 9 text) (Err x)
 read_refused text id behind Bad w h = no_id text id behind w h
 read_refused text id behind NoMemory w h = tt
 
-pub write_refused_id : (fields : List (List ℕ)) (id kind text : List ℕ) (x : StepFault) → fields ≡ id ∷ kind ∷ text ∷ [] → GivesId id (Err x) → GivesStep (codes "write" ∷ fields) (Err x)
+pub write_refused_id : (fields : List (List ℕ)) (id kind text : List ℕ) (x : ScriptLineFault) → fields ≡ id ∷ kind ∷ text ∷ [] → GivesId id (Err x) → GivesStep (codes "write" ∷ fields) (Err x)
 write_refused_id fields id kind text Bad e h = no_write_id fields id kind text e h
 write_refused_id fields id kind text NoMemory e h = tt
 
-pub write_refused_value : (fields : List (List ℕ)) (id kind text : List ℕ) (x : StepFault) → fields ≡ id ∷ kind ∷ text ∷ [] → GivesValue kind text (Err x) → GivesStep (codes "write" ∷ fields) (Err x)
+pub write_refused_value : (fields : List (List ℕ)) (id kind text : List ℕ) (x : ScriptLineFault) → fields ≡ id ∷ kind ∷ text ∷ [] → GivesValue kind text (Err x) → GivesStep (codes "write" ∷ fields) (Err x)
 write_refused_value fields id kind text Bad e h = no_write_value fields id kind text e h
 write_refused_value fields id kind text NoMemory e h = tt
 

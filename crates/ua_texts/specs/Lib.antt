@@ -18,5 +18,5 @@ pub mod PlainJson
 pub mod PlainAnswers
 pub mod Replies
 pub mod PlainReplies
-pub mod StepFault
+pub mod ScriptLineFault
 pub mod Script

@@ -11,8 +11,8 @@ use Rattle.ua_variant.specs.View.{variant_of}
 use Rattle.ua_variant.specs.declared.values.Variant.{Variant}
 use Rattle.ua_texts.specs.declared.fault.ScriptFault.{ScriptFault}
 use Rattle.ua_texts.specs.declared.fault.ScriptFault.TheVariants.{Line, OutOfMemory}
-use Rattle.ua_texts.specs.declared.fault.StepFault.{StepFault}
-use Rattle.ua_texts.specs.declared.fault.StepFault.TheVariants.{Bad, NoMemory}
+use Rattle.ua_texts.specs.declared.fault.ScriptLineFault.{ScriptLineFault}
+use Rattle.ua_texts.specs.declared.fault.ScriptLineFault.TheVariants.{Bad, NoMemory}
 use Rattle.ua_texts.specs.declared.script.ScriptLine.{ScriptLine}
 use Rattle.ua_texts.specs.declared.script.Step.{Step}
 use Rattle.ua_texts.specs.declared.script.Step.TheVariants.{Read, Write, Renew}
@@ -62,7 +62,7 @@ abbrev pub AsksNothing : List (List ℕ) → Type 0
 AsksNothing fields = (step : Step) → Asks fields step → ⊥
 
 -- what was parsed from the fields is what they request, unless an allocation failed
-abbrev pub GivesStep : List (List ℕ) → Result Step StepFault → Type 0
+abbrev pub GivesStep : List (List ℕ) → Result Step ScriptLineFault → Type 0
 GivesStep fields (Ok step) = Asks fields step
 GivesStep fields (Err Bad) = AsksNothing fields
 GivesStep fields (Err NoMemory) = Unit {0}
@@ -74,13 +74,13 @@ pub record IsCutBehindFirst (text first behind : List ℕ) : Type 0 where
   pub part : range_denoted rest ≡ range_denoted (fields behind)
 
 -- what was parsed from a field is the NodeId that it names, unless an allocation failed
-abbrev pub GivesId : List ℕ → Result NodeId StepFault → Type 0
+abbrev pub GivesId : List ℕ → Result NodeId ScriptLineFault → Type 0
 GivesId text (Ok id) = NamesId text id
 GivesId text (Err Bad) = (id : NodeId) → NamesId text id → ⊥
 GivesId text (Err NoMemory) = Unit {0}
 
 -- what was parsed from two fields is the value that they denote, unless an allocation failed
-abbrev pub GivesValue : List ℕ → List ℕ → Result Variant StepFault → Type 0
+abbrev pub GivesValue : List ℕ → List ℕ → Result Variant ScriptLineFault → Type 0
 GivesValue kind text (Ok value) = typed_denoted kind text ≡ Some (variant_of value)
 GivesValue kind text (Err Bad) = typed_denoted kind text ≡ None
 GivesValue kind text (Err NoMemory) = Unit {0}

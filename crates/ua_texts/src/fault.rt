@@ -29,63 +29,63 @@ impl<T: Drop> From<AllocFailed<T>> for ScriptFault {
 
 /// The reason why a line is no step.
 #[derive(Clone, Copy, PartialEq, Eq, Debug)]
-pub(crate) enum StepFault {
+pub(crate) enum ScriptLineFault {
     /// The line is no step.
     Bad,
     NoMemory,
 }
 
-impl StepFault {
+impl ScriptLineFault {
     ghost use Rattle.std.specs.Prelude.{◌≡◌};
-    ghost use Rattle.ua_texts.specs.StepFault.{script_fault};
+    ghost use Rattle.ua_texts.specs.ScriptLineFault.{script_fault};
 
     /// The same of the line of a number.
     pub(crate) fn at(self, line: usize) -> ScriptFault
         ensures { result ≡ script_fault line self }
     {
         match self {
-            StepFault::Bad => ScriptFault::Line(line),
-            StepFault::NoMemory => ScriptFault::OutOfMemory,
+            ScriptLineFault::Bad => ScriptFault::Line(line),
+            ScriptLineFault::NoMemory => ScriptFault::OutOfMemory,
         }
     }
 }
 
-impl From<TextFault> for StepFault {
+impl From<TextFault> for ScriptLineFault {
     ghost use Rattle.std.specs.Prelude.{◌≡◌};
-    ghost use Rattle.ua_texts.specs.StepFault.{id_fault};
+    ghost use Rattle.ua_texts.specs.ScriptLineFault.{id_fault};
 
     ghost from_gives = { λ t e. e ≡ id_fault t };
 
-    fn from(fault: TextFault) -> StepFault {
+    fn from(fault: TextFault) -> ScriptLineFault {
         match fault {
-            TextFault::NotNodeId => StepFault::Bad,
-            TextFault::OutOfMemory => StepFault::NoMemory,
+            TextFault::NotNodeId => ScriptLineFault::Bad,
+            TextFault::OutOfMemory => ScriptLineFault::NoMemory,
         }
     }
 }
 
-impl From<ValueFault> for StepFault {
+impl From<ValueFault> for ScriptLineFault {
     ghost use Rattle.std.specs.Prelude.{◌≡◌};
-    ghost use Rattle.ua_texts.specs.StepFault.{value_fault};
+    ghost use Rattle.ua_texts.specs.ScriptLineFault.{value_fault};
 
     ghost from_gives = { λ v e. e ≡ value_fault v };
 
-    fn from(fault: ValueFault) -> StepFault {
+    fn from(fault: ValueFault) -> ScriptLineFault {
         match fault {
-            ValueFault::NotValue => StepFault::Bad,
-            ValueFault::OutOfMemory => StepFault::NoMemory,
+            ValueFault::NotValue => ScriptLineFault::Bad,
+            ValueFault::OutOfMemory => ScriptLineFault::NoMemory,
         }
     }
 }
 
-impl From<AllocError> for StepFault {
+impl From<AllocError> for ScriptLineFault {
     ghost use Rattle.std.specs.Prelude.{◌≡◌};
-    ghost use Rattle.ua_texts.specs.declared.fault.StepFault.TheVariants.{NoMemory};
+    ghost use Rattle.ua_texts.specs.declared.fault.ScriptLineFault.TheVariants.{NoMemory};
 
     ghost from_gives = { λ _ e. e ≡ NoMemory };
 
-    fn from(_: AllocError) -> StepFault {
-        StepFault::NoMemory
+    fn from(_: AllocError) -> ScriptLineFault {
+        ScriptLineFault::NoMemory
     }
 }
 

@@ -4,14 +4,14 @@ ghost use Rattle.std.specs.Prelude.{◌≡◌, ◌∷◌, [], codes, IfOk, IfErr
 ghost use Rattle.ua_nodes.specs.NodeFile.{fields};
 ghost use Rattle.ua_texts.specs.Script.{AsksFor, GivesId, GivesStep, GivesValue, IsCutBehindFirst, Refuses, range_of};
 
-use crate::fault::{ScriptFault, StepFault};
+use crate::fault::{ScriptFault, ScriptLineFault};
 use std::alloc::{AllocError, Global};
 use ua_builtin::{NodeId, UaString};
 use ua_nodes::{MOST_OCTETS, is_read, parse_type, parse_value, without_return};
 use ua_variant::Variant;
 
 /// The step that a line of a script requests.
-#[derive(Drop)]
+#[derive(Debug, Drop)]
 pub enum Step {
     /// Read the Value of a node, or the part of an array that an index range selects.
     Read { node: NodeId, range: UaString },
@@ -22,7 +22,7 @@ pub enum Step {
 }
 
 /// A line of a script with its number, counted from 1.
-#[derive(Drop)]
+#[derive(Debug, Drop)]
 pub struct ScriptLine {
     pub number: usize,
     pub step: Step,
@@ -53,7 +53,7 @@ pub fn parse_script(alloc: Global, text: &str) -> Result<Vec<ScriptLine>, Script
 }
 
 /// The request of a line.
-fn parse_step(alloc: Global, line: &str) -> Result<Step, StepFault>
+fn parse_step(alloc: Global, line: &str) -> Result<Step, ScriptLineFault>
     ensures { GivesStep (fields line.now) result }
 {
     let Some((word, rest)) = line.split_once('\t') else {
@@ -62,30 +62,30 @@ fn parse_step(alloc: Global, line: &str) -> Result<Step, StepFault>
     match word {
         "read" => parse_read(alloc, rest),
         "write" => parse_write(alloc, rest),
-        _ => Err(StepFault::Bad),
+        _ => Err(ScriptLineFault::Bad),
     }
 }
 
 /// The request of a line of one field.
-fn parse_word(line: &str) -> Result<Step, StepFault>
+fn parse_word(line: &str) -> Result<Step, ScriptLineFault>
     ensures { GivesStep (line.now ∷ []) result }
 {
     match line {
         "renew" => Ok(Step::Renew),
-        _ => Err(StepFault::Bad),
+        _ => Err(ScriptLineFault::Bad),
     }
 }
 
 /// The request of a line that begins with `read` and a tab.
-fn parse_read(alloc: Global, rest: &str) -> Result<Step, StepFault>
+fn parse_read(alloc: Global, rest: &str) -> Result<Step, ScriptLineFault>
     ensures { GivesStep (codes "read" ∷ fields rest.now) result }
 {
     let (id, range) = split_range(rest);
     if range.contains('\t') {
-        return Err(StepFault::Bad);
+        return Err(ScriptLineFault::Bad);
     }
     if range.len() > MOST_OCTETS {
-        return Err(StepFault::Bad);
+        return Err(ScriptLineFault::Bad);
     }
     let node = parse_node(alloc, id)?;
     let range = parse_range(alloc, range)?;
@@ -100,17 +100,17 @@ fn split_range(rest: &str) -> (&str, &str)
 }
 
 /// The request of a line that begins with `write` and a tab.
-fn parse_write(alloc: Global, rest: &str) -> Result<Step, StepFault>
+fn parse_write(alloc: Global, rest: &str) -> Result<Step, ScriptLineFault>
     ensures { GivesStep (codes "write" ∷ fields rest.now) result }
 {
     let Some((id, rest)) = rest.split_once('\t') else {
-        return Err(StepFault::Bad);
+        return Err(ScriptLineFault::Bad);
     };
     let Some((kind, text)) = rest.split_once('\t') else {
-        return Err(StepFault::Bad);
+        return Err(ScriptLineFault::Bad);
     };
     if text.contains('\t') {
-        return Err(StepFault::Bad);
+        return Err(ScriptLineFault::Bad);
     }
     let node = parse_node(alloc, id)?;
     let value = parse_typed(alloc, kind, text)?;
@@ -118,11 +118,11 @@ fn parse_write(alloc: Global, rest: &str) -> Result<Step, StepFault>
 }
 
 /// The NodeId that a field names.
-fn parse_node(alloc: Global, text: &str) -> Result<NodeId, StepFault>
+fn parse_node(alloc: Global, text: &str) -> Result<NodeId, ScriptLineFault>
     ensures { GivesId text.now result }
 {
     if text.len() > MOST_OCTETS {
-        return Err(StepFault::Bad);
+        return Err(ScriptLineFault::Bad);
     }
     Ok(NodeId::parse_text(alloc, text)?)
 }
@@ -138,9 +138,9 @@ fn parse_range(alloc: Global, text: &str) -> Result<UaString, AllocError>
 }
 
 /// The value that a type and a text denote.
-fn parse_typed(alloc: Global, kind: &str, text: &str) -> Result<Variant, StepFault>
+fn parse_typed(alloc: Global, kind: &str, text: &str) -> Result<Variant, ScriptLineFault>
     ensures { GivesValue kind.now text.now result }
 {
-    let (kind, array) = parse_type(kind).ok_or(StepFault::Bad)?;
+    let (kind, array) = parse_type(kind).ok_or(ScriptLineFault::Bad)?;
     Ok(parse_value(alloc, kind, array, text)?)
 }

@@ -14,7 +14,7 @@ use Rattle.ua_loopback.specs.Replies.{turns_replies, turns_state}
 use Rattle.ua_loopback.specs.Says.{server_output}
 use Rattle.ua_loopback.specs.Sends.{conversation_octets}
 use Rattle.ua_loopback.specs.Turns.{conversation_told}
-use Rattle.ua_loopback.specs.declared.conversation.Transcript.{Transcript}
+use Rattle.ua_loopback.specs.declared.conversation.ConversationLog.{ConversationLog}
 use Rattle.ua_loopback.specs.declared.stage.Stage.TheVariants.{Ended}
 use Rattle.ua_exchange.specs.Programs.{channel, program_limits, url}
 use Rattle.ua_exchange.specs.Turns.{served_turns}
@@ -26,7 +26,7 @@ beginning_by limits first moment = record { limits = limits; channel = channel; 
 
 -- what an exchange needs of the clauses of `converse` for the transcript of these operations, of
 -- both ends with these limits, for this address, over services in this state
-pub record ConversesBy (limits : Limits) (address : Option (List ℕ)) (first : State) (moment : DateTime) (turns : List Turn) (t : Transcript) : Type 0 where
+pub record ConversesBy (limits : Limits) (address : Option (List ℕ)) (first : State) (moment : DateTime) (turns : List Turn) (t : ConversationLog) : Type 0 where
   pub down : t.down.items ≡ server_output (beginning_by limits first moment) t.up.items
   pub closed : OnOk t.outcome (t.stage ≡ Ended Closed)
   pub sent : OnOk t.outcome (t.up.items ≡ conversation_octets limits limits address channel moment (served_turns turns))
@@ -38,5 +38,5 @@ pub record ConversesBy (limits : Limits) (address : Option (List ℕ)) (first : 
   pub fails : IfErr t.outcome (λ fault. url_length address ≤ 4095 → FailsAt t.stage fault)
 
 -- the same with the limits and the address of the program
-abbrev pub IsConversed : State → DateTime → List Turn → Transcript → Type 0
+abbrev pub IsConversed : State → DateTime → List Turn → ConversationLog → Type 0
 IsConversed first moment turns t = ConversesBy program_limits (Some url) first moment turns t

@@ -12,7 +12,7 @@ returns-in-Ok-close-clause-talked g c = λ b able line.
     let w = c.in-Ok.ensures.went b able line in
     let t0 = g.L.Line.traffic c.args.line.now in
     let t1 = g.L.Line.traffic c.begin.new.line in
-    talked_all b c.args.limits c.args.url c.args.moment (map g.T.AsTurn.turn c.args.turns.now) (connection_of c.in-Ok.client) t0 t1 (g.L.Line.traffic c.close.new.line) c.take_turns.new.replies.items w
+    talked_all b c.args.limits c.args.url c.args.moment (map g.T.AsOperation.turn c.args.turns.now) (connection_of c.in-Ok.client) t0 t1 (g.L.Line.traffic c.close.new.line) c.take_turns.new.replies.items w
     (connection_of c.take_turns.new.client) (g.L.Line.traffic c.take_turns.new.line) c.in-Ok-close.field-0
     (c.in-Ok-take_turns.ensures.stays b c.args.limits c.args.url w.opened t0
     (subst (λ (rs : List Reply). StaysTalking b c.args.limits c.args.url c.args.moment w.opened [] (connection_of c.in-Ok.client) t0 t1 rs) (sym c.requires.none) w.stays))
@@ -42,7 +42,7 @@ returns-clause-refused g c = λ reason b able line.
 
 pub returns-in-Err-clause-fails : goal.returns-in-Err-clause-fails
 returns-in-Err-clause-fails g c = λ b able line short.
-    outside_fails (HaveMisanswers b.first b.moment (map g.T.AsTurn.turn c.args.turns.now)) c.in-Err.fault (c.in-Err.ensures.fails b able line short)
+    outside_fails (HaveMisanswers b.first b.moment (map g.T.AsOperation.turn c.args.turns.now)) c.in-Err.fault (c.in-Err.ensures.fails b able line short)
 
 pub returns-in-Err-take_turns-clause-fails : goal.returns-in-Err-take_turns-clause-fails
 returns-in-Err-take_turns-clause-fails g c = λ b able line short.
@@ -61,7 +61,7 @@ returns-clause-fails g c = λ b able line short.
     c.in-Ok-take_turns.ensures.stays b c.args.limits c.args.url w.opened t0
     (subst (λ (rs : List Reply). StaysTalking b c.args.limits c.args.url c.args.moment w.opened [] (connection_of c.in-Ok.client) t0 t1 rs) (sym c.requires.none) w.stays) in
     let closes = c.in-Err-close.ensures.closes c.in-Ok-take_turns.ensures.ready in
-    outside_fails (HaveMisanswers b.first b.moment (map g.T.AsTurn.turn c.args.turns.now)) c.in-Err-close.fault
+    outside_fails (HaveMisanswers b.first b.moment (map g.T.AsOperation.turn c.args.turns.now)) c.in-Err-close.fault
     (close_fails (Unit {0}) s.stays.site c.args.moment closes.sent c.in-Err-close.fault (closes.answers s.stays.site s.stays.at))
 
 pub returns-in-Err-clause-before : goal.returns-in-Err-clause-before
@@ -109,5 +109,5 @@ returns-clause-stops g c = λ b able line short.
     let s =
     c.in-Ok-take_turns.ensures.stays b c.args.limits c.args.url w.opened t0
     (subst (λ (rs : List Reply). StaysTalking b c.args.limits c.args.url c.args.moment w.opened [] (connection_of c.in-Ok.client) t0 t1 rs) (sym c.requires.none) w.stays) in
-    asked_stops b c.args.limits c.args.url c.args.moment w.opened (map g.T.AsTurn.turn c.args.turns.now) c.take_turns.new.client t0 (g.L.Line.traffic c.take_turns.new.line) (g.L.Line.traffic c.close.new.line) c.take_turns.new.replies.items s
+    asked_stops b c.args.limits c.args.url c.args.moment w.opened (map g.T.AsOperation.turn c.args.turns.now) c.take_turns.new.client t0 (g.L.Line.traffic c.take_turns.new.line) (g.L.Line.traffic c.close.new.line) c.take_turns.new.replies.items s
     c.in-Ok-take_turns.ensures.ready c.in-Err-close.fault c.in-Err-close.ensures.stops

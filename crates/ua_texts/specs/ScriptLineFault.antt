@@ -6,20 +6,20 @@ use Rattle.ua_nodes.specs.declared.fault.ValueFault.{ValueFault}
 use Rattle.ua_nodes.specs.declared.fault.ValueFault.TheVariants.{NotValue, OutOfMemory as NoValueMemory}
 use Rattle.ua_texts.specs.declared.fault.ScriptFault.{ScriptFault}
 use Rattle.ua_texts.specs.declared.fault.ScriptFault.TheVariants.{Line, OutOfMemory}
-use Rattle.ua_texts.specs.declared.fault.StepFault.{StepFault}
-use Rattle.ua_texts.specs.declared.fault.StepFault.TheVariants.{Bad, NoMemory}
+use Rattle.ua_texts.specs.declared.fault.ScriptLineFault.{ScriptLineFault}
+use Rattle.ua_texts.specs.declared.fault.ScriptLineFault.TheVariants.{Bad, NoMemory}
 
 -- the fault of a line whose NodeId was not parsed: the field names none, or an allocation failed
-abbrev pub id_fault : TextFault → StepFault
+abbrev pub id_fault : TextFault → ScriptLineFault
 id_fault NotNodeId = Bad
 id_fault NoTextMemory = NoMemory
 
 -- the fault of a line whose value was not parsed: the field denotes none, or an allocation failed
-abbrev pub value_fault : ValueFault → StepFault
+abbrev pub value_fault : ValueFault → ScriptLineFault
 value_fault NotValue = Bad
 value_fault NoValueMemory = NoMemory
 
 -- the fault of a script that results from the fault of its line with this number
-abbrev pub script_fault : ℕ → StepFault → ScriptFault
+abbrev pub script_fault : ℕ → ScriptLineFault → ScriptFault
 script_fault number Bad = Line number
 script_fault number NoMemory = OutOfMemory

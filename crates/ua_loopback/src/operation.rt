@@ -3,7 +3,7 @@
 use ua_services::Request;
 
 /// A type whose values are operations of a client on an open channel: requests, or a renewal.
-pub trait AsTurn {
+pub trait AsOperation {
     ghost use Rattle.std.specs.Prelude.{◌≡◌, List, None, Option, Some, IfSome};
     ghost use Rattle.ua_services.specs.declared.request.Request.{Request};
 
@@ -18,8 +18,8 @@ pub trait AsTurn {
 }
 
 /// An operation of a client on an open channel.
-#[derive(Drop)]
-pub enum Turn {
+#[derive(Debug, Drop)]
+pub enum Operation {
     /// Asks requests, in groups of 64, of which the last may have fewer, and waits for their
     /// replies.
     Ask(Vec<Request>),
@@ -27,15 +27,15 @@ pub enum Turn {
     Renew,
 }
 
-impl AsTurn for Turn {
+impl AsOperation for Operation {
     ghost use Rattle.ua_loopback.specs.Asked.{asked_by};
 
     ghost turn = { asked_by };
 
     fn requests(&self) -> Option<&[Request]> {
         match self {
-            Turn::Ask(requests) => Some(requests),
-            Turn::Renew => None,
+            Operation::Ask(requests) => Some(requests),
+            Operation::Renew => None,
         }
     }
 }
