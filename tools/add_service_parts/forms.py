@@ -96,16 +96,18 @@ def lines_of(s: Structure, k: Known) -> str:
 
 
 def answer_of(s: Structure, k: Known) -> str:
-    """That the lines of four fields or more stand one behind the other, which a search may not find."""
-    proof = ""
+    """That the lines of its fields stand one behind the other."""
     count: dict[str, int] = {}
+    calls = []
     for _, kind in s.fields:
         call = "push_part" if is_part(k, kind) else "push_field"
         count[call] = count.get(call, 0) + 1
-        call = f"c.in_ok-{call}{'' if count[call] == 1 else f'-{count[call]}'}.ensures"
-        proof = f"then_behind _ _ _ _ {braced(proof)} {call}" if proof else call
-    return f"""use Rattle.ua_pair.specs.{s.spec}.{{{s.word}_entries}}
-use Rattle.ua_pair.proofs.Behind.{{then_behind}}
+        calls.append(f"c.in_ok-{call}{'' if count[call] == 1 else f'-{count[call]}'}.ensures")
+    proof = "refl"
+    for call in reversed(calls):
+        proof = f"(_, {call}, {proof})"
+    return f"""use Rattle.std.proofs.Common.{{refl}}
+use Rattle.ua_pair.specs.{s.spec}.{{{s.word}_entries}}
 use Rattle.ua_pair.proofs.fields.{s.module}.{s.name}Lines.push_lines.Goals as goal
 
 pub returns : goal.returns

@@ -61,8 +61,7 @@ def write_pair(new: Kind, old: Kind, structures: list[Structure], k: Known) -> N
     origins = origins_of([f"{src}/{old.module}.rt"]) | {s.name: "ua_services" for s in structures}
     put(f"{src}/{new.module}.rt", f"//! {new.name}, as lines.", origins, [lines_of(s, k) for s in structures], "crate::")
     for s in structures:
-        if len(s.fields) > 3:
-            write(f"{PAIR}/proofs/fields/{s.module}/{s.name}Lines/push_lines/Answers.antt", answer_of(s, k))
+        write(f"{PAIR}/proofs/fields/{s.module}/{s.name}Lines/push_lines/Answers.antt", answer_of(s, k))
     origins = origins_of(f"{specs}/{it}.antt" for it in k.specs) | declared(structures)
     origins |= {f"{s.word}_entries": f"Rattle.ua_pair.specs.{s.spec}" for s in k.structures.values()}
     origins |= {word: "Rattle.ua_pair.specs.Leaves" for word in re.findall(r"^abbrev pub (\w+) : \w+ → Tree$", read(LEAVES), re.M)}

@@ -116,9 +116,12 @@ impl Rows {
             "assembler" => self.begin_assembler(words, told),
             "server" => self.begin_server(words, told),
             "client" => self.begin_client(words, told),
-            "dissect" | "dissect-fields" | "dissect-names" | "dissect-named-fields" => {
-                self.begin_dissector(kind, words, told)
-            }
+            "dissect"
+            | "dissect-fields"
+            | "dissect-names"
+            | "dissect-named-fields"
+            | "dissect-plain-fields"
+            | "dissect-plain-named-fields" => self.begin_dissector(kind, words, told),
             "open" => self.begin_caller(words, told),
             "take" | "pieces" => self.take(kind, words, told),
             "number"
@@ -229,8 +232,9 @@ impl Rows {
         let (side, words) = front(words);
         let options = DissectOptions {
             side: side_of(side),
-            fields: kind == "dissect-fields" || kind == "dissect-named-fields",
-            names: kind == "dissect-names" || kind == "dissect-named-fields",
+            fields: kind.ends_with("fields"),
+            names: kind == "dissect-names" || kind.ends_with("named-fields"),
+            plain: kind.starts_with("dissect-plain"),
         };
         self.machine = Machine::Dissector(Dissection::new(told.alloc(), options));
         self.step("take", words, told);

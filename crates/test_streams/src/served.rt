@@ -8,7 +8,7 @@ use crate::told::Told;
 use crate::words::{front, lengths_of, text_of};
 use ua_builtin::Wire;
 use ua_client::ClientFault;
-use ua_loopback::{Stage, Transcript, Turn, converse};
+use ua_loopback::{ConversationLog, Operation, Stage, converse};
 use ua_services::Request;
 
 /// Lets a client make operations over a transport to the server of these rows, which takes what is
@@ -47,12 +47,12 @@ pub fn answer(given: &Given, serving: &Serving, words: &str, told: &mut Told) {
 
 /// The operations of words: `renew` is a renewal, and of any other word the requests are asked
 /// together.
-fn turns_of(given: &Given, words: &str, told: &mut Told) -> Vec<Turn> {
+fn turns_of(given: &Given, words: &str, told: &mut Told) -> Vec<Operation> {
     let mut turns = Vec::new(told.alloc());
     for word in words.split_whitespace() {
         let turn = match word {
-            "renew" => Turn::Renew,
-            word => Turn::Ask(requests_of::<Request>(given, word, told)),
+            "renew" => Operation::Renew,
+            word => Operation::Ask(requests_of::<Request>(given, word, told)),
         };
         if turns.push(turn).is_err() {
             told.refused();
@@ -62,7 +62,7 @@ fn turns_of(given: &Given, words: &str, told: &mut Told) -> Vec<Turn> {
 }
 
 /// Tells the outcome of operations, or why not all of them were done.
-fn tell(given: &Given, what: &str, found: Transcript, told: &mut Told) {
+fn tell(given: &Given, what: &str, found: ConversationLog, told: &mut Told) {
     if let Err(fault) = found.outcome {
         tell_fault(fault, found.stage, told);
     }
@@ -87,7 +87,7 @@ fn tell_fault(fault: ClientFault, stage: Stage, told: &mut Told) {
 }
 
 /// Tells how much came of operations, and how the connection ended at the server.
-fn tell_sizes(found: &Transcript, told: &mut Told) {
+fn tell_sizes(found: &ConversationLog, told: &mut Told) {
     told.word("up");
     told.shown(&found.up.len());
     told.word("down");

@@ -8,14 +8,13 @@ use Rattle.ua_wire.specs.Format.{Extends}
 use Rattle.ua_frame.specs.declared.fault.FrameFault.{FrameFault}
 use Rattle.ua_frame.specs.declared.fault.FrameFault.TheVariants.{UnknownType, OutOfPlace, TooLarge, TooSmall, OutOfMemory, Closed}
 use Rattle.ua_frame.specs.declared.frame.Frame.{Frame}
-use Rattle.ua_frame.specs.After.{each_after}
 use Rattle.ua_frame.specs.Frames.{frame_octets, frames_octets, frame_size, header_code, header_fault, IsSized, LetsIn, IsPartial}
 use Rattle.ua_frame.specs.Reader.{Reader, open_reader, TakesAll, TakesFrame, Refuses as RefusesHeader, Takes as ReaderTakes}
-use Rattle.ua_frame.specs.Run.{Run, End, Going, Stopped, Over, events}
+use Rattle.ua_frame.specs.Run.{Run, End, Going, Stopped, Over}
 use Rattle.ua_builtin.specs.Reasons.{first_reason}
 use Rattle.ua_frame.proofs.Ends.{ends_stay}
 use Rattle.ua_frame.proofs.Fronts.{length-frame_octets}
-use Rattle.ua_frame.proofs.Streams.{run_nil, run_part, run_frame, run_header, run_refused, events-push, frames_octets-push}
+use Rattle.ua_frame.proofs.Streams.{run_nil, run_part, run_frame, run_header, run_refused, frames_octets-push}
 use Rattle.ua_frame.proofs.Unique.{front_none}
 use Rattle.ua_pair.specs.declared.dissector.Dissector.{Dissector}
 use Rattle.ua_pair.specs.declared.dissector.State.{State}
@@ -25,13 +24,14 @@ use Rattle.ua_pair.specs.declared.teller.Teller.{Teller}
 use Rattle.ua_chunk.specs.declared.chunk.Chunk.{Chunk}
 use Rattle.ua_chunk.specs.Open.{open_octets}
 use Rattle.ua_pair.specs.Before.{message_chunks}
-use Rattle.ua_pair.specs.Dissected.{rules, every_frame, AddsLines}
+use Rattle.ua_pair.specs.Dissected.{rules, every_frame, AddsLines, AreTexts}
 use Rattle.ua_pair.specs.Dissecting.{Holds, DissectorGoesOn, HasRefused, IsClosed, AreHeld, StandsAt, StandsBehind, TellsMore, EndsLines, is_going, MovesOn, TakesPiece, Accepts, Refuses, FrameTold, TakesNone, TakesSome}
 use Rattle.ua_pair.specs.Lines.{rest_line, refused_line}
 use Rattle.ua_pair.specs.Refused.{frame_reasons}
 use Rattle.ua_pair.specs.Telling.{TellerStands}
-use Rattle.ua_pair.specs.Told.{frame_lines, place_behind}
+use Rattle.ua_pair.specs.Told.{IsFrameText, place_behind}
 use Rattle.ua_pair.proofs.Befores.{message_chunks-nil}
+use Rattle.ua_pair.proofs.Texts.{texts_push}
 
 -- ---- states
 
@@ -58,11 +58,11 @@ pub record GoesBehind (d : Dissector) (options : DissectOptions) (octets told : 
   pub frames : List Frame
   pub rest : List ℕ
   pub run : Run (rules options) octets frames rest Going
-  pub told_are : told ≡ events (rules options) frames
+  pub told_are : AreTexts options frames told
   pub goes_on : DissectorGoesOn d options frames rest
   pub place : d.place ≡ place_behind frames
 
-goes_at : (d : Dissector) (options : DissectOptions) (octets told : List ℕ) (fs : List Frame) (rest : List ℕ) (end : End ℕ) → Run (rules options) octets fs rest end → told ≡ events (rules options) fs → StandsAt d options fs rest end → d.place ≡ place_behind fs → is_going d.state ≡ true → GoesBehind d options octets told
+goes_at : (d : Dissector) (options : DissectOptions) (octets told : List ℕ) (fs : List Frame) (rest : List ℕ) (end : End ℕ) → Run (rules options) octets fs rest end → AreTexts options fs told → StandsAt d options fs rest end → d.place ≡ place_behind fs → is_going d.state ≡ true → GoesBehind d options octets told
 goes_at d options octets told fs rest Going run told_are at place goes = record { frames = fs; rest = rest; run = run; told_are = told_are; goes_on = at; place = place }
 goes_at d options octets told fs rest (Stopped code) run told_are at place goes = absurd (going_not_refused d.state (of_code code) goes at.state)
 goes_at d options octets told fs rest Over run told_are at place goes = absurd at
@@ -79,10 +79,6 @@ stands_on d options octets told g = record {
 
 -- ---- at the beginning
 
-events-nil : (options : DissectOptions) → events (rules options) [] ≡ []
-unfolding each_after
-events-nil options = refl
-
 frames_octets-nil : frames_octets [] ≡ []
 frames_octets-nil = sym (append-nil (frames_octets [])) ∙ front_none []
 
@@ -91,7 +87,7 @@ stands_first d options goes reader teller is place = stands_on d options [] [] (
   frames = [];
   rest = [];
   run = run_nil (rules options) refl;
-  told_are = sym (events-nil options);
+  told_are = refl;
   goes_on = record { state = goes; options_are = is; holds = record { reader = reader; teller = teller } };
   place = place ∙ ap length (sym frames_octets-nil);
 })
@@ -107,7 +103,7 @@ told-none : (told lines : List ℕ) → lines ≡ [] → told ≡ told ++ lines
 told-none told lines none = sym (ap (λ (l : List ℕ). told ++ l) none ∙ append-nil told)
 
 -- where it goes no further, octets more change nothing
-stays_at : (d : Dissector) (options : DissectOptions) (o told more : List ℕ) (fs : List Frame) (rest : List ℕ) (end : End ℕ) → Run (rules options) o fs rest end → told ≡ events (rules options) fs → StandsAt d options fs rest end → d.place ≡ place_behind fs → is_going d.state ≡ false → StandsBehind d options (o ++ more) told
+stays_at : (d : Dissector) (options : DissectOptions) (o told more : List ℕ) (fs : List Frame) (rest : List ℕ) (end : End ℕ) → Run (rules options) o fs rest end → AreTexts options fs told → StandsAt d options fs rest end → d.place ≡ place_behind fs → is_going d.state ≡ false → StandsBehind d options (o ++ more) told
 stays_at d options o told more fs rest Going run told_are at place still = absurd (going_not_still d.state still at.state)
 stays_at d options o told more fs rest (Stopped code) run told_are at place still = record {
   are = record { frames = fs; rest = rest ++ more; end = Stopped code; run = ends_stay (rules options) o more fs rest (Stopped code) (λ e. cc) run; told_are = told_are };
@@ -156,7 +152,7 @@ module _ (d e : Dissector) (octets : List ℕ) (goes : is_going d.state ≡ true
           rest = g.rest ++ octets;
           end = Stopped code.code;
           run = run_header (rules options) o g.rest octets g.frames fault code.code code.code g.run whole fault_is code_is refl;
-          told_are = sym (told-none told lines none) ∙ g.told_are;
+          told_are = subst (λ (t : List ℕ). AreTexts options g.frames t) (told-none told lines none) g.told_are;
         };
         at = subst (λ (x : DissectOptions). HasRefused e x code.code) g.goes_on.options_are refused;
         place = place ∙ g.place;
@@ -186,7 +182,7 @@ module _ (d e : Dissector) (octets : List ℕ) (n : ℕ) (f : Frame) (lines : Li
     frames = g.frames ++ f ∷ [];
     rest = [];
     run = run_frame (rules options) o g.rest (take n octets) g.frames f Going g.run joined sized let_in a.accepted (refl, inl (omega arith));
-    told_are = ap₂ (λ (x y : List ℕ). x ++ y) g.told_are a.lines_are ∙ sym (events-push (rules options) g.frames f);
+    told_are = texts_push options g.frames f told lines g.told_are a.lines_are;
     goes_on = a.goes_on;
     place = a.place;
   })
@@ -200,7 +196,7 @@ module _ (d e : Dissector) (octets : List ℕ) (n : ℕ) (f : Frame) (lines : Li
           rest = g.rest ++ take n octets;
           end = Stopped r.code;
           run = run_refused (rules options) o g.rest (take n octets) (length (take n octets)) g.frames f r.code g.run front sized let_in r.refused;
-          told_are = sym (told-none told lines r.lines_are) ∙ g.told_are;
+          told_are = subst (λ (t : List ℕ). AreTexts options g.frames t) (told-none told lines r.lines_are) g.told_are;
         };
         at = r.stopped;
         place = r.place;
@@ -226,13 +222,15 @@ module _ (d e : Dissector) (octets : List ℕ) (n : ℕ) (f : Frame) (y : Reader
 -- ---- what becomes of a frame
 
 -- it was told
-pub told_accepts : (d : Dissector) (t : Teller) (place n : ℕ) (options : DissectOptions) (before : List Frame) (f : Frame) (empty lines : List ℕ) → DissectorGoesOn d options before [] → d.place ≡ place_behind before → first_reason (frame_reasons d.teller.options.side before f) ≡ None → lines ≡ empty ++ frame_lines d.teller.options before f → empty ≡ [] → TellerStands t (before ++ f ∷ []) → t.options ≡ d.teller.options → n ≡ frame_size f → place ≡ d.place + n → FrameTold (record d { teller = t; place = place }) options before f lines
-told_accepts d t place n options before f empty lines g place_is accepted lines_are none stands same size grown =
-    let told : lines ≡ frame_lines d.teller.options before f = lines_are ∙ ap (λ (x : List ℕ). x ++ frame_lines d.teller.options before f) none in
+pub told_accepts : (d : Dissector) (t : Teller) (place n : ℕ) (options : DissectOptions) (before : List Frame) (f : Frame) (empty lines : List ℕ) → DissectorGoesOn d options before [] → d.place ≡ place_behind before → first_reason (frame_reasons d.teller.options.side before f) ≡ None
+    → ((text : List ℕ) × (lines ≡ empty ++ text) × IsFrameText d.teller.options before f text) → empty ≡ [] → TellerStands t (before ++ f ∷ []) → t.options ≡ d.teller.options → n ≡ frame_size f → place ≡ d.place + n → FrameTold (record d { teller = t; place = place }) options before f lines
+told_accepts d t place n options before f empty lines g place_is accepted added none stands same size grown =
+    let are : lines ≡ added.0 = added.1 ∙ ap (λ (x : List ℕ). x ++ added.0) none in
+    let told : IsFrameText d.teller.options before f lines = subst (λ (x : List ℕ). IsFrameText d.teller.options before f x) (sym are) added.2 in
     let behind : place_behind (before ++ f ∷ []) ≡ place_behind before + frame_size f = ap length (frames_octets-push before f) ∙ length-append (frames_octets before) (frame_octets f) ∙ ap (λ (k : ℕ). place_behind before + k) (length-frame_octets f) in
     inl (record {
       accepted = subst (λ (x : DissectOptions). first_reason (frame_reasons x.side before f) ≡ None) g.options_are accepted;
-      lines_are = subst (λ (x : DissectOptions). lines ≡ frame_lines x before f) g.options_are told;
+      lines_are = subst (λ (x : DissectOptions). IsFrameText x before f lines) g.options_are told;
       goes_on = record { state = g.state; options_are = same ∙ g.options_are; holds = record { reader = g.holds.reader; teller = stands } };
       place = grown ∙ ap₂ (λ (x y : ℕ). x + y) place_is size ∙ sym behind;
     })
@@ -306,7 +304,7 @@ takes_tells (Err u) d e piece a b x options o told s = tt
 
 -- ---- the last line
 
-ends_at : (d : Dissector) (options : DissectOptions) (o told old new : List ℕ) (code : StatusCode) (fs : List Frame) (rest : List ℕ) (end : End ℕ) → Run (rules options) o fs rest end → told ≡ events (rules options) fs → StandsAt d options fs rest end → d.place ≡ place_behind fs → d.state ≡ state.Refused code → new ≡ old ++ refused_line d.teller.options.names d.place code.code → EndsLines options o told old new
+ends_at : (d : Dissector) (options : DissectOptions) (o told old new : List ℕ) (code : StatusCode) (fs : List Frame) (rest : List ℕ) (end : End ℕ) → Run (rules options) o fs rest end → AreTexts options fs told → StandsAt d options fs rest end → d.place ≡ place_behind fs → d.state ≡ state.Refused code → new ≡ old ++ refused_line d.teller.options.names d.place code.code → EndsLines options o told old new
 ends_at d options o told old new code fs rest Going run told_are at place refused grown = absurd (going_not_refused d.state code (ap is_going at.state) refused)
 ends_at d options o told old new code fs rest (Stopped why) run told_are at place refused grown = record {
   line = refused_line d.teller.options.names d.place code.code;
@@ -316,7 +314,9 @@ ends_at d options o told old new code fs rest (Stopped why) run told_are at plac
     rest = rest;
     end = Stopped why;
     run = run;
-    lines_are = ap₂ (λ (x y : List ℕ). x ++ y) told_are (ap (λ (x : DissectOptions). refused_line x.names d.place code.code) at.options_are ∙ ap₂ (refused_line options.names) place (same_code code (of_code why) (sym refused ∙ at.state)));
+    told = told;
+    told_are = told_are;
+    lines_are = ap (λ (x : List ℕ). told ++ x) (ap (λ (x : DissectOptions). refused_line x.names d.place code.code) at.options_are ∙ ap₂ (refused_line options.names) place (same_code code (of_code why) (sym refused ∙ at.state)));
   };
 }
 ends_at d options o told old new code fs rest Over run told_are at place refused grown = absurd at
@@ -337,7 +337,9 @@ ends_going d options o told old new held s goes held_is grown =
         rest = g.rest;
         end = Going;
         run = g.run;
-        lines_are = ap₂ (λ (x y : List ℕ). x ++ y) g.told_are (ap₂ rest_line g.place (held_is ∙ ap (λ (r : Reader). length r.held) g.goes_on.holds.reader));
+        told = told;
+        told_are = g.told_are;
+        lines_are = ap (λ (x : List ℕ). told ++ x) (ap₂ rest_line g.place (held_is ∙ ap (λ (r : Reader). length r.held) g.goes_on.holds.reader));
       };
     }
 

@@ -7,6 +7,7 @@ mod Befores
 mod CutBacks
 mod Dissections
 mod Readings
+pub mod Texts
 mod Refusals
 mod RestLines
 mod Standings

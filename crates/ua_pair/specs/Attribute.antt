@@ -1,27 +1,25 @@
 -- The fields of the services Read and Write.
 use Rattle.std.specs.Prelude.{[], ◌∷◌, codes}
-use Rattle.std.specs.Fmt.{decimal}
 use Rattle.ua_structures.specs.declared.attribute.ReadRequest.{ReadRequest}
 use Rattle.ua_structures.specs.declared.attribute.ReadResponse.{ReadResponse}
 use Rattle.ua_structures.specs.declared.attribute.ReadValueId.{ReadValueId}
 use Rattle.ua_structures.specs.declared.attribute.WriteRequest.{WriteRequest}
 use Rattle.ua_structures.specs.declared.attribute.WriteResponse.{WriteResponse}
 use Rattle.ua_structures.specs.declared.attribute.WriteValue.{WriteValue}
-use Rattle.ua_texts.specs.Values.{variant_text}
 use Rattle.ua_variant.specs.declared.values.DataValue.{DataValue}
-use Rattle.ua_pair.specs.Tree.{Fields, structure, named, array_of}
-use Rattle.ua_pair.specs.Leaves.{optional, number, signed, double, string, date_time_text, optional_code, status_code, node_id, qualified_name, diagnostic_info}
+use Rattle.ua_pair.specs.Tree.{Fields, structure, named, array_of, moment_of, value_of}
+use Rattle.ua_pair.specs.Leaves.{optional, code_leaf, number, number_leaf, signed, double, string, status_code, node_id, qualified_name, diagnostic_info}
 use Rattle.ua_pair.specs.Header.{request_header_entries, response_header_entries}
 
 -- DataValue (OPC 10000-6, 5.2.2.17)
 unfoldable pub data_value_entries : DataValue → Fields
 data_value_entries d = named (
-    (codes "value", optional variant_text d.value)
-    ∷ (codes "status", optional_code d.status)
-    ∷ (codes "source_timestamp", optional date_time_text d.source_timestamp)
-    ∷ (codes "source_picoseconds", optional decimal d.source_picoseconds)
-    ∷ (codes "server_timestamp", optional date_time_text d.server_timestamp)
-    ∷ (codes "server_picoseconds", optional decimal d.server_picoseconds)
+    (codes "value", optional value_of d.value)
+    ∷ (codes "status", optional code_leaf d.status)
+    ∷ (codes "source_timestamp", optional moment_of d.source_timestamp)
+    ∷ (codes "source_picoseconds", optional number_leaf d.source_picoseconds)
+    ∷ (codes "server_timestamp", optional moment_of d.server_timestamp)
+    ∷ (codes "server_picoseconds", optional number_leaf d.server_picoseconds)
     ∷ [])
 
 -- ReadValueId (OPC 10000-4, 7.29)

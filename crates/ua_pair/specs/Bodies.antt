@@ -9,7 +9,8 @@ use Rattle.ua_opening.specs.Message.{IsBody, message, body_of}
 use Rattle.ua_opening.specs.Open.{IsAnswer, answer_read}
 use Rattle.ua_services.specs.Request.{request}
 use Rattle.ua_services.specs.Response.{response}
-use Rattle.ua_pair.specs.Messages.{request_fields, response_fields, open_request_fields, open_answer_fields, close_request_fields, service_fault_fields}
+use Rattle.ua_pair.specs.declared.options.FieldStyle.{FieldStyle}
+use Rattle.ua_pair.specs.Messages.{AreMessageLines, request_tree, response_tree, open_request_tree, open_answer_tree, close_request_tree, service_fault_tree, request_fields, response_fields, open_request_fields, open_answer_fields, close_request_fields, service_fault_fields}
 use Rattle.ua_pair.specs.declared.fields.body.BodyKind.{BodyKind}
 use Rattle.ua_pair.specs.declared.fields.body.BodyKind.TheVariants.{Request, Response, OpenRequest, OpenResponse, CloseRequest}
 use Rattle.ua_pair.specs.declared.side.Side.{Side}
@@ -31,15 +32,35 @@ body_fields names OpenRequest octets = fields_found (open_request_fields names) 
 body_fields names OpenResponse octets = fields_found (open_answer_fields names) (answer_read octets)
 body_fields names CloseRequest octets = fields_found (close_request_fields names) (body_of (message 452 close_request) octets)
 
+-- ---- in any style
+
+-- this holds of the text of the message that was found; the text is empty if none was
+abbrev pub IsFound : {A : Type 0} → (A → List ℕ → Type 0) → Option A → List ℕ → Type 0
+IsFound Is None text = text ≡ []
+IsFound Is (Some m) text = Is m text
+
+-- a text has the lines of the message whose body the bytes are, in this style
+abbrev pub IsBodyText : FieldStyle → BodyKind → List ℕ → List ℕ → Type 0
+IsBodyText style Request octets text = IsFound (λ m. AreMessageLines style (request_tree m)) (body_of request octets) text
+IsBodyText style Response octets text = IsFound (λ m. AreMessageLines style (response_tree m)) (body_of response octets) text
+IsBodyText style OpenRequest octets text = IsFound (λ m. AreMessageLines style (open_request_tree m)) (body_of (message 446 open_request) octets) text
+IsBodyText style OpenResponse octets text = IsFound (λ m. AreMessageLines style (open_answer_tree m)) (answer_read octets) text
+IsBodyText style CloseRequest octets text = IsFound (λ m. AreMessageLines style (close_request_tree m)) (body_of (message 452 close_request) octets) text
+
 -- ---- the header alone
 
 -- the value after the NodeId at the start of the bytes, whatever follows it
 abbrev pub behind_id : {A : Type 0} → Format A → List ℕ → Option A
 behind_id format octets = node_id.decode octets >>= λ id. format.decode most_levels id.1 >>= λ value. Some value.0
 
--- the lines of the header of a message that this side sent, if it is decoded completely: a
--- CloseSecureChannelRequest is a RequestHeader and no more, a ServiceFault a ResponseHeader (OPC
--- 10000-4, 5.6.3 and 7.35)
+-- a text has the lines of the header of a message that this side sent, if it is decoded
+-- completely: a CloseSecureChannelRequest is a RequestHeader and no more, a ServiceFault a
+-- ResponseHeader (OPC 10000-4, 5.6.3 and 7.35)
+abbrev pub IsHeaderText : FieldStyle → Side → List ℕ → List ℕ → Type 0
+IsHeaderText style Client octets text = IsFound (λ m. AreMessageLines style (close_request_tree m)) (behind_id close_request octets) text
+IsHeaderText style Server octets text = IsFound (λ m. AreMessageLines style (service_fault_tree m)) (behind_id service_fault octets) text
+
+-- the same lines, exact
 abbrev pub header_fields : Bool → Side → List ℕ → List ℕ
 header_fields names Client octets = fields_found (close_request_fields names) (behind_id close_request octets)
 header_fields names Server octets = fields_found (service_fault_fields names) (behind_id service_fault octets)

@@ -2,16 +2,16 @@
 use Rattle.std.specs.Prelude.{◌≡◌, ℕ, Bool, length, true, false, List, [], ◌++◌}
 use Rattle.ua_frame.specs.declared.frame.Frame.{Frame}
 use Rattle.ua_frame.specs.declared.gate.Gate.{Gate}
-use Rattle.ua_frame.specs.Run.{Rules, Run, End, Going, Stopped, Over, events}
+use Rattle.ua_frame.specs.Run.{Rules, Run, End, Going, Stopped, Over}
 use Rattle.ua_pair.specs.declared.options.DissectOptions.{DissectOptions}
 use Rattle.ua_pair.specs.declared.side.Side.{Side}
 use Rattle.ua_pair.specs.Lines.{rest_line, refused_line}
 use Rattle.ua_pair.specs.Refused.{frame_reasons}
-use Rattle.ua_pair.specs.Told.{frame_lines, place_behind}
+use Rattle.ua_pair.specs.Told.{AreTextsBehind, frame_lines, place_behind}
 
--- the bytes of this side, without fields and without names
+-- the bytes of this side, without fields and without names, exact
 abbrev pub plain : Side → DissectOptions
-plain side = record { side = side; fields = false; names = false }
+plain side = record { side = side; fields = false; names = false; plain = false }
 
 -- the frame filter that accepts a frame (UA TCP message) of each kind at any place, of at most
 -- 16777216 bytes
@@ -36,6 +36,11 @@ last_line names place rest Going = rest_line place (length rest)
 last_line names place rest (Stopped code) = refused_line names place code
 last_line names place rest Over = []
 
+-- a text has the lines of these frames, in order: what `rules` tells, if the texts of fields are
+-- exact
+abbrev pub AreTexts : DissectOptions → List Frame → List ℕ → Type 0
+AreTexts options fs text = AreTextsBehind options [] fs text
+
 -- the lines of the bytes: those of each frame in order up to the first rejected one, and the last
 -- line
 pub record AreLines (options : DissectOptions) (octets lines : List ℕ) : Type 0 where
@@ -43,7 +48,9 @@ pub record AreLines (options : DissectOptions) (octets lines : List ℕ) : Type 
   pub rest : List ℕ
   pub end : End ℕ
   pub run : Run (rules options) octets frames rest end
-  pub lines_are : lines ≡ events (rules options) frames ++ last_line options.names (place_behind frames) rest end
+  pub told : List ℕ
+  pub told_are : AreTexts options frames told
+  pub lines_are : lines ≡ told ++ last_line options.names (place_behind frames) rest end
 
 -- the lines of the frames of the bytes, in order up to the first rejected one: all but the last
 -- line
@@ -52,7 +59,7 @@ pub record AreTold (options : DissectOptions) (octets told : List ℕ) : Type 0 
   pub rest : List ℕ
   pub end : End ℕ
   pub run : Run (rules options) octets frames rest end
-  pub told_are : told ≡ events (rules options) frames
+  pub told_are : AreTexts options frames told
 
 -- these bytes have lines
 pub record HasLines (options : DissectOptions) (octets : List ℕ) : Type 0 where

@@ -12,7 +12,7 @@ use Rattle.ua_pair.specs.declared.options.DissectOptions.{DissectOptions}
 use Rattle.ua_pair.specs.Before.{message_chunks}
 use Rattle.ua_pair.specs.Dissected.{rules, every_frame, AreTold, AreLines}
 use Rattle.ua_pair.specs.Telling.{TellerStands}
-use Rattle.ua_pair.specs.Told.{frame_lines, place_behind}
+use Rattle.ua_pair.specs.Told.{IsFrameText, place_behind}
 
 -- ---- what is held
 
@@ -124,7 +124,7 @@ pub record TakesPiece (old new : Dissector) (piece before after : List ℕ) : Ty
 -- a frame after these was accepted, with these lines
 pub record Accepts (new : Dissector) (options : DissectOptions) (before : List Frame) (f : Frame) (lines : List ℕ) : Type 0 where
   pub accepted : refusal (rules options) before f ≡ None
-  pub lines_are : lines ≡ frame_lines options before f
+  pub lines_are : IsFrameText options before f lines
   pub goes_on : DissectorGoesOn new options (before ++ f ∷ []) []
   pub place : new.place ≡ place_behind (before ++ f ∷ [])
 

@@ -24,68 +24,84 @@ use Rattle.ua_diagnostic.specs.Formats.{diagnostic_format}
 use Rattle.ua_diagnostic.specs.View.{diagnostic_of}
 use Rattle.ua_diagnostic.specs.declared.diagnostic_info.DiagnosticInfo.{DiagnosticInfo}
 use Rattle.ua_texts.specs.Names.{named_code}
-use Rattle.ua_texts.specs.Shown.{escaped, escaped_string, pattern_text, base64_text, written_text}
+use Rattle.ua_texts.specs.Shown.{escaped, escaped_string, base64_text, written_text}
 use Rattle.ua_texts.specs.Values.{boolean_text}
-use Rattle.ua_pair.specs.Tree.{Tree, same_text, text}
+use Rattle.ua_texts.specs.PlainDiagnostic.{plain_diagnostic}
+use Rattle.ua_texts.specs.PlainLeaf.{plain_localized, plain_name}
+use Rattle.ua_pair.specs.Tree.{Leaf, Tree, double_of, fixed, moment_of, same_leaf, text}
 
--- the text of a value, or `null` if there is none
-abbrev pub text_or_null : {A : Type 0} → (A → List ℕ) → Option A → List ℕ
-text_or_null shown None = codes "null"
-text_or_null shown (Some value) = shown value
+-- what the line of a value says, or `null` if there is none
+abbrev pub leaf_or_null : {A : Type 0} → (A → Leaf) → Option A → Leaf
+leaf_or_null leaf None = same_leaf (codes "null")
+leaf_or_null leaf (Some value) = leaf value
 
 -- an optional value
-abbrev pub optional : {A : Type 0} → (A → List ℕ) → Option A → Tree
-optional shown value = same_text (text_or_null shown value)
+abbrev pub optional : {A : Type 0} → (A → Leaf) → Option A → Tree
+optional leaf value = text (leaf_or_null leaf value)
 
 -- ---- plain values
 
 -- an unsigned number, in decimal
+abbrev pub number_leaf : ℕ → Leaf
+number_leaf n = same_leaf (decimal n)
+
+-- the same as a tree; so are those below
 abbrev pub number : ℕ → Tree
-number n = same_text (decimal n)
+number n = text (number_leaf n)
 
 -- a signed number or the number of an enumeration, in decimal
+abbrev pub signed_leaf : ℤ → Leaf
+signed_leaf n = same_leaf (signed_decimal n)
+
 abbrev pub signed : ℤ → Tree
-signed n = same_text (signed_decimal n)
+signed n = text (signed_leaf n)
 
 -- `true` or `false`
-abbrev pub boolean : Bool → Tree
-boolean b = same_text (boolean_text b)
+abbrev pub boolean_leaf : Bool → Leaf
+boolean_leaf b = same_leaf (boolean_text b)
 
--- a Double: `0x` and the sixteen digits of its bit pattern
+abbrev pub boolean : Bool → Tree
+boolean b = text (boolean_leaf b)
+
+-- a Double: `0x` and the sixteen digits of its pattern, or its decimal
+abbrev pub double_leaf : DoubleBits → Leaf
+double_leaf d = double_of d.bits
+
 abbrev pub double : DoubleBits → Tree
-double d = same_text (pattern_text 16 d.bits)
+double d = text (double_leaf d)
 
 -- a String: its text, control characters and backslashes escaped
+abbrev pub string_leaf : Option (List ℕ) → Leaf
+string_leaf s = same_leaf (escaped_string s)
+
 abbrev pub string : Option (List ℕ) → Tree
-string s = same_text (escaped_string s)
+string s = text (string_leaf s)
 
 -- a ByteString, in base64
+abbrev pub bytes_leaf : Option (List ℕ) → Leaf
+bytes_leaf b = same_leaf (base64_text b)
+
 abbrev pub byte_string : Option (List ℕ) → Tree
-byte_string b = same_text (base64_text b)
+byte_string b = text (bytes_leaf b)
 
--- a DateTime: its ticks (OPC 10000-6, 5.2.2.5)
-abbrev pub date_time_text : DateTime → List ℕ
-date_time_text t = signed_decimal t.ticks
-
--- a DateTime, as a tree
+-- a DateTime: its ticks (OPC 10000-6, 5.2.2.5), or its time
 abbrev pub date_time : DateTime → Tree
-date_time t = same_text (date_time_text t)
+date_time t = text (moment_of t)
 
 -- a StatusCode: eight upper case digits, and if names are wanted the standard's name
-abbrev pub status_code_text : Bool → StatusCode → List ℕ
-status_code_text names c = named_code names c.code
+abbrev pub code_leaf : StatusCode → Leaf
+code_leaf c = fixed (λ names. named_code names c.code) (λ names. named_code names c.code)
 
 -- a StatusCode, as a tree
 abbrev pub status_code : StatusCode → Tree
-status_code c = text (λ names. status_code_text names c)
-
--- an optional StatusCode
-abbrev pub optional_code : Option StatusCode → Tree
-optional_code value = text (λ names. text_or_null (status_code_text names) value)
+status_code c = text (code_leaf c)
 
 -- a NodeId: its text, control characters and backslashes escaped; the null NodeId is `i=0`
+abbrev pub node_leaf : NodeId → Leaf
+node_leaf id = same_leaf (escaped (node_text id))
+
 abbrev pub node_id : NodeId → Tree
-node_id id = same_text (escaped (node_text id))
+node_id id = text (node_leaf id)
 
 -- ---- values that are shown by their bytes
 
@@ -93,9 +109,13 @@ node_id id = same_text (escaped (node_text id))
 unfoldable pub encoded_text : {A : Type 0} → Format A → (A → Bool) → A → List ℕ
 encoded_text format is_null value = cond (is_null value) (codes "null") (written_text (format.encodable value) (format.canonical value))
 
--- a value by its bytes
-abbrev pub encoded : {A : Type 0} → Format A → (A → Bool) → A → Tree
-encoded format is_null value = same_text (encoded_text format is_null value)
+-- the text of a value as people write it; `null` for a null one
+abbrev pub plain_or_null : {A : Type 0} → (A → Bool) → (A → List ℕ) → A → List ℕ
+plain_or_null is_null plain value = cond (is_null value) (codes "null") (plain value)
+
+-- a value by its bytes, or as people write it
+abbrev pub encoded : {A : Type 0} → Format A → (A → Bool) → (Bool → A → List ℕ) → A → Leaf
+encoded format is_null plain value = fixed (λ names. encoded_text format is_null value) (λ names. plain_or_null is_null (plain names) value)
 
 -- neither a namespace nor a name
 abbrev pub is_null_name : QualifiedName → Bool
@@ -139,18 +159,30 @@ abbrev pub is_empty : DiagnosticData → Bool
 is_empty (innermost f) = has_no_field f
 is_empty (around f d) = false
 
--- a QualifiedName
+-- a QualifiedName: as `1:Pump`
+abbrev pub name_leaf : QualifiedName → Leaf
+name_leaf q = encoded (flat name_format) is_null_name (λ names. plain_name false) q
+
 abbrev pub qualified_name : QualifiedName → Tree
-qualified_name q = encoded (flat name_format) is_null_name q
+qualified_name q = text (name_leaf q)
 
--- a LocalizedText
+-- a LocalizedText: as `en|Pump`
+abbrev pub localized_leaf : LocalizedText → Leaf
+localized_leaf t = encoded (flat localized_format) is_null_localized (λ names. plain_localized false) t
+
 abbrev pub localized_text : LocalizedText → Tree
-localized_text t = encoded (flat localized_format) is_null_localized t
+localized_text t = text (localized_leaf t)
 
--- an ExtensionObject
+-- an ExtensionObject: by its bytes in each style
+abbrev pub object_leaf : ExtensionObject → Leaf
+object_leaf x = same_leaf (encoded_text (flat object_format) is_null_object x)
+
 abbrev pub extension_object : ExtensionObject → Tree
-extension_object x = encoded (flat object_format) is_null_object x
+extension_object x = text (object_leaf x)
 
--- a DiagnosticInfo
+-- a DiagnosticInfo: by its fields, as `{ symbolic_id 1 }`
+abbrev pub diagnostic_leaf : DiagnosticInfo → Leaf
+diagnostic_leaf d = encoded diagnostic_format (λ v. is_empty (diagnostic_of v)) (λ names v. plain_diagnostic names (diagnostic_of v)) d
+
 abbrev pub diagnostic_info : DiagnosticInfo → Tree
-diagnostic_info d = encoded diagnostic_format (λ v. is_empty (diagnostic_of v)) d
+diagnostic_info d = text (diagnostic_leaf d)

@@ -1,5 +1,6 @@
 -- The fields of messages: trees and their lines, the texts of values, the fields of each structure
 -- and message, the lines of a body, and properties of texts within a line.
+pub mod Styles
 pub mod Tree
 pub mod Leaves
 pub mod Header

@@ -11,7 +11,8 @@ use Rattle.ua_services.specs.declared.response.Response.TheVariants.{GetEndpoint
 use Rattle.ua_opening.specs.declared.secure_channel.CloseRequest.{CloseRequest}
 use Rattle.ua_opening.specs.declared.secure_channel.OpenRequest.{OpenRequest}
 use Rattle.ua_opening.specs.declared.secure_channel.OpenResponse.{OpenResponse}
-use Rattle.ua_pair.specs.Tree.{Tree, structure, lines}
+use Rattle.ua_pair.specs.declared.options.FieldStyle.{FieldStyle}
+use Rattle.ua_pair.specs.Tree.{IsBehind, Tree, structure, lines}
 use Rattle.ua_pair.specs.Header.{service_fault_entries}
 use Rattle.ua_pair.specs.Attribute.{read_request_entries, read_response_entries, write_request_entries, write_response_entries}
 use Rattle.ua_pair.specs.Discovery.{get_endpoints_request_entries, get_endpoints_response_entries}
@@ -66,6 +67,10 @@ service_fault_tree m = structure (service_fault_entries m)
 -- spaces
 abbrev pub message_lines : Bool → Tree → List ℕ
 message_lines names tree = lines names (codes "  ") [] tree
+
+-- a text has the lines of a message in this style
+abbrev pub AreMessageLines : FieldStyle → Tree → List ℕ → Type 0
+AreMessageLines style tree text = IsBehind style (codes "  ") [] [] tree text
 
 -- the lines of a request
 abbrev pub request_fields : Bool → Request → List ℕ

@@ -17,7 +17,7 @@ use Rattle.ua_pair.specs.declared.side.Side.{Side}
 use Rattle.ua_pair.specs.declared.options.DissectOptions.{DissectOptions}
 use Rattle.ua_pair.specs.Before.{message_chunks, last_sequence}
 use Rattle.ua_pair.specs.Refused.{most_octets, most_chunks, chunk_code, reasons_by}
-use Rattle.ua_pair.specs.Told.{lines_by}
+use Rattle.ua_pair.specs.Told.{IsTextBy}
 
 -- the error that results from an error of the assembler: a rejection with its code, or OutOfMemory
 abbrev pub chunk_fault : Side → AssembleFault → DissectFault
@@ -43,14 +43,14 @@ pub record TellerStands (t : Teller) (fs : List Frame) : Type 0 where
   pub octets : octet_limit t.assembler ≡ most_octets
   pub chunks : chunk_limit t.assembler ≡ most_chunks
 
--- the outcome for a frame: there is no reason against it, and its lines were appended; or it is
--- rejected for its first reason; or an allocation failed
-abbrev pub Judges : Option ℕ → List ℕ → Result (Unit {0}) DissectFault → List ℕ → List ℕ → Type 0
-Judges why lines (Ok x) old new = (why ≡ None) × (new ≡ old ++ lines)
-Judges why lines (Err (Refused code)) old new = why ≡ Some code.code
-Judges why lines (Err OutOfMemory) old new = Unit {0}
+-- the outcome for a frame: there is no reason against it, and a text of which this holds was
+-- appended; or it is rejected for its first reason; or an allocation failed
+abbrev pub Judges : Option ℕ → (List ℕ → Type 0) → Result (Unit {0}) DissectFault → List ℕ → List ℕ → Type 0
+Judges why Holds (Ok x) old new = (why ≡ None) × ((text : List ℕ) × (new ≡ old ++ text) × Holds text)
+Judges why Holds (Err (Refused code)) old new = why ≡ Some code.code
+Judges why Holds (Err OutOfMemory) old new = Unit {0}
 
 -- the outcome for a frame of this kind at this offset, after these frames
 abbrev pub JudgesKind : Kind → DissectOptions → List Frame → ℕ → Frame → Result (Unit {0}) DissectFault → List ℕ → List ℕ → Type 0
 JudgesKind k options before place f result old new =
-    Judges (first_reason (reasons_by k options.side (last_sequence before) (message_chunks before) f)) (lines_by k options (message_chunks before) place f) result old new
+    Judges (first_reason (reasons_by k options.side (last_sequence before) (message_chunks before) f)) (IsTextBy k options (message_chunks before) place f) result old new

@@ -1,5 +1,5 @@
 -- The lines of one frame after others: its own, and those of the message that it completes.
-use Rattle.std.specs.Prelude.{ℕ, Bool, ◌&&◌, List, [], ◌++◌, cond, length, Option, Some, None, codes}
+use Rattle.std.specs.Prelude.{◌≡◌, ◌∷◌, ℕ, Bool, ◌&&◌, List, [], ◌++◌, cond, length, Option, Some, None, codes}
 use Rattle.std.specs.List.{flat_map}
 use Rattle.ua_frame.specs.declared.frame.Frame.{Frame}
 use Rattle.ua_frame.specs.declared.kind.Kind.{Kind}
@@ -15,7 +15,9 @@ use Rattle.ua_chunk.specs.Item.{Item}
 use Rattle.ua_chunk.specs.Item.Item.{Whole, Aborted}
 use Rattle.ua_chunk.specs.Layout.{chunk_in}
 use Rattle.ua_chunk.specs.Opening.{opening_in}
-use Rattle.ua_pair.specs.Bodies.{body_fields, header_fields}
+use Rattle.ua_texts.specs.PlainLeaf.{Either}
+use Rattle.ua_pair.specs.Bodies.{IsBodyText, IsFound, IsHeaderText, body_fields, header_fields}
+use Rattle.ua_pair.specs.Styles.{style_of}
 use Rattle.ua_pair.specs.declared.fields.body.BodyKind.{BodyKind}
 use Rattle.ua_pair.specs.declared.options.DissectOptions.{DissectOptions}
 use Rattle.ua_pair.specs.Before.{message_chunks}
@@ -64,6 +66,52 @@ lines_by Msg options cs place f = line_if (chunk_lines options cs place (frame_s
 lines_by Opn options cs place f = line_if (opening_lines options place (frame_size f)) (opening_in f)
 lines_by Clo options cs place f = line_if (chunk_line (codes "CLO") place (frame_size f)) (chunk_in f)
 
+-- ---- the same in any style: if the texts of fields are exact, each text is what the definitions
+-- above give
+
+-- a text has the lines of the fields of a body, if they are wanted
+abbrev pub AreFieldsOf : DissectOptions → BodyKind → List ℕ → List ℕ → Type 0
+AreFieldsOf options kind octets text = Either options.fields (IsBodyText (style_of options) kind octets text) (text ≡ [])
+
+-- those of the header of a message of no known kind
+abbrev pub IsHeaderOf : DissectOptions → Bool → List ℕ → List ℕ → Type 0
+IsHeaderOf options unsupported octets text = Either (options.fields && unsupported) (IsHeaderText (style_of options) options.side octets text) (text ≡ [])
+
+-- those of a message
+abbrev pub IsMessageText : DissectOptions → ℕ → List ℕ → List ℕ → Type 0
+IsMessageText options id octets text =
+    (fields : List ℕ) × (header : List ℕ) × (text ≡ message_line id (length octets) (message_title options.names options.side octets) ++ (fields ++ header))
+    × AreFieldsOf options (message_kind options.side) octets fields × IsHeaderOf options (is_unsupported options.side octets) octets header
+
+-- those of what a chunk completes
+abbrev pub IsItemText : DissectOptions → Item → List ℕ → Type 0
+IsItemText options (Whole id octets) text = IsMessageText options id octets text
+IsItemText options (Aborted id code reason) text = text ≡ aborted_line options.names id code
+
+-- a text has a part for each item, in order
+abbrev pub AreParts : {A : Type 0} → (A → List ℕ → Type 0) → List A → List ℕ → Type 0
+AreParts Is [] text = text ≡ []
+AreParts Is (x ∷ xs) text = (first : List ℕ) × (rest : List ℕ) × (text ≡ first ++ rest) × Is x first × AreParts Is xs rest
+
+-- those of the body of an OPN
+abbrev pub IsOpenedText : DissectOptions → OpenChunk → List ℕ → Type 0
+IsOpenedText options c text =
+    (fields : List ℕ) × (text ≡ message_line c.request (length c.body) (opening_name options.side c.body) ++ fields) × AreFieldsOf options (opening_kind options.side) c.body fields
+
+-- those of an OPN
+abbrev pub IsOpeningText : DissectOptions → ℕ → ℕ → OpenChunk → List ℕ → Type 0
+IsOpeningText options place size c text = (opened : List ℕ) × (text ≡ opening_line place size c ++ opened) × IsOpenedText options c opened
+
+-- those of a MSG
+abbrev pub IsChunkText : DissectOptions → List Chunk → ℕ → ℕ → Chunk → List ℕ → Type 0
+IsChunkText options cs place size c text = (items : List ℕ) × (text ≡ chunk_line (codes "MSG") place size c ++ items) × AreParts (IsItemText options) (given cs c) items
+
+-- those of a frame of this kind at this place, after these chunks
+abbrev pub IsTextBy : Kind → DissectOptions → List Chunk → ℕ → Frame → List ℕ → Type 0
+IsTextBy Msg options cs place f text = IsFound (IsChunkText options cs place (frame_size f)) (chunk_in f) text
+IsTextBy Opn options cs place f text = IsFound (IsOpeningText options place (frame_size f)) (opening_in f) text
+IsTextBy kind options cs place f text = text ≡ lines_by kind options cs place f
+
 -- the offset of the frame after these: the number of their bytes
 abbrev pub place_behind : List Frame → ℕ
 place_behind fs = length (frames_octets fs)
@@ -71,3 +119,12 @@ place_behind fs = length (frames_octets fs)
 -- the lines of a frame after these frames
 unfoldable pub frame_lines : DissectOptions → List Frame → Frame → List ℕ
 frame_lines options before f = lines_by f.kind options (message_chunks before) (place_behind before) f
+
+-- the same in any style
+unfoldable pub IsFrameText : DissectOptions → List Frame → Frame → List ℕ → Type 0
+IsFrameText options before f text = IsTextBy f.kind options (message_chunks before) (place_behind before) f text
+
+-- the lines of these frames after those before, in order
+abbrev pub AreTextsBehind : DissectOptions → List Frame → List Frame → List ℕ → Type 0
+AreTextsBehind options before [] text = text ≡ []
+AreTextsBehind options before (f ∷ fs) text = (first : List ℕ) × (rest : List ℕ) × (text ≡ first ++ rest) × IsFrameText options before f first × AreTextsBehind options (before ++ f ∷ []) fs rest

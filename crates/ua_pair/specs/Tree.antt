@@ -1,15 +1,50 @@
 -- A message as a tree of its fields, and the lines that the tree is printed as.
-use Rattle.std.specs.Prelude.{ℕ, Bool, ◌+◌, List, [], ◌∷◌, ◌++◌, map, Option, Some, None, codes}
-use Rattle.std.specs.Fmt.{decimal}
+use Rattle.std.specs.Prelude.{◌≡◌, ℕ, Bool, ◌+◌, List, [], ◌∷◌, ◌++◌, map, Option, Some, None, codes}
+use Rattle.std.specs.Fmt.{decimal, signed_decimal}
+use Rattle.ua_builtin.specs.declared.date_time.DateTime.{DateTime}
+use Rattle.ua_texts.specs.Plain.{IsPlainVariant}
+use Rattle.ua_texts.specs.PlainLeaf.{Either, IsPlainDouble, IsPlainMoment}
+use Rattle.ua_texts.specs.Shown.{pattern_text}
+use Rattle.ua_texts.specs.Values.{variant_text}
+use Rattle.ua_variant.specs.Data.{VariantData}
+use Rattle.ua_pair.specs.declared.options.FieldStyle.{FieldStyle}
+
+-- ---- texts
+
+-- what a line says: a text, exact and as people write it, each of which may be another one if the
+-- names of StatusCodes are wanted; a Double by its bit pattern; a DateTime; a Variant
+pub data Leaf : Type 0 where
+  fixed : (Bool → List ℕ) → (Bool → List ℕ) → Leaf
+  double_of : ℕ → Leaf
+  moment_of : DateTime → Leaf
+  value_of : VariantData → Leaf
+
+-- the exact text, with or without the names of StatusCodes
+abbrev pub exact_text : Bool → Leaf → List ℕ
+exact_text names (fixed exact plain) = exact names
+exact_text names (double_of bits) = pattern_text 16 bits
+exact_text names (moment_of t) = signed_decimal t.ticks
+exact_text names (value_of v) = variant_text v
+
+-- a text as people write it: that of a Double, and of a Variant that holds one or a Float, is any
+-- decimal that reads back as it
+abbrev pub IsPlainText : Bool → Leaf → List ℕ → Type 0
+IsPlainText names (fixed exact plain) text = text ≡ plain names
+IsPlainText names (double_of bits) text = IsPlainDouble bits text
+IsPlainText names (moment_of t) text = IsPlainMoment t text
+IsPlainText names (value_of v) text = IsPlainVariant names v text
+
+-- a text of this style
+abbrev pub IsText : FieldStyle → Leaf → List ℕ → Type 0
+IsText style leaf text = Either style.plain (IsPlainText style.names leaf text) (text ≡ exact_text style.names leaf)
 
 -- ---- trees
 
--- a field is a text, which may be another one if the names of StatusCodes are wanted, an array, or
--- a structure; an array is null or has trees as its elements, and a structure has named trees as
--- its fields
+-- a field is a text, an array, or a structure; an array is null or has trees as its elements, and
+-- a structure has named trees as its fields
 mutual
   pub data Tree : Type 0 where
-    text : (Bool → List ℕ) → Tree
+    text : Leaf → Tree
     array : Array → Tree
     structure : Fields → Tree
 
@@ -25,9 +60,13 @@ mutual
     no_fields : Fields
     field : List ℕ → Tree → Fields → Fields
 
--- a text that is the same with and without names
+-- a text that is the same in each style
+abbrev pub same_leaf : List ℕ → Leaf
+same_leaf shown = fixed (λ names. shown) (λ names. shown)
+
+-- the same as a tree
 abbrev pub same_text : List ℕ → Tree
-same_text shown = text (λ names. shown)
+same_text shown = text (same_leaf shown)
 
 -- the elements of an array, of a list
 abbrev pub elements_of : List Tree → Elements
@@ -85,7 +124,7 @@ field_margin margin (structure inner) = deeper margin
 -- level deeper; of a structure the lines of its fields, in their order
 abbrev mutual
   pub lines : Bool → List ℕ → List ℕ → Tree → List ℕ
-  lines names margin path (text shown) = line margin path (shown names)
+  lines names margin path (text leaf) = line margin path (exact_text names leaf)
   lines names margin path (array items) = array_lines names margin path items
   lines names margin path (structure inner) = field_lines names margin path inner
 
@@ -101,15 +140,23 @@ abbrev mutual
   field_lines names margin path no_fields = []
   field_lines names margin path (field name tree others) = lines names (field_margin margin tree) (field_path path name) tree ++ field_lines names margin path others
 
--- ---- the same after a text
+-- ---- lines after a text, in any style
 
--- a text followed by the lines of these fields, one field after the other
-abbrev pub with_fields : Bool → List ℕ → List ℕ → List ℕ → Fields → List ℕ
-with_fields names margin path start no_fields = start
-with_fields names margin path start (field name tree others) = with_fields names margin path (start ++ lines names (field_margin margin tree) (field_path path name) tree) others
+-- the new text is the old one followed by the lines of a tree, in this style
+abbrev mutual
+  pub IsBehind : FieldStyle → List ℕ → List ℕ → List ℕ → Tree → List ℕ → Type 0
+  IsBehind style margin path old (text leaf) new = (shown : List ℕ) × (new ≡ old ++ line margin path shown) × IsText style leaf shown
+  IsBehind style margin path old (array items) new = IsArrayBehind style margin path old items new
+  IsBehind style margin path old (structure inner) new = AreFieldsBehind style margin path old inner new
 
--- a text followed by the lines of a tree
-abbrev pub with_lines : Bool → List ℕ → List ℕ → List ℕ → Tree → List ℕ
-with_lines names margin path start (text shown) = start ++ line margin path (shown names)
-with_lines names margin path start (array items) = start ++ array_lines names margin path items
-with_lines names margin path start (structure inner) = with_fields names margin path start inner
+  pub IsArrayBehind : FieldStyle → List ℕ → List ℕ → List ℕ → Array → List ℕ → Type 0
+  IsArrayBehind style margin path old null new = new ≡ old ++ line margin path (codes "null")
+  IsArrayBehind style margin path old (elements items) new = AreElementsBehind style (deeper margin) path 0 (old ++ line margin path (decimal (count items))) items new
+
+  pub AreElementsBehind : FieldStyle → List ℕ → List ℕ → ℕ → List ℕ → Elements → List ℕ → Type 0
+  AreElementsBehind style margin path index old no_elements new = new ≡ old
+  AreElementsBehind style margin path index old (element tree others) new = (mid : List ℕ) × IsBehind style margin (element_path path index) old tree mid × AreElementsBehind style margin path (index + 1) mid others new
+
+  pub AreFieldsBehind : FieldStyle → List ℕ → List ℕ → List ℕ → Fields → List ℕ → Type 0
+  AreFieldsBehind style margin path old no_fields new = new ≡ old
+  AreFieldsBehind style margin path old (field name tree others) new = (mid : List ℕ) × IsBehind style (field_margin margin tree) (field_path path name) old tree mid × AreFieldsBehind style margin path mid others new

@@ -22,7 +22,7 @@ use ua_frame::Frame;
 const MOST_HELD: usize = 83886080;
 
 /// The state of a dissector.
-#[derive(Clone, Copy)]
+#[derive(Clone, Copy, Debug)]
 pub enum State {
     /// The dissector accepts bytes.
     Going,
@@ -34,7 +34,7 @@ pub enum State {
 
 /// Prints the bytes that one side of a connection sent, in any fragments, as lines. A UA TCP
 /// message, and a message with its last chunk, is printed as soon as it is complete.
-#[derive(Drop)]
+#[derive(Debug, Drop)]
 pub struct Dissector {
     alloc: Global,
     state: State,

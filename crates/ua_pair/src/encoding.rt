@@ -14,7 +14,7 @@ use ua_opening::standard_number;
 
 /// The name of the message whose binary encoding has this number (OPC 10000-6, A.3), where the
 /// table has it.
-fn encoding_name(number: u32) -> Option<&'static str>
+pub fn encoding_name(number: u32) -> Option<&'static str>
     ensures { option_map (λ name. name.now) result ≡ name_in encodings number }
 {
     match known_numbers().binary_search(&number) {

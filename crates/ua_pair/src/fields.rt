@@ -16,7 +16,7 @@ mod secure_channel;
 mod session;
 mod text;
 
-pub(crate) use body::push_header_fields;
+pub(crate) use body::{push_body_text, push_header_fields};
 pub use body::{BodyKind, push_body_fields};
 pub use message::{
     push_close_request_fields, push_open_answer_fields, push_open_request_fields,

@@ -1,19 +1,21 @@
 //! Laws of the dissector's output, each the contract of a function that does nothing.
 
-ghost use Rattle.std.specs.Prelude.{◌≡◌, ℕ, List};
+ghost use Rattle.std.specs.Prelude.{◌≡◌, ℕ, List, false};
 ghost use Rattle.ua_texts.specs.Shown.{shown};
 ghost use Rattle.ua_pair.specs.declared.options.DissectOptions.{DissectOptions};
 ghost use Rattle.ua_pair.specs.Dissected.{AreLines, HasLines};
 ghost use Rattle.ua_pair.specs.Laws.{HasNoControl};
 
-/// The output is defined for every byte sequence, for either side, with or without fields.
+/// The output is defined for every byte sequence, for either side, with or without fields, unless
+/// fields are as people write them.
 pub fn has_lines()
-    ensures { (options : DissectOptions) (octets : List ℕ) → HasLines options octets }
+    ensures { (options : DissectOptions) (octets : List ℕ) → options.plain ≡ false → HasLines options octets }
 {}
 
-/// The output is determined by the bytes, the side that sent them and the options.
+/// The output is determined by the bytes, the side that sent them and the options, unless fields
+/// are as people write them: then a Float or Double may be any decimal that reads back as it.
 pub fn one_reading()
-    ensures { (options : DissectOptions) (octets lines others : List ℕ) → AreLines options octets lines → AreLines options octets others → lines ≡ others }
+    ensures { (options : DissectOptions) (octets lines others : List ℕ) → options.plain ≡ false → AreLines options octets lines → AreLines options octets others → lines ≡ others }
 {}
 
 /// The EndpointUrl of a HEL and the reason of an ERR end no line: the printed text has no byte

@@ -42,6 +42,7 @@ mod stream;
 mod teller;
 
 pub use dissector::Dissector;
+pub use encoding::encoding_name;
 pub use fields::{
     BodyKind, push_body_fields, push_close_request_fields, push_open_answer_fields,
     push_open_request_fields, push_open_response_fields, push_request_fields, push_response_fields,

@@ -2,6 +2,7 @@
 
 ghost use Rattle.std.specs.Prelude.{◌≡◌};
 ghost use Rattle.ua_pair.specs.Dissected.{plain as plain_options};
+ghost use Rattle.ua_pair.specs.Styles.{style_of};
 
 use crate::side::Side;
 
@@ -12,8 +13,36 @@ pub struct DissectOptions {
     pub side: Side,
     /// Whether the fields of a message follow its line.
     pub fields: bool,
+    /// Whether the standard name of a StatusCode follows it, and `unsupported` is followed by the
+    /// encoding.
+    pub names: bool,
+    /// Whether the fields are as people write them.
+    pub plain: bool,
+}
+
+/// How the texts of fields are written.
+#[derive(Clone, Copy, PartialEq, Eq, Debug)]
+pub struct FieldStyle {
     /// Whether the standard name of a StatusCode follows it.
     pub names: bool,
+    /// Whether they are as people write them: decimals, times, names, the fields of a
+    /// DiagnosticInfo.
+    pub plain: bool,
+}
+
+impl FieldStyle {
+    ghost use Rattle.std.specs.Prelude.{◌≡◌};
+    ghost use Rattle.ua_pair.specs.Styles.{exact};
+
+    /// Exact texts, with or without the names of StatusCodes.
+    pub fn exact(names: bool) -> FieldStyle
+        ensures { result ≡ exact names }
+    {
+        FieldStyle {
+            names,
+            plain: false,
+        }
+    }
 }
 
 impl DissectOptions {
@@ -25,6 +54,17 @@ impl DissectOptions {
             side,
             fields: false,
             names: false,
+            plain: false,
+        }
+    }
+
+    /// How the texts of fields are written.
+    pub fn style(&self) -> FieldStyle
+        ensures { result ≡ style_of self.now }
+    {
+        FieldStyle {
+            names: self.names,
+            plain: self.plain,
         }
     }
 }

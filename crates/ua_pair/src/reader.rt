@@ -29,7 +29,7 @@ fn every_frame() -> Gate
 
 /// A reader with a constant frame filter: it accepts UA TCP messages of every type, at any
 /// position.
-#[derive(Drop)]
+#[derive(Debug, Drop)]
 pub struct EveryReader {
     reader: FrameReader,
 }

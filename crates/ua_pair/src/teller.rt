@@ -16,10 +16,11 @@ ghost use Rattle.ua_pair.specs.Telling.{TellerStands, Judges, JudgesKind};
 ghost use Rattle.ua_pair.specs.Refused.{greeting_reasons, frame_reasons};
 ghost use Rattle.ua_pair.specs.Lines.{message_line};
 ghost use Rattle.ua_pair.specs.Names.{message_kind as kind_of_message, opening_kind as kind_of_opening, opening_name as name_of_opening};
-ghost use Rattle.ua_pair.specs.Told.{fields_of, frame_lines, header_of, item_lines, line_if, place_behind};
+ghost use Rattle.ua_texts.specs.PlainLeaf.{Adds};
+ghost use Rattle.ua_pair.specs.Told.{AreFieldsOf, IsFrameText, IsHeaderOf, IsItemText, IsOpenedText, line_if, place_behind};
 
 use crate::fault::DissectFault;
-use crate::fields::{BodyKind, push_body_fields, push_header_fields};
+use crate::fields::{BodyKind, push_body_text, push_header_fields};
 use crate::line::{
     GreetingLine, push_aborted_line, push_chunk_line, push_message_line, push_opening_line,
 };
@@ -39,7 +40,7 @@ const MOST_CHUNKS: u32 = 4096;
 
 /// Prints the UA TCP messages that one side sent, one after the other. It keeps the unfinished
 /// messages and the last SequenceNumber. After an error, discard it.
-#[derive(Drop)]
+#[derive(Debug, Drop)]
 pub struct Teller {
     alloc: Global,
     pub options: DissectOptions,
@@ -64,7 +65,7 @@ fn push_greeting<T: GreetingLine>(
     size: usize,
     lines: &mut String,
 ) -> Result<(), DissectFault>
-    ensures { Judges (first_reason (greeting_reasons (whole_of T.message body.now))) (line_if (T.line names place size) (whole_of T.message body.now)) result (string_bytes lines.old) (string_bytes lines.new) }
+    ensures { Judges (first_reason (greeting_reasons (whole_of T.message body.now))) (λ text. text ≡ line_if (T.line names place size) (whole_of T.message body.now)) result (string_bytes lines.old) (string_bytes lines.new) }
 {
     let Some(message) = T::read_whole(alloc, body)? else {
         return Err(DissectFault::Refused(StatusCode::BAD_DECODING_ERROR));
@@ -101,10 +102,10 @@ fn push_fields<S: Source>(
     src: &mut S,
     lines: &mut String,
 ) -> Result<(), AllocError>
-    ensures { OnOk result (string_bytes lines.new ≡ string_bytes lines.old ++ fields_of options.now kind (S.octets src.old)) }
+    ensures { Adds result (string_bytes lines.old) (string_bytes lines.new) (AreFieldsOf options.now kind (S.octets src.old)) }
 {
     if options.fields {
-        push_body_fields(alloc, kind, options.names, src, lines)
+        push_body_text(alloc, kind, options.style(), src, lines)
     } else {
         Ok(())
     }
@@ -118,11 +119,11 @@ fn push_header(
     message: &Message,
     lines: &mut String,
 ) -> Result<(), AllocError>
-    ensures { OnOk result (string_bytes lines.new ≡ string_bytes lines.old ++ header_of options.now unsupported (concat message.now)) }
+    ensures { Adds result (string_bytes lines.old) (string_bytes lines.new) (IsHeaderOf options.now unsupported (concat message.now)) }
 {
     if options.fields && unsupported {
         let mut body = message.source();
-        push_header_fields(alloc, options.side, options.names, &mut body, lines)
+        push_header_fields(alloc, options.side, options.style(), &mut body, lines)
     } else {
         Ok(())
     }
@@ -136,7 +137,7 @@ fn push_message(
     message: &Message,
     lines: &mut String,
 ) -> Result<(), AllocError>
-    ensures { OnOk result (string_bytes lines.new ≡ string_bytes lines.old ++ item_lines options.now (Whole request (concat message.now))) }
+    ensures { Adds result (string_bytes lines.old) (string_bytes lines.new) (IsItemText options.now (Whole request (concat message.now))) }
 {
     let (title, unsupported) = message_title(alloc, options.side, options.names, message)?;
     push_message_line(lines, request, message.len(), &title)?;
@@ -152,7 +153,7 @@ fn push_delivered(
     delivered: Delivered,
     lines: &mut String,
 ) -> Result<(), AllocError>
-    ensures { OnOk result (string_bytes lines.new ≡ string_bytes lines.old ++ item_lines options.now (item_of delivered)) }
+    ensures { Adds result (string_bytes lines.old) (string_bytes lines.new) (IsItemText options.now (item_of delivered)) }
 {
     match delivered {
         Delivered::Whole(request, message) => {
@@ -171,8 +172,7 @@ fn push_opened(
     chunk: &OpenChunk,
     lines: &mut String,
 ) -> Result<(), AllocError>
-    ensures { OnOk result (string_bytes lines.new ≡ string_bytes lines.old
-        ++ (message_line chunk.now.request (length chunk.now.body) (name_of_opening options.now.side chunk.now.body) ++ fields_of options.now (kind_of_opening options.now.side) chunk.now.body)) }
+    ensures { Adds result (string_bytes lines.old) (string_bytes lines.new) (IsOpenedText options.now chunk.now) }
 {
     let name = opening_name(alloc, options.side, &chunk.body)?;
     push_message_line(lines, chunk.request, chunk.body.len(), name)?;
@@ -283,7 +283,7 @@ impl Teller {
         requires sized { IsSized frame }
         requires let_in { LetsIn every_frame frame }
         ensures judged { (before : List Frame) → TellerStands self.old before → place ≡ place_behind before →
-            Judges (first_reason (frame_reasons self.old.options.side before frame)) (frame_lines self.old.options before frame) result (string_bytes lines.old) (string_bytes lines.new) }
+            Judges (first_reason (frame_reasons self.old.options.side before frame)) (IsFrameText self.old.options before frame) result (string_bytes lines.old) (string_bytes lines.new) }
         ensures stands { (before : List Frame) → TellerStands self.old before → OnOk result (TellerStands self.new (before ++ frame ∷ [])) }
         ensures options { self.new.options ≡ self.old.options }
     {

@@ -2,7 +2,7 @@
 
 ghost use Rattle.std.specs.Prelude.{◌≡◌, ◌++◌, map, string_bytes, OnOk};
 ghost use Rattle.std.specs.Fmt.{decimal};
-ghost use Rattle.ua_pair.specs.Tree.{array, element_lines, elements, elements_of, line, lines};
+ghost use Rattle.ua_pair.specs.Tree.{AreElementsBehind, IsBehind, array, elements, elements_of, line};
 
 use crate::fields::lines::{Lines, Place, deeper_margin, push_line, push_start};
 use std::alloc::{AllocError, Global};
@@ -16,7 +16,7 @@ fn push_elements<T: Lines>(
     place: Place<'_>,
     items: &[T],
 ) -> Result<(), AllocError>
-    ensures { OnOk result (string_bytes out.new ≡ string_bytes out.old ++ element_lines place.entry.names place.entry.margin.now place.entry.path.now 0 (elements_of (map T.tree items.now))) }
+    ensures { OnOk result (AreElementsBehind place.entry.style place.entry.margin.now place.entry.path.now 0 (string_bytes out.old) (elements_of (map T.tree items.now)) (string_bytes out.new)) }
 {
     for (index, item) in items.iter().enumerate() {
         place.push_element(alloc, out, index, item)?;
@@ -40,12 +40,12 @@ fn push_items<T: Lines>(
     place: Place<'_>,
     items: &[T],
 ) -> Result<(), AllocError>
-    ensures { OnOk result (string_bytes out.new ≡ string_bytes out.old ++ lines place.entry.names place.entry.margin.now place.entry.path.now (array (elements (elements_of (map T.tree items.now))))) }
+    ensures { OnOk result (IsBehind place.entry.style place.entry.margin.now place.entry.path.now (string_bytes out.old) (array (elements (elements_of (map T.tree items.now)))) (string_bytes out.new)) }
 {
     push_count(out, place, items.len())?;
     let margin = deeper_margin(alloc, place.margin)?;
     let inner = Place {
-        names: place.names,
+        style: place.style,
         margin: &margin,
         path: place.path,
     };

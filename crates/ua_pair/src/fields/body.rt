@@ -6,11 +6,13 @@ ghost use Rattle.ua_opening.specs.Message.{body_of, message, standard_number as 
 ghost use Rattle.ua_opening.specs.Open.{answer_read};
 ghost use Rattle.ua_services.specs.Request.{request};
 ghost use Rattle.ua_services.specs.Response.{response};
-ghost use Rattle.ua_pair.specs.Bodies.{AreBodyFields, behind_id, body_fields, fields_found, header_fields};
-ghost use Rattle.ua_pair.specs.Messages.{message_lines};
+ghost use Rattle.ua_pair.specs.Bodies.{AreBodyFields, IsBodyText, IsFound, IsHeaderText, behind_id, body_fields};
+ghost use Rattle.ua_texts.specs.PlainLeaf.{Adds};
+ghost use Rattle.ua_pair.specs.Messages.{AreMessageLines};
 
 use crate::fields::lines::Lines;
 use crate::fields::message::push_message;
+use crate::options::FieldStyle;
 use crate::side::Side;
 use std::alloc::{AllocError, Global};
 use ua_builtin::{Identifier, MOST_LEVELS, NodeId, ReadFault, Source, Wire};
@@ -20,7 +22,7 @@ use ua_services::{
 };
 
 /// How a body is decoded, given its sender and its message type (OPC 10000-6, 6.7.2).
-#[derive(Clone, Copy, PartialEq, Eq)]
+#[derive(Clone, Copy, PartialEq, Eq, Debug)]
 pub enum BodyKind {
     /// A request, from a client in a MSG.
     Request,
@@ -138,21 +140,42 @@ fn found_close_request<S: Source>(
 fn push_found<T: Lines + Drop>(
     alloc: Global,
     found: Option<T>,
-    names: bool,
+    style: FieldStyle,
     out: &mut String,
 ) -> Result<(), AllocError>
-    ensures { OnOk result (string_bytes out.new ≡ string_bytes out.old ++ fields_found (λ m. message_lines names (T.tree m)) found) }
+    ensures { Adds result (string_bytes out.old) (string_bytes out.new) (IsFound (λ m. AreMessageLines style (T.tree m)) found) }
 {
     match found {
-        Some(message) => push_message(alloc, &message, names, out),
+        Some(message) => push_message(alloc, &message, style, out),
         None => Ok(()),
     }
 }
 
-/// Appends the lines of the message in a body, or none if the body cannot be decoded or is of an
-/// unknown service. Discard the source afterwards. If an allocation fails, some lines may have been
-/// appended.
-#[tactic(auto, unfolding(crate::specs::Bodies::body_fields), using(crate::proofs::Bodies::body_told))]
+/// Appends the lines of a body in this style: those of the message in it, or none if the body
+/// cannot be decoded or is of an unknown service. Discard the source afterwards. If an allocation
+/// fails, some lines may have been appended.
+pub(crate) fn push_body_text<S: Source>(
+    alloc: Global,
+    kind: BodyKind,
+    style: FieldStyle,
+    src: &mut S,
+    out: &mut String,
+) -> Result<(), AllocError>
+    ensures { Adds result (string_bytes out.old) (string_bytes out.new) (IsBodyText style kind (S.octets src.old)) }
+{
+    match kind {
+        BodyKind::Request => push_found(alloc, found_request(alloc, src)?, style, out),
+        BodyKind::Response => push_found(alloc, found_response(alloc, src)?, style, out),
+        BodyKind::OpenRequest => push_found(alloc, found_open_request(alloc, src)?, style, out),
+        BodyKind::OpenResponse => push_found(alloc, found_open_answer(alloc, src)?, style, out),
+        BodyKind::CloseRequest => push_found(alloc, found_close_request(alloc, src)?, style, out),
+    }
+}
+
+/// Appends the exact lines of the message in a body, or none if the body cannot be decoded or is of
+/// an unknown service. Discard the source afterwards. If an allocation fails, some lines may have
+/// been appended.
+#[tactic(auto, using(crate::proofs::Bodies::body_told, crate::proofs::Bodies::exact_body))]
 pub fn push_body_fields<S: Source>(
     alloc: Global,
     kind: BodyKind,
@@ -163,13 +186,7 @@ pub fn push_body_fields<S: Source>(
     ensures fields { OnOk result (string_bytes out.new ≡ string_bytes out.old ++ body_fields names kind (S.octets src.old)) }
     ensures told { AreBodyFields names kind (S.octets src.old) (body_fields names kind (S.octets src.old)) }
 {
-    match kind {
-        BodyKind::Request => push_found(alloc, found_request(alloc, src)?, names, out),
-        BodyKind::Response => push_found(alloc, found_response(alloc, src)?, names, out),
-        BodyKind::OpenRequest => push_found(alloc, found_open_request(alloc, src)?, names, out),
-        BodyKind::OpenResponse => push_found(alloc, found_open_answer(alloc, src)?, names, out),
-        BodyKind::CloseRequest => push_found(alloc, found_close_request(alloc, src)?, names, out),
-    }
+    push_body_text(alloc, kind, FieldStyle::exact(names), src, out)
 }
 
 /// The value after the NodeId at the start of bytes, whatever follows it.
@@ -193,20 +210,20 @@ fn found_behind<T: Wire, S: Source>(alloc: Global, src: &mut S) -> Result<Option
 pub(crate) fn push_header_fields<S: Source>(
     alloc: Global,
     side: Side,
-    names: bool,
+    style: FieldStyle,
     src: &mut S,
     out: &mut String,
 ) -> Result<(), AllocError>
-    ensures { OnOk result (string_bytes out.new ≡ string_bytes out.old ++ header_fields names side (S.octets src.old)) }
+    ensures { Adds result (string_bytes out.old) (string_bytes out.new) (IsHeaderText style side (S.octets src.old)) }
 {
     match side {
         Side::Client => {
             let found: Option<CloseRequest> = found_behind(alloc, src)?;
-            push_found(alloc, found, names, out)
+            push_found(alloc, found, style, out)
         }
         Side::Server => {
             let found: Option<ServiceFault> = found_behind(alloc, src)?;
-            push_found(alloc, found, names, out)
+            push_found(alloc, found, style, out)
         }
     }
 }

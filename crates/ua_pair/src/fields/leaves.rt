@@ -1,90 +1,58 @@
 //! Values without fields of their own, as lines.
 
-ghost use Rattle.std.specs.Prelude.{◌≡◌, ◌++◌, Bool, List, ℕ, string_bytes, OnOk};
-ghost use Rattle.ua_pair.specs.Tree.{line};
+ghost use Rattle.std.specs.Prelude.{string_bytes, OnOk};
+ghost use Rattle.ua_texts.specs.PlainLeaf.{Adds};
+ghost use Rattle.ua_pair.specs.Tree.{IsBehind, IsText, Leaf, text};
 
 use crate::fields::lines::{Lines, Place, push_line, push_start};
 use crate::fields::null::{is_empty, is_null_name, is_null_object, is_null_text};
-use crate::fields::text::{push_encoded_line, push_node};
+use crate::fields::text::{push_encoded_or_null, push_node};
+use crate::options::FieldStyle;
 use std::alloc::{AllocError, Global};
 use std::fmt::Write;
 use ua_builtin::{
     DateTime, DoubleBits, ExtensionObject, LocalizedText, NodeId, QualifiedName, StatusCode,
     UaBytes, UaString,
 };
-use ua_texts::{push_base64, push_code_as, push_escaped_string, push_variant, push_wide_pattern};
+use ua_texts::{
+    push_base64, push_code_as, push_diagnostic, push_double, push_escaped_string, push_moment,
+    push_plain_localized, push_plain_name, push_plain_variant, push_variant, push_wide_pattern,
+};
 use ua_variant::{DiagnosticInfo, HeldVariant};
 
-/// A value whose text is shown if it is present.
+/// A value whose text is shown on a line.
 trait Text {
-    /// The text, with or without the names of StatusCodes.
-    ghost shown: { Bool → Self → List ℕ };
+    /// What the line says.
+    ghost leaf: { Self → Leaf };
 
     /// Appends the text.
-    fn push_text(&self, alloc: Global, out: &mut String, names: bool) -> Result<(), AllocError>
-        ensures { OnOk result (string_bytes out.new ≡ string_bytes out.old ++ shown names self.now) };
-}
-
-impl Text for u16 {
-    ghost use Rattle.std.specs.Fmt.{decimal};
-
-    ghost shown = { λ names. decimal };
-
-    fn push_text(&self, _alloc: Global, out: &mut String, _names: bool) -> Result<(), AllocError> {
-        write!(out, "{self}")
-    }
-}
-
-impl Text for DateTime {
-    ghost use Rattle.ua_pair.specs.Leaves.{date_time_text};
-
-    ghost shown = { λ names. date_time_text };
-
-    fn push_text(&self, _alloc: Global, out: &mut String, _names: bool) -> Result<(), AllocError> {
-        write!(out, "{}", self.ticks)
-    }
-}
-
-impl Text for StatusCode {
-    ghost use Rattle.ua_pair.specs.Leaves.{status_code_text};
-
-    ghost shown = { status_code_text };
-
-    fn push_text(&self, _alloc: Global, out: &mut String, names: bool) -> Result<(), AllocError> {
-        push_code_as(out, *self, names)
-    }
-}
-
-impl Text for HeldVariant {
-    ghost use Rattle.ua_texts.specs.Values.{variant_text};
-
-    ghost shown = { λ names. variant_text };
-
-    fn push_text(&self, alloc: Global, out: &mut String, _names: bool) -> Result<(), AllocError> {
-        push_variant(alloc, out, self.get())
-    }
+    fn push_text(
+        &self,
+        alloc: Global,
+        out: &mut String,
+        style: FieldStyle,
+    ) -> Result<(), AllocError>
+        ensures { Adds result (string_bytes out.old) (string_bytes out.new) (IsText style (leaf self.now)) };
 }
 
 /// Appends a line with the text of a value.
-#[tactic(auto, unfolding(crate::specs::Tree::line))]
 fn push_text_line<T: Text>(
     alloc: Global,
     out: &mut String,
     place: Place<'_>,
     value: &T,
 ) -> Result<(), AllocError>
-    ensures { OnOk result (string_bytes out.new ≡ string_bytes out.old ++ line place.entry.margin.now place.entry.path.now (T.shown place.entry.names value.now)) }
+    ensures { OnOk result (IsBehind place.entry.style place.entry.margin.now place.entry.path.now (string_bytes out.old) (text (T.leaf value.now)) (string_bytes out.new)) }
 {
     push_start(out, place)?;
-    value.push_text(alloc, out, place.names)?;
+    value.push_text(alloc, out, place.style)?;
     out.push_str("\n")
 }
 
 impl<T: Text> Lines for Option<T> {
-    ghost use Rattle.ua_pair.specs.Leaves.{text_or_null};
-    ghost use Rattle.ua_pair.specs.Tree.{text};
+    ghost use Rattle.ua_pair.specs.Leaves.{optional};
 
-    ghost tree = { λ value. text (λ names. text_or_null (T.shown names) value) };
+    ghost tree = { optional T.leaf };
 
     fn push_lines(&self, alloc: Global, out: &mut String, place: Place) -> Result<(), AllocError> {
         match self {
@@ -94,13 +62,77 @@ impl<T: Text> Lines for Option<T> {
     }
 }
 
+impl Text for u16 {
+    ghost use Rattle.ua_pair.specs.Leaves.{number_leaf};
+
+    ghost leaf = { number_leaf };
+
+    fn push_text(
+        &self,
+        _alloc: Global,
+        out: &mut String,
+        _style: FieldStyle,
+    ) -> Result<(), AllocError> {
+        write!(out, "{self}")
+    }
+}
+
+impl Text for HeldVariant {
+    ghost use Rattle.ua_pair.specs.Tree.{value_of};
+
+    ghost leaf = { value_of };
+
+    fn push_text(
+        &self,
+        alloc: Global,
+        out: &mut String,
+        style: FieldStyle,
+    ) -> Result<(), AllocError> {
+        if style.plain {
+            push_plain_variant(alloc, out, self.get(), style.names)
+        } else {
+            push_variant(alloc, out, self.get())
+        }
+    }
+}
+
+impl Text for bool {
+    ghost use Rattle.ua_pair.specs.Leaves.{boolean_leaf};
+
+    ghost leaf = { boolean_leaf };
+
+    fn push_text(
+        &self,
+        _alloc: Global,
+        out: &mut String,
+        _style: FieldStyle,
+    ) -> Result<(), AllocError> {
+        out.push_str(if *self { "true" } else { "false" })
+    }
+}
+
 impl Lines for bool {
     ghost use Rattle.ua_pair.specs.Leaves.{boolean};
 
     ghost tree = { boolean };
 
-    fn push_lines(&self, _alloc: Global, out: &mut String, place: Place) -> Result<(), AllocError> {
-        push_line(out, place, if *self { "true" } else { "false" })
+    fn push_lines(&self, alloc: Global, out: &mut String, place: Place) -> Result<(), AllocError> {
+        push_text_line(alloc, out, place, self)
+    }
+}
+
+impl Text for u8 {
+    ghost use Rattle.ua_pair.specs.Leaves.{number_leaf};
+
+    ghost leaf = { number_leaf };
+
+    fn push_text(
+        &self,
+        _alloc: Global,
+        out: &mut String,
+        _style: FieldStyle,
+    ) -> Result<(), AllocError> {
+        write!(out, "{self}")
     }
 }
 
@@ -109,10 +141,23 @@ impl Lines for u8 {
 
     ghost tree = { number };
 
-    #[tactic(auto, unfolding(crate::specs::Tree::line))]
-    fn push_lines(&self, _alloc: Global, out: &mut String, place: Place) -> Result<(), AllocError> {
-        push_start(out, place)?;
-        writeln!(out, "{self}")
+    fn push_lines(&self, alloc: Global, out: &mut String, place: Place) -> Result<(), AllocError> {
+        push_text_line(alloc, out, place, self)
+    }
+}
+
+impl Text for u32 {
+    ghost use Rattle.ua_pair.specs.Leaves.{number_leaf};
+
+    ghost leaf = { number_leaf };
+
+    fn push_text(
+        &self,
+        _alloc: Global,
+        out: &mut String,
+        _style: FieldStyle,
+    ) -> Result<(), AllocError> {
+        write!(out, "{self}")
     }
 }
 
@@ -121,10 +166,23 @@ impl Lines for u32 {
 
     ghost tree = { number };
 
-    #[tactic(auto, unfolding(crate::specs::Tree::line))]
-    fn push_lines(&self, _alloc: Global, out: &mut String, place: Place) -> Result<(), AllocError> {
-        push_start(out, place)?;
-        writeln!(out, "{self}")
+    fn push_lines(&self, alloc: Global, out: &mut String, place: Place) -> Result<(), AllocError> {
+        push_text_line(alloc, out, place, self)
+    }
+}
+
+impl Text for i32 {
+    ghost use Rattle.ua_pair.specs.Leaves.{signed_leaf};
+
+    ghost leaf = { signed_leaf };
+
+    fn push_text(
+        &self,
+        _alloc: Global,
+        out: &mut String,
+        _style: FieldStyle,
+    ) -> Result<(), AllocError> {
+        write!(out, "{self}")
     }
 }
 
@@ -133,10 +191,27 @@ impl Lines for i32 {
 
     ghost tree = { signed };
 
-    #[tactic(auto, unfolding(crate::specs::Tree::line))]
-    fn push_lines(&self, _alloc: Global, out: &mut String, place: Place) -> Result<(), AllocError> {
-        push_start(out, place)?;
-        writeln!(out, "{self}")
+    fn push_lines(&self, alloc: Global, out: &mut String, place: Place) -> Result<(), AllocError> {
+        push_text_line(alloc, out, place, self)
+    }
+}
+
+impl Text for DoubleBits {
+    ghost use Rattle.ua_pair.specs.Leaves.{double_leaf};
+
+    ghost leaf = { double_leaf };
+
+    fn push_text(
+        &self,
+        _alloc: Global,
+        out: &mut String,
+        style: FieldStyle,
+    ) -> Result<(), AllocError> {
+        if style.plain {
+            push_double(out, *self)
+        } else {
+            push_wide_pattern(out, self.bits)
+        }
     }
 }
 
@@ -145,11 +220,27 @@ impl Lines for DoubleBits {
 
     ghost tree = { double };
 
-    #[tactic(auto, unfolding(crate::specs::Tree::line))]
-    fn push_lines(&self, _alloc: Global, out: &mut String, place: Place) -> Result<(), AllocError> {
-        push_start(out, place)?;
-        push_wide_pattern(out, self.bits)?;
-        out.push_str("\n")
+    fn push_lines(&self, alloc: Global, out: &mut String, place: Place) -> Result<(), AllocError> {
+        push_text_line(alloc, out, place, self)
+    }
+}
+
+impl Text for DateTime {
+    ghost use Rattle.ua_pair.specs.Tree.{moment_of};
+
+    ghost leaf = { moment_of };
+
+    fn push_text(
+        &self,
+        _alloc: Global,
+        out: &mut String,
+        style: FieldStyle,
+    ) -> Result<(), AllocError> {
+        if style.plain {
+            push_moment(out, *self)
+        } else {
+            write!(out, "{}", self.ticks)
+        }
     }
 }
 
@@ -163,6 +254,21 @@ impl Lines for DateTime {
     }
 }
 
+impl Text for StatusCode {
+    ghost use Rattle.ua_pair.specs.Leaves.{code_leaf};
+
+    ghost leaf = { code_leaf };
+
+    fn push_text(
+        &self,
+        _alloc: Global,
+        out: &mut String,
+        style: FieldStyle,
+    ) -> Result<(), AllocError> {
+        push_code_as(out, *self, style.names)
+    }
+}
+
 impl Lines for StatusCode {
     ghost use Rattle.ua_pair.specs.Leaves.{status_code};
 
@@ -173,16 +279,43 @@ impl Lines for StatusCode {
     }
 }
 
+impl Text for UaString {
+    ghost use Rattle.ua_pair.specs.Leaves.{string_leaf};
+
+    ghost leaf = { string_leaf };
+
+    fn push_text(
+        &self,
+        _alloc: Global,
+        out: &mut String,
+        _style: FieldStyle,
+    ) -> Result<(), AllocError> {
+        push_escaped_string(out, self)
+    }
+}
+
 impl Lines for UaString {
     ghost use Rattle.ua_pair.specs.Leaves.{string};
 
     ghost tree = { string };
 
-    #[tactic(auto, unfolding(crate::specs::Tree::line))]
-    fn push_lines(&self, _alloc: Global, out: &mut String, place: Place) -> Result<(), AllocError> {
-        push_start(out, place)?;
-        push_escaped_string(out, self)?;
-        out.push_str("\n")
+    fn push_lines(&self, alloc: Global, out: &mut String, place: Place) -> Result<(), AllocError> {
+        push_text_line(alloc, out, place, self)
+    }
+}
+
+impl Text for UaBytes {
+    ghost use Rattle.ua_pair.specs.Leaves.{bytes_leaf};
+
+    ghost leaf = { bytes_leaf };
+
+    fn push_text(
+        &self,
+        _alloc: Global,
+        out: &mut String,
+        _style: FieldStyle,
+    ) -> Result<(), AllocError> {
+        push_base64(out, self)
     }
 }
 
@@ -191,11 +324,23 @@ impl Lines for UaBytes {
 
     ghost tree = { byte_string };
 
-    #[tactic(auto, unfolding(crate::specs::Tree::line))]
-    fn push_lines(&self, _alloc: Global, out: &mut String, place: Place) -> Result<(), AllocError> {
-        push_start(out, place)?;
-        push_base64(out, self)?;
-        out.push_str("\n")
+    fn push_lines(&self, alloc: Global, out: &mut String, place: Place) -> Result<(), AllocError> {
+        push_text_line(alloc, out, place, self)
+    }
+}
+
+impl Text for NodeId {
+    ghost use Rattle.ua_pair.specs.Leaves.{node_leaf};
+
+    ghost leaf = { node_leaf };
+
+    fn push_text(
+        &self,
+        alloc: Global,
+        out: &mut String,
+        _style: FieldStyle,
+    ) -> Result<(), AllocError> {
+        push_node(alloc, out, self)
     }
 }
 
@@ -204,11 +349,29 @@ impl Lines for NodeId {
 
     ghost tree = { node_id };
 
-    #[tactic(auto, unfolding(crate::specs::Tree::line))]
     fn push_lines(&self, alloc: Global, out: &mut String, place: Place) -> Result<(), AllocError> {
-        push_start(out, place)?;
-        push_node(alloc, out, self)?;
-        out.push_str("\n")
+        push_text_line(alloc, out, place, self)
+    }
+}
+
+impl Text for QualifiedName {
+    ghost use Rattle.ua_pair.specs.Leaves.{name_leaf};
+
+    ghost leaf = { name_leaf };
+
+    #[tactic(auto, unfolding(crate::specs::Leaves::encoded_text))]
+    fn push_text(
+        &self,
+        alloc: Global,
+        out: &mut String,
+        style: FieldStyle,
+    ) -> Result<(), AllocError> {
+        let is_null = is_null_name(self);
+        if style.plain && !is_null {
+            push_plain_name(out, self, false)
+        } else {
+            push_encoded_or_null(alloc, out, is_null, self)
+        }
     }
 }
 
@@ -217,9 +380,29 @@ impl Lines for QualifiedName {
 
     ghost tree = { qualified_name };
 
-    #[tactic(auto, unfolding(crate::specs::Leaves::encoded_text))]
     fn push_lines(&self, alloc: Global, out: &mut String, place: Place) -> Result<(), AllocError> {
-        push_encoded_line(alloc, out, place, is_null_name(self), self)
+        push_text_line(alloc, out, place, self)
+    }
+}
+
+impl Text for LocalizedText {
+    ghost use Rattle.ua_pair.specs.Leaves.{localized_leaf};
+
+    ghost leaf = { localized_leaf };
+
+    #[tactic(auto, unfolding(crate::specs::Leaves::encoded_text))]
+    fn push_text(
+        &self,
+        alloc: Global,
+        out: &mut String,
+        style: FieldStyle,
+    ) -> Result<(), AllocError> {
+        let is_null = is_null_text(self);
+        if style.plain && !is_null {
+            push_plain_localized(out, self, false)
+        } else {
+            push_encoded_or_null(alloc, out, is_null, self)
+        }
     }
 }
 
@@ -228,20 +411,29 @@ impl Lines for LocalizedText {
 
     ghost tree = { localized_text };
 
-    #[tactic(auto, unfolding(crate::specs::Leaves::encoded_text))]
     fn push_lines(&self, alloc: Global, out: &mut String, place: Place) -> Result<(), AllocError> {
-        push_encoded_line(alloc, out, place, is_null_text(self), self)
+        push_text_line(alloc, out, place, self)
     }
 }
 
-impl Lines for ExtensionObject {
-    ghost use Rattle.ua_pair.specs.Leaves.{extension_object};
+impl Text for DiagnosticInfo {
+    ghost use Rattle.ua_pair.specs.Leaves.{diagnostic_leaf};
 
-    ghost tree = { extension_object };
+    ghost leaf = { diagnostic_leaf };
 
     #[tactic(auto, unfolding(crate::specs::Leaves::encoded_text))]
-    fn push_lines(&self, alloc: Global, out: &mut String, place: Place) -> Result<(), AllocError> {
-        push_encoded_line(alloc, out, place, is_null_object(self), self)
+    fn push_text(
+        &self,
+        alloc: Global,
+        out: &mut String,
+        style: FieldStyle,
+    ) -> Result<(), AllocError> {
+        let is_null = is_empty(self);
+        if style.plain && !is_null {
+            push_diagnostic(out, self, style.names)
+        } else {
+            push_encoded_or_null(alloc, out, is_null, self)
+        }
     }
 }
 
@@ -250,8 +442,33 @@ impl Lines for DiagnosticInfo {
 
     ghost tree = { diagnostic_info };
 
-    #[tactic(auto, unfolding(crate::specs::Leaves::encoded_text))]
     fn push_lines(&self, alloc: Global, out: &mut String, place: Place) -> Result<(), AllocError> {
-        push_encoded_line(alloc, out, place, is_empty(self), self)
+        push_text_line(alloc, out, place, self)
+    }
+}
+
+impl Text for ExtensionObject {
+    ghost use Rattle.ua_pair.specs.Leaves.{object_leaf};
+
+    ghost leaf = { object_leaf };
+
+    #[tactic(auto, unfolding(crate::specs::Leaves::encoded_text))]
+    fn push_text(
+        &self,
+        alloc: Global,
+        out: &mut String,
+        _style: FieldStyle,
+    ) -> Result<(), AllocError> {
+        push_encoded_or_null(alloc, out, is_null_object(self), self)
+    }
+}
+
+impl Lines for ExtensionObject {
+    ghost use Rattle.ua_pair.specs.Leaves.{extension_object};
+
+    ghost tree = { extension_object };
+
+    fn push_lines(&self, alloc: Global, out: &mut String, place: Place) -> Result<(), AllocError> {
+        push_text_line(alloc, out, place, self)
     }
 }

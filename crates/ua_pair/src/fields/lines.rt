@@ -1,16 +1,17 @@
 //! Values as lines, and their places.
 
 ghost use Rattle.std.specs.Prelude.{◌≡◌, ◌++◌, codes, string_bytes, OnOk, IfOk};
-ghost use Rattle.ua_pair.specs.Tree.{Tree, deeper, element_path, field_path, line, with_lines};
+ghost use Rattle.ua_pair.specs.Tree.{Tree, IsBehind, deeper, element_path, field_path, line};
 
+use crate::options::FieldStyle;
 use std::alloc::{AllocError, Global};
 use std::fmt::Write;
 
 /// The place of the lines of a value.
 #[derive(Clone, Copy)]
 pub(crate) struct Place<'a> {
-    /// Whether a StatusCode is followed by its standard name.
-    pub(crate) names: bool,
+    /// How the texts are written.
+    pub(crate) style: FieldStyle,
     /// The leading spaces of each line.
     pub(crate) margin: &'a str,
     /// The path of the value, which is empty for a message.
@@ -24,7 +25,7 @@ pub(crate) trait Lines {
 
     /// Appends the lines of the value.
     fn push_lines(&self, alloc: Global, out: &mut String, place: Place) -> Result<(), AllocError>
-        ensures { OnOk result (string_bytes out.new ≡ with_lines place.entry.names place.entry.margin.now place.entry.path.now (string_bytes out.old) (tree self.now)) };
+        ensures { OnOk result (IsBehind place.entry.style place.entry.margin.now place.entry.path.now (string_bytes out.old) (tree self.now) (string_bytes out.new)) };
 }
 
 /// Appends what comes before the text of a line.
@@ -77,11 +78,10 @@ fn path_of_element(alloc: Global, path: &str, index: usize) -> Result<String, Al
 }
 
 impl<'a> Place<'a> {
-    ghost use Rattle.std.specs.Prelude.{◌≡◌, ◌++◌, string_bytes, OnOk};
-    ghost use Rattle.ua_pair.specs.Tree.{deeper, element_path, field_path, lines};
+    ghost use Rattle.std.specs.Prelude.{string_bytes, OnOk};
+    ghost use Rattle.ua_pair.specs.Tree.{IsBehind, deeper, element_path, field_path};
 
     /// Appends the lines of a field that is no structure.
-    #[tactic(auto, using(crate::proofs::Behind::lines_behind))]
     pub(crate) fn push_field<T: Lines>(
         self,
         alloc: Global,
@@ -89,11 +89,11 @@ impl<'a> Place<'a> {
         name: &str,
         value: &T,
     ) -> Result<(), AllocError>
-        ensures { OnOk result (string_bytes out.new ≡ string_bytes out.old ++ lines self.entry.names self.entry.margin.now (field_path self.entry.path.now name.now) (T.tree value.now)) }
+        ensures { OnOk result (IsBehind self.entry.style self.entry.margin.now (field_path self.entry.path.now name.now) (string_bytes out.old) (T.tree value.now) (string_bytes out.new)) }
     {
         let path = path_of_field(alloc, self.path, name)?;
         let inner = Place {
-            names: self.names,
+            style: self.style,
             margin: self.margin,
             path: &path,
         };
@@ -108,11 +108,11 @@ impl<'a> Place<'a> {
         name: &str,
         value: &T,
     ) -> Result<(), AllocError>
-        ensures { OnOk result (string_bytes out.new ≡ string_bytes out.old ++ lines self.entry.names (deeper self.entry.margin.now) (field_path self.entry.path.now name.now) (T.tree value.now)) }
+        ensures { OnOk result (IsBehind self.entry.style (deeper self.entry.margin.now) (field_path self.entry.path.now name.now) (string_bytes out.old) (T.tree value.now) (string_bytes out.new)) }
     {
         let margin = deeper_margin(alloc, self.margin)?;
         let inner = Place {
-            names: self.names,
+            style: self.style,
             margin: &margin,
             path: self.path,
         };
@@ -120,7 +120,6 @@ impl<'a> Place<'a> {
     }
 
     /// Appends the lines of an element.
-    #[tactic(auto, using(crate::proofs::Behind::lines_behind))]
     pub(crate) fn push_element<T: Lines>(
         self,
         alloc: Global,
@@ -128,11 +127,11 @@ impl<'a> Place<'a> {
         index: usize,
         value: &T,
     ) -> Result<(), AllocError>
-        ensures { OnOk result (string_bytes out.new ≡ string_bytes out.old ++ lines self.entry.names self.entry.margin.now (element_path self.entry.path.now index) (T.tree value.now)) }
+        ensures { OnOk result (IsBehind self.entry.style self.entry.margin.now (element_path self.entry.path.now index) (string_bytes out.old) (T.tree value.now) (string_bytes out.new)) }
     {
         let path = path_of_element(alloc, self.path, index)?;
         let inner = Place {
-            names: self.names,
+            style: self.style,
             margin: self.margin,
             path: &path,
         };

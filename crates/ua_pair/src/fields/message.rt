@@ -1,9 +1,11 @@
 //! Messages as lines.
 
 ghost use Rattle.std.specs.Prelude.{◌≡◌, ◌++◌, string_bytes, OnOk};
-ghost use Rattle.ua_pair.specs.Messages.{close_request_fields, message_lines, open_answer_fields, open_request_fields, open_response_fields, request_fields, response_fields};
+ghost use Rattle.ua_texts.specs.PlainLeaf.{Adds};
+ghost use Rattle.ua_pair.specs.Messages.{AreMessageLines, close_request_fields, message_lines, open_answer_fields, open_request_fields, open_response_fields, request_fields, response_fields};
 
 use crate::fields::lines::{Lines, Place};
+use crate::options::FieldStyle;
 use std::alloc::{AllocError, Global};
 use ua_services::{
     CloseRequest, OpenAnswer, OpenRequest, OpenResponse, Request, Response, by_kind, requests,
@@ -43,9 +45,27 @@ impl Lines for OpenAnswer {
     }
 }
 
-/// Appends the lines of a message.
-#[tactic(auto, using(crate::proofs::Behind::lines_behind))]
+/// Appends the lines of a message in this style.
+#[tactic(auto, using(crate::proofs::Behind::lines_added))]
 pub(crate) fn push_message<T: Lines>(
+    alloc: Global,
+    message: &T,
+    style: FieldStyle,
+    out: &mut String,
+) -> Result<(), AllocError>
+    ensures { Adds result (string_bytes out.old) (string_bytes out.new) (AreMessageLines style (T.tree message.now)) }
+{
+    let place = Place {
+        style,
+        margin: "  ",
+        path: "",
+    };
+    message.push_lines(alloc, out, place)
+}
+
+/// Appends the exact lines of a message.
+#[tactic(auto, using(crate::proofs::Behind::exact_lines))]
+fn push_exact<T: Lines>(
     alloc: Global,
     message: &T,
     names: bool,
@@ -53,12 +73,7 @@ pub(crate) fn push_message<T: Lines>(
 ) -> Result<(), AllocError>
     ensures { OnOk result (string_bytes out.new ≡ string_bytes out.old ++ message_lines names (T.tree message.now)) }
 {
-    let place = Place {
-        names,
-        margin: "  ",
-        path: "",
-    };
-    message.push_lines(alloc, out, place)
+    push_message(alloc, message, FieldStyle::exact(names), out)
 }
 
 /// Appends the lines of a request, one for each of its fields, indented by two spaces and two more
@@ -72,7 +87,7 @@ pub fn push_request_fields(
 ) -> Result<(), AllocError>
     ensures fields { OnOk result (string_bytes out.new ≡ string_bytes out.old ++ request_fields names request.now) }
 {
-    push_message(alloc, request, names, out)
+    push_exact(alloc, request, names, out)
 }
 
 /// Appends the lines of a response, as [`push_request_fields`] does for a request.
@@ -84,7 +99,7 @@ pub fn push_response_fields(
 ) -> Result<(), AllocError>
     ensures fields { OnOk result (string_bytes out.new ≡ string_bytes out.old ++ response_fields names response.now) }
 {
-    push_message(alloc, response, names, out)
+    push_exact(alloc, response, names, out)
 }
 
 /// Appends the lines of an OpenSecureChannel request, as [`push_request_fields`] does.
@@ -96,7 +111,7 @@ pub fn push_open_request_fields(
 ) -> Result<(), AllocError>
     ensures fields { OnOk result (string_bytes out.new ≡ string_bytes out.old ++ open_request_fields names request.now) }
 {
-    push_message(alloc, request, names, out)
+    push_exact(alloc, request, names, out)
 }
 
 /// Appends the lines of an OpenSecureChannel response, as [`push_request_fields`] does.
@@ -108,7 +123,7 @@ pub fn push_open_response_fields(
 ) -> Result<(), AllocError>
     ensures fields { OnOk result (string_bytes out.new ≡ string_bytes out.old ++ open_response_fields names response.now) }
 {
-    push_message(alloc, response, names, out)
+    push_exact(alloc, response, names, out)
 }
 
 /// Appends the lines of the response to an OpenSecureChannel request: an OpenSecureChannel response
@@ -121,7 +136,7 @@ pub fn push_open_answer_fields(
 ) -> Result<(), AllocError>
     ensures fields { OnOk result (string_bytes out.new ≡ string_bytes out.old ++ open_answer_fields names answer.now) }
 {
-    push_message(alloc, answer, names, out)
+    push_exact(alloc, answer, names, out)
 }
 
 /// Appends the lines of a CloseSecureChannel request, as [`push_request_fields`] does.
@@ -133,5 +148,5 @@ pub fn push_close_request_fields(
 ) -> Result<(), AllocError>
     ensures fields { OnOk result (string_bytes out.new ≡ string_bytes out.old ++ close_request_fields names request.now) }
 {
-    push_message(alloc, request, names, out)
+    push_exact(alloc, request, names, out)
 }

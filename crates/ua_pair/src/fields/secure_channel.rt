@@ -73,7 +73,8 @@ impl Lines for OpenResponse {
         place.push_part(alloc, out, "response_header", &self.response_header)?;
         place.push_field(alloc, out, "server_protocol_version", version)?;
         place.push_part(alloc, out, "security_token", &SecurityToken::of(self))?;
-        place.push_field(alloc, out, "server_nonce", &self.server_nonce)
+        place.push_field(alloc, out, "server_nonce", &self.server_nonce)?;
+        Ok(())
     }
 }
 

@@ -1,0 +1,152 @@
+-- The texts of frames: one frame more, and exact ones.
+use Rattle.std.proofs.Common.{◌≡◌, ℕ, Bool, true, false, ◌&&◌, List, [], ◌∷◌, ◌++◌, Option, Some, None, cond, codes, length, refl, sym, ap, ap₂, subst, ◌∙◌, append-nil, append_assoc}
+use Rattle.std.specs.List.{flat_map}
+use Rattle.ua_frame.specs.declared.frame.Frame.{Frame}
+use Rattle.ua_frame.specs.declared.kind.Kind.{Kind}
+use Rattle.ua_frame.specs.declared.kind.Kind.TheVariants.{Hel, Ack as Acknowledge, Msg, Opn, Clo}
+use Rattle.ua_frame.specs.declared.kind.Kind.TheVariants as kind
+use Rattle.ua_frame.specs.After.{each_after, each_from}
+use Rattle.ua_frame.specs.Frames.{frame_size}
+use Rattle.ua_frame.specs.Run.{events}
+use Rattle.ua_chunk.specs.declared.chunk.Chunk.{Chunk}
+use Rattle.ua_chunk.specs.Delivered.{given}
+use Rattle.ua_chunk.specs.Item.{Item}
+use Rattle.ua_chunk.specs.Item.Item.{Whole, Aborted}
+use Rattle.ua_chunk.specs.Layout.{chunk_in}
+use Rattle.ua_chunk.specs.Opening.{opening_in}
+use Rattle.ua_texts.specs.PlainLeaf.{Either}
+use Rattle.ua_pair.specs.declared.fields.body.BodyKind.{BodyKind}
+use Rattle.ua_pair.specs.declared.options.DissectOptions.{DissectOptions}
+use Rattle.ua_pair.specs.declared.options.FieldStyle.{FieldStyle}
+use Rattle.ua_pair.specs.Before.{message_chunks}
+use Rattle.ua_pair.specs.Bodies.{IsBodyText, IsFound, IsHeaderText, body_fields, header_fields}
+use Rattle.ua_pair.specs.Dissected.{AreTexts, rules}
+use Rattle.ua_pair.specs.Lines.{chunk_line, message_line, opening_line}
+use Rattle.ua_pair.specs.Names.{is_unsupported, message_kind, message_title, opening_kind, opening_name}
+use Rattle.ua_pair.specs.Styles.{exact, style_of}
+use Rattle.ua_pair.specs.Told.{AreFieldsOf, AreParts, AreTextsBehind, IsChunkText, IsFrameText, IsHeaderOf, IsItemText, IsOpeningText, IsTextBy, chunk_lines, fields_of, frame_lines, header_of, item_lines, line_if, lines_by, opening_lines, place_behind}
+use Rattle.ua_pair.proofs.Bodies.{exact_header, exact_text_of, header_exact, text_exact}
+
+-- ---- one frame more
+
+behind_push : (options : DissectOptions) (before fs : List Frame) (f : Frame) (told lines : List ℕ) → AreTextsBehind options before fs told → IsFrameText options (before ++ fs) f lines → AreTextsBehind options before (fs ++ f ∷ []) (told ++ lines)
+behind_push options before [] f told lines h k =
+    let at : IsFrameText options before f lines = subst (λ (b : List Frame). IsFrameText options b f lines) (append-nil before) k in
+    (lines, [], ap (λ (t : List ℕ). t ++ lines) h ∙ sym (append-nil lines), at, refl)
+behind_push options before (g ∷ fs) f told lines h k =
+    let at : IsFrameText options ((before ++ g ∷ []) ++ fs) f lines = subst (λ (b : List Frame). IsFrameText options b f lines) (sym (append_assoc before (g ∷ []) fs)) k in
+    (h.0, h.1 ++ lines, ap (λ (t : List ℕ). t ++ lines) h.2 ∙ append_assoc h.0 h.1 lines, h.3, behind_push options (before ++ g ∷ []) fs f h.1 lines h.4 at)
+
+pub texts_push : (options : DissectOptions) (fs : List Frame) (f : Frame) (told lines : List ℕ) → AreTexts options fs told → IsFrameText options fs f lines → AreTexts options (fs ++ f ∷ []) (told ++ lines)
+texts_push options fs f told lines h k = behind_push options [] fs f told lines h k
+
+-- ---- exact ones
+
+exact_if : (wanted : Bool) (Is : List ℕ → Type 0) (shown text : List ℕ) → ((t : List ℕ) → Is t → t ≡ shown) → Either wanted (Is text) (text ≡ []) → text ≡ cond wanted shown []
+exact_if true Is shown text same h = same text h
+exact_if false Is shown text same h = h
+
+exact_style : (options : DissectOptions) → options.plain ≡ false → style_of options ≡ exact options.names
+exact_style options none = ap (λ (p : Bool). record { names = options.names; plain = p }) none
+
+module _ (options : DissectOptions) (none : options.plain ≡ false) where
+  exact_fields : (kind : BodyKind) (octets text : List ℕ) → AreFieldsOf options kind octets text → text ≡ fields_of options kind octets
+  exact_fields kind octets text h =
+      exact_if options.fields (IsBodyText (style_of options) kind octets) (body_fields options.names kind octets) text
+      (λ t g. exact_text_of options.names kind octets t (subst (λ (s : FieldStyle). IsBodyText s kind octets t) (exact_style options none) g)) h
+
+  exact_head : (unsupported : Bool) (octets text : List ℕ) → IsHeaderOf options unsupported octets text → text ≡ header_of options unsupported octets
+  exact_head unsupported octets text h =
+      exact_if (options.fields && unsupported) (IsHeaderText (style_of options) options.side octets) (header_fields options.names options.side octets) text
+      (λ t g. exact_header options.names options.side octets t (subst (λ (s : FieldStyle). IsHeaderText s options.side octets t) (exact_style options none) g)) h
+
+  exact_item : (item : Item) (text : List ℕ) → IsItemText options item text → text ≡ item_lines options item
+  exact_item (Whole id octets) text h =
+      h.2 ∙ ap (λ (t : List ℕ). message_line id (length octets) (message_title options.names options.side octets) ++ t)
+      (ap₂ (λ (x y : List ℕ). x ++ y) (exact_fields (message_kind options.side) octets h.0 h.3) (exact_head (is_unsupported options.side octets) octets h.1 h.4))
+  exact_item (Aborted id code reason) text h = h
+
+  exact_parts : (items : List Item) (text : List ℕ) → AreParts (IsItemText options) items text → text ≡ flat_map (item_lines options) items
+  exact_parts [] text h = h
+  exact_parts (item ∷ items) text h = h.2 ∙ ap₂ (λ (x y : List ℕ). x ++ y) (exact_item item h.0 h.3) (exact_parts items h.1 h.4)
+
+  exact_found : {A : Type 0} (Is : A → List ℕ → Type 0) (lines : A → List ℕ) (o : Option A) (text : List ℕ) → ((a : A) (t : List ℕ) → Is a t → t ≡ lines a) → IsFound Is o text → text ≡ line_if lines o
+  exact_found Is lines None text same h = h
+  exact_found Is lines (Some a) text same h = same a text h
+
+  exact_by : (k : Kind) (cs : List Chunk) (place : ℕ) (f : Frame) (text : List ℕ) → IsTextBy k options cs place f text → text ≡ lines_by k options cs place f
+  exact_by Hel cs place f text h = h
+  exact_by Acknowledge cs place f text h = h
+  exact_by kind.Err cs place f text h = h
+  exact_by Msg cs place f text h =
+      exact_found (IsChunkText options cs place (frame_size f)) (chunk_lines options cs place (frame_size f)) (chunk_in f) text
+      (λ c t g. g.1 ∙ ap (λ (x : List ℕ). chunk_line (codes "MSG") place (frame_size f) c ++ x) (exact_parts (given cs c) g.0 g.2)) h
+  exact_by Opn cs place f text h =
+      exact_found (IsOpeningText options place (frame_size f)) (opening_lines options place (frame_size f)) (opening_in f) text
+      (λ c t g. g.1 ∙ ap (λ (x : List ℕ). opening_line place (frame_size f) c ++ x) (g.2.1 ∙ ap (λ (x : List ℕ). message_line c.request (length c.body) (opening_name options.side c.body) ++ x) (exact_fields (opening_kind options.side) c.body g.2.0 g.2.2))) h
+  exact_by Clo cs place f text h = h
+
+  exact_frame : (before : List Frame) (f : Frame) (text : List ℕ) → IsFrameText options before f text → text ≡ frame_lines options before f
+  unfolding IsFrameText frame_lines
+  exact_frame before f text h = exact_by f.kind (message_chunks before) (place_behind before) f text h
+
+  -- ---- and the lines that `rules` tells are such ones
+
+  if_exact : (wanted : Bool) (Is : List ℕ → Type 0) (shown : List ℕ) → Is shown → Either wanted (Is (cond wanted shown [])) (cond wanted shown [] ≡ [])
+  if_exact true Is shown h = h
+  if_exact false Is shown h = refl
+
+  fields_exact : (kind : BodyKind) (octets : List ℕ) → AreFieldsOf options kind octets (fields_of options kind octets)
+  fields_exact kind octets =
+      if_exact options.fields (IsBodyText (style_of options) kind octets) (body_fields options.names kind octets)
+      (subst (λ (s : FieldStyle). IsBodyText s kind octets (body_fields options.names kind octets)) (sym (exact_style options none)) (text_exact options.names kind octets))
+
+  head_exact : (unsupported : Bool) (octets : List ℕ) → IsHeaderOf options unsupported octets (header_of options unsupported octets)
+  head_exact unsupported octets =
+      if_exact (options.fields && unsupported) (IsHeaderText (style_of options) options.side octets) (header_fields options.names options.side octets)
+      (subst (λ (s : FieldStyle). IsHeaderText s options.side octets (header_fields options.names options.side octets)) (sym (exact_style options none)) (header_exact options.names options.side octets))
+
+  item_exact : (item : Item) → IsItemText options item (item_lines options item)
+  item_exact (Whole id octets) = (fields_of options (message_kind options.side) octets, header_of options (is_unsupported options.side octets) octets, refl, fields_exact (message_kind options.side) octets, head_exact (is_unsupported options.side octets) octets)
+  item_exact (Aborted id code reason) = refl
+
+  parts_exact : (items : List Item) → AreParts (IsItemText options) items (flat_map (item_lines options) items)
+  parts_exact [] = refl
+  parts_exact (item ∷ items) = (item_lines options item, flat_map (item_lines options) items, refl, item_exact item, parts_exact items)
+
+  found_exact : {A : Type 0} (Is : A → List ℕ → Type 0) (lines : A → List ℕ) (o : Option A) → ((a : A) → Is a (lines a)) → IsFound Is o (line_if lines o)
+  found_exact Is lines None each = refl
+  found_exact Is lines (Some a) each = each a
+
+  by_exact : (k : Kind) (cs : List Chunk) (place : ℕ) (f : Frame) → IsTextBy k options cs place f (lines_by k options cs place f)
+  by_exact Hel cs place f = refl
+  by_exact Acknowledge cs place f = refl
+  by_exact kind.Err cs place f = refl
+  by_exact Msg cs place f =
+      found_exact (IsChunkText options cs place (frame_size f)) (chunk_lines options cs place (frame_size f)) (chunk_in f)
+      (λ c. (flat_map (item_lines options) (given cs c), refl, parts_exact (given cs c)))
+  by_exact Opn cs place f =
+      found_exact (IsOpeningText options place (frame_size f)) (opening_lines options place (frame_size f)) (opening_in f)
+      (λ c. (message_line c.request (length c.body) (opening_name options.side c.body) ++ fields_of options (opening_kind options.side) c.body, refl, (fields_of options (opening_kind options.side) c.body, refl, fields_exact (opening_kind options.side) c.body)))
+  by_exact Clo cs place f = refl
+
+  frame_exact : (before : List Frame) (f : Frame) → IsFrameText options before f (frame_lines options before f)
+  unfolding IsFrameText frame_lines
+  frame_exact before f = by_exact f.kind (message_chunks before) (place_behind before) f
+
+  -- the texts of frames, from these on
+  behind_events : (before fs : List Frame) → AreTextsBehind options before fs (each_from (frame_lines options) before fs)
+  behind_events before [] = refl
+  behind_events before (f ∷ fs) = (frame_lines options before f, each_from (frame_lines options) (before ++ f ∷ []) fs, refl, frame_exact before f, behind_events (before ++ f ∷ []) fs)
+
+  pub texts_are : (fs : List Frame) → AreTexts options fs (events (rules options) fs)
+  unfolding each_after
+  texts_are fs = behind_events [] fs
+
+  events_are : (before fs : List Frame) (text : List ℕ) → AreTextsBehind options before fs text → text ≡ each_from (frame_lines options) before fs
+  events_are before [] text h = h
+  events_are before (f ∷ fs) text h = h.2 ∙ ap₂ (λ (x y : List ℕ). x ++ y) (exact_frame before f h.0 h.3) (events_are (before ++ f ∷ []) fs h.1 h.4)
+
+  pub texts_exact : (fs : List Frame) (text : List ℕ) → AreTexts options fs text → text ≡ events (rules options) fs
+  unfolding each_after
+  texts_exact fs text h = events_are [] fs text h

@@ -1,0 +1,7 @@
+use Rattle.std.proofs.Common.{refl}
+use Rattle.ua_pair.specs.Header.{service_fault_entries}
+use Rattle.ua_pair.proofs.fields.header.ServiceFaultLines.push_lines.Goals as goal
+
+pub returns : goal.returns
+unfolding service_fault_entries
+returns c = (_, c.in_ok-push_part.ensures, refl)

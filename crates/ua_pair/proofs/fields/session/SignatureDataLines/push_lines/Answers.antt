@@ -1,0 +1,7 @@
+use Rattle.std.proofs.Common.{refl}
+use Rattle.ua_pair.specs.Session.{signature_data_entries}
+use Rattle.ua_pair.proofs.fields.session.SignatureDataLines.push_lines.Goals as goal
+
+pub returns : goal.returns
+unfolding signature_data_entries
+returns c = (_, c.in_ok-push_field.ensures, (_, c.in_ok-push_field-2.ensures, refl))

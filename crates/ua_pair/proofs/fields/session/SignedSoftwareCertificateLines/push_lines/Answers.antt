@@ -1,0 +1,7 @@
+use Rattle.std.proofs.Common.{refl}
+use Rattle.ua_pair.specs.Session.{signed_software_certificate_entries}
+use Rattle.ua_pair.proofs.fields.session.SignedSoftwareCertificateLines.push_lines.Goals as goal
+
+pub returns : goal.returns
+unfolding signed_software_certificate_entries
+returns c = (_, c.in_ok-push_field.ensures, (_, c.in_ok-push_field-2.ensures, refl))
