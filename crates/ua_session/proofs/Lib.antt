@@ -1,4 +1,5 @@
 mod Runs
+mod InSession
 mod Printing
 mod Failing
 mod Choosing

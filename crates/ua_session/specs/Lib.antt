@@ -11,6 +11,7 @@ pub mod Policy
 pub mod Endpoints
 pub mod Question
 pub mod Session
+pub mod InSession
 pub mod Printed
 -- A script that is run over nodes: what its lines request, why it is not run, what is printed of
 -- it, and what both ends sent.

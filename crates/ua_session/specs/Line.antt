@@ -4,8 +4,8 @@ use Rattle.ua_channel.specs.Line.{Traffic, one_more}
 use Rattle.ua_client.specs.Hearing.{failures_behind}
 use Rattle.ua_client.specs.declared.fault.ClientFault.{ClientFault}
 use Rattle.ua_client.specs.declared.fault.ClientFault.TheVariants as client
-use Rattle.ua_session.specs.declared.fault.AskFault.{AskFault}
-use Rattle.ua_session.specs.declared.fault.AskFault.TheVariants.{Connection}
+use Rattle.ua_session.specs.declared.fault.QuestionFault.{QuestionFault}
+use Rattle.ua_session.specs.declared.fault.QuestionFault.TheVariants.{Connection}
 
 -- a transport at a time: its bytes, if it tells them, and how many of its calls failed so far, by
 -- its own count
@@ -21,7 +21,7 @@ FailsBy answer before after = after.failures ≡ failures_behind before.failures
 -- the count of a transport's failures before and after a conversation with this outcome: none more
 -- if nothing is told, one more if a fault of the transport is told, and after another fault at most
 -- one more, since the session is then still to be ended and the client to be closed
-abbrev pub LineFailed : {A : Type 0} → ℕ → Result A AskFault → ℕ → Type 0
+abbrev pub LineFailed : {A : Type 0} → ℕ → Result A QuestionFault → ℕ → Type 0
 LineFailed before (Ok found) after = after ≡ before
 LineFailed before (Err (Connection client.Read)) after = after ≡ one_more before
 LineFailed before (Err (Connection client.Write)) after = after ≡ one_more before

@@ -9,8 +9,8 @@ use Rattle.ua_texts.specs.PlainAnswers.{AreReads}
 use Rattle.ua_texts.specs.Replies.{endpoint_lines}
 use Rattle.ua_texts.specs.declared.style.EndpointStyle.{EndpointStyle}
 use Rattle.ua_texts.specs.declared.style.AnswerStyle.{AnswerStyle}
-use Rattle.ua_session.specs.declared.fault.AskFault.{AskFault}
-use Rattle.ua_session.specs.declared.fault.AskFault.TheVariants.{Output}
+use Rattle.ua_session.specs.declared.fault.QuestionFault.{QuestionFault}
+use Rattle.ua_session.specs.declared.fault.QuestionFault.TheVariants.{Output}
 use Rattle.ua_variant.specs.declared.values.DataValue.{DataValue}
 
 -- the lines of answers in a style: of a Read of nodes, or of a Write to nodes
@@ -29,11 +29,11 @@ pub record HasAdded (Is : List ℕ → Type 0) (old new : Option (List ℕ)) : T
   pub added : Appends old new text
 
 -- the writer failed
-abbrev pub IsOutput : AskFault → Type 0
+abbrev pub IsOutput : QuestionFault → Type 0
 IsOutput (Output error) = Unit {0}
 IsOutput other = ⊥
 
 -- what a fault leaves of a writer: it failed itself; otherwise it is unchanged, or such lines were
 -- written
-abbrev pub LeavesLines : {O : Type 0} → (O → Option (List ℕ)) → (List ℕ → Type 0) → AskFault → O → O → Type 0
+abbrev pub LeavesLines : {O : Type 0} → (O → Option (List ℕ)) → (List ℕ → Type 0) → QuestionFault → O → O → Type 0
 LeavesLines contents AreLines fault had have = IsOutput fault ⊎ ((have ≡ had) ⊎ HasAdded AreLines (contents had) (contents have))

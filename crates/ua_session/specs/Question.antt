@@ -20,7 +20,7 @@ use Rattle.ua_variant.specs.declared.values.DataValue.{DataValue}
 use Rattle.ua_variant.specs.declared.values.Variant.{Variant}
 use Rattle.ua_session.specs.Printed.{HasAdded}
 use Rattle.ua_session.specs.Replies.{IsUnprinted, is_bad_response}
-use Rattle.ua_session.specs.declared.fault.AskFault.{AskFault}
+use Rattle.ua_session.specs.declared.fault.QuestionFault.{QuestionFault}
 use Rattle.ua_session.specs.declared.question.Question.{Question}
 use Rattle.ua_session.specs.declared.question.Question.TheVariants.{Read, Write}
 use Rattle.ua_session.specs.declared.verdict.Verdict.{Verdict}
@@ -70,7 +70,7 @@ verdict_of (Responds m) = cond (is_bad_response m) SomeBad AllGood
 verdict_of (Aborted code) = AllGood
 
 -- the lines of the answers in a reply are written, in this style, or why not is told
-abbrev pub PrintsAnswers : {O : Type 0} → (O → Option (List ℕ)) → AnswerStyle → Question → O → O → Result Reply AskFault → Result Verdict AskFault → Type 0
+abbrev pub PrintsAnswers : {O : Type 0} → (O → Option (List ℕ)) → AnswerStyle → Question → O → O → Result Reply QuestionFault → Result Verdict QuestionFault → Type 0
 PrintsAnswers contents style question had have (Ok reply) (Ok verdict) = HasAdded (AnswersQuestion style question reply []) (contents had) (contents have) × (verdict ≡ verdict_of reply)
 PrintsAnswers contents style question had have (Ok reply) (Err fault) = IsUnprinted (AnswersQuestion style question reply []) (AnswersNothing question reply) reply had have fault
 PrintsAnswers contents style question had have (Err fault) result = (have ≡ had) × (result ≡ Err fault)

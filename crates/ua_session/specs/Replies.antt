@@ -10,8 +10,8 @@ use Rattle.ua_services.specs.declared.response.Response.TheVariants.{Read, Write
 use Rattle.ua_structures.specs.declared.discovery.EndpointDescription.{EndpointDescription}
 use Rattle.ua_texts.specs.Replies.{AreEndpoints, endpoints_in, fault_in, has_bad}
 use Rattle.ua_texts.specs.declared.style.EndpointStyle.{EndpointStyle}
-use Rattle.ua_session.specs.declared.fault.AskFault.{AskFault}
-use Rattle.ua_session.specs.declared.fault.AskFault.TheVariants.{Service, Connection, NoMemory, NoPolicy, Output}
+use Rattle.ua_session.specs.declared.fault.QuestionFault.{QuestionFault}
+use Rattle.ua_session.specs.declared.fault.QuestionFault.TheVariants.{Service, Connection, NoMemory, NoPolicy, Output}
 use Rattle.ua_session.specs.Printed.{HasAdded, IsOutput}
 
 -- ---- what a reply has
@@ -41,14 +41,14 @@ is_bad_response response = has_bad response || has_failed response
 -- ---- what is made of it
 
 -- a reply as a response; a fault, and that the server aborted its response, are told
-abbrev pub GivesResponse : Result Reply AskFault → Result Response AskFault → Type 0
+abbrev pub GivesResponse : Result Reply QuestionFault → Result Response QuestionFault → Type 0
 GivesResponse (Ok (Responds m)) result = result ≡ Ok m
 GivesResponse (Ok (Aborted code)) result = result ≡ Err (Service code)
 GivesResponse (Err fault) result = result ≡ Err fault
 
 -- why a reply is not printed: the service failed with this code, or it does not answer the
 -- question, with this property; or an allocation failed
-abbrev pub IsRefusedBy : Type 0 → Reply → AskFault → Type 0
+abbrev pub IsRefusedBy : Type 0 → Reply → QuestionFault → Type 0
 IsRefusedBy IsUnknown reply (Service code) = failure_in reply ≡ Some code
 IsRefusedBy IsUnknown reply (Connection UnknownResponse) = (failure_in reply ≡ None) × IsUnknown
 IsRefusedBy IsUnknown reply (Connection other) = ⊥
@@ -57,7 +57,7 @@ IsRefusedBy IsUnknown reply (Output error) = ⊥
 IsRefusedBy IsUnknown reply NoMemory = Unit {0}
 
 -- a reply that only tells that the service is done; a fault, and that the service failed, are told
-abbrev pub Expects : Result Reply AskFault → Result (Unit {0}) AskFault → Type 0
+abbrev pub Expects : Result Reply QuestionFault → Result (Unit {0}) QuestionFault → Type 0
 Expects (Ok reply) (Ok done) = failure_in reply ≡ None
 Expects (Ok reply) (Err (Service code)) = failure_in reply ≡ Some code
 Expects (Ok reply) (Err (Connection fault)) = ⊥
@@ -68,11 +68,11 @@ Expects (Err fault) result = result ≡ Err fault
 
 -- why a reply was not printed: nothing was written, and it is no answer, for this reason; or the
 -- writer failed at its lines, which have this property
-abbrev pub IsUnprinted : {O : Type 0} → (List ℕ → Type 0) → Type 0 → Reply → O → O → AskFault → Type 0
+abbrev pub IsUnprinted : {O : Type 0} → (List ℕ → Type 0) → Type 0 → Reply → O → O → QuestionFault → Type 0
 IsUnprinted AreLines IsUnknown reply had have fault = ((have ≡ had) × IsRefusedBy IsUnknown reply fault) ⊎ (IsOutput fault × ((lines : List ℕ) × AreLines lines))
 
 -- the lines of the endpoints in a reply are written, in this style, or why not is told
-abbrev pub PrintsEndpoints : {O : Type 0} → (O → Option (List ℕ)) → EndpointStyle → O → O → Result Reply AskFault → Result (Unit {0}) AskFault → Type 0
+abbrev pub PrintsEndpoints : {O : Type 0} → (O → Option (List ℕ)) → EndpointStyle → O → O → Result Reply QuestionFault → Result (Unit {0}) QuestionFault → Type 0
 PrintsEndpoints contents style had have (Ok reply) (Ok done) = HasAdded (AreEndpoints style (endpoints_of reply) []) (contents had) (contents have)
 PrintsEndpoints contents style had have (Ok reply) (Err fault) = IsUnprinted (AreEndpoints style (endpoints_of reply) []) (endpoints_of reply ≡ None) reply had have fault
 PrintsEndpoints contents style had have (Err fault) result = (have ≡ had) × (result ≡ Err fault)

@@ -7,19 +7,19 @@ use Rattle.ua_nodes.specs.declared.fault.ValueFault.{ValueFault}
 use Rattle.ua_nodes.specs.declared.fault.ValueFault.TheVariants as value
 use Rattle.ua_texts.specs.declared.fault.AnswerFault.{AnswerFault}
 use Rattle.ua_texts.specs.declared.fault.AnswerFault.TheVariants as answer
-use Rattle.ua_session.specs.declared.fault.AskFault.{AskFault}
-use Rattle.ua_session.specs.declared.fault.AskFault.TheVariants.{Service, Connection, NoMemory}
+use Rattle.ua_session.specs.declared.fault.QuestionFault.{QuestionFault}
+use Rattle.ua_session.specs.declared.fault.QuestionFault.TheVariants.{Service, Connection, NoMemory}
 use Rattle.ua_session.specs.declared.fault.WordFault.{WordFault}
 use Rattle.ua_session.specs.declared.fault.WordFault.TheVariants as word
 
 -- a fault of a client: a service that failed is told as that, and OutOfMemory as that
-abbrev pub of_client : ClientFault → AskFault
+abbrev pub of_client : ClientFault → QuestionFault
 of_client (client.Service code) = Service code
 of_client client.OutOfMemory = NoMemory
 of_client other = Connection other
 
 -- an answer that is not printed: the service failed, or the reply does not answer the question
-abbrev pub of_answer : AnswerFault → AskFault
+abbrev pub of_answer : AnswerFault → QuestionFault
 of_answer (answer.Service code) = Service code
 of_answer answer.Unknown = Connection client.UnknownResponse
 of_answer answer.OutOfMemory = NoMemory

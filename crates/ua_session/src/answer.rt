@@ -5,7 +5,7 @@ ghost use Rattle.std.specs.Io.KnownBytes.{Appends};
 ghost use Rattle.ua_session.specs.Printed.{IsOutput};
 ghost use Rattle.ua_session.specs.Replies.{Expects, GivesResponse, PrintsEndpoints, has_failed, is_bad_response};
 
-use crate::fault::AskFault;
+use crate::fault::QuestionFault;
 use std::alloc::Global;
 use std::io;
 use std::io::Write;
@@ -14,12 +14,12 @@ use ua_services::Response;
 use ua_texts::{EndpointStyle, has_bad_code, push_endpoints};
 
 /// The response that a reply is. A reply that the server aborted is a fault.
-pub fn response_of(called: Result<Reply, AskFault>) -> Result<Response, AskFault>
+pub fn response_of(called: Result<Reply, QuestionFault>) -> Result<Response, QuestionFault>
     ensures { GivesResponse called result }
 {
     match called {
         Ok(Reply::Response(response)) => Ok(response),
-        Ok(Reply::Aborted(code)) => Err(AskFault::Service(code)),
+        Ok(Reply::Aborted(code)) => Err(QuestionFault::Service(code)),
         Err(fault) => Err(fault),
     }
 }
@@ -37,13 +37,13 @@ pub fn write_lines<O: Write>(out: &mut O, lines: &str) -> io::Result<()>
 }
 
 /// The same, where a failure of the writer is a fault.
-pub fn print_lines<O: Write>(out: &mut O, lines: &str) -> Result<(), AskFault>
+pub fn print_lines<O: Write>(out: &mut O, lines: &str) -> Result<(), QuestionFault>
     ensures written { OnOk result (Appends (O.contents out.old) (O.contents out.new) lines.now) }
     ensures failed { IfErr result IsOutput }
 {
     match write_lines(out, lines) {
         Ok(()) => Ok(()),
-        Err(error) => Err(AskFault::Output(error)),
+        Err(error) => Err(QuestionFault::Output(error)),
     }
 }
 
@@ -52,9 +52,9 @@ pub fn print_lines<O: Write>(out: &mut O, lines: &str) -> Result<(), AskFault>
 pub fn print_endpoints<O: Write>(
     alloc: Global,
     out: &mut O,
-    called: Result<Reply, AskFault>,
+    called: Result<Reply, QuestionFault>,
     style: EndpointStyle,
-) -> Result<(), AskFault>
+) -> Result<(), QuestionFault>
     ensures { PrintsEndpoints O.contents style out.old out.new called result }
 {
     let response = response_of(called)?;
@@ -85,7 +85,7 @@ fn has_failed(response: &Response) -> bool
 }
 
 /// Whether a reply shows that the service succeeded.
-pub fn expect_done(called: Result<Reply, AskFault>) -> Result<(), AskFault>
+pub fn expect_done(called: Result<Reply, QuestionFault>) -> Result<(), QuestionFault>
     ensures { Expects called result }
 {
     let response = response_of(called)?;
@@ -95,7 +95,7 @@ pub fn expect_done(called: Result<Reply, AskFault>) -> Result<(), AskFault>
     };
     drop(response);
     match failure {
-        Some(code) => Err(AskFault::Service(code)),
+        Some(code) => Err(QuestionFault::Service(code)),
         None => Ok(()),
     }
 }

@@ -7,7 +7,7 @@ ghost use Rattle.ua_session.specs.Line.{LineFailed};
 ghost use Rattle.ua_session.specs.Printed.{AreEndpointLines, HasAdded, LeavesLines};
 
 use crate::answer::print_endpoints;
-use crate::fault::AskFault;
+use crate::fault::QuestionFault;
 use crate::step::{call, close, first_of, next_moment, open};
 use std::alloc::Global;
 use std::io::Write;
@@ -27,11 +27,11 @@ pub fn call_endpoints<L: Line>(
     client: &mut Client,
     url: &UaString,
     moment: DateTime,
-) -> Result<Reply, AskFault>
+) -> Result<Reply, QuestionFault>
     ensures { CallsEndpoints url.now moment client.old client.new (record { traffic = L.traffic line.old; failures = L.failures line.old }) (record { traffic = L.traffic line.new; failures = L.failures line.new }) result }
 {
     let Ok(url) = url.try_clone() else {
-        return Err(AskFault::NoMemory);
+        return Err(QuestionFault::NoMemory);
     };
     let request = get_endpoints_request(url, moment, FIRST_CALL);
     call(line, client, request, moment)
@@ -46,7 +46,7 @@ fn ask_endpoints<L: Line, M: Moments, O: Write>(
     style: EndpointStyle,
     moments: &mut M,
     out: &mut O,
-) -> Result<(), AskFault>
+) -> Result<(), QuestionFault>
     ensures { AsksEndpoints M.gives O.contents url.now style moments.old moments.new client.old client.new (record { traffic = L.traffic line.old; failures = L.failures line.old }) (record { traffic = L.traffic line.new; failures = L.failures line.new }) out.old out.new result }
 {
     let moment = next_moment(moments);
@@ -68,7 +68,7 @@ pub fn endpoints_over<L: Line, M: Moments, O: Write>(
     style: EndpointStyle,
     moments: &mut M,
     out: &mut O,
-) -> Result<(), AskFault>
+) -> Result<(), QuestionFault>
     requires { IsTrue (text.encodable url.now) }
     ensures runs { RunsEndpoints M.gives O.contents limits url.now style moments.old moments.new (record { traffic = L.traffic line.old; failures = L.failures line.old }) (record { traffic = L.traffic line.new; failures = L.failures line.new }) out.old out.new result }
     ensures answered { OnOk result (HasAdded (AreEndpointLines style) (O.contents out.old) (O.contents out.new)) }

@@ -12,7 +12,7 @@ use ua_texts::AnswerFault;
 /// Why a server gave no answers, why they were not written, or why the client was not closed after
 /// them.
 #[derive(Clone, Copy, Debug, Error)]
-pub enum AskFault {
+pub enum QuestionFault {
     /// A service failed: the StatusCode of a ServiceFault, or of a reply that the server aborted.
     #[error("service {code:08X}", code = .0.code)]
     Service(StatusCode),
@@ -30,54 +30,54 @@ pub enum AskFault {
     NoMemory,
 }
 
-impl From<ClientFault> for AskFault {
+impl From<ClientFault> for QuestionFault {
     ghost use Rattle.std.specs.Prelude.{◌≡◌};
     ghost use Rattle.ua_session.specs.Told.{of_client};
 
     ghost from_gives = { λ client fault. fault ≡ of_client client };
 
-    fn from(fault: ClientFault) -> AskFault {
+    fn from(fault: ClientFault) -> QuestionFault {
         match fault {
-            ClientFault::Service(code) => AskFault::Service(code),
-            ClientFault::OutOfMemory => AskFault::NoMemory,
-            fault => AskFault::Connection(fault),
+            ClientFault::Service(code) => QuestionFault::Service(code),
+            ClientFault::OutOfMemory => QuestionFault::NoMemory,
+            fault => QuestionFault::Connection(fault),
         }
     }
 }
 
-impl From<AnswerFault> for AskFault {
+impl From<AnswerFault> for QuestionFault {
     ghost use Rattle.std.specs.Prelude.{◌≡◌};
     ghost use Rattle.ua_session.specs.Told.{of_answer};
 
     ghost from_gives = { λ answer fault. fault ≡ of_answer answer };
 
-    fn from(fault: AnswerFault) -> AskFault {
+    fn from(fault: AnswerFault) -> QuestionFault {
         match fault {
-            AnswerFault::Service(code) => AskFault::Service(code),
-            AnswerFault::Unknown => AskFault::Connection(ClientFault::UnknownResponse),
-            AnswerFault::OutOfMemory => AskFault::NoMemory,
+            AnswerFault::Service(code) => QuestionFault::Service(code),
+            AnswerFault::Unknown => QuestionFault::Connection(ClientFault::UnknownResponse),
+            AnswerFault::OutOfMemory => QuestionFault::NoMemory,
         }
     }
 }
 
-impl From<AllocError> for AskFault {
+impl From<AllocError> for QuestionFault {
     ghost use Rattle.std.specs.Prelude.{◌≡◌};
-    ghost use Rattle.ua_session.specs.declared.fault.AskFault.TheVariants.{NoMemory};
+    ghost use Rattle.ua_session.specs.declared.fault.QuestionFault.TheVariants.{NoMemory};
 
     ghost from_gives = { λ _ fault. fault ≡ NoMemory };
 
-    fn from(_: AllocError) -> AskFault {
-        AskFault::NoMemory
+    fn from(_: AllocError) -> QuestionFault {
+        QuestionFault::NoMemory
     }
 }
 
 /// Why a session was not begun.
-#[derive(Drop)]
+#[derive(Debug, Drop)]
 pub struct NotBegun {
     /// The token of a session that CreateSession brought, and that stays at the server.
     pub token: Option<NodeId>,
     /// The fault that is reported.
-    pub fault: AskFault,
+    pub fault: QuestionFault,
 }
 
 /// Why words are refused.

@@ -5,7 +5,7 @@ use ua_builtin::StatusCode;
 use ua_client::ClientFault;
 
 /// The name of a client's fault and, after a space, its StatusCode, if it has one.
-#[derive(Clone, Copy)]
+#[derive(Clone, Copy, Debug)]
 pub struct FaultName(pub ClientFault);
 
 impl FaultName {

@@ -14,6 +14,14 @@
 //! // `ns=1;s=Pump 00000000 Int32 6` is written to `out`
 //! ```
 //!
+//! A [`ClientSession`] is kept for one question after the other:
+//!
+//! ```
+//! let mut session = ClientSession::begin(alloc, &mut line, limits, url, &policy, &mut moments)?;
+//! session.ask(&mut line, &question, style, moment, &mut out)?;
+//! session.end(&mut line, &mut moments)?;
+//! ```
+//!
 //! And that of [`run_lines`]: the bytes in each direction and the text are functions of the nodes
 //! and the lines of the script, however the bytes are fragmented; or the request of a line is the
 //! first that a client does not send.
@@ -26,6 +34,7 @@
 #![tactic(auto)]
 
 mod answer;
+mod client_session;
 mod endpoints;
 mod fault;
 mod fault_name;
@@ -38,8 +47,9 @@ mod step;
 mod verdict;
 mod words;
 
+pub use client_session::ClientSession;
 pub use endpoints::endpoints_over;
-pub use fault::{AskFault, NotBegun, WordFault};
+pub use fault::{NotBegun, QuestionFault, WordFault};
 pub use looping::{LoopFault, Looped, parse_lines, push_end, run_lines};
 pub use policy::TokenPolicy;
 pub use question::Question;

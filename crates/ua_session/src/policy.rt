@@ -5,14 +5,14 @@ ghost use Rattle.ua_client.specs.declared.reply.Reply.TheVariants.{Response as R
 ghost use Rattle.ua_session.specs.Policy.{ChoosesAmong, ChoosesBy};
 
 use crate::answer::response_of;
-use crate::fault::AskFault;
+use crate::fault::QuestionFault;
 use ua_builtin::UaString;
 use ua_client::{ClientFault, Reply};
 use ua_services::{Response, chosen_id};
 use ua_structures::EndpointDescription;
 
 /// The token policy for anonymous users by which a session is begun.
-#[derive(Drop)]
+#[derive(Debug, Drop)]
 pub enum TokenPolicy {
     /// The one with this PolicyId.
     Named(UaString),
@@ -22,20 +22,20 @@ pub enum TokenPolicy {
 }
 
 /// The PolicyId that endpoints give.
-fn choose_among(endpoints: &[EndpointDescription]) -> Result<UaString, AskFault>
+fn choose_among(endpoints: &[EndpointDescription]) -> Result<UaString, QuestionFault>
     ensures { ChoosesAmong endpoints.now result }
 {
     match chosen_id(endpoints) {
         Some(id) => match id.try_clone() {
             Ok(id) => Ok(id),
-            Err(_) => Err(AskFault::NoMemory),
+            Err(_) => Err(QuestionFault::NoMemory),
         },
-        None => Err(AskFault::NoPolicy),
+        None => Err(QuestionFault::NoPolicy),
     }
 }
 
 /// The PolicyId that the endpoints in a response give.
-fn choose_in(response: &Response) -> Result<UaString, AskFault>
+fn choose_in(response: &Response) -> Result<UaString, QuestionFault>
     ensures { ChoosesBy (Ok (Responds response.now)) result }
 {
     match response {
@@ -44,14 +44,14 @@ fn choose_in(response: &Response) -> Result<UaString, AskFault>
             choose_among(endpoints)
         }
         Response::ServiceFault(fault) => {
-            Err(AskFault::Service(fault.response_header.service_result))
+            Err(QuestionFault::Service(fault.response_header.service_result))
         }
-        _ => Err(AskFault::Connection(ClientFault::UnknownResponse)),
+        _ => Err(QuestionFault::Connection(ClientFault::UnknownResponse)),
     }
 }
 
 /// The PolicyId that a reply to GetEndpoints gives.
-pub fn choose_by(called: Result<Reply, AskFault>) -> Result<UaString, AskFault>
+pub fn choose_by(called: Result<Reply, QuestionFault>) -> Result<UaString, QuestionFault>
     ensures { ChoosesBy called result }
 {
     let response = match response_of(called) {

@@ -7,7 +7,7 @@ ghost use Rattle.ua_session.specs.Told.{of_answer};
 ghost use Rattle.ua_client.specs.declared.reply.Reply.TheVariants.{Response as Responds};
 
 use crate::answer::{is_bad_response, print_lines, response_of};
-use crate::fault::AskFault;
+use crate::fault::QuestionFault;
 use crate::verdict::Verdict;
 use std::alloc::{AllocError, Global};
 use std::io::Write;
@@ -20,7 +20,7 @@ use ua_texts::{AnswerFault, AnswerStyle, push_read_answers_as, push_write_answer
 use ua_variant::Variant;
 
 /// The question that is asked in a session.
-#[derive(Drop)]
+#[derive(Debug, Drop)]
 pub enum Question {
     /// To read an attribute of nodes, by its id (OPC 10000-6, A.1), or the part of it that an index
     /// range selects, where this is not null (OPC 10000-4, 7.27).
@@ -123,9 +123,9 @@ impl Question {
         &self,
         alloc: Global,
         out: &mut O,
-        called: Result<Reply, AskFault>,
+        called: Result<Reply, QuestionFault>,
         style: AnswerStyle,
-    ) -> Result<Verdict, AskFault>
+    ) -> Result<Verdict, QuestionFault>
         ensures { PrintsAnswers O.contents style self.now out.old out.new called result }
     {
         let response = response_of(called)?;

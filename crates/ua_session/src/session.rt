@@ -10,7 +10,7 @@ ghost use Rattle.ua_session.specs.Steps.{Asks};
 
 use crate::answer::expect_done;
 use crate::endpoints::call_endpoints;
-use crate::fault::{AskFault, NotBegun};
+use crate::fault::{NotBegun, QuestionFault};
 use crate::policy::{TokenPolicy, choose_by};
 use crate::question::Question;
 use crate::step::{begin, call, close, first_of, next_moment, open};
@@ -25,19 +25,19 @@ use ua_services::session_requests::close_session_request;
 use ua_texts::AnswerStyle;
 
 /// The PolicyId by which a session is to be begun; the server is asked for it where none is named.
-fn find_policy<L: Line, M: Moments>(
+pub fn find_policy<L: Line, M: Moments>(
     line: &mut L,
     client: &mut Client,
     url: &UaString,
     policy: &TokenPolicy,
     moments: &mut M,
-) -> Result<UaString, AskFault>
+) -> Result<UaString, QuestionFault>
     ensures { FindsPolicy M.gives url.now policy.now moments.old moments.new client.old client.new (record { traffic = L.traffic line.old; failures = L.failures line.old }) (record { traffic = L.traffic line.new; failures = L.failures line.new }) result }
 {
     match policy {
         TokenPolicy::Named(id) => match id.try_clone() {
             Ok(id) => Ok(id),
-            Err(_) => Err(AskFault::NoMemory),
+            Err(_) => Err(QuestionFault::NoMemory),
         },
         TokenPolicy::Auto => {
             let moment = next_moment(moments);
@@ -49,7 +49,7 @@ fn find_policy<L: Line, M: Moments>(
 
 /// The RequestId of the first call in a session: the OPN has 1, those that begin a session have 2
 /// and 3, and one more where the server is asked for the token policy first.
-fn first_call(policy: &TokenPolicy) -> u32
+pub fn first_call(policy: &TokenPolicy) -> u32
     ensures handle { result ≡ first_call policy.now }
     ensures few { result < 2 ^ 31 }
     ensures some { 0 < result }
@@ -61,7 +61,7 @@ fn first_call(policy: &TokenPolicy) -> u32
 }
 
 /// Calls the request that asks a question under the token of a session, with this RequestHandle.
-fn call_question<L: Line>(
+pub fn call_question<L: Line>(
     alloc: Global,
     line: &mut L,
     client: &mut Client,
@@ -69,20 +69,20 @@ fn call_question<L: Line>(
     token: &NodeId,
     handle: u32,
     moment: DateTime,
-) -> Result<Reply, AskFault>
+) -> Result<Reply, QuestionFault>
     ensures { Asks (request_of question.now token.now moment handle) client.old client.new (record { traffic = L.traffic line.old; failures = L.failures line.old }) (record { traffic = L.traffic line.new; failures = L.failures line.new }) result }
 {
     let Ok(token) = token.try_clone() else {
-        return Err(AskFault::NoMemory);
+        return Err(QuestionFault::NoMemory);
     };
     match question.request(alloc, token, moment, handle) {
         Ok(request) => call(line, client, request, moment),
-        Err(_) => Err(AskFault::NoMemory),
+        Err(_) => Err(QuestionFault::NoMemory),
     }
 }
 
 /// The RequestId of the call after a question: a question that was not sent used none.
-fn handle_behind(handle: u32, called: &Result<Reply, AskFault>) -> u32
+fn handle_behind(handle: u32, called: &Result<Reply, QuestionFault>) -> u32
     requires few { handle < 2 ^ 31 }
     ensures { result ≡ handle_behind handle called.now }
 {
@@ -93,13 +93,13 @@ fn handle_behind(handle: u32, called: &Result<Reply, AskFault>) -> u32
 }
 
 /// Ends a session.
-fn end_session<L: Line>(
+pub fn end_session<L: Line>(
     line: &mut L,
     client: &mut Client,
     token: NodeId,
     handle: u32,
     moment: DateTime,
-) -> Result<(), AskFault>
+) -> Result<(), QuestionFault>
     ensures { EndsSession token handle moment client.old client.new (record { traffic = L.traffic line.old; failures = L.failures line.old }) (record { traffic = L.traffic line.new; failures = L.failures line.new }) result }
 {
     let request = close_session_request(token, moment, handle);
@@ -119,7 +119,7 @@ fn ask_under<L: Line, M: Moments, O: Write>(
     handle: u32,
     moments: &mut M,
     out: &mut O,
-) -> Result<Verdict, AskFault>
+) -> Result<Verdict, QuestionFault>
     requires { handle < 2 ^ 31 }
     ensures { AsksUnder M.gives O.contents style question.now token handle moments.old moments.new client.old client.new (record { traffic = L.traffic line.old; failures = L.failures line.old }) (record { traffic = L.traffic line.new; failures = L.failures line.new }) out.old out.new result }
 {
@@ -134,25 +134,25 @@ fn ask_under<L: Line, M: Moments, O: Write>(
 
 /// The RequestId of the call after a session that was not begun, where that of the first call in it
 /// would have been this: one less, unless a service answered that it failed.
-fn handle_unbegun(handle: u32, fault: AskFault) -> u32
+fn handle_unbegun(handle: u32, fault: QuestionFault) -> u32
     requires some { 0 < handle }
     ensures { result ≡ handle_unbegun handle fault }
 {
     match fault {
-        AskFault::Service(_) => handle,
+        QuestionFault::Service(_) => handle,
         _ => handle - 1,
     }
 }
 
 /// Ends the session that stays at the server where it was not begun, if there is one. The outcome
 /// of that is not reported.
-fn end_unbegun<L: Line, M: Moments>(
+pub fn end_unbegun<L: Line, M: Moments>(
     line: &mut L,
     client: &mut Client,
     refused: NotBegun,
     handle: u32,
     moments: &mut M,
-) -> AskFault
+) -> QuestionFault
     requires some { 0 < handle }
     ensures fault { result ≡ refused.fault }
     ensures ends { EndsUnbegun M.gives refused.token (handle_unbegun handle refused.fault) moments.old moments.new client.old client.new (record { traffic = L.traffic line.old; failures = L.failures line.old }) (record { traffic = L.traffic line.new; failures = L.failures line.new }) }
@@ -177,7 +177,7 @@ fn ask_in_session<L: Line, M: Moments, O: Write>(
     handle: u32,
     moments: &mut M,
     out: &mut O,
-) -> Result<Verdict, AskFault>
+) -> Result<Verdict, QuestionFault>
     requires few { handle < 2 ^ 31 }
     requires some { 0 < handle }
     ensures { AsksInSession M.gives O.contents style question.now policy_id handle moments.old moments.new client.old client.new (record { traffic = L.traffic line.old; failures = L.failures line.old }) (record { traffic = L.traffic line.new; failures = L.failures line.new }) out.old out.new result }
@@ -202,7 +202,7 @@ fn ask_by_policy<L: Line, M: Moments, O: Write>(
     style: AnswerStyle,
     moments: &mut M,
     out: &mut O,
-) -> Result<Verdict, AskFault>
+) -> Result<Verdict, QuestionFault>
     ensures { AsksByPolicy M.gives O.contents url.now policy.now style question.now moments.old moments.new client.old client.new (record { traffic = L.traffic line.old; failures = L.failures line.old }) (record { traffic = L.traffic line.new; failures = L.failures line.new }) out.old out.new result }
 {
     let found = find_policy(line, client, url, policy, moments);
@@ -235,7 +235,7 @@ pub fn ask_over<L: Line, M: Moments, O: Write>(
     style: AnswerStyle,
     moments: &mut M,
     out: &mut O,
-) -> Result<Verdict, AskFault>
+) -> Result<Verdict, QuestionFault>
     requires { IsTrue (text.encodable url.now) }
     ensures runs { RunsQuestion M.gives O.contents limits url.now policy.now style question.now moments.old moments.new (record { traffic = L.traffic line.old; failures = L.failures line.old }) (record { traffic = L.traffic line.new; failures = L.failures line.new }) out.old out.new result }
     ensures answered { OnOk result (HasAdded (AreAnswerLines style) (O.contents out.old) (O.contents out.new)) }

@@ -5,7 +5,7 @@ ghost use Rattle.ua_wire.specs.Counted.{text};
 ghost use Rattle.ua_client.specs.Client.{IsReady};
 ghost use Rattle.ua_session.specs.Steps.{Begins, Calls, ClosesClient, OpensServer, first_of, told};
 
-use crate::fault::{AskFault, NotBegun};
+use crate::fault::{NotBegun, QuestionFault};
 use std::alloc::Global;
 use ua_builtin::{DateTime, NodeId, UaString};
 use ua_channel::{Line, Moments};
@@ -23,12 +23,12 @@ pub fn next_moment<M: Moments>(moments: &mut M) -> DateTime
 }
 
 /// The result of a client, with its fault as it is reported.
-fn told<A: Drop>(answer: Result<A, ClientFault>) -> Result<A, AskFault>
+pub fn told<A: Drop>(answer: Result<A, ClientFault>) -> Result<A, QuestionFault>
     ensures { result ≡ told answer }
 {
     match answer {
         Ok(found) => Ok(found),
-        Err(fault) => Err(AskFault::from(fault)),
+        Err(fault) => Err(QuestionFault::from(fault)),
     }
 }
 
@@ -36,15 +36,15 @@ fn told<A: Drop>(answer: Result<A, ClientFault>) -> Result<A, AskFault>
 /// allocation in the second step takes the place of a fault of the first, unless that is a failed
 /// writer.
 pub fn first_of<A: Drop>(
-    first: Result<A, AskFault>,
-    second: Result<(), AskFault>,
-) -> Result<A, AskFault>
+    first: Result<A, QuestionFault>,
+    second: Result<(), QuestionFault>,
+) -> Result<A, QuestionFault>
     ensures { result ≡ first_of first second }
 {
     match (first, second) {
         (Ok(found), Ok(())) => Ok(found),
-        (Err(AskFault::Output(error)), _) => Err(AskFault::Output(error)),
-        (Err(_), Err(AskFault::NoMemory)) => Err(AskFault::NoMemory),
+        (Err(QuestionFault::Output(error)), _) => Err(QuestionFault::Output(error)),
+        (Err(_), Err(QuestionFault::NoMemory)) => Err(QuestionFault::NoMemory),
         (Ok(_), Err(fault)) | (Err(fault), _) => Err(fault),
     }
 }
@@ -56,13 +56,13 @@ pub fn open<L: Line>(
     limits: Limits,
     url: &UaString,
     moment: DateTime,
-) -> Result<Client, AskFault>
+) -> Result<Client, QuestionFault>
     requires { IsTrue (text.encodable url.now) }
     ensures opens { OpensServer limits url.now moment (record { traffic = L.traffic line.old; failures = L.failures line.old }) (record { traffic = L.traffic line.new; failures = L.failures line.new }) result }
     ensures ready { IfOk result (λ client. IsReady client) }
 {
     let Ok(url) = url.try_clone() else {
-        return Err(AskFault::NoMemory);
+        return Err(QuestionFault::NoMemory);
     };
     told(Client::open(alloc, line, limits, url, moment))
 }
@@ -80,7 +80,7 @@ pub fn begin<L: Line>(
         Ok(token) => Ok(token),
         Err(SessionFault { token, fault }) => Err(NotBegun {
             token,
-            fault: AskFault::from(fault),
+            fault: QuestionFault::from(fault),
         }),
     }
 }
@@ -91,7 +91,7 @@ pub fn call<L: Line>(
     client: &mut Client,
     request: Request,
     moment: DateTime,
-) -> Result<Reply, AskFault>
+) -> Result<Reply, QuestionFault>
     ensures { Calls request client.old client.new (record { traffic = L.traffic line.old; failures = L.failures line.old }) (record { traffic = L.traffic line.new; failures = L.failures line.new }) result }
 {
     let answer = client.call(line, &request, moment);
@@ -100,7 +100,11 @@ pub fn call<L: Line>(
 }
 
 /// Closes a client, where it did not fail before.
-pub fn close<L: Line>(line: &mut L, mut client: Client, moment: DateTime) -> Result<(), AskFault>
+pub fn close<L: Line>(
+    line: &mut L,
+    mut client: Client,
+    moment: DateTime,
+) -> Result<(), QuestionFault>
     ensures { ClosesClient moment client (record { traffic = L.traffic line.old; failures = L.failures line.old }) (record { traffic = L.traffic line.new; failures = L.failures line.new }) result }
 {
     told(client.close(line, moment))

@@ -24,7 +24,7 @@ use ua_texts::ScriptLine;
 const OPENING_TURNS: usize = 2;
 
 /// The result of a script.
-#[derive(Drop)]
+#[derive(Debug, Drop)]
 pub struct Looped {
     /// The client-to-server bytes.
     pub up: Vec<u8>,
