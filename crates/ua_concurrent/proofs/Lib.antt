@@ -1,3 +1,4 @@
+mod Acting
 mod Behind
 mod Moving
 mod Stepping

@@ -2,4 +2,5 @@ pub mod Carried
 pub mod Talk
 pub mod Standing
 pub mod Turning
+pub mod Acts
 pub mod All

@@ -5,6 +5,7 @@ ghost use Rattle.std.specs.List.{list_any};
 ghost use Rattle.ua_server.specs.Sharing.{SharedEvent, Changed, opened as before_all, shared_over};
 ghost use Rattle.ua_server.specs.State.{State, with_nodes};
 ghost use Rattle.ua_nodes.specs.Table.{Nodes};
+ghost use Rattle.ua_concurrent.specs.Acts.{HasActed};
 ghost use Rattle.ua_concurrent.specs.All.{HadRound, IsFree, Opens, TurnsAt, last_of, places_of};
 ghost use Rattle.ua_concurrent.specs.Standing.{GoOn, IsAt, IsFresh, StandTogether, own_id};
 ghost use Rattle.ua_concurrent.specs.Talk.{Talk, is_place_ready, released_at};
@@ -22,7 +23,7 @@ use ua_server::Services;
 
 /// At most this many connections at a time over one node table, each at a place. They are numbered
 /// from 1, in the order in which they are opened, and no number is used again.
-#[derive(Drop)]
+#[derive(Debug, Drop)]
 pub struct Connections<S> {
     alloc: Global,
     limits: Limits,
@@ -144,11 +145,13 @@ impl<S: Socket> Connections<S> {
     }
 
     /// Gives the connection at each place one turn, in the order of places.
+    #[tactic(auto, using(crate::proofs::Acting::acted_none))]
     pub fn go_round<A: Application>(&mut self, services: &mut Services, application: &mut A)
         ensures last { last_of self.new ≡ last_of self.old }
         ensures round { HadRound S.heard S.readable S.writable (places_of self.old) (places_of self.new) }
         ensures stand { (es : List SharedEvent) (first : State) → StandTogether S.heard es first services.old (last_of self.old) (places_of self.old)
             → GoOn S.heard es first services.new (last_of self.new) (places_of self.new) }
+        ensures acted { HasActed A.acts application.old application.new }
     {
         for place in 0..self.places.len() {
             self.turn(place, services, application);
@@ -156,12 +159,14 @@ impl<S: Socket> Connections<S> {
     }
 
     /// Gives the connection at a place one turn.
+    #[tactic(auto, using(crate::proofs::Acting::acted_none))]
     fn turn<A: Application>(&mut self, place: usize, services: &mut Services, application: &mut A)
         requires { place < length (places_of self.old) }
         ensures last { last_of self.new ≡ last_of self.old }
         ensures turn { TurnsAt S.heard S.readable S.writable place (places_of self.old) (places_of self.new) }
         ensures stand { (es : List SharedEvent) (first : State) → StandTogether S.heard es first services.old (last_of self.old) (places_of self.old)
             → GoOn S.heard es first services.new (last_of self.new) (places_of self.new) }
+        ensures acted { HasActed A.acts application.old application.new }
     {
         if let Some(mut conversation) = mem::replace(&mut self.places[place], None) {
             conversation.turn(services, application);

@@ -4,6 +4,7 @@ ghost use Rattle.std.specs.Prelude.{◌≡◌, ◌≢◌, ◌⊎◌, ◌<◌, �
 ghost use Rattle.ua_server.specs.Sharing.{SharedEvent, opened, shared_over, told_by};
 ghost use Rattle.ua_server.specs.State.{State};
 ghost use Rattle.ua_server.specs.declared.step.End.TheVariants.{NoClose, Cut};
+ghost use Rattle.ua_concurrent.specs.Acts.{HasActed};
 ghost use Rattle.ua_concurrent.specs.Standing.{IsFresh, Stands, Went, own_id};
 ghost use Rattle.ua_concurrent.specs.Talk.{Talk, is_going, is_ready, released};
 ghost use Rattle.ua_concurrent.specs.Turning.{Answered, Finishes, HadTurn, Turned, IsIdle, Keeps, Reads, Stepped, Writes, most_read};
@@ -16,7 +17,7 @@ use std::alloc::{AllocError, Global};
 use std::marker::Model;
 use ua_frame::Limits;
 use ua_server::laws::{events_are_answered_in_parts, one_of_several_connections_stands_by_itself};
-use ua_server::{Connection, End, Services, Step};
+use ua_server::{Connection, End, Services, Step, Written};
 
 /// The most bytes that are read at once.
 const PIECE: usize = 4096;
@@ -26,7 +27,7 @@ const MOST_GATHERED: usize = 16384;
 
 /// A client's connection, its socket, and what is buffered between two turns: bytes that were read
 /// and not stepped yet, and answers that are not written yet.
-#[derive(Drop)]
+#[derive(Debug, Drop)]
 pub struct Conversation<S> {
     alloc: Global,
     number: u32,
@@ -149,10 +150,12 @@ impl<S: Socket> Conversation<S> {
 
     /// One turn: writes what waits. Where nothing waits, it reads, unless bytes are still to be
     /// stepped, steps them, and writes the answers. While an answer waits, nothing is read.
+    #[tactic(auto, using(crate::proofs::Acting::acted_none))]
     pub fn turn<A: Application>(&mut self, services: &mut Services, application: &mut A)
         ensures turn { HadTurn S.heard S.readable S.writable self.old self.new }
         ensures went { (es : List SharedEvent) (first : State) → (shared_over own_id (opened first) es).state ≡ services.old → Stands S.heard es first services.old self.old
             → Went S.heard es first services.old services.new self.new }
+        ensures acted { HasActed A.acts application.old application.new }
     {
         if !self.is_ready() {
             return;
@@ -177,6 +180,7 @@ impl<S: Socket> Conversation<S> {
         ensures turned { Turned S.heard S.readable S.writable self.old self.new }
         ensures went { (es : List SharedEvent) (first : State) → (shared_over own_id (opened first) es).state ≡ services.old → Stands S.heard es first services.old self.old
             → Went S.heard es first services.old services.new self.new }
+        ensures acted { HasActed A.acts application.old application.new }
     {
         if self.unread().is_empty() {
             self.read_and_answer(services, application);
@@ -186,6 +190,7 @@ impl<S: Socket> Conversation<S> {
     }
 
     /// Reads, steps what was read, and writes the answers.
+    #[tactic(auto, using(crate::proofs::Acting::acted_none))]
     fn read_and_answer<A: Application>(&mut self, services: &mut Services, application: &mut A)
         requires going { self.old.phase ≡ phase.Going }
         requires still { self.old.outcome ≡ None }
@@ -193,6 +198,7 @@ impl<S: Socket> Conversation<S> {
         ensures turned { Turned S.heard S.readable S.writable self.old self.new }
         ensures went { (es : List SharedEvent) (first : State) → (shared_over own_id (opened first) es).state ≡ services.old → Stands S.heard es first services.old self.old
             → Went S.heard es first services.old services.new self.new }
+        ensures acted { HasActed A.acts application.old application.new }
     {
         self.read_on();
         if !self.unread().is_empty() {
@@ -208,6 +214,7 @@ impl<S: Socket> Conversation<S> {
         ensures answered { Answered S.heard self.old self.new }
         ensures went { (es : List SharedEvent) (first : State) → Stands S.heard es first services.old self.old
             → Went S.heard es first services.old services.new self.new }
+        ensures acted { HasActed A.acts application.old application.new }
     {
         self.step_on(services, application);
         if !self.waiting().is_empty() {
@@ -279,6 +286,7 @@ impl<S: Socket> Conversation<S> {
         ensures stepped { Stepped self.old self.new }
         ensures went { (es : List SharedEvent) (first : State) → Stands S.heard es first services.old self.old
             → Went S.heard es first services.old services.new self.new }
+        ensures acted { HasActed A.acts application.old application.new }
     {
         self.step(services, application);
         for _ in 0..PIECE {
@@ -296,14 +304,19 @@ impl<S: Socket> Conversation<S> {
         ensures stepped { Stepped self.old self.new }
         ensures went { (es : List SharedEvent) (first : State) → Stands S.heard es first services.old self.old
             → Went S.heard es first services.old services.new self.new }
+        ensures acted { HasActed A.acts application.old application.new }
     {
         events_are_answered_in_parts();
         one_of_several_connections_stands_by_itself();
         let moment = application.before_step(services);
         let piece = &self.piece[..self.filled][self.stepped..];
-        match self.connection.step(services, piece, moment) {
+        let mut written = Written::nothing();
+        match self
+            .connection
+            .step_telling(services, piece, moment, &mut written)
+        {
             Ok(step) => {
-                application.after_step(self.number, services, &step);
+                application.after_step(self.number, services, &step, &written);
                 self.keep(step);
             }
             Err(_) => self.phase = Phase::Starved,

@@ -64,7 +64,7 @@ pub enum Failure {
 }
 
 /// A connection that is over.
-#[derive(Drop)]
+#[derive(Debug, Drop)]
 pub struct Released<S> {
     /// Its number.
     pub number: u32,

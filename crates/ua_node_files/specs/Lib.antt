@@ -1,3 +1,4 @@
 pub mod Namespaces
 pub mod Standard
 pub mod CurrentTime
+pub mod Changed

@@ -8,10 +8,12 @@
 //! ```
 #![tactic(auto)]
 
+mod changed;
 mod current;
 mod namespace;
 mod standard;
 
+pub use changed::changed_nodes;
 pub use current::{current_time, current_time_id, lacks_current_time};
 pub use namespace::{NamespaceFault, namespaces};
 pub use standard::with_standard;

@@ -1,8 +1,9 @@
 -- What is told in several parts.
-use Rattle.std.proofs.Common.{◌≡◌, ◌≤◌, ◌+◌, ℕ, List, [], ◌∷◌, ◌++◌, Result, refl, sym, subst, arith}
-use Rattle.ua_poll.specs.News.{News, Over, Missed, WasToldOf, count_over}
+use Rattle.std.proofs.Common.{◌≡◌, ◌≤◌, ◌+◌, ℕ, List, [], ◌∷◌, ◌++◌, map, Result, refl, sym, subst, arith}
+use Rattle.ua_poll.specs.News.{News, Over, Missed, Acts, WasToldOf, count_over, notes_of}
 use Rattle.ua_poll.specs.Rounds.{Tells}
 use Rattle.ua_poll.specs.declared.endings.NotTaken.{NotTaken}
+use Rattle.ua_concurrent.specs.Acts.{Act, HasActed}
 use Rattle.ua_concurrent.specs.declared.outcome.Failure.{Failure}
 use Rattle.ua_server.specs.Happening.{Leads}
 use Rattle.ua_server.specs.declared.step.End.{End}
@@ -11,6 +12,7 @@ count_both : (a b : List News) → count_over (a ++ b) ≡ count_over a + count_
 count_both [] b = omega arith
 count_both (Over number outcome ∷ a) b = let rest = count_both a b in omega (arith, rest)
 count_both (Missed why ∷ a) b = count_both a b
+count_both (Acts act ∷ a) b = count_both a b
 
 module _ {E : Type 0} (notes : E → News → E → Type 0) where
   leads_both : (a b : List News) (x y z : E) → Leads notes x a y → Leads notes y b z → Leads notes x (a ++ b) z
@@ -46,3 +48,22 @@ module _ {E : Type 0} (notes : E → News → E → Type 0) where
   told_all i count total x y none within reached t =
       let same : count ≡ total = omega (arith, within, reached) in
       subst (λ (n : ℕ). WasToldOf notes n x y) same (told_of i count x y none t)
+
+-- ---- what the application does
+
+none_over : (done : List Act) → count_over (map Acts done) ≡ 0
+none_over [] = refl
+none_over (act ∷ done) = none_over done
+
+module _ {E : Type 0} (notes : E → News → E → Type 0) (acts : E → Act → E → Type 0) where
+  leads_acts : (done : List Act) (x y : E) → Leads acts x done y → Leads (notes_of notes acts) x (map Acts done) y
+  leads_acts [] x y led = led
+  leads_acts (act ∷ done) x y led = (led.0, led.1, leads_acts done led.0 y led.2)
+
+  -- no connection is over by what the application does
+  pub tells_acts : (i : ℕ) (x y : E) → HasActed acts x y → Tells (notes_of notes acts) i i x y
+  tells_acts i x y a = record {
+    news = map Acts a.done;
+    leads = leads_acts a.done x y a.leads;
+    count_is = let none = none_over a.done in omega (arith, none);
+  }

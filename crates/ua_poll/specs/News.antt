@@ -1,5 +1,6 @@
 -- What is told of the connections of a server.
 use Rattle.std.specs.Prelude.{◌≡◌, ◌≤◌, ℕ, suc, List, [], ◌∷◌, Result, Ok, Err}
+use Rattle.ua_concurrent.specs.Acts.{Act}
 use Rattle.ua_concurrent.specs.Standing.{own_id}
 use Rattle.ua_concurrent.specs.declared.outcome.Failure.{Failure}
 use Rattle.ua_poll.specs.declared.endings.NotTaken.{NotTaken}
@@ -9,19 +10,28 @@ use Rattle.ua_server.specs.Sharing.{SharedEvent, opened, shared_over}
 use Rattle.ua_server.specs.State.{State}
 use Rattle.ua_server.specs.declared.step.End.{End}
 
--- a connection resulted in this, or a peer that came is not served
+-- a connection resulted in this, a peer that came is not served, or the application acted
 pub data News : Type 0 where
   Over : (number : ℕ) (outcome : Result End Failure) → News
   Missed : (why : NotTaken) → News
+  Acts : (act : Act) → News
 
 -- how many connections are over
 abbrev pub count_over : List News → ℕ
 count_over [] = 0
 count_over (Over number outcome ∷ news) = suc (count_over news)
 count_over (Missed why ∷ news) = count_over news
+count_over (Acts act ∷ news) = count_over news
 
--- this was told, one after the other: that this many connections are over, and that peers are not
--- served
+-- one of these: connections that are over and peers that are not served are told, and the
+-- application acts
+abbrev pub notes_of : {E : Type 0} → (E → News → E → Type 0) → (E → Act → E → Type 0) → E → News → E → Type 0
+notes_of notes acts before (Over number outcome) after = notes before (Over number outcome) after
+notes_of notes acts before (Missed why) after = notes before (Missed why) after
+notes_of notes acts before (Acts act) after = acts before act after
+
+-- this happened, one after the other: this many connections are over, peers are not served, and the
+-- application acted
 pub record WasToldOf {E : Type 0} (notes : E → News → E → Type 0) (count : ℕ) (before after : E) : Type 0 where
   pub news : List News
   pub leads : Leads notes before news after

@@ -9,8 +9,8 @@ use Rattle.ua_server.specs.Happening.{Leads}
 abbrev pub silent : PolledSocket → Option Carried
 silent socket = None
 
--- this was told, one after the other: that as many connections are over as their count grew, and
--- that peers are not served
+-- this happened, one after the other: as many connections are over as their count grew, peers are
+-- not served, and the application acted
 pub record Tells {E : Type 0} (notes : E → News → E → Type 0) (before_count after_count : ℕ) (before after : E) : Type 0 where
   pub news : List News
   pub leads : Leads notes before news after

@@ -6,7 +6,7 @@ use std::time::{Clock, Duration, Instant};
 const PAUSE: u64 = 1;
 
 /// Whether a peer may wait to be accepted.
-#[derive(Clone, Copy)]
+#[derive(Clone, Copy, Debug)]
 pub enum Door {
     /// One may wait.
     Open,

@@ -37,6 +37,9 @@ pub trait Endings {
     fn ended(&mut self, number: u32, outcome: Result<End, Failure>) -> bool
         ensures { notes self.old (Over number outcome) self.new };
 
+    /// Whether more is to be served; each round of the loop asks it.
+    fn goes_on(&self) -> bool;
+
     /// A peer came, and is not served. Returns what is done then.
     fn not_taken(&mut self, why: NotTaken) -> Retry
         ensures { notes self.old (Missed why) self.new };

@@ -13,7 +13,7 @@ const PIECE: usize = 4096;
 const MOST_PIECES: u32 = 1024;
 
 /// A socket that is read until its peer ends it.
-#[derive(Drop)]
+#[derive(Debug, Drop)]
 struct Leaver {
     stream: TcpStream,
     /// How many fragments are still read.
@@ -25,7 +25,7 @@ struct Leaver {
 /// and what was sent last may be lost. So what a peer still sends is read and discarded, until it
 /// ends, or 1024 reads, of at most 4 MiB in all, found input, or as many others left after it as
 /// there are places.
-#[derive(Drop)]
+#[derive(Debug, Drop)]
 pub struct Leaving {
     leavers: Vec<Option<Leaver>>,
     /// The place of the next one.

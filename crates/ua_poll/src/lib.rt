@@ -5,7 +5,7 @@
 //! ```
 //! let listener = TcpListener::bind(&rt, SocketAddr::from((Ipv4Addr::LOCALHOST, 4840)))?;
 //! let asked = AtOnce { limits, places: 16, total: 100 };
-//! serve_at_once(&rt, alloc, listener, asked, &mut services, &mut application, &mut endings)?;
+//! serve_at_once(&rt, alloc, listener, asked, &mut services, &mut host)?;
 //! ```
 #![tactic(auto)]
 

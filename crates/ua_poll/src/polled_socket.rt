@@ -7,7 +7,7 @@ use ua_concurrent::{Readiness, Socket, Stop};
 /// A socket with what the system reported about it. The system reports only once that bytes came,
 /// or that there is buffer space, so that is kept until a call finds no more. Its `heard`
 /// is `None`: its contract has nothing on its bytes.
-#[derive(Drop)]
+#[derive(Debug, Drop)]
 pub struct PolledSocket {
     stream: TcpStream,
     readable: bool,

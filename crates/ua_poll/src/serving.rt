@@ -3,7 +3,7 @@
 ghost use Rattle.std.specs.Prelude.{◌≡◌, ◌≤◌, ◌<◌, ◌+◌, List, IfOk};
 ghost use Rattle.ua_concurrent.specs.All.{last_of, places_of};
 ghost use Rattle.ua_concurrent.specs.Standing.{GoOn, StandTogether};
-ghost use Rattle.ua_poll.specs.News.{LeavesAsOne, Missed, Over, TellsOfAll};
+ghost use Rattle.ua_poll.specs.News.{LeavesAsOne, Missed, Over, TellsOfAll, notes_of};
 ghost use Rattle.ua_poll.specs.Rounds.{Tells, silent};
 ghost use Rattle.ua_server.specs.Sharing.{SharedEvent};
 ghost use Rattle.ua_server.specs.State.{State};
@@ -30,7 +30,7 @@ const MOST_EVENTS: usize = 256;
 
 /// What is served: connections with these limits, at most this many at a time, up to the end of
 /// this many.
-#[derive(Clone, Copy)]
+#[derive(Clone, Copy, Debug)]
 pub struct AtOnce {
     pub limits: Limits,
     /// How many connections are served at a time.
@@ -76,20 +76,19 @@ struct Watched {
 }
 
 /// Serves the peers of a listener, as many at once as there are places, up to the end of this many
-/// connections. The listener does not block.
+/// connections. The listener does not block. `endings` is the application, too.
 ///
 /// Each round accepts peers while a place is free, asks the system for events, waiting for them
 /// only where no connection can go on, and gives each connection one turn.
-pub fn serve_at_once<R: Net + Clock, A: Application, E: Endings>(
+pub fn serve_at_once<R: Net + Clock, E: Endings + Application>(
     rt: &R,
     alloc: Global,
     listener: TcpListener,
     asked: AtOnce,
     services: &mut Services,
-    application: &mut A,
     endings: &mut E,
 ) -> Result<(), PollFault>
-    ensures told { TellsOfAll E.notes asked.total result endings.old endings.new }
+    ensures told { TellsOfAll (notes_of E.notes E.acts) asked.total result endings.old endings.new }
     ensures left { LeavesAsOne services.old services.new }
 {
     let mut connections = match Connections::new(alloc, asked.limits, asked.places) {
@@ -105,14 +104,7 @@ pub fn serve_at_once<R: Net + Clock, A: Application, E: Endings>(
         Err(fault) => return Err(fault),
     };
     for _rounds in 0..u64::MAX {
-        match watched.round(
-            rt,
-            &mut connections,
-            &mut events,
-            services,
-            application,
-            endings,
-        ) {
+        match watched.round(rt, &mut connections, &mut events, services, endings) {
             Ok(()) => {}
             Err(fault) => return Err(fault),
         }
@@ -152,19 +144,18 @@ impl Watched {
 
     /// Accepts peers, asks the system for events, and gives each connection one turn; then frees
     /// the places of those that are over.
-    fn round<R: Clock, A: Application, E: Endings>(
+    fn round<R: Clock, E: Endings + Application>(
         &mut self,
         rt: &R,
         connections: &mut Connections<PolledSocket>,
         events: &mut Events<Global>,
         services: &mut Services,
-        application: &mut A,
         endings: &mut E,
     ) -> Result<(), PollFault>
         requires { self.old.over ≤ self.old.total }
         ensures stand { (es : List SharedEvent) (first : State) → StandTogether silent es first services.old (last_of connections.old) (places_of connections.old)
             → GoOn silent es first services.new (last_of connections.new) (places_of connections.new) }
-        ensures told { Tells E.notes self.old.over self.new.over endings.old endings.new }
+        ensures told { Tells (notes_of E.notes E.acts) self.old.over self.new.over endings.old endings.new }
         ensures within { self.new.over ≤ self.new.total }
         ensures total { self.new.total ≡ self.old.total }
     {
@@ -175,7 +166,10 @@ impl Watched {
             Ok(()) => {}
             Err(fault) => return Err(fault),
         }
-        connections.go_round(services, application);
+        connections.go_round(services, endings);
+        if !endings.goes_on() {
+            return Err(PollFault::Stopped);
+        }
         self.leaving.drain();
         if self.release(connections, endings) {
             Ok(())
@@ -185,7 +179,7 @@ impl Watched {
     }
 
     /// Accepts peers while one waits and a place is free. Returns whether more is to be served.
-    fn take_in<C: Clock, E: Endings>(
+    fn take_in<C: Clock, E: Endings + Application>(
         &mut self,
         clock: &C,
         connections: &mut Connections<PolledSocket>,
@@ -193,7 +187,7 @@ impl Watched {
     ) -> bool
         ensures stand { (es : List SharedEvent) (first now : State) → StandTogether silent es first now (last_of connections.old) (places_of connections.old)
             → StandTogether silent es first now (last_of connections.new) (places_of connections.new) }
-        ensures told { Tells E.notes self.old.over self.new.over endings.old endings.new }
+        ensures told { Tells (notes_of E.notes E.acts) self.old.over self.new.over endings.old endings.new }
         ensures same { (self.new.over ≡ self.old.over) × (self.new.total ≡ self.old.total) }
     {
         self.door.lift(clock);
@@ -210,7 +204,7 @@ impl Watched {
 
     /// Opens a connection to the next peer, if one waits, or reports that it is not served. Gives
     /// whether more is to be served.
-    fn take_next<C: Clock, E: Endings>(
+    fn take_next<C: Clock, E: Endings + Application>(
         &mut self,
         clock: &C,
         connections: &mut Connections<PolledSocket>,
@@ -219,7 +213,7 @@ impl Watched {
     ) -> bool
         ensures stand { (es : List SharedEvent) (first now : State) → StandTogether silent es first now (last_of connections.old) (places_of connections.old)
             → StandTogether silent es first now (last_of connections.new) (places_of connections.new) }
-        ensures told { Tells E.notes self.old.over self.new.over endings.old endings.new }
+        ensures told { Tells (notes_of E.notes E.acts) self.old.over self.new.over endings.old endings.new }
         ensures same { (self.new.over ≡ self.old.over) × (self.new.total ≡ self.old.total) }
     {
         match self.take(connections, place) {
@@ -349,7 +343,7 @@ impl Watched {
 
     /// Frees the places of connections that are over, and reports each. Returns whether more is to
     /// be served.
-    fn release<E: Endings>(
+    fn release<E: Endings + Application>(
         &mut self,
         connections: &mut Connections<PolledSocket>,
         endings: &mut E,
@@ -357,7 +351,7 @@ impl Watched {
         requires { self.old.over ≤ self.old.total }
         ensures stand { (es : List SharedEvent) (first now : State) → StandTogether silent es first now (last_of connections.old) (places_of connections.old)
             → StandTogether silent es first now (last_of connections.new) (places_of connections.new) }
-        ensures told { Tells E.notes self.old.over self.new.over endings.old endings.new }
+        ensures told { Tells (notes_of E.notes E.acts) self.old.over self.new.over endings.old endings.new }
         ensures within { self.new.over ≤ self.new.total }
         ensures total { self.new.total ≡ self.old.total }
     {
@@ -374,7 +368,7 @@ impl Watched {
 
     /// Frees a place whose connection is over, and reports it. Returns whether more is to be
     /// served.
-    fn release_at<E: Endings>(
+    fn release_at<E: Endings + Application>(
         &mut self,
         connections: &mut Connections<PolledSocket>,
         place: usize,
@@ -383,7 +377,7 @@ impl Watched {
         requires { self.old.over < self.old.total }
         ensures stand { (es : List SharedEvent) (first now : State) → StandTogether silent es first now (last_of connections.old) (places_of connections.old)
             → StandTogether silent es first now (last_of connections.new) (places_of connections.new) }
-        ensures told { Tells E.notes self.old.over self.new.over endings.old endings.new }
+        ensures told { Tells (notes_of E.notes E.acts) self.old.over self.new.over endings.old endings.new }
         ensures within { self.new.over ≤ self.new.total }
         ensures total { self.new.total ≡ self.old.total }
     {

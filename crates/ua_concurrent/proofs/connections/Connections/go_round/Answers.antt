@@ -1,4 +1,5 @@
 use Rattle.std.proofs.Common.{◌∙◌, arith}
+use Rattle.ua_concurrent.proofs.Acting.{acted_both}
 use Rattle.ua_concurrent.proofs.Together.{round_next, round_whole, together_then}
 use Rattle.ua_concurrent.proofs.connections.Connections.go_round.Goals as goal
 
@@ -7,6 +8,7 @@ loop-place-preserved g c = record {
   last = c.turn.ensures.last ∙ c.loop-place.invariant.last;
   round = round_next g.S.Socket.heard g.S.Socket.readable g.S.Socket.writable c.loop-place.place c.args.self.now.places.items c.loop-place.self.places.items c.turn.new.self.places.items
       c.loop-place.invariant.round c.turn.ensures.turn;
+  acted = acted_both g.A.Application.acts _ _ _ c.loop-place.invariant.acted c.turn.ensures.acted;
   stand = λ es first s. together_then g.S.Socket.heard first c.args.services.now c.loop-place.services c.turn.new.services c.args.self.now.opened c.loop-place.self.opened c.turn.new.self.opened
       c.args.self.now.places.items c.loop-place.self.places.items c.turn.new.self.places.items (λ all. c.loop-place.invariant.stand all first) (λ all. c.turn.ensures.stand all first) es s;
 }
