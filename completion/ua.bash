@@ -5,27 +5,28 @@ _ua() {
     case $before in
         --policy) words='anonymous auto' ;;
         --connections) words='all' ;;
-        --answers | --at-once | --attribute | --cut | --path | --range | --record | --url) return ;;
+        --answers | --at-once | --attribute | --count | --cut | --every | --kept | --live | --path | --range | --record | --url | --writes) return ;;
     esac
     for ((at = 2; at < COMP_CWORD; at++)); do
         case ${COMP_WORDS[at]} in
-        --answers | --at-once | --attribute | --connections | --cut | --path | --policy | --range | --record | --url) at=$((at + 1)) ;;
+        --answers | --at-once | --attribute | --connections | --count | --cut | --every | --kept | --live | --path | --policy | --range | --record | --url | --writes) at=$((at + 1)) ;;
         -*) ;;
         *) place=$((place + 1)) ;;
         esac
     done
     if [ -z "$words" ] && [ "$COMP_CWORD" = 1 ]; then
-        words='dissect serve endpoints read write loop version help --help'
+        words='dissect serve endpoints read write ask loop version help --help'
     elif [ -z "$words" ]; then
         case ${COMP_WORDS[1]} in
-        dissect) words='--help --hex --server --fields --names --strict --why'; files='0' ;;
-        serve) words='--help --connections --at-once --answers --requests --plain --standard --why'; files='0' ;;
+        dissect) words='--help --hex --server --fields --names --plain --strict --why'; files='0' ;;
+        serve) words='--help --connections --at-once --answers --kept --requests --plain --standard --live --writes --why'; files='0' ;;
         endpoints) words='--help --policies --json --path --url --record --why' ;;
         read) words='--help --attribute --range --names --times --json --plain --policy --path --url --record --strict --why' ;;
         write) words='--help --names --json --plain --policy --path --url --record --strict --why' ;;
+        ask) words='--help --every --count --names --times --json --plain --policy --path --url --record --strict --why'; files='1' ;;
         loop) words='--help --cut --tcp --names --plain --strict --why'; files='0 1' ;;
         version) words='--help' ;;
-        help) words='dissect serve endpoints read write loop version help' ;;
+        help) words='dissect serve endpoints read write ask loop version help' ;;
         esac
     fi
     if [[ " $files " == *" $place "* && $word != -* ]]; then

@@ -2,9 +2,10 @@
 """Lets the program `ua` ask servers over loopback connections: try_ask PROGRAM.
 
 PROGRAM is the built program. It asks itself, as a server in the background, for its endpoints, and writes and reads
-values; it asks servers that answer with what is written out in examples/c/data, whole, cut short, or with other
-frames in its place, and one that is silent at CloseSession; and it is given words and ports that it cannot take. What
-it asks and prints is compared with these streams and docs/PROGRAM.md; the status is 1 at the first difference.
+values, also by lines that come one by one; it asks servers that answer with what is written out in examples/c/data,
+whole, cut short, or with other frames in its place, one that is silent at CloseSession, and one whose tokens live
+shortly; and it is given words and ports that it cannot take. What it asks and prints is compared with these streams
+and docs/PROGRAM.md; the status is 1 at the first difference.
 """
 from __future__ import annotations
 
@@ -19,6 +20,7 @@ sys.dont_write_bytecode = True
 sys.path.insert(0, os.path.dirname(os.path.abspath(__file__)))
 from try_parts.answering import ACK, ACTIVATE, ACTIVATED, CLOSE, CLOSED, CREATE, CREATED, HELLO, LEAVE, OPEN, OPENED, READ, REFUSAL
 from try_parts.answering import VALUE, WRITE, WRITTEN, Server, abort, numbered, response, service_fault
+from try_parts.lines import try_lifetimes, try_lines, try_rounds
 from try_parts.served import PORT, Program, check, is_answer, run
 
 NODES = (
@@ -296,12 +298,17 @@ def try_words(program: str) -> None:
         (['write', port, 'i=1', 'Byte', '256'], 'bad value'),
         (['write', port, 'i=1', 'NodeId', 'i=1'], 'bad value'),
         (['read', port, 'ns=1;s=Pump', '--range', '2:1'], 'bad range'),
+        (['ask', port], 'cannot connect'),
+        (['ask', port, 'no file'], 'cannot read no file'),
+        (['ask', port, 'i=1', 'Pump', '--every', '5'], 'bad node'),
     ]:
         ends(program, words, 1, '', 'ua: %s\n' % fault)
     for words in [
         ['endpoints'], ['endpoints', '0'], ['endpoints', '65536'], ['endpoints', port, port],
         ['read', port], ['read', '+5', 'i=1'], ['read', 'x', 'Pump'], ['write', port, 'i=1', 'Int32'],
         ['write', port, 'i=1', 'Int32', '-6'], ['write', port, 'i=1', 'Int32', '6', '7'],
+        ['ask'], ['ask', port, 'a', 'b'], ['ask', port, '--every', '5'], ['ask', port, 'i=1', '--every', '0'],
+        ['ask', port, '--count', '2'], ['ask', port, 'i=1', '--every', '5', '--count', '65536'],
     ]:
         status, out, err = run(program, words)
         check(status == 2 and not out and err, '%r ended with %r' % (words, status))
@@ -315,10 +322,13 @@ def main(words: list[str]) -> None:
         nodes.flush()
         try_words(words[0])
         try_both(words[0], nodes.name)
+        try_lines(words[0], nodes.name)
+        try_rounds(words[0], nodes.name)
     try_endpoints(words[0])
     try_answers(words[0])
     try_silent(words[0])
     try_policies(words[0])
+    try_lifetimes(words[0])
     print('as written out')
 
 

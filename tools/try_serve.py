@@ -3,7 +3,7 @@
 
 PROGRAM is the built program. It serves whole connections, ones that are cut in the middle or reset and ones that are
 refused, to a number of them or without an end, also where memory is refused at one of them or the system gives none,
-and is given words, files and a port that it cannot take. What it answers and prints is compared with what is written
+stores values up to a limit of memory, and is given words, files and a port that it cannot take. What it answers and prints is compared with what is written
 out in examples/c/data and docs/PROGRAM.md; the status is 1 at the first difference.
 
 With COUNT it is asked as often for the values of one node, and of 1000 nodes, one request behind
@@ -87,19 +87,27 @@ def try_requests(program: str, nodes: str) -> None:
 LARGE, TIMES = 1000000, 64
 
 
-def large_write(number: int) -> tuple[bytes, int]:
-    """The Write of the stream that is written out, of a ByteString of LARGE octets to ns=1;s=Large."""
-    frame = list(frames(CLIENT))[4]
-    node, value = frame.find(b'\x03\x01\0\x04\0\0\0Pump'), b'\x0F' + struct.pack('<I', LARGE) + bytes(LARGE)
-    body = (frame[24:node] + b'\x03\x01\0\x05\0\0\0Large' + struct.pack('<Ii', 13, -1) + b'\x01' + value)
+def write_of(frame: bytes, node: bytes, value: bytes, number: int) -> tuple[bytes, int]:
+    """The Write of the stream that is written out, of this value to this node, in chunks that are numbered from there on."""
+    body = frame[24:frame.find(b'\x03\x01\0\x04\0\0\0Pump')] + node + struct.pack('<Ii', 13, -1) + b'\x01' + value
     place, chunks = 0, b''
     room = 65535 - 24
     while place < len(body):
         piece, place = body[place:place + room], place + room
         flag = b'F' if place >= len(body) else b'C'
-        chunks += struct.pack('<4sIIIII', b'MSG' + flag, 24 + len(piece), 1, 1, number, 4) + piece
+        chunks += struct.pack('<4sI8sII', b'MSG' + flag, 24 + len(piece), frame[8:16], number, 4) + piece
         number += 1
     return chunks, number
+
+
+def named(name: str) -> bytes:
+    """The NodeId of this text in namespace 1."""
+    return b'\x03\x01\0' + struct.pack('<I', len(name)) + name.encode()
+
+
+def large_write(number: int) -> tuple[bytes, int]:
+    """A Write of a ByteString of LARGE octets to ns=1;s=Large."""
+    return write_of(list(frames(CLIENT))[4], named('Large'), b'\x0F' + struct.pack('<I', LARGE) + bytes(LARGE), number)
 
 
 def ask_too_much(limited: bool) -> None:
@@ -152,6 +160,49 @@ def try_memory(program: str) -> None:
             ask_too_much(True)
             served.expect_outcome('NoClose')
             served.stop()
+
+
+# A Write of so many null Strings has a MiB, and stores 14 MB.
+ROWS, ELEMENTS = 100, 262000
+
+
+def write_rows(client: bytes, rows: list[tuple[int, int]]) -> list[int]:
+    """The results of Writes over one connection, each of an array of so many null Strings to the row of this number."""
+    results = []
+    begun = list(frames(client))
+    with connect() as line:
+        for frame in begun[:4]:
+            line.sendall(frame)
+            read_frame(line)
+        number = 4
+        for row, elements in rows:
+            chunks, number = write_of(begun[4], named('Row%d' % row), b'\x8C' + struct.pack('<I', elements) + elements * b'\xFF\xFF\xFF\xFF', number)
+            line.sendall(chunks)
+            answer = read_frame(line)
+            check(answer[24:28] == b'\x01\0\xA4\x02' and answer[52:56] == struct.pack('<I', 1), 'no WriteResponse with one result')
+            results += struct.unpack('<I', answer[56:60])
+    return results
+
+
+def try_kept(program: str) -> None:
+    """Values are stored up to the limit of memory that is said, over all connections; a value that takes less gives its room back."""
+    with tempfile.NamedTemporaryFile('w', suffix='.txt') as nodes:
+        nodes.write(''.join('ns=1;s=Row%d\trw\tRow\tString[]\t\n' % row for row in range(ROWS)))
+        nodes.flush()
+        served = Program(program, nodes.name, 'all', '--kept')
+        results = []
+        for first in range(0, ROWS, 25):
+            served.sessions += 1
+            results += write_rows(served.stream(CLIENT), [(row, ELEMENTS) for row in range(first, first + 25)])
+            served.expect_outcome('NoClose')
+        check(results == 4 * [0] + (ROWS - 4) * [0x80030000], 'other results of Writes past the limit')
+        served.sessions += 1
+        results = write_rows(served.stream(CLIENT), [(3, ELEMENTS), (3, 0), (4, ELEMENTS), (3, 1), (5, ELEMENTS)])
+        check(results == 4 * [0] + [0x80030000], 'other results where a value gives its room back')
+        served.expect_outcome('NoClose')
+        most = int(re.findall(r'VmHWM:\s*(\d+) kB', told_of(served.process.pid, 'status'))[0])
+        check(most < 160000, '%d KiB of memory for 64 MiB of values' % most)
+        served.stop()
 
 
 def try_listener(program: str, nodes: str) -> None:
@@ -258,6 +309,7 @@ def main(words: list[str]) -> None:
             try_all(words[0], nodes.name)
             try_requests(words[0], nodes.name)
             try_memory(words[0])
+            try_kept(words[0])
             try_listener(words[0], nodes.name)
             print('as written out')
 

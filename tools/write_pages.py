@@ -47,12 +47,15 @@ class Word:
     def shown(self) -> str:
         """As a synopsis has it.
 
-        >>> Word("NODE", "Several", "").shown, Word("cut", "NumberOr", "", "65535").shown, Word("hex", "Flag", "").shown
-        ('NODE..', '--cut N', '--hex')
+        >>> [it.shown for it in (Word("NODE", "Several", ""), Word("SCRIPT", "Any", ""), Word("cut", "NumberOr", ""), Word("hex", "Flag", ""))]
+        ['NODE..', '[SCRIPT..]', '--cut N', '--hex']
+        >>> Word("kept", "NumberOrNone", "").shown
+        '--kept [N]'
         """
         if not self.is_option:
-            return self.name + ".." * (self.kind == "Several")
-        return f"--{self.name}" + ("" if self.kind == "Flag" else " " + (self.value or "N"))
+            return f"[{self.name}..]" if self.kind == "Any" else self.name + ".." * (self.kind == "Several")
+        value = {"Flag": "", "NumberOrNone": " [N]"}.get(self.kind, " " + (self.value or "N"))
+        return f"--{self.name}{value}"
 
 
 @dataclass(frozen=True)

@@ -14,7 +14,7 @@ use crate::offline::{connected_row, offline_row};
 use crate::run::{broken_row, pipe_row, run_row, words_row};
 use crate::script::script;
 use crate::serve::{
-    at_once, connections, memory_refused, request_lines, serve, serve_none, serve_tcp,
+    at_once, connections, memory_refused, request_lines, serve, serve_none, serve_tcp, writes,
 };
 use crate::standard::standard;
 use crate::writers::{err_row, no_words_row, out_row, out_told_row};
@@ -68,6 +68,7 @@ fn answer<R: Files + Net + Clock + AllocGlobal>(
         "connections" => connections(rt, words),
         "request-lines" => request_lines(rt, words),
         "at-once" => at_once(rt, words),
+        "writes" => writes(rt, words),
         "serve-none" => serve_none(rt),
         "standard" => standard(rt, words),
         "accepts" => accepts(rt, words),

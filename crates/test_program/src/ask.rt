@@ -18,7 +18,9 @@ use ua_channel::{Line, LineFault, MemoryLine};
 use ua_program::{
     ListEndpoints, Task, limits, parse, policy_of, read_question, url_of, write_question,
 };
-use ua_session::{AskFault, Question, TokenPolicy, Verdict, WordFault, ask_over, endpoints_over};
+use ua_session::{
+    Question, QuestionFault, TokenPolicy, Verdict, WordFault, ask_over, endpoints_over,
+};
 use ua_texts::AnswerStyle;
 
 /// `ask FILE QUESTION`: asks over a transport from which the bytes of a file come.
@@ -123,7 +125,7 @@ fn line_of(alloc: Global, coming: Vec<u8>) -> MemoryLine {
 }
 
 /// How asking ended: `done` or `bad`, or the fault.
-fn end_text(alloc: Global, ended: Result<&'static str, AskFault>) -> Result<String, Fault> {
+fn end_text(alloc: Global, ended: Result<&'static str, QuestionFault>) -> Result<String, Fault> {
     match ended {
         Ok(end) => Ok(String::from_str(alloc, end)?),
         Err(fault) => Ok(format!(in alloc; "fault \"{fault}\"")?),
@@ -152,7 +154,7 @@ pub fn asked<L: Line, O: Write>(
     line: &mut L,
     words: &str,
     out: &mut O,
-) -> Result<Result<&'static str, AskFault>, Fault> {
+) -> Result<Result<&'static str, QuestionFault>, Fault> {
     let (command, rest) = first_word(words);
     let mut list: Vec<&str> = Vec::new(alloc);
     for word in ["ua", command, "4840"] {
@@ -192,7 +194,7 @@ fn endpoints<L: Line, O: Write>(
     line: &mut L,
     asked: &ListEndpoints<'_>,
     out: &mut O,
-) -> Result<Result<&'static str, AskFault>, Fault> {
+) -> Result<Result<&'static str, QuestionFault>, Fault> {
     let mut moments = moments(alloc)?;
     let url = or_no_row(url_of(alloc, &asked.server))?;
     if !url.is_encodable() {
@@ -232,7 +234,7 @@ fn answers<L: Line, O: Write>(
     url: &UaString,
     asking: &Asking,
     out: &mut O,
-) -> Result<Result<&'static str, AskFault>, Fault> {
+) -> Result<Result<&'static str, QuestionFault>, Fault> {
     if !url.is_encodable() {
         return Err(Fault::NoRow);
     }

@@ -19,31 +19,7 @@ pub fn asked<R: Net + AllocGlobal>(rt: &R, taken: u16, words: &str) -> Result<St
 
 fn told<R: AllocGlobal>(rt: &R, task: &Task<'_>) -> Result<String, Fault> {
     match task {
-        Task::Serve(asked) => {
-            let Serve {
-                port,
-                connections,
-                requests,
-                standard,
-                at_once,
-                answers,
-                ..
-            } = *asked;
-            let mut told = format!(in rt.alloc(); "port {port} connections {connections}")?;
-            if requests {
-                told.push_str(" requests")?;
-            }
-            if standard {
-                told.push_str(" standard")?;
-            }
-            if let Some(places) = at_once {
-                told.push_str(format!(in rt.alloc(); " at-once {places}")?.as_str())?;
-            }
-            if answers != 0 {
-                told.push_str(format!(in rt.alloc(); " answers {answers}")?.as_str())?;
-            }
-            Ok(told)
-        }
+        Task::Serve(asked) => serving(rt, asked),
         Task::Loop(asked) => {
             let Loop {
                 cut,
@@ -57,6 +33,39 @@ fn told<R: AllocGlobal>(rt: &R, task: &Task<'_>) -> Result<String, Fault> {
         Task::Write(asked) => named(rt, asked.server.port, asked.style.lines.names),
         _ => Err(Fault::NoRow),
     }
+}
+
+fn serving<R: AllocGlobal>(rt: &R, asked: &Serve<'_>) -> Result<String, Fault> {
+    let Serve {
+        port,
+        connections,
+        at_once,
+        answers,
+        kept,
+        ..
+    } = *asked;
+    let mut told = format!(in rt.alloc(); "port {port} connections {connections}")?;
+    push_flag(&mut told, asked.requests, " requests")?;
+    push_flag(&mut told, asked.standard, " standard")?;
+    if let Some(places) = at_once {
+        told.push_str(format!(in rt.alloc(); " at-once {places}")?.as_str())?;
+    }
+    if answers != 0 {
+        told.push_str(format!(in rt.alloc(); " answers {answers}")?.as_str())?;
+    }
+    if let Some(most) = kept {
+        told.push_str(format!(in rt.alloc(); " kept {most}")?.as_str())?;
+    }
+    push_flag(&mut told, asked.live, " live")?;
+    push_flag(&mut told, asked.writes, " writes")?;
+    Ok(told)
+}
+
+fn push_flag(told: &mut String, is_set: bool, text: &str) -> Result<(), Fault> {
+    if is_set {
+        told.push_str(text)?;
+    }
+    Ok(())
 }
 
 fn named<R: AllocGlobal>(rt: &R, port: u16, names: bool) -> Result<String, Fault> {

@@ -121,6 +121,9 @@ pub fn accepts<R: Files + Net + Clock + AllocGlobal>(rt: &R, words: &str) -> Res
         standard: false,
         at_once: None,
         answers: 0,
+        kept: None,
+        live: false,
+        writes: false,
     };
     let told = told(&listening, &listener, &asked);
     drop(clients);

@@ -7,7 +7,7 @@ use ua_builtin::StatusCode;
 use ua_client::ClientFault;
 use ua_program::{Fault, push_outcome};
 use ua_server::{End, ServeFault};
-use ua_session::{AskFault, LoopFault, push_end};
+use ua_session::{LoopFault, QuestionFault, push_end};
 
 /// The code after a name.
 fn code_of(word: &str) -> Result<StatusCode, RowFault> {
@@ -19,7 +19,7 @@ fn code_of(word: &str) -> Result<StatusCode, RowFault> {
 
 /// `client-fault NAME [CODE]`: the text of this fault of a client.
 pub fn client_fault(alloc: Global, words: &str) -> Result<String, RowFault> {
-    let fault = Fault::Asking(AskFault::from(client_fault_of(words)?));
+    let fault = Fault::Asking(QuestionFault::from(client_fault_of(words)?));
     Ok(format!(in alloc; "{fault}")?)
 }
 

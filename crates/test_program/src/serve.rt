@@ -15,8 +15,8 @@ use std::rt::Files;
 use std::time::Clock;
 use ua_channel::{Line, ListMoments, MemoryLine};
 use ua_program::{
-    ALL_CONNECTIONS, Serve, Stop, Telling, say_no_memory, serve_all, serve_line, serve_places,
-    services,
+    ALL_CONNECTIONS, Plant, Serve, Stop, Telling, say_no_memory, serve_all, serve_line,
+    serve_places, services,
 };
 use ua_server::Services;
 
@@ -143,12 +143,23 @@ pub fn at_once<R: Files + Net + Clock + AllocGlobal>(rt: &R, words: &str) -> Res
     let home = SocketAddr::from((Ipv4Addr::LOCALHOST, 0));
     let listener = mio::net::TcpListener::bind(rt, home)?;
     let mut clients = clients(rt, listener.local_addr()?, words)?;
-    let text = served_places(rt, listener, clients.len(), places)?;
+    let text = served_places(rt, listener, clients.len(), places, false)?;
     let mut told = format!(in rt.alloc(); "\"{text}\"")?;
     for client in &mut clients {
         push_sent(rt.alloc(), client, &mut told)?;
     }
     Ok(told)
+}
+
+/// `writes OCTETS..`: what is printed of connections, one after the other, with a line of each item
+/// that a Write of theirs stored.
+pub fn writes<R: Files + Net + Clock + AllocGlobal>(rt: &R, words: &str) -> Result<String, Fault> {
+    let home = SocketAddr::from((Ipv4Addr::LOCALHOST, 0));
+    let listener = mio::net::TcpListener::bind(rt, home)?;
+    let clients = clients(rt, listener.local_addr()?, words)?;
+    let text = served_places(rt, listener, clients.len(), 1, true)?;
+    drop(clients);
+    Ok(format!(in rt.alloc(); "\"{text}\"")?)
 }
 
 /// `serve-none`: what is printed, and which fault is told, where nobody connects and the listener
@@ -192,6 +203,9 @@ fn asked(connections: u32, requests: bool) -> Serve<'static> {
         standard: false,
         at_once: None,
         answers: 0,
+        kept: None,
+        live: false,
+        writes: false,
     }
 }
 
@@ -261,30 +275,29 @@ fn served_all<R: Net + Clock + AllocGlobal>(
 }
 
 /// What is printed of so many connections, of which so many are served at a time.
-fn served_places<R: Net + Clock + AllocGlobal>(
+fn served_places<R: Files + Net + Clock + AllocGlobal>(
     rt: &R,
     listener: mio::net::TcpListener,
     count: usize,
     places: u16,
+    writes: bool,
 ) -> Result<String, Fault> {
     let Ok(connections) = u32::try_from(count) else {
         return Err(Fault::NoRow);
     };
-    let mut served = served_services(rt.alloc())?;
     let (mut out, mut err) = (Vec::new(rt.alloc()), Vec::new(rt.alloc()));
-    let asked = asked(connections, false);
+    let asked = Serve {
+        writes,
+        ..asked(connections, false)
+    };
     let telling = telling(rt.alloc());
+    let mut plant = Plant {
+        services: served_services(rt.alloc())?,
+        live: None,
+    };
     let stopped = serve_places(
-        rt,
-        listener,
-        &mut served,
-        &asked,
-        places,
-        &mut out,
-        telling,
-        &mut err,
+        rt, listener, &mut plant, &asked, places, &mut out, telling, &mut err,
     );
-    drop(served);
     match stopped {
         Ok(()) => marked(rt.alloc(), &out),
         Err(_) => Err(Fault::Failed),

@@ -1,8 +1,12 @@
 mod Ends
 mod HexParts
+mod LineTasks
+mod Lives
 mod Loops
 mod Places
 mod Readings
 mod Serves
 mod Standards
 mod Stops
+mod Talks
+mod Storing

@@ -9,9 +9,11 @@ use Rattle.ua_pair.specs.Dissecting.{StandsBehind, TellsMore, EndsLines}
 use Rattle.hex.specs.Hex.{decode_of}
 use Rattle.hex.proofs.HexLemmas.{decode_of-ok}
 use Rattle.ua_program.specs.Looped.{HasLoopedUntil}
+use Rattle.ua_program.specs.Talked.{HasTalked}
 use Rattle.ua_program.specs.AtOnce.{ServesSomeAsked}
 use Rattle.ua_program.specs.declared.arguments.Serve.{Serve}
 use Rattle.ua_program.specs.Printed.{HasBegun, HasDissected, HasListed, HasToldSome}
+use Rattle.ua_texts.specs.declared.style.AnswerStyle.{AnswerStyle}
 use Rattle.ua_texts.specs.declared.style.EndpointStyle.{EndpointStyle}
 use Rattle.ua_program.specs.Digits.{digits_in, HexSoFar, HoldsSoFar, HoldsOctets, HoldsNever, HoldsNone}
 use Rattle.ua_program.specs.declared.fault.Fault.{Fault}
@@ -289,7 +291,12 @@ told_some hex options source old new h = record { hex = hex; options = options; 
 pub loop_stops : {A B : Type 0} (people names : Bool) (why : Stop) (old new : Option (List ℕ)) → A ⊎ (B ⊎ HasLoopedUntil people names why old new) → A ⊎ (B ⊎ HasBegun old new)
 loop_stops people names why old new (inl a) = inl a
 loop_stops people names why old new (inr (inl b)) = inr (inl b)
-loop_stops people names why old new (inr (inr h)) = inr (inr (inr (inr (inr (inr (record { people = people; names = names; fault = Some h.fault; looped = h.looped }))))))
+loop_stops people names why old new (inr (inr h)) = inr (inr (inr (inr (inr (inr (inl (record { people = people; names = names; fault = Some h.fault; looped = h.looped })))))))
+
+-- a session that stopped has begun
+pub talk_stops : {A B : Type 0} (style : AnswerStyle) (old new : Option (List ℕ)) → A ⊎ HasTalked style old new → A ⊎ (B ⊎ HasBegun old new)
+talk_stops style old new (inl a) = inl a
+talk_stops style old new (inr h) = inr (inr (inr (inr (inr (inr (inr (record { style = style; talked = h })))))))
 
 -- serving that stopped has begun
 pub serve_stops : {A B : Type 0} (asked : Serve) (old new : Option (List ℕ)) → A ⊎ (B ⊎ ServesSomeAsked asked old new) → A ⊎ (B ⊎ HasBegun old new)

@@ -1,5 +1,5 @@
 -- The lines of `ua serve`, one connection after the other.
-use Rattle.std.proofs.Common.{◌≡◌, ◌<◌, ◌^◌, ◌⊎◌, inl, inr, ℕ, zero, suc, ◌+◌, Bool, true, false, List, [], ◌∷◌, ◌++◌, length, Option, Some, None, Result, Ok, Err, IsErrAnd, IfErr, OnOk, ap, sym, subst, ◌∙◌, append_assoc, length-append, refl, arith}
+use Rattle.std.proofs.Common.{◌≡◌, ◌<◌, ◌^◌, ◌⊎◌, inl, inr, ℕ, suc, ◌+◌, Bool, true, List, [], ◌∷◌, ◌++◌, length, Option, Some, None, Result, Ok, Err, IsErrAnd, IfErr, OnOk, ap, sym, subst, ◌∙◌, append_assoc, length-append, refl, arith}
 use Rattle.std.proofs.lemmas.List.{append-nil}
 use Rattle.std.proofs.KnownBytes.{Appends-nil, Appends-trans}
 use Rattle.std.specs.Io.KnownBytes.{Appends}
@@ -7,7 +7,6 @@ use Rattle.std.specs.Prelude.{⊤}
 use Rattle.std.specs.List.{AllByRecursion}
 use Rattle.ua_services.proofs.Words.{local_url_fits, name_fits, server_uri_fits}
 use Rattle.ua_server.specs.Endpoint.{Fits}
-use Rattle.ua_frame.specs.declared.limits.Limits.{Limits}
 use Rattle.ua_server.specs.Happening.{Leads}
 use Rattle.ua_server.specs.declared.serve_fault.ServeFault.{ServeFault}
 use Rattle.ua_server.specs.declared.step.End.{End}
@@ -18,7 +17,7 @@ use Rattle.ua_program.specs.declared.output.Stop.TheVariants as stop
 use Rattle.ua_program.specs.declared.serve.Halt.{Halt}
 use Rattle.ua_program.specs.declared.serve.Halt.TheVariants.{Memory, Output}
 use Rattle.ua_program.specs.declared.serve.RequestLines.{RequestLines}
-use Rattle.ua_program.specs.Served.{Connection, HasServed, HasServedSome, HasTold, IsConnection, IsConnectionLine, Prints, PrintsNext, PrintsRequest, SaysOutcome, ServesOne, connection_line, connection_lines, connection_text, endpoint_on, listening_line, no_memory, request_line, request_lines}
+use Rattle.ua_program.specs.Served.{Connection, HasServed, HasServedSome, HasTold, IsConnection, IsConnectionLine, Prints, PrintsNext, PrintsRequest, SaysOutcome, ServesOne, connection_line, connection_lines, connection_text, endpoint_on, listening_line, no_memory, request_line}
 
 -- one more of which it holds
 all_then : {X : Type 0} (P : X → Type 0) (xs : List X) (x : X) → AllByRecursion P xs → P x → AllByRecursion P (xs ++ x ∷ [])

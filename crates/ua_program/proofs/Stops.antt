@@ -5,8 +5,8 @@ use Rattle.ua_program.specs.declared.fault.Fault.TheVariants.{NoMemory}
 use Rattle.ua_program.specs.declared.output.Stop.{Stop}
 use Rattle.ua_program.specs.declared.output.Stop.TheVariants as stop
 use Rattle.ua_session.specs.Printed.{IsOutput}
-use Rattle.ua_session.specs.declared.fault.AskFault.{AskFault}
-use Rattle.ua_session.specs.declared.fault.AskFault.TheVariants as ask
+use Rattle.ua_session.specs.declared.fault.QuestionFault.{QuestionFault}
+use Rattle.ua_session.specs.declared.fault.QuestionFault.TheVariants as ask
 use Rattle.ua_program.specs.Reasons.{StopsAsking, StopsAt, StopsAtNodes, StopsWriting}
 use Rattle.ua_program.specs.Refused.{RefusesNodes}
 
@@ -22,7 +22,7 @@ stops_at_nodes text fault (stop.Because told reason) refused at = told_of text f
 stops_at_nodes text fault (stop.Output error) refused at = at
 
 -- what a fault of a conversation leaves is left by what stops the command
-pub left_asking : {R : Type 0} (fault : AskFault) (why : Stop) → StopsAsking fault why → IsOutput fault ⊎ R → StopsWriting why ⊎ R
+pub left_asking : {R : Type 0} (fault : QuestionFault) (why : Stop) → StopsAsking fault why → IsOutput fault ⊎ R → StopsWriting why ⊎ R
 left_asking (ask.Output e) why at left = inl (subst (λ (w : Stop). StopsWriting w) (sym at) tt)
 left_asking (ask.Service code) why at (inl output) = absurd output
 left_asking (ask.Connection f) why at (inl output) = absurd output

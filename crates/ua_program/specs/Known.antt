@@ -8,7 +8,7 @@ use Rattle.ua_frame.specs.Whole.{whole_of}
 use Rattle.ua_frame.specs.declared.error.ErrorFrame.{ErrorFrame}
 use Rattle.ua_frame.specs.declared.frame.Frame.{Frame}
 use Rattle.ua_frame.specs.declared.kind.Kind.TheVariants as kind
-use Rattle.ua_session.specs.declared.fault.AskFault.TheVariants as ask
+use Rattle.ua_session.specs.declared.fault.QuestionFault.TheVariants as ask
 use Rattle.ua_session.specs.declared.looping.fault.LoopFault.TheVariants as loop
 use Rattle.ua_texts.specs.Names.{name_of_code}
 use Rattle.ua_texts.specs.Shown.{escaped}

@@ -6,8 +6,13 @@ pub mod Refused
 pub mod Served
 pub mod Words
 pub mod Looped
+pub mod Lifetime
+pub mod LineTask
+pub mod Talked
 pub mod Printed
 pub mod Reasons
 pub mod Standard
 pub mod Known
 pub mod Blamed
+pub mod Live
+pub mod Stored

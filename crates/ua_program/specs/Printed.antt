@@ -9,6 +9,7 @@ use Rattle.ua_texts.specs.declared.style.EndpointStyle.{EndpointStyle}
 use Rattle.ua_program.specs.Dissects.{HasBegunDissecting}
 use Rattle.ua_program.specs.Looped.{HasLoopedSome}
 use Rattle.ua_program.specs.AtOnce.{ServesAsked, ServesSomeAsked}
+use Rattle.ua_program.specs.Talked.{HasTalkedSome}
 use Rattle.ua_program.specs.declared.arguments.Serve.{Serve}
 
 -- the text is the lines of some bytes of one side
@@ -57,9 +58,9 @@ pub record HasToldSome (old new : Option (List ℕ)) : Type 0 where
   pub lines : HasBegunDissecting hex options source old new
 
 -- what a run may append that then meets a fault: the lines of frames, the first lines of
--- `ua serve`, lines of endpoints or of answers, or those of a script
+-- `ua serve`, lines of endpoints or of answers, those of a script, or those of a session
 abbrev pub HasBegun : Option (List ℕ) → Option (List ℕ) → Type 0
-HasBegun old new = HasToldSome old new ⊎ HasBegunServing old new ⊎ HasListedSome old new ⊎ HasAnsweredSome old new ⊎ HasLoopedSome old new
+HasBegun old new = HasToldSome old new ⊎ HasBegunServing old new ⊎ HasListedSome old new ⊎ HasAnsweredSome old new ⊎ HasLoopedSome old new ⊎ HasTalkedSome old new
 
 -- what `ua version` prints: the name, the version, and the kit that it was proved with
 abbrev pub version_line : List ℕ

@@ -1,8 +1,8 @@
 -- Why a command stopped, whether more is known of it or not.
 use Rattle.std.specs.Prelude.{◌≡◌, ◌⊎◌, Bool, true, false, List, ℕ}
 use Rattle.std.specs.Borrow.{Bor}
-use Rattle.ua_session.specs.declared.fault.AskFault.{AskFault}
-use Rattle.ua_session.specs.declared.fault.AskFault.TheVariants.{Output}
+use Rattle.ua_session.specs.declared.fault.QuestionFault.{QuestionFault}
+use Rattle.ua_session.specs.declared.fault.QuestionFault.TheVariants.{Output}
 use Rattle.ua_program.specs.Refused.{RefusesNodes}
 use Rattle.ua_program.specs.declared.fault.Fault.{Fault}
 use Rattle.ua_program.specs.declared.fault.Fault.TheVariants.{Asking, CannotListen, CannotRead, CannotWriteDown, CannotWriteUp, NoMemory}
@@ -46,7 +46,7 @@ StopsAt fault why = StopsBy (λ told. (told ≡ fault) ⊎ (told ≡ NoMemory)) 
 
 -- a command stopped at a fault of a conversation: the writer failed in it, or the fault is told,
 -- with what more is known of it or without
-abbrev pub StopsAsking : AskFault → Stop → Type 0
+abbrev pub StopsAsking : QuestionFault → Stop → Type 0
 StopsAsking (Output error) why = why ≡ stop.Output error
 StopsAsking other why = StopsAt (Asking other) why
 

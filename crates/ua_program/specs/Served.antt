@@ -10,7 +10,9 @@ use Rattle.ua_frame.specs.Limits.{with_responses}
 use Rattle.ua_nodes.specs.NodeFile.{WriteNodes, node_lines}
 use Rattle.ua_nodes.specs.Table.{Nodes}
 use Rattle.ua_services.specs.SessionRequests.{local_url}
-use Rattle.ua_server.specs.State.{State, fresh}
+use Rattle.ua_pair.specs.Encodings.{encodings}
+use Rattle.ua_texts.specs.Names.{name_in, name_part}
+use Rattle.ua_server.specs.State.{State, fresh, with_memory_limit}
 use Rattle.ua_server.specs.declared.endpoint.Endpoint.{Endpoint}
 use Rattle.ua_server.specs.declared.serve_fault.ServeFault.{ServeFault}
 use Rattle.ua_server.specs.declared.serve_fault.ServeFault.TheVariants.{Read, Write, OutOfMemory, TooLong}
@@ -36,6 +38,11 @@ pub record BeginsWith (text : List ℕ) (port : ℕ) (services : State) : Type 0
   pub written : WriteNodes (node_lines text) nodes
   pub is : services ≡ fresh nodes (endpoint_on port)
 
+-- the services with this limit of memory, if there is one
+abbrev pub limited_to : Option ℕ → State → State
+limited_to None s = s
+limited_to (Some most) s = with_memory_limit s most
+
 -- ---- lines
 
 -- the outcome of a connection; nothing is printed of one at which an allocation failed
@@ -59,7 +66,7 @@ pub record AddsOutcome (outcome : Result End ServeFault) (old new : List ℕ) : 
 unfoldable pub connection_line : ℕ → List ℕ → List ℕ
 connection_line number outcome = codes "connection " ++ decimal number ++ codes " " ++ outcome ++ codes "\n"
 
--- the limits of the program, with so many octets as the most of a response's body, 0 for any
+-- the limits of the program, with so many bytes as the most of a response's body, 0 for any
 pub record IsLimitedTo (most : ℕ) (limits : Limits) : Type 0 where
   pub own : Limits
   pub ours : AreOurs own
@@ -107,10 +114,16 @@ abbrev pub kind_name : Option RequestKind → List ℕ
 kind_name None = codes "unknown"
 kind_name (Some kind) = request_kind_name kind
 
--- the line of a request that was answered on a connection: its name, the number of its items, and
--- the code of its response
+-- the id of the encoding of what is no request, and its name if the table has one, each after a
+-- space
+abbrev pub encoding_part : Option ℕ → List ℕ
+encoding_part None = []
+encoding_part (Some number) = codes " i=" ++ decimal number ++ name_part (name_in encodings number)
+
+-- the line of a request that was answered on a connection: its name, the number of its items,
+-- the code of its response, and the encoding of what is no request
 unfoldable pub request_line : ℕ → AnsweredRequest → List ℕ
-request_line number r = codes "connection " ++ decimal number ++ codes " " ++ kind_name r.kind ++ codes " " ++ decimal r.items ++ codes " " ++ code_text r.code.code ++ codes "\n"
+request_line number r = codes "connection " ++ decimal number ++ codes " " ++ kind_name r.kind ++ codes " " ++ decimal r.items ++ codes " " ++ code_text r.code.code ++ encoding_part r.encoding ++ codes "\n"
 
 -- the lines of requests that were answered on a connection, one after the other
 abbrev pub request_lines : ℕ → List AnsweredRequest → List ℕ

@@ -6,7 +6,7 @@ use Rattle.ua_session.specs.declared.policy.TokenPolicy.{TokenPolicy}
 use Rattle.ua_session.specs.declared.policy.TokenPolicy.TheVariants.{Named, Auto}
 use Rattle.ua_texts.specs.PlainLines.{exact_lines, exact_typed}
 use Rattle.ua_program.specs.declared.arguments.Task.{Task}
-use Rattle.ua_program.specs.declared.arguments.Task.TheVariants.{Dissect, Serve, Endpoints, Read, Write, Loop, Version}
+use Rattle.ua_program.specs.declared.arguments.Task.TheVariants.{Dissect, Serve, Endpoints, Read, Write, Ask, Loop, Version}
 
 -- the number of an attribute (OPC 10000-6, A.1)
 abbrev pub IsAttributeNumber : ℕ → Type 0
@@ -27,6 +27,7 @@ CountsFromOne (Serve asked) = (1 ≤ asked.port) × (1 ≤ asked.connections) ×
 CountsFromOne (Endpoints asked) = 1 ≤ asked.server.port
 CountsFromOne (Read asked) = (1 ≤ asked.server.port) × IsAttributeNumber asked.attribute
 CountsFromOne (Write asked) = 1 ≤ asked.server.port
+CountsFromOne (Ask asked) = 1 ≤ asked.server.port
 CountsFromOne (Loop asked) = 1 ≤ asked.cut
 CountsFromOne Version = ⊤
 
@@ -41,9 +42,10 @@ abbrev pub with_path : Option (List ℕ) → List ℕ → Option (List ℕ)
 with_path None path = None
 with_path (Some url) path = Some (url ++ path)
 
--- a word requests all connections, in one of the two ways in which `--connections all` is written
-abbrev pub SaysAll : {S : Type 0} → (S → List ℕ) → List S → Type 0
-SaysAll text words = Any (λ word. text word ≡ codes "all") words ⊎ Any (λ word. text word ≡ codes "--connections=all") words
+-- a word requests all connections, in one of the two ways in which `--connections all` is written, or
+-- that the node file is read again: faults are then told after which the command goes on
+abbrev pub MayTell : {S : Type 0} → (S → List ℕ) → List S → Type 0
+MayTell text words = Any (λ word. text word ≡ codes "all") words ⊎ Any (λ word. text word ≡ codes "--connections=all") words ⊎ Any (λ word. text word ≡ codes "--live") words
 
 -- a word requests reasons
 abbrev pub SaysWhy : {S : Type 0} → (S → List ℕ) → List S → Type 0
@@ -54,6 +56,7 @@ abbrev pub IsStrict : Task → Type 0
 IsStrict (Dissect asked) = asked.strict ≡ true
 IsStrict (Read asked) = asked.strict ≡ true
 IsStrict (Write asked) = asked.strict ≡ true
+IsStrict (Ask asked) = asked.strict ≡ true
 IsStrict (Loop asked) = asked.strict ≡ true
 IsStrict other = ⊥
 

@@ -3,6 +3,7 @@
 ghost use Rattle.std.specs.Prelude.{◌≤◌, IfOk, IfSome};
 ghost use Rattle.ua_program.specs.Words.{CountsFromOne, IsAttributeNumber, IsLimited, IsPlaces};
 
+use crate::ask_words::{AskServer, ask_of};
 use crate::commands;
 use crate::number::{parse_attribute, parse_number, parse_places, parse_size};
 use clap::{ArgMatches, Error};
@@ -12,7 +13,7 @@ use ua_pair::{DissectOptions, Side};
 use ua_texts::{AnswerStyle, EndpointStyle, LineStyle};
 
 /// The task that the words ask for.
-#[derive(Drop)]
+#[derive(Debug, Drop)]
 pub enum Task<'a> {
     /// Print the UA TCP messages of a file, and the messages that their chunks carry.
     Dissect(Dissect<'a>),
@@ -24,6 +25,8 @@ pub enum Task<'a> {
     Read(ReadNodes<'a>),
     /// Write the value of a node.
     Write(WriteNode<'a>),
+    /// Ask in one session what lines ask for as they come.
+    Ask(AskServer<'a>),
     /// Run a script over nodes, both ends within this process.
     Loop(Loop<'a>),
     /// Print the version.
@@ -51,6 +54,18 @@ pub enum BadWord<'a> {
     /// The most bytes of a response.
     #[error("a size of responses is not from 1 to 4294967295")]
     Answers(&'a str),
+    /// The most bytes of memory of the values that Writes store.
+    #[error("a size of stored values is not from 1 to 4294967295")]
+    Kept(&'a str),
+    /// The milliseconds between two reads.
+    #[error("a number of milliseconds is not from 1 to 4294967295")]
+    Milliseconds(&'a str),
+    /// A second script, or no node beside `--every`.
+    #[error("there is one script, or --every and nodes")]
+    Script(&'a str),
+    /// What is to be read again when it changes.
+    #[error("standard input is not read again")]
+    Live(&'a str),
 }
 
 impl<'a> BadWord<'a> {
@@ -62,13 +77,17 @@ impl<'a> BadWord<'a> {
             | BadWord::Path(word)
             | BadWord::Url(word)
             | BadWord::AtOnce(word)
-            | BadWord::Answers(word) => word,
+            | BadWord::Answers(word)
+            | BadWord::Kept(word)
+            | BadWord::Milliseconds(word)
+            | BadWord::Script(word)
+            | BadWord::Live(word) => word,
         }
     }
 }
 
 /// The content of words that parse.
-#[derive(Drop)]
+#[derive(Debug, Drop)]
 pub struct Parsed<'a> {
     /// The task, unless a word is not valid at its place.
     pub task: Result<Task<'a>, BadWord<'a>>,
@@ -77,7 +96,7 @@ pub struct Parsed<'a> {
 }
 
 /// The words of `ua dissect`.
-#[derive(Clone, Copy)]
+#[derive(Clone, Copy, Debug)]
 pub struct Dissect<'a> {
     /// The file of bytes, or of their hexadecimal digits.
     pub file: &'a str,
@@ -94,7 +113,7 @@ pub struct Dissect<'a> {
 pub const ALL_CONNECTIONS: u32 = u32::MAX;
 
 /// The words of `ua serve`.
-#[derive(Clone, Copy)]
+#[derive(Clone, Copy, Debug)]
 pub struct Serve<'a> {
     /// The node file.
     pub nodes: &'a str,
@@ -115,10 +134,17 @@ pub struct Serve<'a> {
     pub at_once: Option<u16>,
     /// The most bytes of a response's body; 0 is no limit but the client's.
     pub answers: u32,
+    /// The most bytes of memory that Writes may make the values of the nodes take; `None` is no
+    /// limit.
+    pub kept: Option<u32>,
+    /// Whether the node file is read again when it changes.
+    pub live: bool,
+    /// Whether a line is printed of each item that a client's Write stored, before its response.
+    pub writes: bool,
 }
 
 /// A server that is asked, on this machine.
-#[derive(Clone, Copy)]
+#[derive(Clone, Copy, Debug)]
 pub struct Address<'a> {
     /// Its port.
     pub port: u16,
@@ -129,7 +155,7 @@ pub struct Address<'a> {
 }
 
 /// The words of `ua endpoints`.
-#[derive(Clone, Copy)]
+#[derive(Clone, Copy, Debug)]
 pub struct ListEndpoints<'a> {
     /// The server.
     pub server: Address<'a>,
@@ -140,7 +166,7 @@ pub struct ListEndpoints<'a> {
 }
 
 /// The words of `ua read`.
-#[derive(Drop)]
+#[derive(Debug, Drop)]
 pub struct ReadNodes<'a> {
     /// The server.
     pub server: Address<'a>,
@@ -161,7 +187,7 @@ pub struct ReadNodes<'a> {
 }
 
 /// The words of `ua write`.
-#[derive(Clone, Copy)]
+#[derive(Clone, Copy, Debug)]
 pub struct WriteNode<'a> {
     /// The server.
     pub server: Address<'a>,
@@ -182,7 +208,7 @@ pub struct WriteNode<'a> {
 }
 
 /// The words of `ua loop`.
-#[derive(Clone, Copy)]
+#[derive(Clone, Copy, Debug)]
 pub struct Loop<'a> {
     /// The node file.
     pub nodes: &'a str,
@@ -209,13 +235,13 @@ fn side_of(matches: &ArgMatches<'_>) -> Side {
 }
 
 /// A word that is needed, or has a default.
-fn text_of<'a>(matches: &ArgMatches<'a>, name: &str) -> &'a str {
+pub fn text_of<'a>(matches: &ArgMatches<'a>, name: &str) -> &'a str {
     // Never: `clap` refuses words without it.
     matches.get_str(name).unwrap_or("")
 }
 
 /// The number from 1 to 65535 that a word is.
-fn number_of<'a>(matches: &ArgMatches<'a>, name: &str) -> Result<u16, BadWord<'a>>
+pub fn number_of<'a>(matches: &ArgMatches<'a>, name: &str) -> Result<u16, BadWord<'a>>
     ensures { IfOk result (λ number. 1 ≤ number) }
 {
     let word = text_of(matches, name);
@@ -231,7 +257,7 @@ fn attribute_of<'a>(matches: &ArgMatches<'a>) -> Result<u32, BadWord<'a>>
 }
 
 /// How answers are printed. Only `ua read` has timestamps.
-fn style_of(matches: &ArgMatches<'_>) -> AnswerStyle {
+pub fn style_of(matches: &ArgMatches<'_>) -> AnswerStyle {
     let lines = LineStyle {
         names: matches.get_flag("names"),
         times: matches.get_flag("times"),
@@ -265,7 +291,7 @@ const MOST_URL: usize = 4095;
 const LOCAL_URL: usize = 25;
 
 /// The server that is asked.
-fn server_of<'a>(matches: &ArgMatches<'a>) -> Result<Address<'a>, BadWord<'a>>
+pub fn server_of<'a>(matches: &ArgMatches<'a>) -> Result<Address<'a>, BadWord<'a>>
     ensures { IfOk result (λ server. 1 ≤ server.port) }
 {
     let port = number_of(matches, "PORT")?;
@@ -294,6 +320,26 @@ fn at_once_of<'a>(matches: &ArgMatches<'a>) -> Result<Option<u16>, BadWord<'a>>
     }
 }
 
+/// How many connections are served at a time: what is said, else 1 where the node file is followed
+/// or stored items are printed, since the loop that serves many does that.
+fn places_of(said: Option<u16>, beside: bool) -> Option<u16>
+    ensures { IfSome said IsPlaces → IfSome result IsPlaces }
+{
+    match said {
+        None if beside => Some(1),
+        _ => said,
+    }
+}
+
+/// Whether the node file is followed; standard input cannot be.
+fn live_of<'a>(matches: &ArgMatches<'a>) -> Result<bool, BadWord<'a>> {
+    let nodes = text_of(matches, "NODES");
+    match matches.get_flag("live") {
+        true if nodes == "-" => Err(BadWord::Live(nodes)),
+        live => Ok(live),
+    }
+}
+
 /// The most bytes of a response's body, where nothing is said and a server is to last.
 const MOST_ANSWER: u32 = 16_777_216;
 
@@ -306,6 +352,17 @@ fn answers_of<'a>(matches: &ArgMatches<'a>, lasts: bool) -> Result<u32, BadWord<
         Some(word) => parse_size(word).ok_or(BadWord::Answers(word)),
         None if lasts => Ok(MOST_ANSWER),
         None => Ok(0),
+    }
+}
+
+/// The most bytes of memory of stored values, if a limit is asked for.
+fn kept_of<'a>(matches: &ArgMatches<'a>) -> Result<Option<u32>, BadWord<'a>> {
+    let Some(word) = matches.get_str("kept") else {
+        return Ok(None);
+    };
+    match parse_size(word) {
+        Some(most) => Ok(Some(most)),
+        None => Err(BadWord::Kept(word)),
     }
 }
 
@@ -331,6 +388,7 @@ fn dissect_of<'a>(matches: &ArgMatches<'a>) -> Task<'a>
         side: side_of(matches),
         fields: matches.get_flag("fields"),
         names: matches.get_flag("names"),
+        plain: matches.get_flag("plain"),
     };
     Task::Dissect(Dissect {
         file: text_of(matches, "FILE"),
@@ -345,9 +403,12 @@ fn serve_of<'a>(matches: &ArgMatches<'a>) -> Result<Task<'a>, BadWord<'a>>
 {
     let port = number_of(matches, "PORT")?;
     let connections = connections_of(matches)?;
-    let at_once = at_once_of(matches)?;
+    let live = live_of(matches)?;
+    let writes = matches.get_flag("writes");
+    let at_once = places_of(at_once_of(matches)?, live || writes);
     let standard = matches.get_flag("standard");
     let answers = answers_of(matches, standard || at_once.is_some())?;
+    let kept = kept_of(matches)?;
     Ok(Task::Serve(Serve {
         nodes: text_of(matches, "NODES"),
         port,
@@ -358,6 +419,9 @@ fn serve_of<'a>(matches: &ArgMatches<'a>) -> Result<Task<'a>, BadWord<'a>>
         standard,
         at_once,
         answers,
+        kept,
+        live,
+        writes,
     }))
 }
 
@@ -392,9 +456,18 @@ fn loop_of<'a>(matches: &ArgMatches<'a>) -> Result<Task<'a>, BadWord<'a>>
     }))
 }
 
-/// The words for nodes.
+/// The words for nodes, or those for a script.
 fn nodes_of<'a>(alloc: Global, matches: &ArgMatches<'a>) -> Result<Vec<&'a str>, AllocError> {
-    matches.get_strs("NODE").unwrap_or(&[]).to_vec(alloc)
+    let words = matches
+        .get_strs("NODE")
+        .or_else(|| matches.get_strs("SCRIPT"));
+    words.unwrap_or(&[]).to_vec(alloc)
+}
+
+fn asking_of<'a>(words: Vec<&'a str>, matches: &ArgMatches<'a>) -> Result<Task<'a>, BadWord<'a>>
+    ensures { IfOk result CountsFromOne }
+{
+    Ok(Task::Ask(ask_of(words, matches)?))
 }
 
 fn read_of<'a>(nodes: Vec<&'a str>, matches: &ArgMatches<'a>) -> Result<Task<'a>, BadWord<'a>>
@@ -422,6 +495,7 @@ enum Name {
     Endpoints,
     Read,
     Write,
+    Ask,
     Loop,
     Version,
 }
@@ -434,6 +508,7 @@ fn name_of(command: &str) -> Name {
         "endpoints" => Name::Endpoints,
         "read" => Name::Read,
         "write" => Name::Write,
+        "ask" => Name::Ask,
         "loop" => Name::Loop,
         // `clap` takes no other name.
         _ => Name::Version,
@@ -454,6 +529,7 @@ fn task_of<'a>(
         Name::Endpoints => endpoints_of(matches),
         Name::Read => read_of(nodes, matches),
         Name::Write => write_of(matches),
+        Name::Ask => asking_of(nodes, matches),
         Name::Loop => loop_of(matches),
         Name::Version => Ok(Task::Version),
     }

@@ -25,13 +25,15 @@ use ua_builtin::{UaString, Wire};
 use ua_channel::Line;
 use ua_exchange::limits;
 use ua_services::session_requests::local_url;
-use ua_session::{AskFault, Question, TokenPolicy, Verdict, WordFault, ask_over, endpoints_over};
+use ua_session::{
+    Question, QuestionFault, TokenPolicy, Verdict, WordFault, ask_over, endpoints_over,
+};
 use ua_tcp::{ClockMoments, RecordedLine, TcpLine, without_delay};
 use ua_texts::AnswerStyle;
 
 /// A connection to the server on a port of this machine. `why` says whether the Reason of an ERR
 /// frame is kept.
-fn connect<'a, R: Net + AllocGlobal>(
+pub fn connect<'a, R: Net + AllocGlobal>(
     rt: &R,
     port: u16,
     why: bool,
@@ -90,12 +92,12 @@ fn endpoints_line<R: Clock + AllocGlobal, L: Line, O: Write>(
     line: &mut L,
     asked: &ListEndpoints<'_>,
     out: &mut O,
-) -> Result<(), AskFault>
+) -> Result<(), QuestionFault>
     ensures answered { OnOk result (HasListed asked.now.style (O.contents out.old) (O.contents out.new)) }
     ensures left { IfErr result (λ fault. LeavesLines O.contents (AreEndpointLines asked.now.style) fault out.old out.new) }
 {
     let Ok(url) = url_of(rt.alloc(), &asked.server) else {
-        return Err(AskFault::NoMemory);
+        return Err(QuestionFault::NoMemory);
     };
     let mut moments = ClockMoments::new(rt);
     endpoints_over(
@@ -207,15 +209,15 @@ fn ask_line<R: Clock + AllocGlobal, L: Line, O: Write>(
     question: &Question,
     how: &Asking<'_>,
     out: &mut O,
-) -> Result<Verdict, AskFault>
+) -> Result<Verdict, QuestionFault>
     ensures answered { OnOk result (HasAnswered how.now.style (O.contents out.old) (O.contents out.new)) }
     ensures left { IfErr result (λ fault. LeavesLines O.contents (AreAnswerLines how.now.style) fault out.old out.new) }
 {
     let Ok(policy) = policy_of(rt.alloc(), how.policy) else {
-        return Err(AskFault::NoMemory);
+        return Err(QuestionFault::NoMemory);
     };
     let Ok(url) = url_of(rt.alloc(), &how.server) else {
-        return Err(AskFault::NoMemory);
+        return Err(QuestionFault::NoMemory);
     };
     let mut moments = ClockMoments::new(rt);
     ask_over(

@@ -1,15 +1,17 @@
 //! `ua serve --at-once`: serves connections on a port of this machine, many at a time.
 
-ghost use Rattle.std.specs.Prelude.{◌≡◌, ◌⊎◌, IfErr, IsOk, MatchResult, None, OnOk, false};
-ghost use Rattle.ua_poll.specs.News.{TellsOfAll};
-ghost use Rattle.ua_program.specs.AtOnce.{HasServedAtOnce, HasServedSomeAtOnce, IsUnwritten, SaysEnd, StopsAtHalt, halt_of, outcome_of};
+ghost use Rattle.std.specs.Prelude.{◌≡◌, ◌⊎◌, IfErr, IsOk, MatchResult, None, OnOk, Some, false};
+ghost use Rattle.ua_program.specs.AtOnce.{HasServedAtOnce, HasServedSomeAtOnce, IsUnwritten, SaysEnd, SaysStored, StopsAtHalt, halt_of, outcome_of, writes_of};
+ghost use Rattle.ua_program.specs.Live.{LooksAt};
 ghost use Rattle.ua_program.specs.Reasons.{StopsWriting};
 
 use crate::arguments::Serve;
 use crate::fault::Fault;
+use crate::live::{LiveFile, follow};
 use crate::output::{Stop, write_text};
 use crate::reason::cannot_listen;
 use crate::serve::{is_of_connection, limits_for, outcome_line, say_listening, write_no_memory};
+use crate::stored::{LOST_LINE, stored_lines};
 use crate::tell::Telling;
 use crate::time_keeper::set_current_time;
 use mio::net::TcpListener;
@@ -17,36 +19,14 @@ use std::alloc::Global;
 use std::io;
 use std::io::Write;
 use std::net::{Ipv4Addr, Net, SocketAddr};
+use std::rt::Files;
 use std::time::Clock;
 use ua_builtin::DateTime;
 use ua_channel::Moments;
 use ua_concurrent::{Application, Failure};
 use ua_poll::{AtOnce, Endings, NotTaken, PollFault, Retry, serve_at_once};
-use ua_server::{End, ServeFault, Services, Step};
+use ua_server::{End, ServeFault, Services, Step, Written};
 use ua_tcp::ClockMoments;
-
-/// The clock's time for each answer. Where the server keeps CurrentTime, it is set before each one;
-/// clients alone change other nodes.
-#[derive(Drop)]
-struct Clocked<'c, C> {
-    moments: ClockMoments<'c, C>,
-    /// Whether the server keeps CurrentTime.
-    keeps_time: bool,
-}
-
-impl<'c, C: Clock> Application for Clocked<'c, C> {
-    fn before_step(&mut self, services: &mut Services) -> DateTime {
-        let moment = DateTime {
-            ticks: self.moments.next(),
-        };
-        if self.keeps_time {
-            set_current_time(services, moment);
-        }
-        moment
-    }
-
-    fn after_step(&mut self, number: u32, services: &Services, step: &Step) {}
-}
 
 /// Why no further connection is served.
 #[derive(Clone, Copy)]
@@ -59,9 +39,18 @@ enum Halt {
     Listener(io::Error),
 }
 
-/// Prints the line of each connection as it ends, and none after that failed.
+/// What the program does beside the connections that it serves: it follows the node file, keeps
+/// CurrentTime, and prints the line of each item that a client's Write stored, before the response,
+/// and of each connection as it ends. It prints none after that failed.
 #[derive(Drop)]
-struct EndLines<'o, 'e, O, E> {
+struct Host<'r, 'a, 'o, 'e, R, O, E> {
+    moments: ClockMoments<'r, R>,
+    /// Whether the server keeps CurrentTime.
+    keeps_time: bool,
+    /// The node file, if it is followed.
+    live: Option<LiveFile<'r, 'a, R>>,
+    /// Whether stored values are printed in the human-readable form, if they are printed.
+    writes: Option<bool>,
     telling: Telling,
     /// Whether neither a failed allocation nor an error of the listener ends the server.
     goes_on: bool,
@@ -71,7 +60,31 @@ struct EndLines<'o, 'e, O, E> {
     halt: Option<Halt>,
 }
 
-impl<'o, 'e, O: Write, E: Write> Endings for EndLines<'o, 'e, O, E> {
+impl<'r, 'a, 'o, 'e, R: Files + Clock + AllocGlobal, O: Write, E: Write> Application
+    for Host<'r, 'a, 'o, 'e, R, O, E> {
+    ghost use Rattle.ua_program.specs.AtOnce.{ActsBeside};
+
+    ghost acts = { ActsBeside O.contents };
+
+    fn before_step(&mut self, services: &mut Services) -> DateTime {
+        look(&mut self.live, services, self.telling, self.err);
+        let moment = DateTime {
+            ticks: self.moments.next(),
+        };
+        if self.keeps_time {
+            set_current_time(services, moment);
+        }
+        moment
+    }
+
+    fn after_step(&mut self, number: u32, services: &Services, step: &Step, written: &Written) {
+        if let (None, Some(plain)) = (self.halt, self.writes) {
+            self.halt = say_stored(self.telling.alloc, written, plain, self.goes_on, self.out);
+        }
+    }
+}
+
+impl<'r, 'a, 'o, 'e, R, O: Write, E: Write> Endings for Host<'r, 'a, 'o, 'e, R, O, E> {
     ghost use Rattle.ua_program.specs.AtOnce.{PrintsNews};
 
     ghost notes = { PrintsNews O.contents };
@@ -87,6 +100,10 @@ impl<'o, 'e, O: Write, E: Write> Endings for EndLines<'o, 'e, O, E> {
         self.halt.is_none()
     }
 
+    fn goes_on(&self) -> bool {
+        self.halt.is_none()
+    }
+
     fn not_taken(&mut self, why: NotTaken) -> Retry {
         match self.halt {
             None if self.goes_on => pass_over(self.telling, why, self.err),
@@ -96,6 +113,42 @@ impl<'o, 'e, O: Write, E: Write> Endings for EndLines<'o, 'e, O, E> {
             }
             Some(_) => Retry::Never,
         }
+    }
+}
+
+/// Looks at a node file, if one is followed, and reports why it does not load or is gone.
+fn look<'r, 'a, R: Files + Clock + AllocGlobal, E: Write>(
+    live: &mut Option<LiveFile<'r, 'a, R>>,
+    services: &mut Services,
+    telling: Telling,
+    err: &mut E,
+)
+    ensures looked { LooksAt live.old services.old live.new services.new }
+    ensures quiet { telling.aloud ≡ false → err.new ≡ err.old }
+{
+    if let Some(file) = live
+        && let Some(stop) = follow(file, services)
+    {
+        telling.tell_on(&stop, err);
+    }
+}
+
+/// Prints the lines of what a Write stored, together, and none where nothing was. Where the server
+/// goes on, one line tells of those for which an allocation failed.
+fn say_stored<O: Write>(
+    alloc: Global,
+    written: &Written,
+    plain: bool,
+    goes_on: bool,
+    out: &mut O,
+) -> Option<Halt>
+    ensures { SaysStored (Some plain) goes_on written.now result (O.contents out.old) (O.contents out.new) }
+{
+    match stored_lines(alloc, written, plain) {
+        Ok(text) if text.is_empty() => None,
+        Ok(text) => unwritten(write_text(out, &text)),
+        Err(_) if goes_on => unwritten(write_text(out, LOST_LINE)),
+        Err(_) => Some(Halt::Memory),
     }
 }
 
@@ -201,50 +254,52 @@ pub fn listen<'a, R: Net>(rt: &R, port: u16) -> Result<TcpListener, Stop<'a>> {
     }
 }
 
-/// Serves this many connections, at most so many at a time, by the time of the clock.
-fn serve_clocked<R: Net + Clock + AllocGlobal, E: Endings>(
-    rt: &R,
-    listener: TcpListener,
-    services: &mut Services,
-    wanted: AtOnce,
-    keeps_time: bool,
-    endings: &mut E,
-) -> Result<(), PollFault>
-    ensures told { TellsOfAll E.notes wanted.total result endings.old endings.new }
+/// What is served: services, and the node file that they follow, if they follow it.
+#[derive(Drop)]
+pub struct Plant<'r, 'a, R> {
+    pub services: Services,
+    pub live: Option<LiveFile<'r, 'a, R>>,
+}
+
+/// Whether stored values are printed in the human-readable form, if they are printed.
+fn writes_of(asked: &Serve<'_>) -> Option<bool>
+    ensures { result ≡ writes_of asked.now }
 {
-    let mut clock = Clocked {
-        moments: ClockMoments::new(rt),
-        keeps_time,
-    };
-    serve_at_once(
-        rt,
-        rt.alloc(),
-        listener,
-        wanted,
-        services,
-        &mut clock,
-        endings,
-    )
+    if asked.writes {
+        Some(asked.plain)
+    } else {
+        None
+    }
+}
+
+/// Drops a node file that is followed no longer.
+fn let_go<'r, 'a, R>(live: Option<LiveFile<'r, 'a, R>>) {
+    drop(live);
 }
 
 /// Serves this many connections, numbered from 1, at most so many at a time, and prints the outcome
-/// of each as it ends.
-pub fn serve_places<'a, R: Net + Clock + AllocGlobal, O: Write, E: Write>(
-    rt: &R,
+/// of each as it ends, and with `writes` what clients' Writes store.
+pub fn serve_places<'r, 'a, R: Files + Net + Clock + AllocGlobal, O: Write, E: Write>(
+    rt: &'r R,
     listener: TcpListener,
-    services: &mut Services,
+    plant: &mut Plant<'r, 'a, R>,
     asked: &Serve<'a>,
     places: u16,
     out: &mut O,
     telling: Telling,
     err: &mut E,
 ) -> Result<(), Stop<'a>>
-    ensures served { OnOk result (HasServedAtOnce asked.now.goes_on asked.now.port asked.now.connections (O.contents out.old) (O.contents out.new)) }
-    ensures stopped { IfErr result (λ stop. StopsWriting stop ⊎ (out.new ≡ out.old) ⊎ HasServedSomeAtOnce asked.now.goes_on asked.now.port asked.now.connections (O.contents out.old) (O.contents out.new)) }
+    ensures served { OnOk result (HasServedAtOnce (writes_of asked.now) asked.now.goes_on asked.now.port asked.now.connections (O.contents out.old) (O.contents out.new)) }
+    ensures stopped { IfErr result (λ stop. StopsWriting stop ⊎ (out.new ≡ out.old) ⊎ HasServedSomeAtOnce (writes_of asked.now) asked.now.goes_on asked.now.port asked.now.connections (O.contents out.old) (O.contents out.new)) }
     ensures quiet { telling.aloud ≡ false → err.new ≡ err.old }
 {
     say_listening(rt.alloc(), asked.port, out)?;
-    let mut lines = EndLines {
+    let live = plant.live.take();
+    let mut host = Host {
+        moments: ClockMoments::new(rt),
+        keeps_time: asked.standard,
+        live,
+        writes: writes_of(asked),
         telling,
         goes_on: asked.goes_on,
         out,
@@ -256,14 +311,26 @@ pub fn serve_places<'a, R: Net + Clock + AllocGlobal, O: Write, E: Write>(
         places: usize::from(places),
         total: asked.connections,
     };
-    let served = serve_clocked(rt, listener, services, wanted, asked.standard, &mut lines);
-    let EndLines {
+    let served = serve_at_once(
+        rt,
+        rt.alloc(),
+        listener,
+        wanted,
+        &mut plant.services,
+        &mut host,
+    );
+    let Host {
+        moments: _,
+        keeps_time: _,
+        live,
+        writes: _,
         telling: _,
         goes_on: _,
         out,
         err,
         halt,
-    } = lines;
+    } = host;
+    let_go(live);
     // No effect at run time. The proof reads what the writers hold from this use of them.
     let _ = &*out;
     let _ = &*err;

@@ -12,6 +12,8 @@ enum Kind {
     Number,
     /// One or more at the last place.
     Several,
+    /// None or more at the last place.
+    Any,
     /// A flag, as `--hex`.
     Flag,
     /// A text, as `--range 1:2`; the help names it so.
@@ -20,8 +22,14 @@ enum Kind {
     TextOr(&'static str, &'static str),
     /// A number with this default, as `--cut 7`; the help names it N.
     NumberOr(&'static str),
+    /// A number that may be left out, which is then this one, as `--kept`; the help names it N.
+    NumberOrNone(&'static str),
     /// A number that does not stand beside this flag, as `--at-once 16`; the help names it N.
     NumberWithout(&'static str),
+    /// A number that stands beside this option alone, as `--count 3`; the help names it N.
+    NumberWith(&'static str),
+    /// A flag that does not stand beside this one.
+    FlagWithout(&'static str),
 }
 
 /// A word of a command: its name, what it is, and its help.
@@ -56,6 +64,12 @@ const NAMES: Word = Word {
     name: "names",
     kind: Kind::Flag,
     help: "the standard's name stands behind each status code that has one",
+};
+
+const TIMES: Word = Word {
+    name: "times",
+    kind: Kind::Flag,
+    help: "the source's and the server's timestamps stand behind each value",
 };
 
 const JSON: Word = Word {
@@ -132,6 +146,7 @@ const DISSECT: &[Word] = &[
         kind: Kind::Flag,
         help: "each status code has its standard name behind it",
     },
+    PLAIN,
     Word {
         name: "strict",
         kind: Kind::Flag,
@@ -156,7 +171,12 @@ const SERVE: &[Word] = &[
     Word {
         name: "answers",
         kind: Kind::Text("N"),
-        help: "the most bytes of a response; 16777216 beside --at-once or --standard, else only the client's limit",
+        help: "the most bytes of a response; 16777216 beside --at-once, --live, --standard or --writes, else only the client's limit",
+    },
+    Word {
+        name: "kept",
+        kind: Kind::NumberOrNone("67108864"),
+        help: "the most bytes of memory that Writes may make all values take; N is 67108864 if left out",
     },
     Word {
         name: "requests",
@@ -168,6 +188,16 @@ const SERVE: &[Word] = &[
         name: "standard",
         kind: Kind::Flag,
         help: "the nodes of the standard that clients ask first are added",
+    },
+    Word {
+        name: "live",
+        kind: Kind::FlagWithout("requests"),
+        help: "the node file is read again when it changes, while it is served",
+    },
+    Word {
+        name: "writes",
+        kind: Kind::FlagWithout("requests"),
+        help: "each item that a client's Write stored has a line, before the response",
     },
     WHY,
 ];
@@ -204,11 +234,7 @@ const READ: &[Word] = &[
         help: "the elements of arrays that are read, as 2 or 1:9",
     },
     NAMES,
-    Word {
-        name: "times",
-        kind: Kind::Flag,
-        help: "the source's and the server's timestamps stand behind each value",
-    },
+    TIMES,
     JSON,
     PLAIN,
     POLICY,
@@ -237,6 +263,35 @@ const WRITE: &[Word] = &[
         help: "a value of the type; one that begins with - stands behind the word --",
     },
     NAMES,
+    JSON,
+    PLAIN,
+    POLICY,
+    PATH,
+    URL,
+    RECORD,
+    STRICT,
+    WHY,
+];
+
+const ASK: &[Word] = &[
+    PORT,
+    Word {
+        name: "SCRIPT",
+        kind: Kind::Any,
+        help: "the script, or - for standard input, as where nothing is said; with --every the nodes",
+    },
+    Word {
+        name: "every",
+        kind: Kind::Text("MS"),
+        help: "nodes are read again and again, so many milliseconds after each answer",
+    },
+    Word {
+        name: "count",
+        kind: Kind::NumberWith("every"),
+        help: "how many times they are read, from 1 to 65535; else until it is stopped",
+    },
+    NAMES,
+    TIMES,
     JSON,
     PLAIN,
     POLICY,
@@ -298,6 +353,11 @@ const COMMANDS: &[Words] = &[
         words: WRITE,
     },
     Words {
+        name: "ask",
+        help: "answers lines in one session as they come, or reads nodes again and again",
+        words: ASK,
+    },
+    Words {
         name: "loop",
         help: "runs a script over nodes, with both ends within this process",
         words: LOOP,
@@ -325,6 +385,7 @@ fn arg<'a>(alloc: Global, word: &Word) -> Result<Arg<'a>, AllocError> {
             .required(true)
             .action(ArgAction::Set)
             .num_args(1..=usize::MAX),
+        Kind::Any => arg.action(ArgAction::Set).num_args(0..=usize::MAX),
         Kind::Flag => arg.long(word.name).action(ArgAction::SetTrue),
         Kind::Text(named) => arg.long(word.name).value_name(named),
         Kind::TextOr(named, text) => arg.long(word.name).value_name(named).default_value(text),
@@ -333,10 +394,25 @@ fn arg<'a>(alloc: Global, word: &Word) -> Result<Arg<'a>, AllocError> {
             .value_name("N")
             .default_value(text)
             .allow_negative_numbers(true),
+        Kind::NumberOrNone(text) => arg
+            .long(word.name)
+            .value_name("N")
+            .num_args(0..=1)
+            .default_missing_value(text)
+            .allow_negative_numbers(true),
         Kind::NumberWithout(flag) => arg
             .long(word.name)
             .value_name("N")
             .allow_negative_numbers(true)
+            .conflicts_with(flag)?,
+        Kind::NumberWith(other) => arg
+            .long(word.name)
+            .value_name("N")
+            .allow_negative_numbers(true)
+            .requires_arg(other)?,
+        Kind::FlagWithout(flag) => arg
+            .long(word.name)
+            .action(ArgAction::SetTrue)
             .conflicts_with(flag)?,
     })
 }

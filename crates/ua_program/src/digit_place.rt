@@ -29,9 +29,9 @@ fn digits_before(piece: &[u8]) -> usize
     no_digit_in(piece).unwrap_or(piece.len())
 }
 
-/// How many bytes of a file stand in front of the first that is neither a digit nor white space; or
+/// How many bytes of a file come before the first that is neither a digit nor white space; or
 /// how many came, if none of them is such.
-#[derive(Clone, Copy)]
+#[derive(Clone, Copy, Debug)]
 pub struct DigitPlace {
     /// How many, up to 18446744073709551615.
     pub count: u64,

@@ -3,7 +3,7 @@
 use std::alloc::AllocError;
 use thiserror::Error;
 use ua_nodes::LineReason;
-use ua_session::{AskFault, LoopFault, WordFault};
+use ua_session::{LoopFault, QuestionFault, WordFault};
 
 /// Why a command stopped; its text stands after `ua: ` on standard error.
 #[derive(Clone, Copy, Debug, Error)]
@@ -17,6 +17,9 @@ pub enum Fault<'a> {
     /// The first invalid line of a node file, and the first reason against it.
     #[error("line {line}: {reason}")]
     Line { line: usize, reason: LineReason },
+    /// The first invalid line of a node file that is followed, and the first reason against it.
+    #[error("nodes line {line}: {reason}")]
+    NodesLine { line: usize, reason: LineReason },
     /// The program cannot listen on a port, or the port gives no connection.
     #[error("cannot listen")]
     CannotListen,
@@ -37,7 +40,7 @@ pub enum Fault<'a> {
     Words(WordFault),
     /// A server gave no answers, and why.
     #[error("{0}")]
-    Asking(AskFault),
+    Asking(QuestionFault),
     /// A script is not run, or its output is incomplete, and why.
     #[error("{0}")]
     Looping(LoopFault),

@@ -1,7 +1,7 @@
 //! Connections of which it is kept why they failed.
 
 ghost use Rattle.ua_program.specs.Reasons.{StopsAsking};
-ghost use Rattle.ua_session.specs.declared.fault.AskFault.TheVariants.{Connection};
+ghost use Rattle.ua_session.specs.declared.fault.QuestionFault.TheVariants.{Connection};
 
 use crate::fault::Fault;
 use crate::output::Stop;
@@ -11,11 +11,11 @@ use std::alloc::Global;
 use std::io;
 use std::io::{Read, Write};
 use ua_client::ClientFault;
-use ua_session::AskFault;
+use ua_session::QuestionFault;
 
 /// A connection to a server: where reasons are wanted it keeps what the server says when it
 /// refuses, and always the error of the last call, if that failed.
-#[derive(Drop)]
+#[derive(Debug, Drop)]
 pub struct Heard<S> {
     stream: S,
     refusals: RefusalReader,
@@ -33,12 +33,12 @@ impl<S> Heard<S> {
     }
 
     /// Why a command stops at a fault of this connection, and what more is known of that.
-    pub fn blame<'a>(&self, alloc: Global, fault: AskFault) -> Stop<'a>
+    pub fn blame<'a>(&self, alloc: Global, fault: QuestionFault) -> Stop<'a>
         ensures { StopsAsking fault result }
     {
         match fault {
-            AskFault::Output(error) => Stop::Output(error),
-            AskFault::Connection(failure) => self.blame_connection(alloc, failure),
+            QuestionFault::Output(error) => Stop::Output(error),
+            QuestionFault::Connection(failure) => self.blame_connection(alloc, failure),
             fault => Stop::Fault(Fault::Asking(fault)),
         }
     }
@@ -47,7 +47,7 @@ impl<S> Heard<S> {
     fn blame_connection<'a>(&self, alloc: Global, failure: ClientFault) -> Stop<'a>
         ensures { StopsAsking (Connection failure) result }
     {
-        let fault = Fault::Asking(AskFault::Connection(failure));
+        let fault = Fault::Asking(QuestionFault::Connection(failure));
         match (failure, self.refusals.reason(), self.failed) {
             (ClientFault::Peer(_), Some(text), _) => blame(alloc, fault, text),
             (ClientFault::Read | ClientFault::Write, _, Some(error)) => {

@@ -10,7 +10,7 @@ use hex::FromHexError;
 use std::alloc::{AllocError, Global};
 
 /// Hexadecimal digits that arrive in any fragments, among white space; two of them are a byte.
-#[derive(Clone, Copy)]
+#[derive(Clone, Copy, Debug)]
 pub struct HexPieces {
     /// A digit whose pair has not arrived.
     half: Option<u8>,

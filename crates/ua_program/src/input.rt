@@ -37,7 +37,7 @@ pub fn open_file<'a, R: Files>(rt: &R, file: &'a str) -> Result<R::File, Stop<'a
     }
 }
 
-/// The octets of the input, to its end; in faults it is a file of this name.
+/// The bytes of the input, to its end; in faults it is a file of this name.
 fn read_input<'a, I: Read>(alloc: Global, file: &'a str, input: &mut I) -> Result<Vec<u8>, Stop<'a>>
     ensures octets { IfOk result (λ octets. IfSome (I.remaining input.old) (λ all. octets.items ≡ all)) }
     ensures faults { IfErr result (λ stop. StopsAtFile file.entry stop) }
@@ -49,7 +49,7 @@ fn read_input<'a, I: Read>(alloc: Global, file: &'a str, input: &mut I) -> Resul
     }
 }
 
-/// The text of a file with these octets; one that is not UTF-8 cannot be read.
+/// The text of a file with these bytes; one that is not UTF-8 cannot be read.
 fn text_of<'a>(alloc: Global, file: &'a str, octets: Vec<u8>) -> Result<String, Stop<'a>>
     ensures text { IfOk result (λ text. string_bytes text ≡ octets.items) }
     ensures faults { IfErr result (λ stop. StopsAtFile file.entry stop) }
@@ -72,7 +72,7 @@ pub fn read_text<'a, R: Files + AllocGlobal>(rt: &R, file: &'a str) -> Result<St
 }
 
 /// The text itself; or its lines in their exact form, where people write decimals and times in it.
-fn exact_form(alloc: Global, text: String, plain: bool) -> Result<String, AllocError>
+pub fn exact_form(alloc: Global, text: String, plain: bool) -> Result<String, AllocError>
     ensures { IfOk result (λ lines. string_bytes lines ≡ form_given plain (string_bytes text)) }
 {
     if plain {

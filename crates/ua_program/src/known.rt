@@ -8,7 +8,7 @@ use crate::fault::Fault;
 use std::alloc::AllocError;
 use ua_builtin::StatusCode;
 use ua_client::ClientFault;
-use ua_session::{AskFault, LoopFault};
+use ua_session::{LoopFault, QuestionFault};
 use ua_texts::{code_name, push_escaped};
 
 /// The status code in a fault, if it has one.
@@ -16,9 +16,9 @@ pub fn code_of(fault: &Fault<'_>) -> Option<StatusCode>
     ensures { result ≡ code_in fault.now }
 {
     match fault {
-        Fault::Asking(AskFault::Service(code)) => Some(*code),
-        Fault::Asking(AskFault::Connection(ClientFault::Peer(code))) => Some(*code),
-        Fault::Asking(AskFault::Connection(ClientFault::Refused(code))) => Some(*code),
+        Fault::Asking(QuestionFault::Service(code)) => Some(*code),
+        Fault::Asking(QuestionFault::Connection(ClientFault::Peer(code))) => Some(*code),
+        Fault::Asking(QuestionFault::Connection(ClientFault::Refused(code))) => Some(*code),
         Fault::Looping(LoopFault::Service(code)) => Some(*code),
         _ => None,
     }

@@ -17,7 +17,7 @@ pub const MOST_OCTETS: usize = 4096;
 /// be what the client awaits. At most 4096 bytes are written at once, and all of them are read at
 /// the other end before the next ones are written. Its traffic is not known, as that of no
 /// transport over a connection is.
-#[derive(Drop)]
+#[derive(Debug, Drop)]
 pub struct LoopLine<'a, S> {
     /// The client's end.
     pub near: S,

@@ -23,7 +23,7 @@ use ua_client::ClientFault;
 use ua_exchange::limits;
 use ua_nodes::NodeTable;
 use ua_server::{End, ServeFault, serve};
-use ua_session::{AskFault, LoopFault, Looped, Verdict, parse_lines, run_lines};
+use ua_session::{LoopFault, Looped, QuestionFault, Verdict, parse_lines, run_lines};
 use ua_tcp::without_delay;
 
 /// The port in the server's address.
@@ -56,7 +56,7 @@ fn outcome<'a>(ended: Result<End, ServeFault>, is_carried: bool) -> Result<(), F
         Err(ServeFault::TooLong) => ClientFault::TooLong,
         Err(ServeFault::OutOfMemory) => return Err(Fault::NoMemory),
     };
-    Err(Fault::Asking(AskFault::Connection(fault)))
+    Err(Fault::Asking(QuestionFault::Connection(fault)))
 }
 
 /// The two ends of one connection within this process.

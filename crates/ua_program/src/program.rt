@@ -4,12 +4,13 @@ ghost use Rattle.std.specs.Prelude.{◌≡◌, ◌≤◌, ◌≢◌, ◌⊎◌, 
 ghost use Rattle.std.specs.IoError.{error_kind};
 ghost use Rattle.std.specs.declared.io.ErrorKind.TheVariants.{OutOfMemory};
 ghost use Rattle.ua_session.specs.declared.verdict.Verdict.TheVariants.{AllGood, SomeBad};
-ghost use Rattle.ua_program.specs.Words.{IsStrict, SaysAll, SaysWhy};
+ghost use Rattle.ua_program.specs.Words.{IsStrict, MayTell, SaysWhy};
 ghost use Rattle.ua_program.specs.Printed.{HasBegun, HasDissected, HasPrinted, HasToldSome};
 ghost use Rattle.ua_program.specs.Reasons.{StopsWriting};
 
 use crate::arguments::{self, BadWord, Dissect, Parsed, Task};
 use crate::ask::{counted, endpoints, read, write};
+use crate::asking::ask_server;
 use crate::dissect::dissect_source;
 use crate::fault::Fault;
 use crate::input::open_file;
@@ -45,9 +46,9 @@ pub fn run<S: AsStr, R: Files + Net + Clock + AllocGlobal, I: Read, O: Write, E:
     ensures status { result ≤ 3 }
     ensures strict { result ≡ 3 → Any (λ word. S.text word ≡ codes "--strict") words.now }
     ensures done { (result ≡ 0) ⊎ (result ≡ 3) → HasPrinted (O.contents out.old) (O.contents out.new) }
-    ensures silent { (result ≡ 0) ⊎ (result ≡ 3) → (err.new ≡ err.old) ⊎ SaysAll (λ word. S.text word) words.now }
+    ensures silent { (result ≡ 0) ⊎ (result ≡ 3) → (err.new ≡ err.old) ⊎ MayTell (λ word. S.text word) words.now }
     ensures refused { result ≡ 2 → out.new ≡ out.old }
-    ensures streams { (out.new ≡ out.old) ⊎ (err.new ≡ err.old) ⊎ HasBegun (O.contents out.old) (O.contents out.new) ⊎ SaysAll (λ word. S.text word) words.now ⊎ SaysWhy (λ word. S.text word) words.now }
+    ensures streams { (out.new ≡ out.old) ⊎ (err.new ≡ err.old) ⊎ HasBegun (O.contents out.old) (O.contents out.new) ⊎ MayTell (λ word. S.text word) words.now ⊎ SaysWhy (λ word. S.text word) words.now }
 {
     let Parsed { task, why } = match arguments::parse(rt.alloc(), words) {
         Ok(parsed) => parsed,
@@ -60,7 +61,7 @@ pub fn run<S: AsStr, R: Files + Net + Clock + AllocGlobal, I: Read, O: Write, E:
     let telling = Telling {
         alloc: rt.alloc(),
         why,
-        aloud: says_all(words),
+        aloud: may_tell(words),
     };
     match perform(rt, task, telling, input, out, err) {
         Ok(verdict) => status_of(words, verdict),
@@ -68,11 +69,12 @@ pub fn run<S: AsStr, R: Files + Net + Clock + AllocGlobal, I: Read, O: Write, E:
     }
 }
 
-/// Whether a word asks for all connections: `ua serve` may then report a fault and go on.
-fn says_all<S: AsStr>(words: &[S]) -> bool
-    ensures { result ≡ true → SaysAll (λ word. S.text word) words.now }
+/// Whether a word asks for all connections, or for the node file to be followed: `ua serve` may
+/// then report a fault and go on.
+fn may_tell<S: AsStr>(words: &[S]) -> bool
+    ensures { result ≡ true → MayTell (λ word. S.text word) words.now }
 {
-    has_word(words, "all") || has_word(words, "--connections=all")
+    has_word(words, "all") || has_word(words, "--connections=all") || has_word(words, "--live")
 }
 
 /// Prints why a command stopped, and the reason that is known of it if that is asked for. Where the
@@ -129,6 +131,7 @@ fn perform<'a, R: Files + Net + Clock + AllocGlobal, I: Read, O: Write, E: Write
     match task {
         Task::Read(asked) => read(rt, &asked, telling.why, out),
         Task::Write(asked) => write(rt, &asked, telling.why, out),
+        Task::Ask(asked) => ask_server(rt, &asked, telling.why, input, out),
         Task::Loop(asked) => run_files(rt, &asked, input, out),
         Task::Dissect(asked) => dissect(rt, &asked, input, out),
         Task::Serve(asked) => match serve_connections(rt, &asked, input, out, telling, err) {

@@ -119,7 +119,7 @@ pub fn blame<'a>(alloc: Global, fault: Fault<'a>, text: &str) -> Stop<'a>
 pub fn blame_line<'a>(alloc: Global, text: &str, fault: Fault<'a>) -> Stop<'a>
     ensures { StopsAt fault.entry result }
 {
-    let Fault::Line { line, reason } = fault else {
+    let (Fault::Line { line, reason } | Fault::NodesLine { line, reason }) = fault else {
         return Stop::Fault(fault);
     };
     blame(alloc, fault, field_of(line_at(text, line), reason))
@@ -133,7 +133,14 @@ pub fn blame_step<'a>(alloc: Global, text: &str, fault: LoopFault) -> Stop<'a>
     let LoopFault::ScriptLine(number) = fault else {
         return Stop::Fault(Fault::Looping(fault));
     };
-    match bad_field(alloc, line_at(text, number)) {
+    blame_text(alloc, line_at(text, number), fault)
+}
+
+/// The same, where the line is known.
+pub fn blame_text<'a>(alloc: Global, line: &str, fault: LoopFault) -> Stop<'a>
+    ensures { StopsAt (Looping fault) result }
+{
+    match bad_field(alloc, line) {
         Ok(field) => blame(alloc, Fault::Looping(fault), field),
         Err(AllocError) => Stop::Fault(Fault::NoMemory),
     }
@@ -170,7 +177,8 @@ fn bad_field(alloc: Global, line: &str) -> Result<&str, AllocError> {
         ["read", _, range] if range.len() > MOST_OCTETS => Ok(range),
         ["write", node, _, _] if !is_node(alloc, node)? => Ok(node),
         ["write", _, kind, text] => bad_value(alloc, line, kind, text),
-        ["read", ..] | ["write", ..] | ["renew", ..] => Ok(line),
+        ["sleep", time] => Ok(time),
+        ["read" | "write" | "renew" | "sleep" | "endpoints", ..] => Ok(line),
         [word, ..] => Ok(word),
         [] => Ok(line),
     }

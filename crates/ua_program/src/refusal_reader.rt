@@ -14,7 +14,7 @@ const LARGEST: u32 = 65535;
 
 /// Reads the frames that a server sends, up to an ERR frame, and keeps that one. It reads no
 /// further after a frame that no client takes, or after a failed allocation.
-#[derive(Drop)]
+#[derive(Debug, Drop)]
 pub struct RefusalReader {
     alloc: Global,
     /// The frames, unless no more are read.

@@ -1,26 +1,28 @@
 //! `ua serve`: serves connections on a port of this machine, one after the other or many at a time.
 
-ghost use Rattle.std.specs.Prelude.{◌≡◌, ◌⊎◌, None, Some, IfOk, IfErr, OnOk, string_bytes, true, false};
+ghost use Rattle.std.specs.Prelude.{◌≡◌, ◌⊎◌, ◌++◌, None, Some, IfOk, IfErr, OnOk, string_bytes, true, false};
 ghost use Rattle.std.specs.Io.KnownBytes.{Appends};
 ghost use Rattle.std.specs.IoError.{raw_os_error};
 ghost use Rattle.ua_server.specs.Serving.{Serves};
 ghost use Rattle.ua_server.specs.State.{begun};
 ghost use Rattle.ua_program.specs.Refused.{RefusesNodes};
 ghost use Rattle.ua_program.specs.AtOnce.{ServesAsked, ServesSomeAsked};
-ghost use Rattle.ua_program.specs.Served.{AddsOutcome, BeginsWith, HasServed, HasServedSome, HasTold, IsConnectionLine, IsLimitedTo, Prints, SaysOutcome, ServesOne, TellsOf, connection_line, endpoint_on, is_of_connection, kind_name, listening_line, no_memory, request_line};
+ghost use Rattle.ua_program.specs.Served.{AddsOutcome, BeginsWith, HasServed, HasServedSome, HasTold, IsConnectionLine, IsLimitedTo, Prints, SaysOutcome, ServesOne, TellsOf, connection_line, encoding_part, endpoint_on, is_of_connection, kind_name, limited_to, listening_line, no_memory, request_line};
 ghost use Rattle.ua_program.specs.Reasons.{EndsServing, NeverAccepts, StopsAt, StopsConnection, StopsWriting, is_starved};
 ghost use Rattle.ua_program.specs.declared.fault.Fault.TheVariants.{CannotListen};
 
 use crate::arguments::Serve;
-use crate::at_once::{self, serve_places};
+use crate::at_once::{self, Plant, serve_places};
 use crate::fault::Fault;
 use crate::input::{parse_nodes, read_nodes};
+use crate::live::LiveFile;
 use crate::output::{Stop, say, write_text};
 use crate::reason::{blame_line, cannot_listen};
 use crate::standard::{StandardServices, standard_services};
 use crate::tell::Telling;
 use crate::time_keeper::TimeKeeper;
 use std::alloc::{AllocError, Global};
+use std::fmt::Write as _;
 use std::io::{Read, Write};
 use std::net::{Ipv4Addr, Net, OpenListener, TcpListener};
 use std::rt::Files;
@@ -30,6 +32,7 @@ use ua_builtin::UaString;
 use ua_channel::{Line, Moments};
 use ua_exchange::{MESSAGE_SIZE, limits};
 use ua_frame::Limits;
+use ua_pair::encoding_name;
 use ua_server::{
     AnsweredRequest, Application, End, Endpoint, NoApplication, ServeFault, Services, Unwatched,
     Watch, serve, serve_application,
@@ -138,6 +141,24 @@ fn kind_name(kind: Option<RequestKind>) -> &'static str
     }
 }
 
+/// Appends the id of the encoding of what is no request, and its name if the table has one, each
+/// after a space.
+fn push_encoding(out: &mut String, encoding: Option<u32>) -> Result<(), AllocError>
+    ensures { OnOk result (string_bytes out.new ≡ string_bytes out.old ++ encoding_part encoding) }
+{
+    let Some(number) = encoding else {
+        return Ok(());
+    };
+    write!(out, " i={number}")?;
+    match encoding_name(number) {
+        Some(name) => {
+            out.push_str(" ")?;
+            out.push_str(name)
+        }
+        None => Ok(()),
+    }
+}
+
 /// The line of a request that was answered.
 fn request_text(alloc: Global, number: u32, request: AnsweredRequest) -> Result<String, AllocError>
     ensures { IfOk result (λ text. string_bytes text ≡ request_line number request) }
@@ -146,6 +167,7 @@ fn request_text(alloc: Global, number: u32, request: AnsweredRequest) -> Result<
     let items = request.items;
     let mut text = format!(in alloc; "connection {number} {name} {items} ")?;
     push_code(&mut text, request.code)?;
+    push_encoding(&mut text, request.encoding)?;
     text.push_str("\n")?;
     Ok(text)
 }
@@ -460,36 +482,61 @@ fn outlive<'a, O: Write>(
     Err(stop)
 }
 
-/// The services over the nodes of a file, or of the input where it is named `-`.
-fn load<'a, R: Files + AllocGlobal, I: Read>(
-    rt: &R,
+/// What is served, and how.
+#[derive(Drop)]
+struct Loaded<'r, 'a, R> {
+    made: StandardServices,
+    /// The node file, if it is followed.
+    live: Option<LiveFile<'r, 'a, R>>,
+}
+
+/// The services over the nodes of a file with this text, with the standard ones where they are
+/// asked for.
+fn services_asked<'a>(
+    alloc: Global,
+    text: &str,
+    asked: &Serve<'a>,
+) -> Result<StandardServices, Fault<'a>> {
+    if asked.standard {
+        return standard_services(alloc, text, asked.port);
+    }
+    Ok(StandardServices {
+        services: services(alloc, text, asked.port)?,
+        keeps_time: false,
+    })
+}
+
+/// The node file of which this text was loaded, if it is to be followed.
+fn followed<'r, 'a, R>(rt: &'r R, asked: &Serve<'a>, text: String) -> Option<LiveFile<'r, 'a, R>> {
+    if !asked.live {
+        return None;
+    }
+    Some(LiveFile::new(rt, asked.nodes, asked.plain, text))
+}
+
+/// Loads a node file as it is asked, or standard input where it is named `-`.
+fn load_asked<'r, 'a, R: Files + AllocGlobal, I: Read>(
+    rt: &'r R,
     asked: &Serve<'a>,
     input: &mut I,
-) -> Result<Services, Stop<'a>> {
+) -> Result<Loaded<'r, 'a, R>, Stop<'a>> {
     let text = read_nodes(rt, asked.nodes, asked.plain, input)?;
-    match services(rt.alloc(), &text, asked.port) {
-        Ok(services) => Ok(services),
+    match services_asked(rt.alloc(), &text, asked) {
+        Ok(made) => Ok(Loaded {
+            made,
+            live: followed(rt, asked, text),
+        }),
         Err(fault) => Err(blame_line(rt.alloc(), &text, fault)),
     }
 }
 
-/// The services over the nodes of a file, or of standard input where it is named `-`, with the
-/// standard ones where they are asked for, and whether the server itself keeps CurrentTime.
-fn load_asked<'a, R: Files + AllocGlobal, I: Read>(
-    rt: &R,
-    asked: &Serve<'a>,
-    input: &mut I,
-) -> Result<StandardServices, Stop<'a>> {
-    if !asked.standard {
-        return Ok(StandardServices {
-            services: load(rt, asked, input)?,
-            keeps_time: false,
-        });
-    }
-    let text = read_nodes(rt, asked.nodes, asked.plain, input)?;
-    match standard_services(rt.alloc(), &text, asked.port) {
-        Ok(made) => Ok(made),
-        Err(fault) => Err(blame_line(rt.alloc(), &text, fault)),
+/// The services with this limit of memory, if there is one.
+fn limited(services: Services, most: Option<u32>) -> Services
+    ensures { result ≡ limited_to most services }
+{
+    match most {
+        Some(most) => services.with_memory_limit(most as usize),
+        None => services,
     }
 }
 
@@ -552,10 +599,12 @@ pub fn serve_connections<'a, R: Files + Net + Clock + AllocGlobal, I: Read, O: W
     ensures lasts { asked.now.at_once ≡ None → asked.now.goes_on ≡ true → IfErr result (λ why. EndsServing why ⊎ (out.new ≡ out.old)) }
     ensures quiet { telling.aloud ≡ false → err.new ≡ err.old }
 {
+    let Loaded { made, live } = load_asked(rt, asked, input)?;
     let StandardServices {
-        mut services,
+        services,
         keeps_time,
-    } = load_asked(rt, asked, input)?;
+    } = made;
+    let mut services = limited(services, asked.kept);
     // the server keeps CurrentTime where the file does not have it
     let asked = Serve {
         standard: keeps_time,
@@ -568,16 +617,8 @@ pub fn serve_connections<'a, R: Files + Net + Clock + AllocGlobal, I: Read, O: W
         }
         Some(places) => {
             let listener = at_once::listen(rt, asked.port)?;
-            serve_places(
-                rt,
-                listener,
-                &mut services,
-                &asked,
-                places,
-                out,
-                telling,
-                err,
-            )
+            let mut plant = Plant { services, live };
+            serve_places(rt, listener, &mut plant, &asked, places, out, telling, err)
         }
     }
 }

@@ -15,7 +15,7 @@ use ua_nodes::LineReason;
 use ua_server::Services;
 
 /// What is served, and how.
-#[derive(Drop)]
+#[derive(Debug, Drop)]
 pub struct StandardServices {
     /// The services.
     pub services: Services,

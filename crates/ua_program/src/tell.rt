@@ -10,7 +10,7 @@ use std::alloc::{AllocError, Global};
 use std::io::Write;
 
 /// How faults are printed.
-#[derive(Clone, Copy)]
+#[derive(Clone, Copy, Debug)]
 pub struct Telling {
     pub alloc: Global,
     /// Whether the reason that is known of a fault is printed after it.

@@ -19,7 +19,7 @@ pub fn set_current_time(services: &mut Services, moment: DateTime)
 }
 
 /// Sets CurrentTime, `i=2258`, to the current time before each response.
-#[derive(Drop)]
+#[derive(Debug, Drop)]
 pub struct TimeKeeper<M> {
     /// The source of timestamps.
     pub moments: M,

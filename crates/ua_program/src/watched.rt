@@ -12,7 +12,7 @@ use std::io::Read;
 
 /// A source, the error of its last read, if that failed, and where its digits end, if it is to have
 /// such.
-#[derive(Drop)]
+#[derive(Debug, Drop)]
 pub struct Watched<I> {
     source: I,
     failed: Option<io::Error>,

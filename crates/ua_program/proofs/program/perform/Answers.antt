@@ -1,6 +1,10 @@
 use Rattle.std.proofs.lemmas.Result.{IfErr-weaker}
-use Rattle.ua_program.proofs.Readings.{listed_stops, loop_stops, serve_stops}
+use Rattle.ua_program.proofs.Readings.{listed_stops, loop_stops, serve_stops, talk_stops}
 use Rattle.ua_program.proofs.program.perform.Goals as goal
+
+pub returns-in-Ask-clause-stopped : goal.returns-in-Ask-clause-stopped
+returns-in-Ask-clause-stopped g c =
+    IfErr-weaker c.ask_server.result _ _ (λ why stopped. talk_stops c.in-Ask.asked.style (g.O.Write.contents c.args.out.now) (g.O.Write.contents c.ask_server.new.out) stopped) c.ask_server.ensures.stopped
 
 pub returns-in-Loop-clause-stopped : goal.returns-in-Loop-clause-stopped
 returns-in-Loop-clause-stopped g c =

@@ -1,0 +1,47 @@
+-- What a line of `ua ask` requests.
+use Rattle.std.proofs.Common.{◌≡◌, ◌≢◌, ◌⊎◌, inl, inr, ◌++◌, ◌∷◌, [], ℕ, ℤ, pos, negsuc, List, Option, None, Some, Result, Ok, Err, ap, sym, subst, refl}
+use Rattle.std.specs.Prelude.{IfErr, IfOk, MatchOption, unwrap_or}
+use Rattle.std.specs.Str.Lines.{strip_carriage_return}
+use denote.Ref.{Bor}
+use Rattle.ua_session.specs.declared.looping.fault.LoopFault.{LoopFault}
+use Rattle.ua_texts.specs.Script.{AsksFor}
+use Rattle.ua_texts.specs.declared.script.ScriptLine.{ScriptLine}
+use Rattle.ua_program.specs.LineTask.{GivesOwn, IsBare, IsPause, IsSleep, IsTaskOf, RefusesLine, Requests}
+use Rattle.ua_program.specs.declared.line_task.LineTask.{LineTask}
+use Rattle.ua_program.specs.declared.line_task.LineTask.TheVariants as task
+
+-- what `strip_suffix` leaves, or the line itself, is the body of the line
+pub bare_of : (line body : Bor (List ℕ)) (r : Option (Bor (List ℕ))) (words : List ℕ) → MatchOption r ((front : List ℕ) → line.now ≢ front ++ 10 ∷ []) (λ x. line.now ≡ x.now ++ 10 ∷ [])
+    → body ≡ unwrap_or r line → words ≡ strip_carriage_return body.now → IsBare line.now words
+bare_of line body None words otherwise same stripped = record { body = body.now; end = inr (ap (λ (b : Bor (List ℕ)). b.now) (sym same), otherwise); is = stripped }
+bare_of line body (Some x) words so same stripped = record { body = body.now; end = inl (subst (λ (b : Bor (List ℕ)). line.now ≡ b.now ++ 10 ∷ []) (sym same) so); is = stripped }
+
+-- a pause after `sleep`
+pub pause_given : (words : List ℕ) (found : Result LineTask LoopFault) → IsSleep words → IsPause found → GivesOwn words found
+pause_given words (Ok (task.Sleep n)) sleeps pause = (sleeps, pause)
+pause_given words (Ok task.Endpoints) sleeps pause = absurd pause
+pause_given words (Ok task.Nothing) sleeps pause = absurd pause
+pause_given words (Ok task.Renew) sleeps pause = absurd pause
+pause_given words (Ok (task.Ask question)) sleeps pause = absurd pause
+pause_given words (Err fault) sleeps pause = sleeps
+
+-- words of its own are requested, or refused
+pub own_requests : (line words : List ℕ) (found : Result LineTask LoopFault) → IsBare line words → GivesOwn words found → IfOk found (Requests line)
+own_requests line words (Ok task.Endpoints) bare own = subst (λ (w : List ℕ). IsBare line w) own bare
+own_requests line words (Ok (task.Sleep n)) bare own = ((words, bare, own.0), own.1)
+own_requests line words (Ok task.Nothing) bare own = absurd own
+own_requests line words (Ok task.Renew) bare own = absurd own
+own_requests line words (Ok (task.Ask question)) bare own = absurd own
+own_requests line words (Err fault) bare own = tt
+
+pub own_refuses : (line words : List ℕ) (found : Result LineTask LoopFault) → IsBare line words → GivesOwn words found → IfErr found (RefusesLine line)
+own_refuses line words (Ok found) bare own = tt
+own_refuses line words (Err fault) bare own = inr (inl (words, bare, own))
+
+-- the task of a step is requested
+pub step_requested : (line : List ℕ) (before : List ScriptLine) (last : ScriptLine) (found : LineTask) → AsksFor line (before ++ last ∷ []) → IsTaskOf last.step found → Requests line found
+step_requested line before last (task.Ask question) asked is = record { before = before; last = last; asked = asked; is = is }
+step_requested line before last task.Renew asked is = record { before = before; last = last; asked = asked; is = is }
+step_requested line before last task.Nothing asked is = absurd is
+step_requested line before last task.Endpoints asked is = absurd is
+step_requested line before last (task.Sleep n) asked is = absurd is
