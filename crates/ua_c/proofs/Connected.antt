@@ -40,9 +40,9 @@ connection_made limits channel old new status these served enough are made none 
 -- what a step does with what two handles hold, where they hold a connection and nodes, and nothing waits
 pub steps_shared : (old new before after : Holding) (piece : List ℕ) (moment : DateTime) (report : Report) (was is : ServedConnection) (shared left : SharedNodes) (answer : Result Step StepFault) (written : List WriteValue)
     → old.machine ≡ machine.Connection was → before.machine ≡ machine.Nodes shared → (0 < length old.waiting → ⊥) → StepsConnectionAs was.connection shared.services piece moment answer written is.connection left.services
-    → left.ids ≡ shared.ids → new.machine ≡ machine.Connection is → after ≡ record { machine = machine.Nodes left; waiting = before.waiting } → Shows answer report old.waiting new.waiting
+    → new.machine ≡ machine.Connection is → after ≡ record { machine = machine.Nodes left; waiting = before.waiting } → Shows answer report old.waiting new.waiting
     → untold_in is.written ≡ stored_after answer written (untold_in was.written) → StepsShared old new before after piece moment report
-steps_shared old new before after piece moment report was is shared left answer written was_is shared_is none steps ids machine_is after_is shown stored =
+steps_shared old new before after piece moment report was is shared left answer written was_is shared_is none steps machine_is after_is shown stored =
     subst (λ m. OfShared m before.machine (SaysOnly report before after other_handle × (new ≡ old)) (λ c s. WhereNone old new (SaysOnly report before after) (StepsConnection c s new before after piece moment report))) (sym was_is)
     (subst (λ m. OfNodes m (SaysOnly report before after other_handle × (new ≡ old)) (λ s. WhereNone old new (SaysOnly report before after) (StepsConnection was s new before after piece moment report))) (sym shared_is) (
       (λ some. absurd (none some)),
@@ -54,7 +54,6 @@ steps_shared old new before after piece moment report was is shared left answer 
         machine_is = machine_is;
         nodes_are = after_is;
         steps = steps;
-        ids_are = ids;
         shown = subst (λ w. Shows answer report w new.waiting) e shown;
         stored = stored;
       }),

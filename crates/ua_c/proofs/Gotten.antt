@@ -1,13 +1,11 @@
 -- The values of sound nodes can be encoded, so that getting one fails for want of memory alone.
-use Rattle.std.proofs.Common.{◌≡◌, ℕ, ◌+◌, List, leb, ◌&&◌, Option, None, Some, IsTrue, sym, subst, inl, inr, arith}
+use Rattle.std.proofs.Common.{◌≡◌, ℕ, zero, suc, ◌+◌, List, [], ◌∷◌, leb, ◌&&◌, Option, None, Some, option_map, IsTrue, sym, subst, inl, inr, arith}
 use Rattle.std.proofs.lemmas.Bool.{le-leb, leb-true}
 use Rattle.std.specs.List.{slice_get}
-use Rattle.ua_builtin.specs.Exact.{◌>>=◌}
 use Rattle.ua_builtin.specs.declared.node_id.NodeId.{NodeId}
 use Rattle.ua_nodes.proofs.Fits.{both_are}
-use Rattle.ua_nodes.proofs.SoundRead.{sound_at}
 use Rattle.ua_nodes.specs.Sound.{IsSound, IsSoundNode, held_fields}
-use Rattle.ua_nodes.specs.Table.{Nodes, node_at}
+use Rattle.ua_nodes.specs.Table.{Nodes}
 use Rattle.ua_nodes.specs.declared.node.Variable.{Variable}
 use Rattle.ua_variant.specs.Data.{VariantData}
 use Rattle.ua_variant.specs.Encodable.{data_fields_encodable, variant_encodable, variant_fits}
@@ -30,15 +28,16 @@ encodes_sound id v sound =
     let parts = both_true (data_fields_encodable (held_fields v)) (variant_fits v.value) whole.1 in
     both_are (leb (variant_depth v.value) 100) (variant_fits v.value) (le-leb (variant_depth v.value) 100 (omega arith)) parts.1
 
-encodes_at : (nodes : Nodes) (id : NodeId) (v : Variable) → IsSound nodes → node_at nodes id ≡ Some v → IsTrue (variant_encodable v.value)
-encodes_at nodes id v sound e = encodes_sound id v (sound_at nodes id v sound e)
+some_same : {x y : Variable} → ◌≡◌ {A = Option Variable} (Some x) (Some y) → x ≡ y
+some_same e = cc
+
+encodes_at : (nodes : Nodes) (index : ℕ) (v : Variable) → IsSound nodes → option_map (λ (node : NodeId × Variable). node.1) (slice_get nodes index) ≡ Some v → IsTrue (variant_encodable v.value)
+encodes_at [] index v sound e = absurd cc
+encodes_at (node ∷ nodes) zero v sound e = subst (λ (w : Variable). IsTrue (variant_encodable w.value)) (some_same e) (encodes_sound node.0 node.1 sound.0)
+encodes_at (node ∷ nodes) (suc i) v sound e = encodes_at nodes i v sound.1 e
 
 pub encodes_at_index : (shared : SharedNodes) (index : ℕ) (v : Variable) → IsSound shared.services.nodes → node_at_index shared index ≡ Some v → IsTrue (variant_encodable v.value)
-encodes_at_index shared index v sound e = by (slice_get shared.ids.items index) e
-  where
-    by : (o : Option NodeId) → (o >>= λ id. node_at shared.services.nodes id) ≡ Some v → IsTrue (variant_encodable v.value)
-    by None f = absurd cc
-    by (Some id) f = encodes_at shared.services.nodes id v sound f
+encodes_at_index shared index v sound e = encodes_at shared.services.nodes index v sound e
 
 -- so there is no reason but one
 pub only_memory : (value : Variant) (v : VariantData) (status : ℕ) → variant_of value ≡ v → IsTrue (variant_encodable v) → IsNoEncoding value status → status ≡ no_memory

@@ -1,6 +1,7 @@
 -- What a connection over shared nodes does for C: each clause of the calls of `Connection`, over
 -- the contents of two handles.
 use Rattle.std.specs.Prelude.{◌≡◌, ◌⊎◌, ℕ, List, [], Option, Some, None, Result, Ok, Err, IfOk, OnErr, IsErrOf}
+use Rattle.std.specs.Map.{keys_of}
 use Rattle.ua_builtin.specs.declared.date_time.DateTime.{DateTime}
 use Rattle.ua_channel.specs.ServerStands.{limits_of, channel_of, next_of, bound_of, IsDone, Goes, ChannelStands as Holds}
 use Rattle.ua_channel.specs.ServerTold.{Told}
@@ -56,6 +57,8 @@ pub record StepsConnectionAs (connection : Connection) (services : State) (piece
   pub failed : OnErr answer (written ≡ [])
   pub apart : left.session ≡ services.session
   pub endpoint : left.endpoint ≡ services.endpoint
+  pub memory_limit : left.memory_limit ≡ services.memory_limit
+  pub ids : keys_of left.nodes ≡ keys_of services.nodes
   pub progress : IfOk answer (λ step. StepTakes piece step)
   pub starved : (octets : List ℕ) (told : List Told) → Goes (channel_at connection) octets told
       → IsErrOf answer step_fault.OutOfMemory → bound_of (channel_at new) ≡ bound_of (channel_at connection)
@@ -98,7 +101,6 @@ pub record StepsConnection (old : ServedConnection) (shared : SharedNodes) (new 
   pub machine_is : new.machine ≡ machine.Connection served
   pub nodes_are : after ≡ record { machine = machine.Nodes left; waiting = before.waiting }
   pub steps : StepsConnectionAs old.connection shared.services piece moment answer written served.connection left.services
-  pub ids_are : left.ids ≡ shared.ids
   pub shown : Shows answer report [] new.waiting
   pub stored : untold_in served.written ≡ stored_after answer written (untold_in old.written)
 

@@ -1,12 +1,11 @@
 -- Readings of nodes by the bytes of their values, and how they are set and got.
-use Rattle.std.specs.Prelude.{◌≡◌, ◌≢◌, ◌⊎◌, ◌+◌, ◌≤◌, ℕ, ℤ, pos, cond, nat_eq, List, length, take, drop, slice_get, Option, Some, None, IsSome}
-use Rattle.std.specs.List.{position}
-use Rattle.ua_builtin.specs.Exact.{◌>>=◌}
+use Rattle.std.specs.Prelude.{◌≡◌, ◌≢◌, ◌⊎◌, ◌+◌, ◌≤◌, ℕ, ℤ, pos, cond, nat_eq, List, length, take, drop, slice_get, Option, Some, None}
+use Rattle.std.specs.Option.{option_map}
 use Rattle.ua_builtin.specs.declared.date_time.DateTime.{DateTime}
 use Rattle.ua_builtin.specs.declared.node_id.NodeId.{NodeId}
 use Rattle.ua_builtin.specs.declared.status_code.StatusCode.{StatusCode}
 use Rattle.ua_nodes.specs.Set.{after_set, set_refusal}
-use Rattle.ua_nodes.specs.Table.{node_at, same_id}
+use Rattle.ua_nodes.specs.Table.{id_at, index_of_id, node_at}
 use Rattle.ua_nodes.specs.declared.fault.SetFault.{SetFault}
 use Rattle.ua_nodes.specs.declared.fault.SetFault.TheVariants.{Unknown, Mismatch, NotWritable}
 use Rattle.ua_nodes.specs.declared.node.Variable.{Variable}
@@ -115,21 +114,17 @@ IsNoReading octets given status =
 
 -- ---- the place of a node
 
--- the index of the first node that the NodeId names
-abbrev pub index_among : List NodeId → NodeId → Option ℕ
-index_among ids id = position (same_id id) ids
-
 -- the text names a node, with this index
 pub record IsFound (shared : SharedNodes) (text : List ℕ) (index : ℕ) : Type 0 where
   pub id : NodeId
   pub named : IsNodeText text id
-  pub at : index_among shared.ids.items id ≡ Some index
+  pub at : index_of_id shared.services.nodes id ≡ Some index
 
 -- the text names a NodeId, but no node
 pub record IsMissing (shared : SharedNodes) (text : List ℕ) : Type 0 where
   pub id : NodeId
   pub named : IsNodeText text id
-  pub none : index_among shared.ids.items id ≡ None
+  pub none : index_of_id shared.services.nodes id ≡ None
 
 abbrev pub FindsIn : SharedNodes → List ℕ → ℕ → ℕ → Type 0
 FindsIn shared text index status = ((status ≡ ok) × IsFound shared text index) ⊎ ((index ≡ 0) × (((status ≡ unknown) × IsMissing shared text) ⊎ IsNoNode text status))
@@ -149,7 +144,7 @@ status_of_set (Some NotWritable) = bad_octets
 
 -- the nodes with that of a NodeId set to a reading, and all else unchanged
 abbrev pub with_set : SharedNodes → NodeId → Reading → SharedNodes
-with_set shared id reading = record { services = with_nodes shared.services (after_set id reading shared.services.nodes); ids = shared.ids }
+with_set shared id reading = record { services = with_nodes shared.services (after_set id reading shared.services.nodes) }
 
 -- the reading is one, and is set; or it is rejected, and nothing changed
 pub record SetsReading (old new : SharedNodes) (id : NodeId) (octets : List ℕ) (given : UaReading) (status : ℕ) : Type 0 where
@@ -169,7 +164,7 @@ SetsAt (Some id) old new octets given status = SetsReading old new id octets giv
 pub record SetsHeld (shared : SharedNodes) (old new : Holding) (index : ℕ) (octets : List ℕ) (given : UaReading) (status : ℕ) : Type 0 where
   pub left : SharedNodes
   pub new_is : new ≡ record { machine = machine.Nodes left; waiting = old.waiting }
-  pub sets : SetsAt (slice_get shared.ids.items index) shared left octets given status
+  pub sets : SetsAt (id_at shared.services.nodes index) shared left octets given status
 
 abbrev pub SetsNode : Holding → Holding → ℕ → List ℕ → UaReading → ℕ → Type 0
 SetsNode old new index octets given status = OfNodes old.machine ((status ≡ other_handle) × (new ≡ old)) (λ shared. SetsHeld shared old new index octets given status)
@@ -178,7 +173,7 @@ SetsNode old new index octets given status = OfNodes old.machine ((status ≡ ot
 
 -- the node at an index
 abbrev pub node_at_index : SharedNodes → ℕ → Option Variable
-node_at_index shared index = slice_get shared.ids.items index >>= λ id. node_at shared.services.nodes id
+node_at_index shared index = option_map (λ node. node.1) (slice_get shared.services.nodes index)
 
 -- the encoding of the value of a node is put into a buffer, and what the node holds is told
 pub record GetsValue (node : Variable) (before after : List ℕ) (needed : ℕ) (reading : UaReading) (status : ℕ) : Type 0 where

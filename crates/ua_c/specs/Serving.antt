@@ -1,5 +1,6 @@
 -- What a server does for C: each clause of the calls of `ua_server`, over the content of a handle.
 use Rattle.std.specs.Prelude.{◌≡◌, ℕ, List, [], Option, Some, None, Result, Ok, Err, IfOk, IsErrOf}
+use Rattle.std.specs.Map.{keys_of}
 use Rattle.ua_builtin.specs.declared.date_time.DateTime.{DateTime}
 use Rattle.ua_channel.specs.ServerStands.{limits_of, channel_of, next_of, bound_of, IsDone, Goes, ChannelStands as Holds}
 use Rattle.ua_channel.specs.ServerTold.{Told}
@@ -43,6 +44,8 @@ pub record StepsAs (server : Server) (services : State) (piece : List ℕ) (mome
       → StepOver (limits_of (channel_in server)) (channel_of (channel_in server)) moment piece answer (channel_in new) octets hs first services left
   pub stands : (octets : List ℕ) (told : List Told) → Goes (channel_in server) octets told → StepStands piece answer (channel_in new) octets told
   pub endpoint : left.endpoint ≡ services.endpoint
+  pub memory_limit : left.memory_limit ≡ services.memory_limit
+  pub ids : keys_of left.nodes ≡ keys_of services.nodes
   pub progress : IfOk answer (λ step. StepTakes piece step)
   pub starved : (octets : List ℕ) (told : List Told) → Goes (channel_in server) octets told
       → IsErrOf answer step_fault.OutOfMemory → bound_of (channel_in new) ≡ bound_of (channel_in server)

@@ -1,6 +1,5 @@
 -- Nodes apart from connections: one table, with the description of a server, at the beginning.
 use Rattle.std.specs.Prelude.{◌≡◌, ◌⊎◌, ℕ, List, Option, Some, Result, Ok, Err}
-use Rattle.std.specs.Map.{keys_of}
 use Rattle.std.specs.Str.{IsUtf8}
 use Rattle.ua_nodes.specs.NodeFile.{WriteNodes, node_lines}
 use Rattle.ua_nodes.specs.Table.{Nodes}
@@ -26,7 +25,7 @@ IsNoAbout url application_uri name reason status =
     ((reason ≡ text_url) × IsNoString url status) ⊎ ((reason ≡ text_application_uri) × IsNoString application_uri status) ⊎ ((reason ≡ text_name) × IsNoString name status)
 
 -- the nodes that the lines of a file define, before any session, with the description of a server
--- of them, and their NodeIds in their order
+-- of them
 pub record IsShared (file url application_uri name : List ℕ) (most : ℕ) (shared : SharedNodes) : Type 0 where
   pub endpoint : Endpoint
   pub about : IsAbout url application_uri name most endpoint
@@ -34,7 +33,6 @@ pub record IsShared (file url application_uri name : List ℕ) (most : ℕ) (sha
   pub utf8 : IsUtf8 file
   pub written : WriteNodes (node_lines file) table
   pub services_is : shared.services ≡ fresh table endpoint
-  pub ids_are : shared.ids.items ≡ keys_of table
 
 -- why there are none: a text is none, or the file is rejected
 abbrev pub IsNoShared : List ℕ → List ℕ → List ℕ → List ℕ → ℕ → ℕ → ℕ → Type 0

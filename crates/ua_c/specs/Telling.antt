@@ -1,12 +1,13 @@
 -- What the Write of a step stored, told item by item.
 use Rattle.std.specs.Prelude.{◌≡◌, ◌⊎◌, ℕ, List, [], ◌∷◌, length, drop, Option, Some, None, IsFalse}
+use Rattle.ua_nodes.specs.Table.{index_of_id}
 use Rattle.ua_structures.specs.declared.attribute.WriteValue.{WriteValue}
 use Rattle.ua_variant.specs.Data.{VariantData}
 use Rattle.ua_variant.specs.Formats.{variant_format}
 use Rattle.ua_variant.specs.View.{variant_of}
 use Rattle.ua_variant.specs.declared.values.Variant.{Variant}
 use Rattle.ua_c.specs.Handled.{OfShared}
-use Rattle.ua_c.specs.Readings.{index_among, no_reading}
+use Rattle.ua_c.specs.Readings.{no_reading}
 use Rattle.ua_c.specs.Status.{ok, no_memory, bad_octets, unknown, no_more, other_handle}
 use Rattle.ua_c.specs.Texts.{IsEncodingOf, Puts}
 use Rattle.ua_c.specs.Views.{reading_of}
@@ -61,7 +62,7 @@ EncodesNone held status = (status ≡ no_memory) ⊎ ((status ≡ bad_octets) ×
 -- an item is told: the index of its node, the encoding of its value in a buffer, and what the
 -- client sent beside the value
 pub record TellsItem (shared : SharedNodes) (item : WriteValue) (before after : List ℕ) (told : ToldItem) : Type 0 where
-  pub index_is : index_among shared.ids.items item.node_id ≡ Some told.index
+  pub index_is : index_of_id shared.services.nodes item.node_id ≡ Some told.index
   pub octets : List ℕ
   pub are : EncodesHeld item.value.value octets
   pub puts : Puts octets before after told.needed told.status
@@ -74,7 +75,7 @@ SaysNoItem before after told why = (told ≡ no_item why) × (after ≡ before)
 -- why an item is not told: these nodes have none of its NodeId, an allocation failed, or its value
 -- cannot be encoded
 abbrev pub IsUntellable : SharedNodes → WriteValue → ℕ → Type 0
-IsUntellable shared item why = ((why ≡ unknown) × (index_among shared.ids.items item.node_id ≡ None)) ⊎ EncodesNone item.value.value why
+IsUntellable shared item why = ((why ≡ unknown) × (index_of_id shared.services.nodes item.node_id ≡ None)) ⊎ EncodesNone item.value.value why
 
 -- it is told, or not
 abbrev pub Tells : SharedNodes → WriteValue → List ℕ → List ℕ → ToldItem → Type 0

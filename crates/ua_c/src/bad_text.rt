@@ -5,7 +5,7 @@ ghost use Rattle.ua_c.specs.BadText.{only};
 
 /// Which of the texts of a call is none, with the status that says so or that an allocation failed
 /// over it, and of several lines the place of the line from 0.
-#[derive(Clone, Copy)]
+#[derive(Clone, Copy, Debug)]
 pub struct BadText {
     pub status: u32,
     pub text: u32,

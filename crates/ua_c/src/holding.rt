@@ -13,7 +13,7 @@ use ua_builtin::DateTime;
 use ua_channel::ClientChannel;
 
 /// A machine that takes and gives bytes.
-#[derive(Drop)]
+#[derive(Debug, Drop)]
 pub enum Machine {
     /// A server with its services.
     Server(Station),
@@ -26,7 +26,7 @@ pub enum Machine {
 }
 
 /// What a handle holds: a machine, and the bytes of its answers that were not fetched yet.
-#[derive(Drop)]
+#[derive(Debug, Drop)]
 pub struct Holding {
     pub machine: Machine,
     pub waiting: Waiting,

@@ -11,6 +11,7 @@ const SIZE: u32 = 20;
 /// The limits of one end of a connection: the frame sizes in bytes, and the most bytes and chunks
 /// of a message. The first field is the size of this structure in bytes.
 #[repr(C)]
+#[derive(Debug)]
 pub struct UaLimits {
     pub size: u32,
     pub receive_buffer_size: u32,

@@ -1,10 +1,11 @@
 //! Readings of nodes, without texts.
 
-ghost use Rattle.std.specs.Prelude.{◌≡◌, None, Some, IfOk, IfErr, IfSome, MatchOption, MatchResult, slice_get};
+ghost use Rattle.std.specs.Prelude.{◌≡◌, None, Some, IfOk, IfErr, IfSome, MatchOption, MatchResult};
 ghost use Rattle.std.specs.Option.{option_copied};
 ghost use Rattle.ua_nodes.specs.Sound.{IsSound};
+ghost use Rattle.ua_nodes.specs.Table.{id_at, index_of_id};
 ghost use Rattle.ua_c.specs.Handled.{OfHandle};
-ghost use Rattle.ua_c.specs.Readings.{FindsIn, FindsNode, GetsAt, GetsNode, GetsNone, HasPart, IsNoReading, IsReadingOf, SetsAt, SetsNode, given_if, index_among, no_reading, node_at_index, part_of, reading_held, status_of_set};
+ghost use Rattle.ua_c.specs.Readings.{FindsIn, FindsNode, GetsAt, GetsNode, GetsNone, HasPart, IsNoReading, IsReadingOf, SetsAt, SetsNode, given_if, no_reading, node_at_index, part_of, reading_held, status_of_set};
 ghost use Rattle.ua_c.specs.Status.{ok};
 
 use crate::handle::{UaHandle, UaNodes};
@@ -23,7 +24,7 @@ use ua_variant::Variant;
 /// A DataValue (OPC 10000-4, 7.11): where the encoding of its value stands in a byte buffer, its
 /// status and its timestamps. A field is there where its flag is not 0.
 #[repr(C)]
-#[derive(Clone, Copy)]
+#[derive(Clone, Copy, Debug)]
 pub struct UaReading {
     /// Where the encoding of the value begins, in bytes.
     pub value_at: usize,
@@ -164,9 +165,9 @@ fn status_of_set(set: Result<(), SetFault>) -> u32
 impl SharedNodes {
     /// The place of the node of this NodeId.
     pub(crate) fn index_of(&self, id: &NodeId) -> Option<usize>
-        ensures { result ≡ index_among self.now.ids.items id.now }
+        ensures { result ≡ index_of_id self.now.services.nodes id.now }
     {
-        self.ids.iter().position(|known| *id == *known)
+        self.services.nodes().index_of(id)
     }
 
     /// The place of the node that bytes name, or a status.
@@ -189,13 +190,13 @@ impl SharedNodes {
 
     /// Sets what the node at a place holds.
     fn set(&mut self, alloc: Global, index: usize, octets: &[u8], given: &UaReading) -> u32
-        ensures { SetsAt (slice_get self.old.ids.items index) self.old self.new octets.now given.now result }
+        ensures { SetsAt (id_at self.old.services.nodes index) self.old self.new octets.now given.now result }
     {
-        let Some(id) = self.ids.get(index) else {
+        if self.services.nodes().get_index(index).is_none() {
             return UNKNOWN;
-        };
+        }
         match reading_of(alloc, octets, given) {
-            Ok(reading) => status_of_set(self.services.set(id, reading)),
+            Ok(reading) => status_of_set(self.services.set_at(index, reading)),
             Err(status) => status,
         }
     }
@@ -205,9 +206,8 @@ impl SharedNodes {
         ensures node { option_copied result ≡ node_at_index self.now index }
         ensures sound { IsSound self.now.services.nodes }
     {
-        let nodes = self.services.nodes();
-        let id = self.ids.get(index)?;
-        nodes.get(id)
+        let (_, node) = self.services.nodes().get_index(index)?;
+        Some(node)
     }
 
     /// Puts the encoding of the value of the node at a place into a buffer, and gives what the node

@@ -12,7 +12,7 @@ use std::alloc::Global;
 use ua_server::{End, Step, StepFault, Written};
 
 /// A status, how many bytes were taken, and the StatusCode of a rejection.
-#[derive(Clone, Copy)]
+#[derive(Clone, Copy, Debug)]
 pub struct Report {
     pub status: u32,
     pub taken: usize,

@@ -1,7 +1,6 @@
 //! Nodes apart from connections: one node table and endpoint, for any number of connections.
 
 ghost use Rattle.std.specs.Prelude.{◌≡◌, ◌+◌, IfOk, IfErr, OnOk};
-ghost use Rattle.std.specs.Map.{keys_of};
 ghost use Rattle.ua_nodes.specs.NodeFile.{place};
 ghost use Rattle.ua_server.specs.Endpoint.{Fits};
 ghost use Rattle.ua_c.specs.Shared.{IsAbout, IsNoAbout, MakesNodes, MakesShared};
@@ -10,11 +9,11 @@ ghost use Rattle.ua_c.specs.Texts.{IsNoString, IsStringOf};
 use crate::handle::UaNodes;
 use crate::holding::Machine;
 use crate::making::{nodes_of, seat};
-use crate::status::{NO_MEMORY, TEXT_APPLICATION_URI, TEXT_NAME, TEXT_NODES, TEXT_URL};
+use crate::status::{TEXT_APPLICATION_URI, TEXT_NAME, TEXT_NODES, TEXT_URL};
 use crate::texts::string_of;
-use std::alloc::{AllocError, Global};
-use ua_builtin::{NodeId, UaString};
-use ua_nodes::{LineReason, NodeTable};
+use std::alloc::Global;
+use ua_builtin::UaString;
+use ua_nodes::LineReason;
 use ua_server::{Endpoint, Services};
 
 /// A line does not have exactly five fields.
@@ -32,11 +31,10 @@ const LINE_VALUE: u32 = 6;
 /// A line before it has the same NodeId.
 const LINE_DUPLICATE: u32 = 7;
 
-/// The services over nodes, and the NodeIds of these in their order, by which C names them.
-#[derive(Drop)]
+/// The services over nodes, which C names by their positions: no step changes these.
+#[derive(Debug, Drop)]
 pub struct SharedNodes {
     pub services: Services,
-    pub ids: Vec<NodeId>,
 }
 
 /// The number of a reason against a line.
@@ -52,20 +50,6 @@ pub(crate) fn reason_number(reason: LineReason) -> u32
         LineReason::Value => LINE_VALUE,
         LineReason::Duplicate => LINE_DUPLICATE,
     }
-}
-
-/// The NodeIds of nodes, in their order.
-fn ids_of(alloc: Global, nodes: &NodeTable) -> Result<Vec<NodeId>, AllocError>
-    ensures { IfOk result (λ ids. ids.items ≡ keys_of nodes.now) }
-{
-    let mut ids = Vec::with_capacity(alloc, nodes.len())?;
-    for index in 0..nodes.len() {
-        let Some((id, _)) = nodes.get_index(index) else {
-            unreachable!();
-        };
-        ids.push(id.try_clone()?)?;
-    }
-    Ok(ids)
 }
 
 /// The String that bytes are, or a status; then `reason` is the number of this text.
@@ -117,13 +101,9 @@ fn shared(
     *line = 0;
     let endpoint = about(alloc, url, application_uri, name, max_message_size, reason)?;
     let nodes = nodes_of(alloc, file, line, reason)?;
-    match ids_of(alloc, &nodes) {
-        Ok(ids) => Ok(SharedNodes {
-            services: Services::new(nodes, endpoint),
-            ids,
-        }),
-        Err(_) => Err(NO_MEMORY),
-    }
+    Ok(SharedNodes {
+        services: Services::new(nodes, endpoint),
+    })
 }
 
 /// Makes the nodes of a node file, with the endpoint of their server, for any number of

@@ -10,7 +10,7 @@ use ua_frame::Limits;
 use ua_server::{Server, Services, Step, StepFault};
 
 /// A server on a connection, its services, and its limits.
-#[derive(Drop)]
+#[derive(Debug, Drop)]
 pub struct Station {
     pub server: Server,
     pub services: Services,

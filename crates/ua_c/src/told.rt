@@ -30,7 +30,7 @@ const EVENT_FAILED_BY_PEER: u32 = 7;
 
 /// A status, how many bytes were taken, and their event, with its RequestId or TokenId and its
 /// code.
-#[derive(Clone, Copy)]
+#[derive(Clone, Copy, Debug)]
 pub struct Told {
     pub status: u32,
     pub taken: usize,

@@ -10,7 +10,7 @@ use ua_services::WriteValue;
 
 /// The items that a Write stored, of which some were told. They are read when the first is asked
 /// for.
-#[derive(Drop)]
+#[derive(Debug, Drop)]
 pub struct Untold {
     /// What was stored, while none of it was asked for.
     pub written: Option<Written>,
@@ -21,7 +21,7 @@ pub struct Untold {
 
 /// A connection, and what the Write that its last step answered stored, as far as it was not told
 /// yet.
-#[derive(Drop)]
+#[derive(Debug, Drop)]
 pub struct ServedConnection {
     pub connection: Connection,
     pub written: Untold,
@@ -70,7 +70,7 @@ impl Untold {
 
 /// A status, and an item: the place of its node, the length of its value's encoding, and what the
 /// client wrote beside it.
-#[derive(Clone, Copy)]
+#[derive(Clone, Copy, Debug)]
 pub struct ToldItem {
     pub status: u32,
     pub index: usize,

@@ -10,7 +10,7 @@ use ua_chunk::Message;
 
 /// Bytes that wait to be fetched. A message is joined when its first bytes are fetched, so that
 /// nothing of it is lost where an allocation fails.
-#[derive(Drop)]
+#[derive(Debug, Drop)]
 pub struct Waiting {
     octets: Vec<u8>,
     /// How many of them were fetched.

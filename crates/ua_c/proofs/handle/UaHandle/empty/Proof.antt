@@ -1,32 +1,27 @@
 -- `empty` makes a handle of null.
-use Rattle.std.proofs.Common.{◌≡◌, List, [], ◌∷◌, ◌++◌, refl, sym, subst, lit<}
-use mir.Val.{Val, vptr, vcons, vnil}
+use Rattle.std.proofs.Common.{◌≡◌, List, [], ◌∷◌, ◌++◌, refl, sym, subst}
+use mir.Val.{Val}
 use base.Logic.{SProp, ent, emp, id⊢}
 use base.Fml.{ftrue}
 use prog.Wp.{WpFn}
-use types.Kit.{‵, raw, ◌⊛◌, at_ret, ◌$◌, ◌∵◌, !, qed, by, move, keep, split, fsplit, fjoin, suffices, use0, use1, rewrite}
-use types.Run.{stop, fld, of_opd, lit, bin, no_more, and_then, first, branches, exec, returns, enter}
-use types.ByLocal.{alloc_all, pass_all, free_all, look_at, get, get_in, sets, sets_last, env}
-use types.Part.{agg, sub, whole}
-use types.Match.{live}
+use types.Kit.{‵, raw, ◌⊛◌, ◌$◌, ◌∵◌, !, qed, by, move, keep, split, fsplit, fjoin, suffices, use0, rewrite}
+use types.Run.{lit, no_more, and_then, returns, enter}
+use types.ByLocal.{alloc_all, pass_all, free_all, look_at, get, sets}
+use types.Part.{agg}
 use contract.Monad.{fact, fact_i}
 use contract.Running.{tables}
 use denote.Exit.{yes}
 use denote.Param.{layout}
 use denote.RattleType.{RattleType, owns}
-use denote.RawPtr.{block_ptr, null_ptr, ptr_val, tests_null}
-use denote.Signature.{types_at, type_at, plain}
+use denote.RawPtr.{null_ptr, ptr_val}
+use denote.Signature.{types_at, plain}
 use denote.Steps.{nothing}
 use denote.Triple.Walked.{Stays, stay_dropped, walk_of, Goes-dropped}
-use Rattle.std.proofs.VecSteps.Shapes.{after}
 use Rattle.std.proofs.alloc.Global.TheLaws as heap_laws
-use Rattle.std.proofs.option.Made.{Some-of, none_of}
-use Rattle.std.specs.contracts.impls.GlobalAllocator.TheImpl.{ghosts}
-use Rattle.std.specs.declared.option.Option.TheVariants.{None, Some}
+use Rattle.std.specs.declared.option.Option.TheVariants.{None}
 use Rattle.std.proofs.raw_atomic.Walks.{proved_at, leaves}
-use Rattle.std_alloc.proofs.ResultValues.{and_tt}
-use Rattle.ua_c.proofs.Values.{both, Loose, Good, one, loose_good, loose_out, loose_in}
-use Rattle.ua_c.proofs.Handles.{R, Z, W, none_good, holding_out, none_in, some_in}
+use Rattle.ua_c.proofs.Values.{both, one}
+use Rattle.ua_c.proofs.Handles.{Z, W, none_good, none_in}
 use Rattle.ua_c.specs.contracts.handle.UaHandle.empty.{ended, clauses}
 use Rattle.ua_c.specs.contracts.handle.UaHandle.empty.Key.{name as #self}
 use Rattle.ua_c.proofs.handle.UaHandle.empty.Statement.{statement}

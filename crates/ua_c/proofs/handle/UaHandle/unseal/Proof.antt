@@ -4,7 +4,7 @@ use mir.Val.{Val, vptr, vcons, vnil}
 use base.Logic.{SProp, ent, emp, id⊢}
 use base.Fml.{ftrue}
 use prog.Wp.{WpFn}
-use types.Kit.{‵, raw, ◌⊛◌, at_ret, ◌$◌, ◌∵◌, !, qed, by, move, keep, split, fsplit, fjoin, suffices, use0, use1, rewrite}
+use types.Kit.{‵, raw, ◌⊛◌, at_ret, ◌$◌, ◌∵◌, !, qed, by, move, keep, split, fsplit, fjoin, suffices, use0, use1}
 use types.Run.{stop, fld, of_opd, lit, bin, no_more, and_then, first, branches, exec, returns, enter}
 use types.ByLocal.{alloc_all, pass_all, free_all, look_at, get, get_in, sets, sets_last, env}
 use types.Part.{agg, sub, whole}
@@ -25,8 +25,8 @@ use Rattle.std.specs.contracts.impls.GlobalAllocator.TheImpl.{ghosts}
 use Rattle.std.specs.declared.option.Option.TheVariants.{None, Some}
 use Rattle.std.proofs.raw_atomic.Walks.{proved_at, leaves}
 use Rattle.std_alloc.proofs.ResultValues.{and_tt}
-use Rattle.ua_c.proofs.Values.{both, Loose, Good, one, loose_good, loose_out, loose_in}
-use Rattle.ua_c.proofs.Handles.{R, Z, W, none_good, holding_out, none_in, some_in}
+use Rattle.ua_c.proofs.Values.{both, Loose, Good, loose_good, loose_in}
+use Rattle.ua_c.proofs.Handles.{R, Z, W, none_good, holding_out}
 use Rattle.ua_c.specs.contracts.handle.UaHandle.unseal.{ended, clauses}
 use Rattle.ua_c.specs.contracts.handle.UaHandle.unseal.Key.{name as #self}
 use Rattle.ua_c.proofs.handle.UaHandle.unseal.Statement.{statement}
