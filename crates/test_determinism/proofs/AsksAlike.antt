@@ -31,9 +31,6 @@ use Rattle.test_determinism.specs.Pinned.{HadMemory, SameBy}
 
 -- ---- where two channels stand that stand alike
 
-abbrev rules_by : ClientChannel → List Placed → Rules ClientTold Why
-rules_by x asks = client_rules_of x asks
-
 same_rules : (x y : ClientChannel) (asks : List Placed) → client_limits x ≡ client_limits y → client_rules_of x asks ≡ client_rules_of y asks
 same_rules x y asks e = ap (λ (l : Limits). client_rules l asks) e
 

@@ -72,9 +72,6 @@ ran_comes x new sent taken line after coming r e =
     subst (λ (z : Option Traffic). ComesTo x z (untaken_of new ++ r.last.coming [])) (sym r.last_is)
     (λ more. ap (λ (c : Connection). untaken_of c ++ r.last.coming more) e ∙ append_cancel_left taken _ _ (r.all more ∙ sym r.parts))
 
-no_traffic : (t : Traffic) → None ≡ Some t → ⊥
-no_traffic t e = cc
-
 -- what comes to a client over a line that tells its octets
 pub comes_at : (x : Client) (line : Option Traffic) (coming : List ℕ) → ComesTo x line coming → (t : Traffic) × (line ≡ Some t) × ((more : List ℕ) → untaken_of (connection_of x) ++ t.coming more ≡ coming)
 comes_at x (Some t) coming h = (t, refl, h)

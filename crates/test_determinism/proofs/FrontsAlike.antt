@@ -1,9 +1,9 @@
 -- Two fronts of the same octets, by any rules.
 use Rattle.std.specs.Prelude.{◌≡◌, ℕ, ◌⊎◌, List, [], ◌∷◌, ◌++◌}
-use Rattle.std.proofs.Common.{refl, sym, ◌∙◌, ap, subst, inl, inr, append_assoc, append-nil}
-use Rattle.ua_frame.specs.After.{AllFrom, AllAfter, each_from}
+use Rattle.std.proofs.Common.{refl, sym, ◌∙◌, ap, subst, inl, inr}
+use Rattle.ua_frame.specs.After.{each_from}
 use Rattle.ua_frame.specs.declared.frame.Frame.{Frame}
-use Rattle.ua_frame.specs.Run.{Rules, Fits, Run, events, End, Going}
+use Rattle.ua_frame.specs.Run.{Rules, Run, events, End, Going}
 use Rattle.ua_frame.proofs.Ends.{ends_stay}
 use Rattle.ua_frame.proofs.Readings.{reading}
 use Rattle.ua_frame.proofs.Unique.{unique}
@@ -21,15 +21,6 @@ either_first {A = A} (u ∷ us) (v ∷ vs) xs ys e = further (either_first us vs
     further : ((more : List A) × (vs ≡ us ++ more)) ⊎ ((more : List A) × (us ≡ vs ++ more)) → ((more : List A) × (v ∷ vs ≡ (u ∷ us) ++ more)) ⊎ ((more : List A) × (u ∷ us ≡ (v ∷ vs) ++ more))
     further (inl m) = inl (m.0, same_list v u vs (us ++ m.0) (sym head) m.1)
     further (inr m) = inr (m.0, same_list u v us (vs ++ m.0) head m.1)
-
--- the frame behind others fits there
-fits_from : {E X : Type 0} (R : Rules E X) (start fs : List Frame) (f : Frame) (more : List Frame) → AllFrom (Fits R) start (fs ++ f ∷ more) → Fits R (start ++ fs) f
-fits_from R start [] f more h = subst (λ (xs : List Frame). Fits R xs f) (sym (append-nil start)) h.0
-fits_from R start (g ∷ fs) f more h = subst (λ (xs : List Frame). Fits R xs f) (append_assoc start (g ∷ []) fs) (fits_from R (start ++ g ∷ []) fs f more h.1)
-
-pub fits_at : {E X : Type 0} (R : Rules E X) (fs : List Frame) (f : Frame) (more : List Frame) → AllAfter (Fits R) (fs ++ f ∷ more) → Fits R fs f
-unfolding AllAfter
-fits_at R fs f more h = fits_from R [] fs f more h
 
 -- ---- a reading of all the octets, and of a front of them
 
@@ -82,11 +73,3 @@ module _ {E X : Type 0} (R : Rules E X) (whole : List ℕ) where
       let p = front_first told (events R r.frames) r.end f a in
       let q = front_first other (events R r.frames) r.end g a in
       (events R r.frames, p.0, q.0, p.1, q.1)
-
-  -- of the frames of two fronts, those of one begin those of the other
-  pub frames_first : (told other : List E) (f : ReadsFront R whole told) (g : ReadsFront R whole other) → ((more : List Frame) × (g.frames ≡ f.frames ++ more)) ⊎ ((more : List Frame) × (f.frames ≡ g.frames ++ more))
-  frames_first told other f g =
-      let r = reading R whole in
-      let p = begins R f.octets f.more whole f.frames r.frames f.rest r.rest Going r.end f.parts f.run r.run in
-      let q = begins R g.octets g.more whole g.frames r.frames g.rest r.rest Going r.end g.parts g.run r.run in
-      either_first f.frames g.frames p.0 q.0 (sym p.1 ∙ q.1)

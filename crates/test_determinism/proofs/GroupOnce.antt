@@ -223,9 +223,6 @@ reasons_behind ((f, false) ∷ us) vs e = reasons_behind us vs e
 abbrev reasons_at : Option Ack → ℕ → List Request → Option ClientFault
 reasons_at ack id requests = first_reason (group_reasons ack id requests)
 
-take_one : {A : Type 0} (m : A) (ms : List A) → take (0 + 1) (m ∷ ms) ≡ m ∷ []
-take_one m ms = refl
-
 take_next : {A : Type 0} (n : ℕ) (m : A) (ms : List A) → take (suc n + 1) (m ∷ ms) ≡ m ∷ take (n + 1) ms
 take_next n m ms = ap (λ (k : ℕ). take k (m ∷ ms)) (on n)
   where

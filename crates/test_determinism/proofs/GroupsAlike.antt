@@ -92,9 +92,6 @@ pub record Faults (o p : Option ClientFault) (sent other : List ℕ) : Type 0 wh
   pub alike : (f g : ClientFault) → o ≡ Some f → p ≡ Some g → FailAlike f g
   pub written : (o ≡ Some fault.Write) ⊎ (p ≡ Some fault.Write) → sent ≡ other
 
-some_none : (f : ClientFault) → ◌≡◌ {A = Option ClientFault} None (Some f) → ⊥
-some_none f e = cc
-
 no_requests : (requests g others : List Request) → requests ≡ [] → requests ≡ g ++ others → IsGroup g others → ⊥
 no_requests requests g others e d p = let some = p.0 in omega (arith, some, ap length (sym e ∙ d), length-append g others)
 

@@ -1,11 +1,11 @@
 pub mod ValuesAlike
 pub mod FramesAlike
 pub mod StreamsAlike
+pub mod EndsAlike
 pub mod ServersAlike
 pub mod RepliesAlike
 pub mod ClientsAlike
 pub mod AsksAlike
-pub mod AdvancesAlike
 pub mod NodesAlike
 pub mod StepsAlike
 pub mod FrontsAlike

@@ -25,7 +25,8 @@ use Rattle.ua_server.specs.declared.step.StepFault.TheVariants as step_fault
 use Rattle.test_determinism.specs.Pinned.{HadMemory}
 use Rattle.test_determinism.specs.Servers.{ServersDone}
 use Rattle.test_determinism.specs.Steps.{StepsAlike, SameStep, SameStepAnswer, LeavesSteps, LeftSteps}
-use Rattle.test_determinism.proofs.ServersAlike.{same_code, whole_taken, to_quiet, to_tells, to_lasts}
+use Rattle.test_determinism.proofs.EndsAlike.{whole_taken}
+use Rattle.test_determinism.proofs.ServersAlike.{same_code, to_quiet, to_tells, to_lasts}
 use Rattle.test_determinism.proofs.StreamsAlike.{Quiet, Tells, Lasts, WrongAt, wrong_at, Meets, AsOne, Within, Around, quiet_quiet, quiet_tells, quiet_lasts, quiet_wrong, wrong_tells, lasts_tells, lasts_wrong, lasts_lasts, tells_tells, wrong_wrong}
 
 -- ---- messages that were given up are not answered

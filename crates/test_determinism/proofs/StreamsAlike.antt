@@ -162,6 +162,20 @@ pub record Wrong {E X : Type 0} (R : Rules E X) (octets piece : List ℕ) (told 
   pub run : Run R (octets ++ piece) frames rest (Stopped why)
   pub told_is : events R frames ≡ told
 
+-- what a piece comes to
+pub data Outcome (E X : Type 0) : Type 0 where
+  Quietly : Outcome E X
+  Telling : (e : E) → Outcome E X
+  Lasting : (e : E) → Outcome E X
+  Stopping : (why : X) → Outcome E X
+
+-- a piece comes to this; what the last frame tells, no other tells
+abbrev pub Reads : {E X : Type 0} → Rules E X → (E → Bool) → List ℕ → List ℕ → List E → ℕ → Outcome E X → Type 0
+Reads R last octets piece told n Quietly = Quiet R octets piece told n
+Reads R last octets piece told n (Telling e) = (last e ≡ false) × Tells R octets piece told n e
+Reads R last octets piece told n (Lasting e) = (last e ≡ true) × Lasts R octets piece told n e
+Reads R last octets piece told n (Stopping why) = WrongAt R octets piece told n why
+
 module _ {E X : Type 0} (R : Rules E X) (octets piece : List ℕ) (told : List E) where
   parts : (n : ℕ) → (octets ++ take n piece) ++ drop n piece ≡ octets ++ piece
   parts n = append_assoc octets (take n piece) (drop n piece) ∙ ap (λ (t : List ℕ). octets ++ t) (take-append-drop n piece)
@@ -280,6 +294,25 @@ module _ {E X : Type 0} (R : Rules E X) (octets piece : List ℕ) (told : List E
       let same = unique R (octets ++ piece) _ _ _ _ (Stopped why) (Stopped other) a.run b.run in
       let behind = same_behind w.frames v.frames w.rest v.rest (drop n piece) (drop m piece) why other same.frames same.rests w.stops v.stops in
       (omega (arith, behind, w.within, v.within, length-drop n piece, length-drop m piece), one_wrong why other a b)
+
+  -- what a piece comes to is one
+  pub one_outcome : (last : E → Bool) (n m : ℕ) (o p : Outcome E X) → Reads R last octets piece told n o → Reads R last octets piece told m p → (n ≡ m) × (o ≡ p)
+  one_outcome last n m Quietly Quietly q r = (q.all ∙ sym r.all, refl)
+  one_outcome last n m Quietly (Telling e) q t = absurd (quiet_not_tells n m e q t.1)
+  one_outcome last n m Quietly (Lasting e) q l = absurd (quiet_not_lasts n m e q l.1)
+  one_outcome last n m Quietly (Stopping why) q w = absurd (quiet_not_wrong n why q (wrong_at m why w))
+  one_outcome last n m (Telling e) Quietly t q = absurd (quiet_not_tells m n e q t.1)
+  one_outcome last n m (Telling e) (Telling d) t u = let one = one_tells n m e d t.1 u.1 in (one.taken, ap (λ (z : E). Telling z) one.event)
+  one_outcome last n m (Telling e) (Lasting d) t l = absurd (not_both (last e) t.0 (ap last (tells_as_last n m e d t.1 l.1) ∙ l.0))
+  one_outcome last n m (Telling e) (Stopping why) t w = absurd (wrong_not_tells why n e (wrong_at m why w) t.1)
+  one_outcome last n m (Lasting e) Quietly l q = absurd (quiet_not_lasts m n e q l.1)
+  one_outcome last n m (Lasting e) (Telling d) l t = absurd (not_both (last d) t.0 (ap last (tells_as_last m n d e t.1 l.1) ∙ l.0))
+  one_outcome last n m (Lasting e) (Lasting d) l k = let one = one_last n m e d l.1 k.1 in (one.0, ap (λ (z : E). Lasting z) one.1)
+  one_outcome last n m (Lasting e) (Stopping why) l w = absurd (wrong_not_lasts why n e (wrong_at m why w) l.1)
+  one_outcome last n m (Stopping why) Quietly w q = absurd (quiet_not_wrong m why q (wrong_at n why w))
+  one_outcome last n m (Stopping why) (Telling e) w t = absurd (wrong_not_tells why m e (wrong_at n why w) t.1)
+  one_outcome last n m (Stopping why) (Lasting e) w l = absurd (wrong_not_lasts why m e (wrong_at n why w) l.1)
+  one_outcome last n m (Stopping why) (Stopping other) w v = let one = one_wrong_at n m why other w v in (one.0, ap (λ (z : X). Stopping z) one.1)
 
 -- ---- where what was told before is not known to be the same
 

@@ -1,5 +1,6 @@
 -- When two clients' channels have the same state, and when their outcomes are the same.
-use Rattle.std.specs.Prelude.{◌≡◌, ℕ, List, [], ◌∷◌, ◌++◌, length, take, Result, Ok, Err}
+use Rattle.std.specs.Prelude.{◌≡◌, ℕ, Bool, List, [], ◌∷◌, ◌++◌, length, take, Result, Ok, Err}
+use Rattle.ua_builtin.specs.declared.status_code.StatusCode.{StatusCode}
 use Rattle.ua_channel.specs.Asks.{Asking, Placed}
 use Rattle.ua_channel.specs.Client.{ClientGoes, IsClientDone, client_bound, client_limits, client_next}
 use Rattle.ua_channel.specs.ClientTold.{ClientTold}
@@ -26,23 +27,33 @@ pub record ClientsDone (one two : ClientChannel) : Type 0 where
 
 -- ---- what they answer
 
--- two events are the same: of bytes that are sent their list counts, and not their address
-abbrev pub SameClientEvent : ClientEvent → ClientEvent → Type 0
-SameClientEvent NeedMore NeedMore = Unit {0}
-SameClientEvent (Send out) (Send other) = out.items ≡ other.items
-SameClientEvent Open Open = Unit {0}
-SameClientEvent (Answered id message) (Answered other text) = (id ≡ other) × (message ≡ text)
-SameClientEvent (Aborted id code) (Aborted other why) = (id ≡ other) × (code ≡ why)
-SameClientEvent (Failed code peer) (Failed other theirs) = (code ≡ other) × (peer ≡ theirs)
-SameClientEvent (Renewed token) (Renewed other) = token ≡ other
-SameClientEvent event other = ⊥
+-- what counts of an event: of bytes that are sent their list, and not their address
+pub data Seen : Type 0 where
+  NeedsMore : Seen
+  Sends : (octets : List ℕ) → Seen
+  Opens : Seen
+  Answers : (id : ℕ) (message : List (List ℕ)) → Seen
+  Aborts : (id : ℕ) (code : StatusCode) → Seen
+  Fails : (code : StatusCode) (peer : Bool) → Seen
+  Renews : (token : ℕ) → Seen
+
+abbrev pub seen : ClientEvent → Seen
+seen NeedMore = NeedsMore
+seen (Send out) = Sends out.items
+seen Open = Opens
+seen (Answered id message) = Answers id message
+seen (Aborted id code) = Aborts id code
+seen (Failed code peer) = Fails code peer
+seen (Renewed token) = Renews token
+
+-- what counts of an outcome
+abbrev pub answer_seen : Result (ℕ × ClientEvent) ClientTakeFault → Result (ℕ × Seen) ClientTakeFault
+answer_seen (Ok (n, event)) = Ok (n, seen event)
+answer_seen (Err fault) = Err fault
 
 -- two outcomes are the same, and took the same number of bytes
 abbrev pub SameClientAnswer : Result (ℕ × ClientEvent) ClientTakeFault → Result (ℕ × ClientEvent) ClientTakeFault → Type 0
-SameClientAnswer (Ok (n, event)) (Ok (m, other)) = (n ≡ m) × SameClientEvent event other
-SameClientAnswer (Ok (n, event)) (Err fault) = ⊥
-SameClientAnswer (Err fault) (Ok (n, event)) = ⊥
-SameClientAnswer (Err fault) (Err other) = fault ≡ other
+SameClientAnswer a b = answer_seen a ≡ answer_seen b
 
 -- ---- where an answer leaves them
 

@@ -26,28 +26,37 @@ pub record ServersDone (one two : ServerChannel) : Type 0 where
 
 -- ---- what they answer
 
--- two events are the same: of bytes that are sent their list counts, and not their address
-abbrev pub SameServerEvent : ServerEvent → ServerEvent → Type 0
-SameServerEvent NeedMore NeedMore = Unit {0}
-SameServerEvent (Send out) (Send other) = out.items ≡ other.items
-SameServerEvent (Asked id message) (Asked other text) = (id ≡ other) × (message ≡ text)
-SameServerEvent (Aborted id) (Aborted other) = id ≡ other
-SameServerEvent Closed Closed = Unit {0}
-SameServerEvent event other = ⊥
+-- what counts of an event: of bytes that are sent their list, and not their address
+pub data Seen : Type 0 where
+  NeedsMore : Seen
+  Sends : (octets : List ℕ) → Seen
+  Asks : (id : ℕ) (message : List (List ℕ)) → Seen
+  Aborts : (id : ℕ) → Seen
+  Closes : Seen
+
+abbrev pub seen : ServerEvent → Seen
+seen NeedMore = NeedsMore
+seen (Send out) = Sends out.items
+seen (Asked id message) = Asks id message
+seen (Aborted id) = Aborts id
+seen Closed = Closes
+
+-- what counts of an outcome, and of one with how many bytes were taken
+abbrev pub outcome_seen : Result ServerEvent ChannelFault → Result Seen ChannelFault
+outcome_seen (Ok event) = Ok (seen event)
+outcome_seen (Err fault) = Err fault
+
+abbrev pub answer_seen : Result (ℕ × ServerEvent) ChannelFault → Result (ℕ × Seen) ChannelFault
+answer_seen (Ok (n, event)) = Ok (n, seen event)
+answer_seen (Err fault) = Err fault
+
+-- two outcomes are the same
+abbrev pub SameServerOutcome : Result ServerEvent ChannelFault → Result ServerEvent ChannelFault → Type 0
+SameServerOutcome a b = outcome_seen a ≡ outcome_seen b
 
 -- two outcomes are the same, and took the same number of bytes
 abbrev pub SameServerAnswer : Result (ℕ × ServerEvent) ChannelFault → Result (ℕ × ServerEvent) ChannelFault → Type 0
-SameServerAnswer (Ok (n, event)) (Ok (m, other)) = (n ≡ m) × SameServerEvent event other
-SameServerAnswer (Ok (n, event)) (Err fault) = ⊥
-SameServerAnswer (Err fault) (Ok (n, event)) = ⊥
-SameServerAnswer (Err fault) (Err other) = fault ≡ other
-
--- the same for the outcome alone
-abbrev pub SameServerOutcome : Result ServerEvent ChannelFault → Result ServerEvent ChannelFault → Type 0
-SameServerOutcome (Ok event) (Ok other) = SameServerEvent event other
-SameServerOutcome (Ok event) (Err fault) = ⊥
-SameServerOutcome (Err fault) (Ok event) = ⊥
-SameServerOutcome (Err fault) (Err other) = fault ≡ other
+SameServerAnswer a b = answer_seen a ≡ answer_seen b
 
 -- an event with how many bytes were taken
 abbrev pub counted_with : ℕ → Result ServerEvent ChannelFault → Result (ℕ × ServerEvent) ChannelFault

@@ -1,6 +1,6 @@
 //! Bytes that are dissected twice.
 
-ghost use Rattle.std.specs.Prelude.{◌≡◌, ℕ, List, string_bytes, OnOk, OnErr};
+ghost use Rattle.std.specs.Prelude.{◌≡◌, ℕ, false, List, string_bytes, OnOk, OnErr};
 ghost use Rattle.ua_pair.specs.declared.options.DissectOptions.{DissectOptions};
 ghost use Rattle.test_determinism.specs.Dissecting.{DissectorsAlike, DissectorsClosed, TellsAlike};
 
@@ -36,9 +36,9 @@ pub fn dissector_take_twice(
     also: &mut String,
 ) -> (Result<(), AllocError>, Result<(), AllocError>)
     requires same { string_bytes out.old ≡ string_bytes also.old }
-    ensures text { (options : DissectOptions) (octets told : List ℕ) → DissectorsAlike one.old two.old options octets told
+    ensures text { (options : DissectOptions) (octets told : List ℕ) → options.plain ≡ false → DissectorsAlike one.old two.old options octets told
         → OnOk result.0 (OnOk result.1 (string_bytes out.new ≡ string_bytes also.new)) }
-    ensures left { (options : DissectOptions) (octets told : List ℕ) → DissectorsAlike one.old two.old options octets told
+    ensures left { (options : DissectOptions) (octets told : List ℕ) → options.plain ≡ false → DissectorsAlike one.old two.old options octets told
         → OnOk result.0 (OnOk result.1 (TellsAlike one.new two.new options octets told piece.now)) }
     ensures closed { OnErr result.0 (OnErr result.1 (DissectorsClosed one.new two.new)) }
 {
@@ -56,7 +56,7 @@ pub fn dissector_finish_twice(
     also: &mut String,
 ) -> (Result<(), AllocError>, Result<(), AllocError>)
     requires same { string_bytes out.old ≡ string_bytes also.old }
-    ensures text { (options : DissectOptions) (octets told : List ℕ) → DissectorsAlike one.now two.now options octets told
+    ensures text { (options : DissectOptions) (octets told : List ℕ) → options.plain ≡ false → DissectorsAlike one.now two.now options octets told
         → OnOk result.0 (OnOk result.1 (string_bytes out.new ≡ string_bytes also.new)) }
 {
     one_reading();
