@@ -9,7 +9,7 @@ use std::io::Write;
 use ua_builtin::UaString;
 use ua_channel::{Line, Moments};
 use ua_frame::Limits;
-use ua_session::{AskFault, Question, TokenPolicy, Verdict, ask_over};
+use ua_session::{Question, QuestionFault, TokenPolicy, Verdict, ask_over};
 use ua_texts::AnswerStyle;
 
 /// Asks a server a question, and writes the lines of the answers.
@@ -22,7 +22,7 @@ pub fn ask_server<L: Line, M: Moments, O: Write>(
     style: AnswerStyle,
     moments: &mut M,
     out: &mut O,
-) -> Result<Verdict, AskFault>
+) -> Result<Verdict, QuestionFault>
     requires { IsTrue (text.encodable url.now) }
     ensures answered { OnOk result (HasAdded (AreAnswerLines style) (O.contents out.old) (O.contents out.new)) }
     ensures left { IfErr result (λ fault. LeavesLines O.contents (AreAnswerLines style) fault out.old out.new) }

@@ -19,7 +19,7 @@ use ua_builtin::{DateTime, UaString};
 use ua_channel::{Line, LineFault};
 use ua_client::{Client, ClientFault};
 use ua_frame::Limits;
-use ua_loopback::{Began, ServedLine, Transcript, Turn, converse, talking};
+use ua_loopback::{Began, ConversationLog, Operation, ServedLine, converse, talking};
 use ua_server::Services;
 
 /// Writes bytes to a transport to a server.
@@ -38,11 +38,11 @@ pub fn converse_over(
     limits: Limits,
     channel_id: u32,
     url: UaString,
-    turns: &[Turn],
+    turns: &[Operation],
     moment: DateTime,
     writes: Vec<usize>,
     reads: Vec<usize>,
-) -> Transcript
+) -> ConversationLog
     requires url { IsTrue (text.encodable url) }
     requires same { before.old ≡ services }
     ensures services { LeavesAt result.stage (record { limits = limits; channel = channel_id; first = services; moment = moment }) result.up.items result.services }
