@@ -14,14 +14,13 @@ import select
 import struct
 import subprocess
 import sys
-import tempfile
 
 sys.dont_write_bytecode = True
 sys.path.insert(0, os.path.dirname(os.path.abspath(__file__)))
 from try_parts.answering import ACK, ACTIVATE, ACTIVATED, CLOSE, CLOSED, CREATE, CREATED, HELLO, LEAVE, OPEN, OPENED, READ, REFUSAL
 from try_parts.answering import VALUE, WRITE, WRITTEN, Server, abort, numbered, response, service_fault
 from try_parts.lines import try_lifetimes, try_lines, try_rounds
-from try_parts.served import PORT, Program, check, is_answer, run
+from try_parts.served import PORT, Program, check, is_answer, node_file, run
 
 NODES = (
     'ns=1;s=Pump\trw\tPump\tInt32\t5\n'
@@ -317,13 +316,11 @@ def try_words(program: str) -> None:
 def main(words: list[str]) -> None:
     if not words:
         raise SystemExit(__doc__)
-    with tempfile.NamedTemporaryFile('w', suffix='.txt') as nodes:
-        nodes.write(NODES)
-        nodes.flush()
+    with node_file(NODES) as nodes:
         try_words(words[0])
-        try_both(words[0], nodes.name)
-        try_lines(words[0], nodes.name)
-        try_rounds(words[0], nodes.name)
+        try_both(words[0], nodes)
+        try_lines(words[0], nodes)
+        try_rounds(words[0], nodes)
     try_endpoints(words[0])
     try_answers(words[0])
     try_silent(words[0])

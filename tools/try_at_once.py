@@ -23,14 +23,13 @@ import resource
 import socket
 import struct
 import sys
-import tempfile
 import threading
 import time
 from typing import Any, Callable
 
 sys.dont_write_bytecode = True
 sys.path.insert(0, os.path.dirname(os.path.abspath(__file__)))
-from try_parts.served import CLIENT, PORT, Program, check, connect, is_answer, read_all, read_frame, run
+from try_parts.served import CLIENT, PORT, Program, check, connect, is_answer, node_file, read_all, read_frame, run
 from try_parts.talking import ANSWERED, READ, SENT, Send, Talk, at_once, one_by_one
 
 PLACES, LATE = 50, 12
@@ -321,16 +320,14 @@ def measure(program: str, nodes: str, count: int) -> None:
 def main(words: list[str]) -> None:
     if not words:
         raise SystemExit(__doc__)
-    with tempfile.NamedTemporaryFile('w', suffix='.txt') as nodes:
-        nodes.write(NODES)
-        nodes.flush()
+    with node_file(NODES) as nodes:
         if len(words) > 1:
-            measure(words[0], nodes.name, int(words[1]))
+            measure(words[0], nodes, int(words[1]))
             return
-        try_faults(words[0], nodes.name)
-        try_places(words[0], nodes.name)
-        try_standard(words[0], nodes.name)
-        try_many(words[0], nodes.name)
+        try_faults(words[0], nodes)
+        try_places(words[0], nodes)
+        try_standard(words[0], nodes)
+        try_many(words[0], nodes)
         print('as written out')
 
 

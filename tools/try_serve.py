@@ -22,7 +22,7 @@ import time
 
 sys.dont_write_bytecode = True
 sys.path.insert(0, os.path.dirname(os.path.abspath(__file__)))
-from try_parts.served import CLIENT, PORT, SERVER, WHOLE, Program, check, connect, frames, is_answer, read_all, read_frame, run
+from try_parts.served import CLIENT, PORT, SERVER, WHOLE, Program, check, connect, frames, is_answer, node_file, read_all, read_frame, run
 
 NODES = 'ns=1;s=Pump\trw\tPump\tInt32\t5\n'
 # Behind so many it has sent a request, of which this is told.
@@ -142,20 +142,18 @@ def try_memory(program: str) -> None:
     def limit() -> None:
         resource.setrlimit(resource.RLIMIT_AS, (64 << 20, 64 << 20))
 
-    with tempfile.NamedTemporaryFile('w', suffix='.txt') as nodes:
-        nodes.write(NODES + 'ns=1;s=Large\trw\tLarge\tByteString\t\n')
-        nodes.flush()
-        served = Program(program, nodes.name, 'all', limit=limit)
+    with node_file(NODES + 'ns=1;s=Large\trw\tLarge\tByteString\t\n') as nodes:
+        served = Program(program, nodes, 'all', limit=limit)
         served.sessions += 1
         ask_too_much(False)
         served.expect_outcome('NoMemory')
         served.whole(len(CLIENT))
         served.stop()
-        served = Program(program, nodes.name, 2, limit=limit)
+        served = Program(program, nodes, 2, limit=limit)
         ask_too_much(False)
         served.end(b'ua: no memory\n')
         for words in (('--answers', '1000000'), ('--standard',)):
-            served = Program(program, nodes.name, 'all', *words, limit=limit)
+            served = Program(program, nodes, 'all', *words, limit=limit)
             served.sessions += 1
             ask_too_much(True)
             served.expect_outcome('NoClose')
@@ -186,10 +184,8 @@ def write_rows(client: bytes, rows: list[tuple[int, int]]) -> list[int]:
 
 def try_kept(program: str) -> None:
     """Values are stored up to the limit of memory that is said, over all connections; a value that takes less gives its room back."""
-    with tempfile.NamedTemporaryFile('w', suffix='.txt') as nodes:
-        nodes.write(''.join('ns=1;s=Row%d\trw\tRow\tString[]\t\n' % row for row in range(ROWS)))
-        nodes.flush()
-        served = Program(program, nodes.name, 'all', '--kept')
+    with node_file(''.join('ns=1;s=Row%d\trw\tRow\tString[]\t\n' % row for row in range(ROWS))) as nodes:
+        served = Program(program, nodes, 'all', '--kept')
         results = []
         for first in range(0, ROWS, 25):
             served.sessions += 1
@@ -298,19 +294,17 @@ def measure(program: str, nodes: str, count: int) -> None:
 def main(words: list[str]) -> None:
     if not words:
         raise SystemExit(__doc__)
-    with tempfile.NamedTemporaryFile('w', suffix='.txt') as nodes:
-        nodes.write(NODES)
-        nodes.flush()
+    with node_file(NODES) as nodes:
         if len(words) > 1:
-            measure(words[0], nodes.name, int(words[1]))
+            measure(words[0], nodes, int(words[1]))
         else:
-            try_faults(words[0], nodes.name)
-            try_connections(words[0], nodes.name)
-            try_all(words[0], nodes.name)
-            try_requests(words[0], nodes.name)
+            try_faults(words[0], nodes)
+            try_connections(words[0], nodes)
+            try_all(words[0], nodes)
+            try_requests(words[0], nodes)
             try_memory(words[0])
             try_kept(words[0])
-            try_listener(words[0], nodes.name)
+            try_listener(words[0], nodes)
             print('as written out')
 
 

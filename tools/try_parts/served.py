@@ -2,12 +2,14 @@
 from __future__ import annotations
 
 import atexit
+import contextlib
 import os
 import random
 import socket
 import struct
 import subprocess
 import sys
+import tempfile
 from typing import Callable, Iterator
 
 STREAMS = os.path.join(os.path.dirname(os.path.dirname(os.path.dirname(os.path.abspath(__file__)))), 'examples/c/data')
@@ -33,6 +35,15 @@ MOMENT = struct.pack('<q', 116444736000000000)
 WHOLE = [0, 56, 188, 347, 452, 540, 640, 700]
 # Within so many a session is made.
 SESSION_MADE = 347
+
+
+@contextlib.contextmanager
+def node_file(text: str) -> Iterator[str]:
+    """The name of a node file of this text, as long as it is used."""
+    with tempfile.NamedTemporaryFile('w', suffix='.txt') as nodes:
+        nodes.write(text)
+        nodes.flush()
+        yield nodes.name
 
 
 def written_out(name: str) -> bytes:
