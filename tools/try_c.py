@@ -328,7 +328,7 @@ class Examples:
         """No call takes more of a painted stack than include/ua.h says was measured."""
         with open(os.path.join(INCLUDE, 'ua.h'), encoding='utf-8') as file:
             most, = re.findall(r'#define UA_STACK_MEASURED (\d+)', file.read())
-        print(run([self.at('stack'), most]), end='')
+        print(run([self.at('stack'), os.path.join(DATA, 'client.bin'), most]), end='')
         say('the stack of the calls: below %s octets' % most)
 
     def hammer(self, pieces: int) -> None:

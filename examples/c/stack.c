@@ -1,7 +1,9 @@
-/* How much of the stack the calls take that follow the levels of what they are given: stack [LIMIT].
+/* How much of the stack the calls take that follow the levels of what they are given: stack CLIENT [LIMIT].
  *
+ * CLIENT is the file of what a client says that writes a node (data/client.bin).
  * Each call runs in a thread whose stack is painted first; behind it the lowest octet that is not paint tells how deep it
- * went. One line is printed for each call, with the octets; with a LIMIT the status is 1 where a call took more. */
+ * went. One line is printed for each call, with the octets; with a LIMIT, of whole pages, the stack is of that size beside
+ * what the thread itself takes, and the status is 1 where a call took more. */
 #include "ua.h"
 
 #include <pthread.h>
@@ -10,6 +12,7 @@
 #include <string.h>
 
 #define STACK (1u << 20)
+#define OWN 8192 /* more than a thread takes for itself */
 #define PAINT 0xA5
 #define MOST 99 /* levels of Variants around a value */
 
@@ -19,6 +22,7 @@ static size_t given_len;
 static uint8_t made[65536];
 static size_t limit, body_at;
 static struct ua_nodes nodes;
+static struct ua_connection connection;
 
 /* A call of the library over what is given. */
 typedef uint32_t (*call)(size_t *needed);
@@ -39,10 +43,10 @@ static void *in_thread(void *of) {
 static size_t depth_of(struct run *run) {
     pthread_attr_t how;
     pthread_t thread;
-    size_t at = 0;
+    size_t at = 0, size = limit ? limit + OWN : sizeof stack;
     memset(stack, PAINT, sizeof stack);
-    if (pthread_attr_init(&how) || pthread_attr_setstack(&how, stack, sizeof stack) || pthread_create(&thread, &how, in_thread, run) ||
-        pthread_join(thread, NULL))
+    if (pthread_attr_init(&how) || pthread_attr_setstack(&how, stack + sizeof stack - size, size) ||
+        pthread_create(&thread, &how, in_thread, run) || pthread_join(thread, NULL))
         exit(2);
     pthread_attr_destroy(&how);
     while (at < sizeof stack && stack[at] == PAINT)
@@ -83,6 +87,16 @@ static uint32_t set(size_t *needed) {
     struct ua_reading reading = ua_reading_of(given_len, 0, 1);
     *needed = 0;
     return ua_node_set(&nodes, 0, given, given_len, &reading);
+}
+
+static uint32_t step_over(const uint8_t *piece, size_t count) {
+    size_t taken, waiting;
+    uint32_t code;
+    return ua_connection_step(&connection, &nodes, piece, count, 116444736000000000, &taken, &waiting, &code);
+}
+static uint32_t stepped(size_t *needed) {
+    *needed = 0;
+    return step_over(given, given_len);
 }
 
 static void put(const void *octets, size_t count) {
@@ -127,12 +141,42 @@ static void respond(int levels) {
         given[at + 4 + i] = (uint8_t)(size >> 8 * i);
 }
 
+static void put_size(size_t at) {
+    for (int i = 0; i < 4; i++)
+        given[at + i] = (uint8_t)(given_len >> 8 * i);
+}
+
+static size_t size_of(const uint8_t *frame) { return frame[4] | (size_t)frame[5] << 8; }
+
+/* The Write of a client with a value of so many levels in place of its Int32; the connection has its session then. */
+static int write_nested(const char *file, int levels) {
+    static const struct ua_limits limits = {sizeof limits, 65535, 65535, 1048576, 256};
+    static uint8_t client[4096];
+    FILE *from = fopen(file, "rb");
+    size_t count = from ? fread(client, 1, sizeof client, from) : 0, at = 0, fetched;
+    if (from)
+        fclose(from);
+    if (!count || ua_connection_new(&limits, 1, &connection))
+        return 0;
+    for (int message = 0; message < 4; message++) { /* HEL, OPN, CreateSession, ActivateSession */
+        if (at + 8 > count || step_over(client + at, size_of(client + at)) ||
+            ua_connection_fetch(&connection, made, sizeof made, &fetched))
+            return 0;
+        at += size_of(client + at);
+    }
+    given_len = 0;
+    put(client + at, size_of(client + at) - 5);
+    nest(levels);
+    put_size(4);
+    return 1;
+}
+
 int main(int count, char **words) {
-    static const char file[] = "i=1\trw\tA\tInt32\t5\n", url[] = "opc.tcp://a", a[] = "a";
+    static const char file[] = "ns=1;s=Pump\trw\tPump\tInt32\t5\n", url[] = "opc.tcp://a", a[] = "a";
     size_t line;
     uint32_t reason;
-    limit = count > 1 ? strtoul(words[1], NULL, 10) : 0;
-    if (ua_nodes_new((const uint8_t *)file, sizeof file - 1, (const uint8_t *)url, sizeof url - 1, (const uint8_t *)a, 1,
+    limit = count > 2 ? strtoul(words[2], NULL, 10) : 0;
+    if (count < 2 || ua_nodes_new((const uint8_t *)file, sizeof file - 1, (const uint8_t *)url, sizeof url - 1, (const uint8_t *)a, 1,
                      (const uint8_t *)a, 1, 0, &nodes, &line, &reason))
         return 2;
     nest(1);
@@ -151,6 +195,10 @@ int main(int count, char **words) {
     say("ua_dissect of 98 levels", dissected, UA_OK);
     say("ua_readings of 98 levels", viewed, UA_OK);
     say("ua_response_text of 98 levels", lines, UA_OK);
+    if (!write_nested(words[1], MOST - 1))
+        return 2;
+    say("ua_connection_step over a Write of 98 levels", stepped, UA_OK);
+    ua_connection_free(&connection);
     ua_nodes_free(&nodes);
     return fails;
 }

@@ -29,7 +29,7 @@
  * What every call keeps
  *
  * - It returns, and reads and writes nothing but what it is given and what its handle owns.
- * - It takes at most UA_STACK_MEASURED octets of the stack: of octets from the network some 2,100 for each level
+ * - It takes at most UA_STACK_MEASURED octets of the stack: of octets from the network some 400 for each level
  *   of their values, of which they have at most 100. That is measured by examples/c/stack.c, not proved;
  *   docs/C.md has the numbers.
  * - A status other than UA_OK, UA_ENDED and UA_REFUSED means that nothing was taken. Such a call
@@ -60,8 +60,8 @@ extern "C" {
 #define UA_VERSION_PATCH 0
 #define UA_VERSION (UA_VERSION_MAJOR * 65536u + UA_VERSION_MINOR * 256u + UA_VERSION_PATCH)
 
-/* The octets of stack that a call takes at most, as measured on x86-64 (211,204 of them on a build without a proof). */
-#define UA_STACK_MEASURED 262144
+/* The octets of stack that a call takes at most, as measured on x86-64. */
+#define UA_STACK_MEASURED 65536
 
 /* Statuses. */
 enum {

@@ -88,6 +88,7 @@ fn push_plain_array(
 }
 
 /// Appends the type of an array and its dimensions.
+#[inline(never)]
 fn push_array_type(out: &mut String, kind: u8, dims: &Dimensions) -> Result<(), AllocError>
     ensures { OnOk result (string_bytes out.new ≡ string_bytes out.old ++ array_type kind dims.now) }
 {
@@ -125,6 +126,7 @@ fn push_plain_items(
     }
 }
 
+#[inline(never)]
 fn push_plain_packed(
     alloc: Global,
     out: &mut String,
@@ -189,6 +191,7 @@ pub(crate) fn push_plain_scalar(
 }
 
 /// Appends a value that contains no other value; any other by its bytes.
+#[inline(never)]
 fn push_plain_leaf(
     alloc: Global,
     out: &mut String,
@@ -260,6 +263,7 @@ fn push_plain_data_value(
 }
 
 /// Appends the fields of a DataValue that are present, except its value.
+#[inline(never)]
 fn push_plain_fields(out: &mut String, value: &DataValue, names: bool) -> Result<(), AllocError>
     ensures { Adds result (string_bytes out.old) (string_bytes out.new) (IsPlainFields names (data_fields_of value.now)) }
 {

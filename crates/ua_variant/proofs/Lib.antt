@@ -12,6 +12,7 @@ mod Rows
 mod Fits
 mod Judged
 mod Loops
+mod Boxes
 mod BlocksRead
 mod Valued
 mod Written

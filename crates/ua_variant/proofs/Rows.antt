@@ -53,6 +53,10 @@ pub length_seen : (ss : List Scalar) (all : List ScalarData) → map scalar_of s
 length_seen ss all e = length_all ss ∙ ap (λ xs. row_length (row xs)) e
 
 -- one more copy
-pub seen_push : (copies ss : List Scalar) (i : ℕ) (s copy : Scalar) → map scalar_of copies ≡ seen (take i ss) → copy ≡ s → i < length ss → s ≡ get_or ss i s → map scalar_of (copies ++ copy ∷ []) ≡ seen (take (i + 1) ss)
-seen_push copies ss i s copy before same h is =
-    map-append scalar_of copies (copy ∷ []) ∙ ap₂ (λ (xs : List ScalarData) (x : Scalar). xs ++ scalar_of x ∷ []) before (same ∙ is) ∙ sym (seen_next ss i s h)
+pub seen_more : (copies ss : List Scalar) (i : ℕ) (s : Scalar) → map scalar_of copies ≡ seen (take i ss) → i < length ss → s ≡ get_or ss i s → map scalar_of copies ++ scalar_of s ∷ [] ≡ seen (take (i + 1) ss)
+seen_more copies ss i s before h is =
+    ap₂ (λ (xs : List ScalarData) (x : Scalar). xs ++ scalar_of x ∷ []) before is ∙ sym (seen_next ss i s h)
+
+-- one more element
+pub pushed : (xs : List Scalar) (x : Scalar) → map scalar_of (xs ++ x ∷ []) ≡ map scalar_of xs ++ scalar_of x ∷ []
+pushed xs x = map-append scalar_of xs (x ∷ [])

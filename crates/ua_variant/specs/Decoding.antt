@@ -1,5 +1,5 @@
 -- Decoders on lists of bytes: the value at the start and the bytes after it, or nothing.
-use Rattle.std.specs.Prelude.{ℕ, suc, zero, ◌%◌, Bool, cond, ◌&&◌, not, leb, eqb, Some, None}
+use Rattle.std.specs.Prelude.{ℕ, suc, zero, ◌%◌, Bool, cond, ◌&&◌, not, leb, eqb, Option, Some, None}
 use Rattle.ua_builtin.specs.Exact.{◌>>=◌}
 use Rattle.ua_builtin.specs.Number.{number_at}
 use Rattle.ua_variant.specs.Data.{VariantData, null, one, absent, many, ScalarData, leaf, data_value, variant, diagnostic, ScalarsData, no_scalars, scalar, DataValueData}
@@ -19,6 +19,10 @@ unfoldable pub data_value_step : Reader VariantData → Reader DataValueData
 data_value_step inner octets = number_at 1 octets >>= λ m. when (leb m.0 0x3F) (
     optional_read (has m.0 0x01) inner m.1 >>= λ v. (data_fields m.0).decode v.1 >>= λ f. Some (value_within v.0 f.0, f.1))
 
+-- after the value of a DataValue: the other fields, which the mask m announces
+abbrev pub fields_behind : ℕ → Option VariantData → Reader DataValueData
+fields_behind m v octets = (data_fields m).decode octets >>= λ f. Some (value_within v f.0, f.1)
+
 -- a scalar of the type id
 unfoldable pub scalar_at : Reader DataValueData → Reader VariantData → Reader DiagnosticData → ℕ → Reader ScalarData
 scalar_at dv v dg k octets =
@@ -36,6 +40,13 @@ row_at (suc n) p octets = p octets >>= λ s. row_at n p s.1 >>= λ ss. Some (sca
 -- n elements and their dimensions
 abbrev pub elements_at : (ℕ → Reader ScalarData) → ℕ → Bool → ℕ → Reader VariantData
 elements_at p k f n octets = row_at n (p k) octets >>= λ ss. dims_at f n ss.1 >>= λ ds. Some (many k ss.0 ds.0, ds.1)
+
+-- after n elements, and after the count of a null array: the dimensions
+abbrev pub dims_behind : ℕ → Bool → ℕ → ScalarsData → Reader VariantData
+dims_behind k f n ss octets = dims_at f n octets >>= λ ds. Some (many k ss ds.0, ds.1)
+
+abbrev pub no_dims_behind : ℕ → Bool → Reader VariantData
+no_dims_behind k f octets = no_dims_at f octets >>= λ ds. Some (absent k ds.0, ds.1)
 
 -- after the first byte of an array: a count, its elements and dimensions; a negative count is a
 -- null array

@@ -6,9 +6,18 @@ use std::alloc::{AllocError, Global};
 use std::marker::Model;
 
 /// A value on the heap, so that what holds it stays small. Contracts see the value itself.
-#[derive(Debug, Drop)]
+#[derive(Debug)]
 pub struct Boxed<T> {
     inner: Box<T>,
+}
+
+impl<T: Drop> Drop for Boxed<T> {
+    // Not inlined, so that a scalar takes no room for such a value on the stack.
+    #[inline(never)]
+    fn drop(self) {
+        let Boxed { inner } = self;
+        drop(inner);
+    }
 }
 
 impl<T> Model for Boxed<T> {
@@ -43,6 +52,7 @@ impl<T> Boxed<T> {
     pub fn into_inner(self) -> T
         ensures { result ≡ self }
     {
-        Box::into_inner(self.inner)
+        let Boxed { inner } = self;
+        Box::into_inner(inner)
     }
 }

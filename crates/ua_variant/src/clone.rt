@@ -1,13 +1,17 @@
 //! Copies of values.
 
-ghost use Rattle.std.specs.Prelude.{◌≡◌, ◌≤◌, ◌-◌, drop, take, length, map, option_map, slice_get, IfOk};
-ghost use Rattle.ua_variant.specs.View.{scalar_of};
+ghost use Rattle.std.specs.Prelude.{◌≡◌, ◌≤◌, ◌-◌, ◌++◌, ◌∷◌, [], drop, take, length, map, option_map, slice_get, IfOk, OnOk};
+ghost use Rattle.ua_variant.specs.Data.{bare, data_value, leaf, many, one, valued, variant};
+ghost use Rattle.ua_variant.specs.Packed.{packed_leaves};
+ghost use Rattle.ua_variant.specs.View.{data_fields_of, data_value_of, row, scalar_of, value_within, variant_of};
 
 use crate::boxed::Boxed;
+use crate::packed::Packed;
 use crate::values::{
     BoxedDataValue, BoxedVariant, DataValue, Elements, HeldVariant, Scalar, Scalars, Variant,
 };
 use std::alloc::{AllocError, Global};
+use ua_diagnostic::Dimensions;
 
 impl Variant {
     /// Returns an owned copy, equal to this value.
@@ -73,7 +77,12 @@ fn copy_at(alloc: Global, scalars: &[Scalar], index: usize) -> Result<Option<Sca
     }
 }
 
+// A value that holds values is copied to the heap. Each level of nesting takes as much of the stack
+// as the functions that call each other for it, so what has a whole Variant or DataValue in its
+// hands is not inlined into them.
+
 #[cycle(copies)]
+#[inline(never)]
 fn copy_variant(alloc: Global, value: &Variant) -> Result<Variant, AllocError>
     ensures { IfOk result (λ v. v ≡ value.now) }
 {
@@ -104,7 +113,105 @@ fn copy_variant(alloc: Global, value: &Variant) -> Result<Variant, AllocError>
     }
 }
 
+/// A copy of a Variant, on the heap.
 #[cycle(copies)]
+#[inline(never)]
+fn copy_to_heap(alloc: Global, value: &Variant) -> Result<BoxedVariant, AllocError>
+    ensures { IfOk result (λ v. v ≡ variant_of value.now) }
+{
+    match value {
+        Variant::One(Scalar::DataValue(d)) => {
+            let copy = copy_boxed_data_value(alloc, d)?;
+            box_one(alloc, copy)
+        }
+        Variant::Many {
+            kind,
+            items: Some(items),
+            dims,
+        } => copy_array(alloc, *kind, items, dims),
+        other => box_copy(alloc, other),
+    }
+}
+
+/// A copy of an array, on the heap.
+#[cycle(copies)]
+#[inline(always)]
+fn copy_array(
+    alloc: Global,
+    kind: u8,
+    items: &Scalars,
+    dims: &Dimensions,
+) -> Result<BoxedVariant, AllocError>
+    ensures { IfOk result (λ v. v ≡ many kind (row items.now) dims.now) }
+{
+    match items.elements() {
+        Elements::Packed(packed) => box_packed(alloc, kind, packed, dims),
+        Elements::Mixed(scalars) => {
+            let copies = copy_scalars(alloc, scalars)?;
+            box_array(alloc, kind, copies, dims)
+        }
+    }
+}
+
+/// A copy of any Variant, moved to the heap.
+#[cycle(copies)]
+#[inline(never)]
+fn box_copy(alloc: Global, value: &Variant) -> Result<BoxedVariant, AllocError>
+    ensures { IfOk result (λ v. v ≡ variant_of value.now) }
+{
+    let copy = copy_variant(alloc, value)?;
+    BoxedVariant::new(alloc, copy)
+}
+
+/// The Variant of a DataValue, on the heap.
+#[inline(never)]
+fn box_one(alloc: Global, value: BoxedDataValue) -> Result<BoxedVariant, AllocError>
+    ensures { IfOk result (λ v. v ≡ one (data_value value)) }
+{
+    BoxedVariant::new(alloc, Variant::One(Scalar::DataValue(value)))
+}
+
+/// The array of these elements with a copy of the dimensions, on the heap.
+#[inline(never)]
+fn box_array(
+    alloc: Global,
+    kind: u8,
+    items: Vec<Scalar>,
+    dims: &Dimensions,
+) -> Result<BoxedVariant, AllocError>
+    ensures { IfOk result (λ v. v ≡ many kind (row (map scalar_of items.items)) dims.now) }
+{
+    let dims = dims.try_clone(alloc)?;
+    let value = Variant::Many {
+        kind,
+        items: Some(Scalars::new(items)),
+        dims,
+    };
+    BoxedVariant::new(alloc, value)
+}
+
+/// The array of a copy of these elements with a copy of the dimensions, on the heap.
+#[inline(never)]
+fn box_packed(
+    alloc: Global,
+    kind: u8,
+    items: &Packed,
+    dims: &Dimensions,
+) -> Result<BoxedVariant, AllocError>
+    ensures { IfOk result (λ v. v ≡ many kind (row (map leaf (packed_leaves items.now))) dims.now) }
+{
+    let items = items.try_clone(alloc)?;
+    let dims = dims.try_clone(alloc)?;
+    let value = Variant::Many {
+        kind,
+        items: Some(Scalars::packed(items)),
+        dims,
+    };
+    BoxedVariant::new(alloc, value)
+}
+
+#[cycle(copies)]
+#[inline(never)]
 fn copy_scalar(alloc: Global, value: &Scalar) -> Result<Scalar, AllocError>
     ensures { IfOk result (λ s. s ≡ value.now) }
 {
@@ -148,28 +255,79 @@ fn copy_scalar(alloc: Global, value: &Scalar) -> Result<Scalar, AllocError>
 }
 
 #[cycle(copies)]
+#[inline(always)]
 fn copy_boxed(alloc: Global, value: &BoxedVariant) -> Result<BoxedVariant, AllocError>
     ensures { IfOk result (λ v. v ≡ value.now) }
 {
-    let copy = match value.get() {
-        None => Variant::Null,
-        Some(value) => copy_variant(alloc, value)?,
-    };
-    BoxedVariant::new(alloc, copy)
+    match value.get() {
+        None => Ok(BoxedVariant::null()),
+        Some(value) => copy_to_heap(alloc, value),
+    }
 }
 
 #[cycle(copies)]
+#[inline(never)]
 fn copy_boxed_data_value(
     alloc: Global,
     value: &BoxedDataValue,
 ) -> Result<BoxedDataValue, AllocError>
     ensures { IfOk result (λ d. d ≡ value.now) }
 {
-    let copy = match value.get() {
-        None => DataValue::empty(),
-        Some(value) => copy_data_value(alloc, value)?,
-    };
-    BoxedDataValue::new(alloc, copy)
+    match value.get() {
+        None => Ok(BoxedDataValue::empty()),
+        Some(value) => copy_data_value_to_heap(alloc, value),
+    }
+}
+
+/// A copy of a DataValue, on the heap.
+#[cycle(copies)]
+#[inline(always)]
+fn copy_data_value_to_heap(alloc: Global, value: &DataValue) -> Result<BoxedDataValue, AllocError>
+    ensures { IfOk result (λ d. d ≡ data_value_of value.now) }
+{
+    match &value.value {
+        None => box_fields(alloc, value),
+        Some(held) => {
+            let copy = copy_to_heap(alloc, held.get())?;
+            box_beside(alloc, copy, value)
+        }
+    }
+}
+
+/// The DataValue of the fields of another one, but its value, on the heap.
+#[inline(never)]
+fn box_fields(alloc: Global, value: &DataValue) -> Result<BoxedDataValue, AllocError>
+    ensures { IfOk result (λ d. d ≡ bare (data_fields_of value.now)) }
+{
+    BoxedDataValue::new(alloc, with_value(None, value))
+}
+
+/// The DataValue of this value and of the other fields of another one, on the heap.
+#[inline(never)]
+fn box_beside(
+    alloc: Global,
+    value: BoxedVariant,
+    beside: &DataValue,
+) -> Result<BoxedDataValue, AllocError>
+    ensures { IfOk result (λ d. d ≡ valued value (data_fields_of beside.now)) }
+{
+    let held = HeldVariant::new(value.into_inner());
+    BoxedDataValue::new(alloc, with_value(Some(held), beside))
+}
+
+/// The DataValue of this value and of the other fields of another one.
+#[inline]
+fn with_value(value: Option<HeldVariant>, beside: &DataValue) -> DataValue
+    ensures { data_value_of result ≡ value_within value (data_fields_of beside.now) }
+{
+    DataValue {
+        value,
+        status: beside.status,
+        source_timestamp: beside.source_timestamp,
+        source_picoseconds: beside.source_picoseconds,
+        server_timestamp: beside.server_timestamp,
+        server_picoseconds: beside.server_picoseconds,
+    }
 }
 
 #[cycle(copies)]
@@ -183,18 +341,68 @@ fn copy_row(alloc: Global, items: &Scalars) -> Result<Scalars, AllocError>
 }
 
 #[cycle(copies)]
+#[inline(never)]
 fn copy_scalars(alloc: Global, items: &[Scalar]) -> Result<Vec<Scalar>, AllocError>
     ensures { IfOk result (λ copies. map scalar_of copies.items ≡ map scalar_of items.now) }
 {
     let mut copies = Vec::with_capacity(alloc, items.len())?;
     for s in items {
-        let copy = copy_scalar(alloc, s)?;
-        copies.push(copy)?;
+        push_copy(alloc, s, &mut copies)?;
     }
     Ok(copies)
 }
 
+/// Pushes a copy of a scalar.
 #[cycle(copies)]
+#[inline(always)]
+fn push_copy(alloc: Global, value: &Scalar, out: &mut Vec<Scalar>) -> Result<(), AllocError>
+    ensures { OnOk result (map scalar_of out.new.items ≡ map scalar_of out.old.items ++ scalar_of value.now ∷ []) }
+{
+    match value {
+        Scalar::DataValue(d) => {
+            let copy = copy_boxed_data_value(alloc, d)?;
+            push_data_value(copy, out)
+        }
+        Scalar::Variant(v) => {
+            let copy = copy_boxed(alloc, v)?;
+            push_variant(copy, out)
+        }
+        other => push_scalar(alloc, other, out),
+    }
+}
+
+/// Pushes a DataValue.
+#[inline(never)]
+#[tactic(auto, using(crate::proofs::Rows::pushed))]
+fn push_data_value(value: BoxedDataValue, out: &mut Vec<Scalar>) -> Result<(), AllocError>
+    ensures { OnOk result (map scalar_of out.new.items ≡ map scalar_of out.old.items ++ data_value value ∷ []) }
+{
+    out.push(Scalar::DataValue(value))?;
+    Ok(())
+}
+
+/// Pushes a Variant.
+#[inline(never)]
+#[tactic(auto, using(crate::proofs::Rows::pushed))]
+fn push_variant(value: BoxedVariant, out: &mut Vec<Scalar>) -> Result<(), AllocError>
+    ensures { OnOk result (map scalar_of out.new.items ≡ map scalar_of out.old.items ++ variant value ∷ []) }
+{
+    out.push(Scalar::Variant(value))?;
+    Ok(())
+}
+
+/// Pushes a copy of any scalar.
+#[cycle(copies)]
+#[inline(never)]
+#[tactic(auto, using(crate::proofs::Rows::pushed))]
+fn push_scalar(alloc: Global, value: &Scalar, out: &mut Vec<Scalar>) -> Result<(), AllocError>
+    ensures { OnOk result (map scalar_of out.new.items ≡ map scalar_of out.old.items ++ scalar_of value.now ∷ []) }
+{
+    let copy = copy_scalar(alloc, value)?;
+    out.push(copy)?;
+    Ok(())
+}
+
 fn copy_data_value(alloc: Global, value: &DataValue) -> Result<DataValue, AllocError>
     ensures { IfOk result (λ d. d ≡ value.now) }
 {

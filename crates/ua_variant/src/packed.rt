@@ -179,6 +179,7 @@ impl Packed {
     }
 
     /// Appends the canonical encodings of the elements, which are of the type id, at the end.
+    #[inline(never)]
     pub(crate) fn append(&self, kind: u8, out: &mut Vec<u8>) -> Result<(), AllocError>
         requires { scalars_fit kind (row (map leaf (packed_leaves self.now))) ≡ true }
         ensures ok { OnOk result (out.new.items ≡ out.old.items ++ row_canonical (row (map leaf (packed_leaves self.now)))) }

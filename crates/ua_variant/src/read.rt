@@ -1,99 +1,32 @@
 //! Decoding of Variants and DataValues.
 
-ghost use Rattle.std.specs.Prelude.{◌≡◌, ◌<◌, ◌≤◌, ◌%◌, true, IsErrOf};
-ghost use Rattle.ua_builtin.specs.Exact.{image_read};
+ghost use Rattle.std.specs.Prelude.{◌≡◌, ◌<◌, ◌≤◌, ◌%◌, true, map, IsErrOf, IsTrue};
 ghost use Rattle.ua_builtin.specs.Counted.{first_negative};
 ghost use Rattle.ua_builtin.specs.Format.{most_levels, Gives, GivesBy, StaysBehind};
 ghost use Rattle.ua_wire.specs.declared.fault.ReadFault.TheVariants.{NoValue};
 ghost use Rattle.ua_diagnostic.specs.Parts.{optional_read};
-ghost use Rattle.ua_variant.specs.Data.{leaf};
 ghost use Rattle.ua_variant.specs.Formats.{IsOverlongArray, IsOverlongRow};
-ghost use Rattle.ua_variant.specs.Leaf.{leaf_at};
 ghost use Rattle.ua_variant.specs.Encodable.{is_read_kind as read_kind};
-ghost use Rattle.ua_variant.specs.Decoding.{variant_at, variant_step, variant_after, data_value_at, data_value_step, scalars_at, scalar_at, array_at, elements_at, row_at};
+ghost use Rattle.ua_variant.specs.Decoding.{variant_at, variant_step, variant_after, data_value_at, data_value_step, scalars_at, scalar_at, array_at, elements_at, row_at, fields_behind, dims_behind, no_dims_behind};
+ghost use Rattle.ua_variant.specs.Onto.{announced_at};
 ghost use Rattle.ua_variant.specs.View.{row, variant_of, scalar_of, data_value_of};
 
 use crate::blocks::{is_packed, read_packed};
 use crate::fields::read_data_fields;
-use crate::leaf::{read_as, read_boxed_as};
 use crate::least::least_octets;
 use crate::masks;
 use crate::records::{
-    MOST_RESERVED, make_room, read_boxed_diagnostic, read_diagnostic_row, read_records,
-    read_reserved,
+    MOST_RESERVED, make_room, read_boxed_diagnostic, read_diagnostic_row, read_leaf, read_records,
 };
 use crate::values::{
     BoxedDataValue, BoxedVariant, DataValue, HeldVariant, Scalar, Scalars, Variant,
 };
 use std::alloc::Global;
-use ua_builtin::{
-    DateTime, DoubleBits, ExpandedNodeId, ExtensionObject, FloatBits, Guid, LocalizedText, NodeId,
-    QualifiedName, ReadFault, Source, StatusCode, UaBytes, UaString, Wire, XmlElement,
-};
+use ua_builtin::{ReadFault, Source, Wire};
 use ua_diagnostic::{read_dims, read_no_dims};
 use ua_wire::FIRST_NEGATIVE;
 
-/// Decodes a scalar without further values inside.
-#[inline(always)]
-pub fn read_leaf<S: Source>(alloc: Global, src: &mut S, kind: u8) -> Result<Scalar, ReadFault>
-    ensures exact { GivesBy scalar_of (image_read leaf (leaf_at kind)) (S.octets src.old) (S.octets src.new) result }
-    ensures behind { StaysBehind (S.octets src.old) (S.octets src.new) }
-{
-    match kind {
-        1..=11 => read_number(alloc, src, kind),
-        12..=22 => read_record(alloc, src, kind),
-        26..=31 => read_reserved(alloc, src, kind),
-        _ => Err(ReadFault::NoValue),
-    }
-}
-
-/// Reads a Boolean, a whole number, a Float or a Double.
-#[inline(always)]
-fn read_number<S: Source>(alloc: Global, src: &mut S, kind: u8) -> Result<Scalar, ReadFault>
-    requires low { 1 ≤ kind }
-    requires high { kind ≤ 11 }
-    ensures exact { GivesBy scalar_of (image_read leaf (leaf_at kind)) (S.octets src.old) (S.octets src.new) result }
-    ensures behind { StaysBehind (S.octets src.old) (S.octets src.new) }
-{
-    match kind {
-        1 => read_as::<bool, S>(alloc, src),
-        2 => read_as::<i8, S>(alloc, src),
-        3 => read_as::<u8, S>(alloc, src),
-        4 => read_as::<i16, S>(alloc, src),
-        5 => read_as::<u16, S>(alloc, src),
-        6 => read_as::<i32, S>(alloc, src),
-        7 => read_as::<u32, S>(alloc, src),
-        8 => read_as::<i64, S>(alloc, src),
-        9 => read_as::<u64, S>(alloc, src),
-        10 => read_as::<FloatBits, S>(alloc, src),
-        _ => read_as::<DoubleBits, S>(alloc, src),
-    }
-}
-
-/// Reads a scalar of a type id from String's to ExtensionObject's.
-fn read_record<S: Source>(alloc: Global, src: &mut S, kind: u8) -> Result<Scalar, ReadFault>
-    requires low { 12 ≤ kind }
-    requires high { kind ≤ 22 }
-    ensures exact { GivesBy scalar_of (image_read leaf (leaf_at kind)) (S.octets src.old) (S.octets src.new) result }
-    ensures behind { StaysBehind (S.octets src.old) (S.octets src.new) }
-{
-    match kind {
-        12 => read_as::<UaString, S>(alloc, src),
-        13 => read_as::<DateTime, S>(alloc, src),
-        14 => read_as::<Guid, S>(alloc, src),
-        15 => read_as::<UaBytes, S>(alloc, src),
-        16 => read_as::<XmlElement, S>(alloc, src),
-        17 => read_as::<NodeId, S>(alloc, src),
-        18 => read_boxed_as::<ExpandedNodeId, S>(alloc, src),
-        19 => read_as::<StatusCode, S>(alloc, src),
-        20 => read_as::<QualifiedName, S>(alloc, src),
-        21 => read_boxed_as::<LocalizedText, S>(alloc, src),
-        _ => read_boxed_as::<ExtensionObject, S>(alloc, src),
-    }
-}
-
 /// Decodes a Variant of at most this nesting depth.
-#[cycle(variants)]
 #[inline(always)]
 pub fn read_variant<S: Source>(alloc: Global, src: &mut S, depth: u32) -> Result<Variant, ReadFault>
     requires levels { depth ≤ most_levels }
@@ -116,7 +49,6 @@ pub fn is_read_kind(kind: u8) -> bool
 }
 
 /// Reads a Variant, whose inner values may have that nesting depth.
-#[cycle(variants)]
 #[inline(always)]
 #[tactic(auto, unfolding(crate::specs::Decoding::variant_step))]
 fn read_variant_level<S: Source>(
@@ -240,53 +172,77 @@ fn read_row<S: Source>(
         return Ok(Scalars::packed(read_packed(alloc, src, kind, count)?));
     }
     match kind {
-        23 => read_data_value_row(alloc, src, depth, count),
-        24 => read_variant_row(alloc, src, depth, count),
+        23 => Ok(Scalars::new(read_data_values(alloc, src, depth, count)?)),
+        24 => Ok(Scalars::new(read_variants(alloc, src, depth, count)?)),
         25 => read_diagnostic_row(alloc, src, depth, count),
         _ => Ok(Scalars::new(read_records(alloc, src, kind, count)?)),
     }
 }
 
+/// Reads so many DataValues or Variants as scalars, whose inner values may have that nesting depth.
+#[cycle(variants)]
+#[inline(always)]
+fn read_values<S: Source>(
+    alloc: Global,
+    src: &mut S,
+    depth: u32,
+    kind: u8,
+    count: u32,
+) -> Result<Vec<Scalar>, ReadFault>
+    requires levels { depth ≤ most_levels }
+    requires low { 23 ≤ kind }
+    requires high { kind ≤ 24 }
+    ensures exact { GivesBy (λ v. row (map scalar_of v.items)) (row_at count (scalars_at depth kind)) (S.octets src.old) (S.octets src.new) result }
+    ensures behind { StaysBehind (S.octets src.old) (S.octets src.new) }
+{
+    match kind {
+        23 => read_data_values(alloc, src, depth, count),
+        _ => read_variants(alloc, src, depth, count),
+    }
+}
+
 /// Reads so many DataValues as scalars, whose inner values may have that nesting depth.
 #[cycle(variants)]
-fn read_data_value_row<S: Source>(
+#[inline(never)]
+fn read_data_values<S: Source>(
     alloc: Global,
     src: &mut S,
     depth: u32,
     count: u32,
-) -> Result<Scalars, ReadFault>
+) -> Result<Vec<Scalar>, ReadFault>
     requires levels { depth ≤ most_levels }
-    ensures exact { GivesBy (λ ss. row ss) (row_at count (scalars_at depth 23)) (S.octets src.old) (S.octets src.new) result }
+    ensures exact { GivesBy (λ v. row (map scalar_of v.items)) (row_at count (scalars_at depth 23)) (S.octets src.old) (S.octets src.new) result }
     ensures behind { StaysBehind (S.octets src.old) (S.octets src.new) }
 {
     let mut items = Vec::with_capacity(alloc, (count as usize).min(MOST_RESERVED))?;
     for _ in 0..count {
         make_room(&mut items, count)?;
         let item = read_boxed_data_value(alloc, src, depth)?;
-        items.push_reserved(item);
+        items.push_reserved(Scalar::DataValue(item));
     }
-    Ok(Scalars::new(items))
+    Ok(items)
 }
 
 /// Reads so many Variants as scalars, whose inner values may have that nesting depth.
 #[cycle(variants)]
-fn read_variant_row<S: Source>(
+#[inline(never)]
+fn read_variants<S: Source>(
     alloc: Global,
     src: &mut S,
     depth: u32,
     count: u32,
-) -> Result<Scalars, ReadFault>
+) -> Result<Vec<Scalar>, ReadFault>
     requires levels { depth ≤ most_levels }
-    ensures exact { GivesBy (λ ss. row ss) (row_at count (scalars_at depth 24)) (S.octets src.old) (S.octets src.new) result }
+    ensures exact { GivesBy (λ v. row (map scalar_of v.items)) (row_at count (scalars_at depth 24)) (S.octets src.old) (S.octets src.new) result }
     ensures behind { StaysBehind (S.octets src.old) (S.octets src.new) }
 {
     let mut items = Vec::with_capacity(alloc, (count as usize).min(MOST_RESERVED))?;
     for _ in 0..count {
         make_room(&mut items, count)?;
         let item = read_boxed_variant(alloc, src, depth)?;
-        items.push_reserved(item);
+        items.push_reserved(Scalar::Variant(item));
     }
-    Ok(Scalars::new(items))
+    Ok(items)
 }
 
 /// Reads a value of the type id, whose inner values may have that nesting depth.
@@ -304,49 +260,264 @@ fn read_scalar<S: Source>(
     ensures behind { StaysBehind (S.octets src.old) (S.octets src.new) }
 {
     match kind {
-        23 => read_boxed_data_value(alloc, src, depth),
-        24 => read_boxed_variant(alloc, src, depth),
+        23 => Ok(Scalar::DataValue(read_boxed_data_value(alloc, src, depth)?)),
+        24 => Ok(Scalar::Variant(read_boxed_variant(alloc, src, depth)?)),
         25 => read_boxed_diagnostic(alloc, src, depth),
         _ => read_leaf(alloc, src, kind),
     }
 }
 
-/// Reads a DataValue as a scalar, whose inner values may have that nesting depth.
+// Values among other values are read to the heap. Each level of nesting takes as much of the stack
+// as the functions that call each other for it, so what has a whole Variant or DataValue in its
+// hands is not inlined into them.
+
+/// Reads a DataValue of at most this nesting depth to the heap.
 #[cycle(variants)]
 #[inline(never)]
-#[tactic(auto, unfolding(crate::specs::Decoding::scalar_at))]
 fn read_boxed_data_value<S: Source>(
     alloc: Global,
     src: &mut S,
     depth: u32,
-) -> Result<Scalar, ReadFault>
+) -> Result<BoxedDataValue, ReadFault>
     requires levels { depth ≤ most_levels }
-    ensures exact { GivesBy scalar_of (scalars_at depth 23) (S.octets src.old) (S.octets src.new) result }
+    ensures exact { Gives (data_value_at depth) (S.octets src.old) (S.octets src.new) result }
     ensures behind { StaysBehind (S.octets src.old) (S.octets src.new) }
 {
-    let value = read_data_value(alloc, src, depth)?;
-    Ok(Scalar::DataValue(BoxedDataValue::new(alloc, value)?))
+    if depth == 0 {
+        return Err(ReadFault::NoValue);
+    }
+    read_boxed_data_value_level(alloc, src, depth - 1)
 }
 
-/// Reads a Variant as a scalar, whose inner values may have that nesting depth.
+/// Reads a DataValue to the heap, whose inner values may have that nesting depth.
+#[cycle(variants)]
+#[inline(always)]
+#[tactic(auto, unfolding(crate::specs::Decoding::data_value_step))]
+fn read_boxed_data_value_level<S: Source>(
+    alloc: Global,
+    src: &mut S,
+    depth: u32,
+) -> Result<BoxedDataValue, ReadFault>
+    requires levels { depth ≤ most_levels }
+    ensures exact { Gives (data_value_step (variant_at depth)) (S.octets src.old) (S.octets src.new) result }
+    ensures behind { StaysBehind (S.octets src.old) (S.octets src.new) }
+{
+    let mask = u8::read_value(alloc, src, 0)?;
+    if mask > masks::KNOWN_FLAGS {
+        return Err(ReadFault::NoValue);
+    }
+    read_boxed_announced(alloc, src, depth, mask, mask & masks::VALUE != 0)
+}
+
+/// Reads a DataValue to the heap after its mask, with a value where it is announced.
+#[cycle(variants)]
+#[inline(always)]
+fn read_boxed_announced<S: Source>(
+    alloc: Global,
+    src: &mut S,
+    depth: u32,
+    mask: u8,
+    set: bool,
+) -> Result<BoxedDataValue, ReadFault>
+    requires levels { depth ≤ most_levels }
+    ensures exact { Gives (announced_at mask set (variant_at depth)) (S.octets src.old) (S.octets src.new) result }
+    ensures behind { StaysBehind (S.octets src.old) (S.octets src.new) }
+{
+    if !set {
+        return box_data_value(alloc, src, mask, None);
+    }
+    let value = read_boxed_variant(alloc, src, depth)?;
+    box_data_value(alloc, src, mask, Some(value))
+}
+
+/// Reads the fields of a DataValue, after its value, to the heap.
+#[inline(never)]
+fn box_data_value<S: Source>(
+    alloc: Global,
+    src: &mut S,
+    mask: u8,
+    value: Option<BoxedVariant>,
+) -> Result<BoxedDataValue, ReadFault>
+    ensures exact { Gives (fields_behind mask value) (S.octets src.old) (S.octets src.new) result }
+    ensures behind { StaysBehind (S.octets src.old) (S.octets src.new) }
+{
+    match read_data_fields(alloc, src, mask) {
+        Ok(fields) => Ok(BoxedDataValue::new(alloc, fields.behind(held(value)))?),
+        Err(fault) => {
+            drop(value);
+            Err(fault)
+        }
+    }
+}
+
+/// Moves a value from the heap into its place.
+fn held(value: Option<BoxedVariant>) -> Option<HeldVariant>
+    ensures { result ≡ value }
+{
+    match value {
+        Some(value) => Some(HeldVariant::new(value.into_inner())),
+        None => None,
+    }
+}
+
+/// Reads a Variant of at most this nesting depth to the heap.
 #[cycle(variants)]
 #[inline(never)]
-#[tactic(auto, unfolding(crate::specs::Decoding::scalar_at))]
 fn read_boxed_variant<S: Source>(
     alloc: Global,
     src: &mut S,
     depth: u32,
-) -> Result<Scalar, ReadFault>
+) -> Result<BoxedVariant, ReadFault>
     requires levels { depth ≤ most_levels }
-    ensures exact { GivesBy scalar_of (scalars_at depth 24) (S.octets src.old) (S.octets src.new) result }
+    ensures exact { Gives (variant_at depth) (S.octets src.old) (S.octets src.new) result }
     ensures behind { StaysBehind (S.octets src.old) (S.octets src.new) }
 {
-    let value = read_variant(alloc, src, depth)?;
-    Ok(Scalar::Variant(BoxedVariant::new(alloc, value)?))
+    if depth == 0 {
+        return Err(ReadFault::NoValue);
+    }
+    read_boxed_variant_level(alloc, src, depth - 1)
+}
+
+/// Reads a Variant to the heap, whose inner values may have that nesting depth.
+#[cycle(variants)]
+#[inline(always)]
+#[tactic(auto, unfolding(crate::specs::Decoding::variant_step))]
+fn read_boxed_variant_level<S: Source>(
+    alloc: Global,
+    src: &mut S,
+    depth: u32,
+) -> Result<BoxedVariant, ReadFault>
+    requires levels { depth ≤ most_levels }
+    ensures exact { Gives (variant_step (scalars_at depth)) (S.octets src.old) (S.octets src.new) result }
+    ensures behind { StaysBehind (S.octets src.old) (S.octets src.new) }
+{
+    let tag = u8::read_value(alloc, src, 0)?;
+    read_boxed_tagged(alloc, src, depth, tag)
+}
+
+/// Reads a Variant to the heap after its encoding byte.
+#[cycle(variants)]
+#[inline(always)]
+#[tactic(auto, unfolding(crate::specs::Decoding::variant_after))]
+fn read_boxed_tagged<S: Source>(
+    alloc: Global,
+    src: &mut S,
+    depth: u32,
+    tag: u8,
+) -> Result<BoxedVariant, ReadFault>
+    requires levels { depth ≤ most_levels }
+    ensures exact { Gives (variant_after (scalars_at depth) tag) (S.octets src.old) (S.octets src.new) result }
+    ensures behind { StaysBehind (S.octets src.old) (S.octets src.new) }
+{
+    if tag >= masks::ARRAY {
+        let kind = tag & masks::TYPE_ID;
+        if nests(kind) {
+            return read_boxed_array(alloc, src, depth, kind, tag & masks::DIMENSIONS != 0);
+        }
+    }
+    box_tagged(alloc, src, depth, tag)
+}
+
+/// Whether elements of the type id may hold arrays: DataValue and Variant.
+#[inline]
+fn nests(kind: u8) -> bool
+    ensures low { IsTrue result → 23 ≤ kind }
+    ensures high { IsTrue result → kind ≤ 24 }
+    ensures read { IsTrue result → read_kind kind ≡ true }
+{
+    kind == 23 || kind == 24
+}
+
+/// Reads any Variant after its encoding byte, and moves it to the heap.
+#[cycle(variants)]
+#[inline(never)]
+fn box_tagged<S: Source>(
+    alloc: Global,
+    src: &mut S,
+    depth: u32,
+    tag: u8,
+) -> Result<BoxedVariant, ReadFault>
+    requires levels { depth ≤ most_levels }
+    ensures exact { Gives (variant_after (scalars_at depth) tag) (S.octets src.old) (S.octets src.new) result }
+    ensures behind { StaysBehind (S.octets src.old) (S.octets src.new) }
+{
+    let value = read_tagged(alloc, src, depth, tag)?;
+    Ok(BoxedVariant::new(alloc, value)?)
+}
+
+/// Reads an array of DataValues or Variants to the heap, after its encoding byte.
+#[cycle(variants)]
+#[inline(always)]
+#[tactic(auto, unfolding(crate::specs::Decoding::array_at))]
+fn read_boxed_array<S: Source>(
+    alloc: Global,
+    src: &mut S,
+    depth: u32,
+    kind: u8,
+    flagged: bool,
+) -> Result<BoxedVariant, ReadFault>
+    requires levels { depth ≤ most_levels }
+    requires low { 23 ≤ kind }
+    requires high { kind ≤ 24 }
+    ensures exact { Gives (array_at (scalars_at depth) kind flagged) (S.octets src.old) (S.octets src.new) result }
+    ensures behind { StaysBehind (S.octets src.old) (S.octets src.new) }
+{
+    let count = u32::read_value(alloc, src, 0)?;
+    if count >= FIRST_NEGATIVE {
+        return box_null_array(alloc, src, kind, flagged);
+    }
+    let room = src.left() / least_octets(kind);
+    if room < count as usize {
+        return Err(ReadFault::NoValue);
+    }
+    let items = read_values(alloc, src, depth, kind, count)?;
+    box_array(alloc, src, kind, flagged, count, items)
+}
+
+/// Reads the dimensions of an array of these elements, and moves it to the heap.
+#[inline(never)]
+fn box_array<S: Source>(
+    alloc: Global,
+    src: &mut S,
+    kind: u8,
+    flagged: bool,
+    count: u32,
+    items: Vec<Scalar>,
+) -> Result<BoxedVariant, ReadFault>
+    requires count { count < first_negative }
+    ensures exact { Gives (dims_behind kind flagged count (row (map scalar_of items.items))) (S.octets src.old) (S.octets src.new) result }
+    ensures behind { StaysBehind (S.octets src.old) (S.octets src.new) }
+{
+    let dims = read_dims(alloc, src, flagged, count)?;
+    let value = Variant::Many {
+        kind,
+        items: Some(Scalars::new(items)),
+        dims,
+    };
+    Ok(BoxedVariant::new(alloc, value)?)
+}
+
+/// Reads the dimensions of a null array, and moves it to the heap.
+#[inline(never)]
+fn box_null_array<S: Source>(
+    alloc: Global,
+    src: &mut S,
+    kind: u8,
+    flagged: bool,
+) -> Result<BoxedVariant, ReadFault>
+    ensures exact { Gives (no_dims_behind kind flagged) (S.octets src.old) (S.octets src.new) result }
+    ensures behind { StaysBehind (S.octets src.old) (S.octets src.new) }
+{
+    let dims = read_no_dims(alloc, src, flagged)?;
+    let value = Variant::Many {
+        kind,
+        items: None,
+        dims,
+    };
+    Ok(BoxedVariant::new(alloc, value)?)
 }
 
 /// Decodes a DataValue of at most this nesting depth.
-#[cycle(variants)]
 #[inline(always)]
 pub fn read_data_value<S: Source>(
     alloc: Global,
@@ -364,7 +535,6 @@ pub fn read_data_value<S: Source>(
 }
 
 /// Reads a DataValue, whose inner values may have that nesting depth.
-#[cycle(variants)]
 #[inline(always)]
 #[tactic(auto, unfolding(crate::specs::Decoding::data_value_step))]
 fn read_data_value_level<S: Source>(
@@ -398,7 +568,6 @@ pub fn give_up(value: Option<HeldVariant>) {
 }
 
 /// Reads a Variant within a DataValue, where it is announced.
-#[cycle(variants)]
 #[inline(always)]
 fn read_held<S: Source>(
     alloc: Global,

@@ -1,4 +1,5 @@
-//! Decoding of arrays of texts, bytes, ids and objects as scalars, one loop for each type.
+//! Decoding of scalars without further values inside, and of arrays of texts, bytes, ids and objects
+//! as scalars, one loop for each type.
 
 ghost use Rattle.std.specs.Prelude.{◌≡◌, ◌≤◌, ◌<◌, map, false, OnOk};
 ghost use Rattle.std.specs.Vec.{vec_len, vec_capacity};
@@ -14,8 +15,8 @@ use crate::leaf::{BoxedLeaf, HeldLeaf, read_as, read_boxed_as};
 use crate::values::{Scalar, Scalars};
 use std::alloc::{AllocError, Global};
 use ua_builtin::{
-    DateTime, ExpandedNodeId, ExtensionObject, Guid, LocalizedText, NodeId, QualifiedName,
-    ReadFault, Source, StatusCode, UaBytes, UaString, Wire, XmlElement,
+    DateTime, DoubleBits, ExpandedNodeId, ExtensionObject, FloatBits, Guid, LocalizedText, NodeId,
+    QualifiedName, ReadFault, Source, StatusCode, UaBytes, UaString, Wire, XmlElement,
 };
 use ua_diagnostic::{BoxedDiagnostic, read_diagnostic};
 
@@ -52,6 +53,65 @@ fn grow(items: &mut Vec<Scalar>, count: usize) -> Result<(), AllocError>
     let step = if len > MOST_DOUBLED { len / 8 } else { len };
     items.reserve_exact(step.min(count.saturating_sub(len)).max(1))?;
     Ok(())
+}
+
+/// Decodes a scalar without further values inside.
+#[inline(always)]
+pub fn read_leaf<S: Source>(alloc: Global, src: &mut S, kind: u8) -> Result<Scalar, ReadFault>
+    ensures exact { GivesBy scalar_of (image_read leaf (leaf_at kind)) (S.octets src.old) (S.octets src.new) result }
+    ensures behind { StaysBehind (S.octets src.old) (S.octets src.new) }
+{
+    match kind {
+        1..=11 => read_number(alloc, src, kind),
+        12..=22 => read_record(alloc, src, kind),
+        26..=31 => read_reserved(alloc, src, kind),
+        _ => Err(ReadFault::NoValue),
+    }
+}
+
+/// Reads a Boolean, a whole number, a Float or a Double.
+#[inline(always)]
+fn read_number<S: Source>(alloc: Global, src: &mut S, kind: u8) -> Result<Scalar, ReadFault>
+    requires low { 1 ≤ kind }
+    requires high { kind ≤ 11 }
+    ensures exact { GivesBy scalar_of (image_read leaf (leaf_at kind)) (S.octets src.old) (S.octets src.new) result }
+    ensures behind { StaysBehind (S.octets src.old) (S.octets src.new) }
+{
+    match kind {
+        1 => read_as::<bool, S>(alloc, src),
+        2 => read_as::<i8, S>(alloc, src),
+        3 => read_as::<u8, S>(alloc, src),
+        4 => read_as::<i16, S>(alloc, src),
+        5 => read_as::<u16, S>(alloc, src),
+        6 => read_as::<i32, S>(alloc, src),
+        7 => read_as::<u32, S>(alloc, src),
+        8 => read_as::<i64, S>(alloc, src),
+        9 => read_as::<u64, S>(alloc, src),
+        10 => read_as::<FloatBits, S>(alloc, src),
+        _ => read_as::<DoubleBits, S>(alloc, src),
+    }
+}
+
+/// Reads a scalar of a type id from String's to ExtensionObject's.
+fn read_record<S: Source>(alloc: Global, src: &mut S, kind: u8) -> Result<Scalar, ReadFault>
+    requires low { 12 ≤ kind }
+    requires high { kind ≤ 22 }
+    ensures exact { GivesBy scalar_of (image_read leaf (leaf_at kind)) (S.octets src.old) (S.octets src.new) result }
+    ensures behind { StaysBehind (S.octets src.old) (S.octets src.new) }
+{
+    match kind {
+        12 => read_as::<UaString, S>(alloc, src),
+        13 => read_as::<DateTime, S>(alloc, src),
+        14 => read_as::<Guid, S>(alloc, src),
+        15 => read_as::<UaBytes, S>(alloc, src),
+        16 => read_as::<XmlElement, S>(alloc, src),
+        17 => read_as::<NodeId, S>(alloc, src),
+        18 => read_boxed_as::<ExpandedNodeId, S>(alloc, src),
+        19 => read_as::<StatusCode, S>(alloc, src),
+        20 => read_as::<QualifiedName, S>(alloc, src),
+        21 => read_boxed_as::<LocalizedText, S>(alloc, src),
+        _ => read_boxed_as::<ExtensionObject, S>(alloc, src),
+    }
 }
 
 /// Decodes so many scalars of a type id from String's to ExtensionObject's, or of a reserved one.

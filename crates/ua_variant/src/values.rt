@@ -34,6 +34,9 @@ pub enum Variant {
 // The drops of this file are by hand, so that a crate that lets a Variant or what boxes one go
 // makes a call, and proves nothing of what lies in it. Those of Scalar and DataValue are derived,
 // so that they can be taken apart anywhere.
+//
+// Each level of nesting takes as much of the stack as the drops that call each other for it. So a
+// value is taken out of its box, which moves it once where the box's own drop moves it twice.
 
 impl Drop for Variant {
     #[cycle(letting_go)]
@@ -112,7 +115,10 @@ impl Drop for BoxedVariant {
     #[cycle(letting_go)]
     fn drop(self) {
         let BoxedVariant { inner } = self;
-        drop(inner);
+        match inner {
+            Some(value) => drop(Box::into_inner(value)),
+            None => {}
+        }
     }
 }
 
@@ -187,9 +193,13 @@ pub struct BoxedDataValue {
 
 impl Drop for BoxedDataValue {
     #[cycle(letting_go)]
+    #[inline(never)]
     fn drop(self) {
         let BoxedDataValue { inner } = self;
-        drop(inner);
+        match inner {
+            Some(value) => drop(Box::into_inner(value)),
+            None => {}
+        }
     }
 }
 
@@ -237,10 +247,21 @@ pub struct Scalars {
 
 impl Drop for Scalars {
     #[cycle(letting_go)]
+    #[inline(always)]
     fn drop(self) {
         let Scalars { elements } = self;
-        drop(elements);
+        match elements {
+            Elements::Packed(packed) => let_go(packed),
+            mixed => drop(mixed),
+        }
     }
+}
+
+/// Drops the elements of a packed array. Not inlined, so that their room is not taken on the stack
+/// at each level of nesting.
+#[inline(never)]
+fn let_go(packed: Packed) {
+    drop(packed);
 }
 
 impl Model for Scalars {
@@ -333,6 +354,14 @@ impl Variant {
 }
 
 impl BoxedVariant {
+    /// A null value.
+    #[inline]
+    pub(crate) fn null() -> BoxedVariant
+        ensures { result ≡ null }
+    {
+        BoxedVariant { inner: None }
+    }
+
     /// Moves this value to the heap, unless it is null.
     #[inline(always)]
     pub fn new(alloc: Global, value: Variant) -> Result<BoxedVariant, AllocError>
@@ -399,6 +428,14 @@ impl HeldVariant {
 }
 
 impl BoxedDataValue {
+    /// A DataValue without any field.
+    #[inline]
+    pub(crate) fn empty() -> BoxedDataValue
+        ensures { result ≡ bare no_fields }
+    {
+        BoxedDataValue { inner: None }
+    }
+
     /// Moves this value to the heap, unless it has no field.
     #[inline]
     pub fn new(alloc: Global, value: DataValue) -> Result<BoxedDataValue, AllocError>
