@@ -10,7 +10,7 @@ behind which no other Write came before the Read began. The lines that are print
 the connection of that number may have ended. CurrentTime is read, where it is the server's own. Then words are given
 that it cannot take, and a system that gives no connection. The status is 1 at the first difference.
 
-With COUNT it is asked as often by one connection, with --at-once and without, by 64 together, and 2000 times at most
+With COUNT it is asked in 24 turns by one connection, with --at-once and without, and by 64 together, and 2000 times at most
 beside 1000 idle ones and one that floods; printed is how many were answered a second, how much memory each idle one took
 without and with a session, and how long the slowest answer took.
 """
@@ -21,6 +21,7 @@ import random
 import re
 import resource
 import socket
+import statistics
 import struct
 import sys
 import threading
@@ -33,6 +34,8 @@ from try_parts.served import CLIENT, PORT, Program, check, connect, is_answer, n
 from try_parts.talking import ANSWERED, READ, SENT, Send, Talk, at_once, one_by_one
 
 PLACES, LATE = 50, 12
+# Bursts of each kind, which are compared in turns.
+ROUNDS, ORDINALS = 24, ('first', 'second', 'third', 'fourth', 'fifth')
 NODES = 'ns=1;s=Pump\trw\tPump\tInt32\t5\n'
 
 
@@ -279,23 +282,35 @@ def flood(talk: Talk, stop: threading.Event) -> None:
     other.join()
 
 
-def measure(program: str, nodes: str, count: int) -> None:
-    for places, words in ((0, []), (16, ['--at-once', '16'])):
-        server = Program(program, nodes, 'all', *words)
-        talk = Talk()
-        begun = time.monotonic()
-        ask(count, talk)
-        print('one connection, at once %2d: %d requests a second' % (places, count / (time.monotonic() - begun)))
-        print('one connection in groups of 64, at once %2d: %d requests a second' % (places, together(count, [talk], 64)))
-        talk.close()
-        server.process.kill()
-        server.process.wait()
-    server = served(program, nodes, 'all', 64)
-    talks = [Talk() for _ in range(64)]
-    for group in (1, 64):
-        print('64 connections, in groups of %2d: %d requests a second' % (group, together(count, talks, group)))
+def burst(program: str, nodes: str, count: int, connections: int, group: int, words: list[str]) -> float:
+    """How many Reads are answered a second over so many connections of a server of their own, in groups."""
+    server = Program(program, nodes, 'all', *words)
+    talks = [Talk() for _ in range(connections)]
+    together(4096, talks, group)
+    reads = together(count, talks, group)
     server.process.kill()
     server.process.wait()
+    for talk in talks:
+        talk.line.close()
+    return reads
+
+
+def compare(program: str, nodes: str, count: int) -> None:
+    """Bursts in turns, since times differ from run to run: of one connection, also under --at-once, and of 64."""
+    few, many = ['--at-once', '16'], ['--at-once', '64']
+    kinds = [(1, 1, []), (1, 1, few), (1, 64, []), (1, 64, few), (64, 64, many)]
+    rounds = [[burst(program, nodes, count // (8 if kind[1] == 1 else 1), *kind) for kind in kinds] for _ in range(ROUNDS)]
+    for place, (connections, group, words) in enumerate(kinds):
+        reads = [each[place] for each in rounds]
+        print('%2d connections in groups of %2d, %s: %d requests a second, at most %d'
+              % (connections, group, ' '.join(words) or 'one after the other', statistics.median(reads), max(reads)))
+    for part, whole in ((1, 0), (4, 2), (4, 3)):
+        print('the %s of these to the %s: %.2f of it'
+              % (ORDINALS[part], ORDINALS[whole], statistics.median(each[part] / each[whole] for each in rounds)))
+
+
+def measure(program: str, nodes: str, count: int) -> None:
+    compare(program, nodes, count)
     server = served(program, nodes, 'all', 1024)
     before = memory(server.process.pid)
     idle = [connect() for _ in range(1000)]

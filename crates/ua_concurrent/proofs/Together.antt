@@ -256,50 +256,31 @@ module _ {S : Type 0} (heard : S → Option Carried) where
       each = λ p a e. let within = get_within before p (Some a) e in r.each p a (omega (arith, within)) e;
     }
 
-    -- ---- a conversation is taken out, has its turn, and is put back
+    -- ---- the conversation at a place has its turn
 
-    put_count : (places : List (Option (Talk S))) (p : ℕ) (x y : Option (Talk S)) → length (slice_set (slice_set places p x) p y) ≡ length places
-    put_count places p x y = length-set (slice_set places p x) p y ∙ length-set places p x
-
-    put_within : (places : List (Option (Talk S))) (p : ℕ) (x : Option (Talk S)) → p < length places → p < length (slice_set places p x)
-    put_within places p x within = subst (λ (n : ℕ). p < n) (sym (length-set places p x)) within
-
-    put_others : (places : List (Option (Talk S))) (p : ℕ) (x y : Option (Talk S)) (q : ℕ) → q ≢ p → slice_get (slice_set (slice_set places p x) p y) q ≡ slice_get places q
-    put_others places p x y q n = get_other (slice_set places p x) p q y n ∙ get_other places p q x n
-
-    pub put_turn : (places : List (Option (Talk S))) (p : ℕ) (gone : Option (Talk S)) (a b : Talk S) → p < length places → IsAt places p a → HadTurn heard readable writable a b
-        → TurnsAt heard readable writable p places (slice_set (slice_set places p gone) p (Some b))
-    put_turn places p gone a b within here had = record {
-      count = put_count places p gone (Some b);
-      others = put_others places p gone (Some b);
+    pub put_turn : (places : List (Option (Talk S))) (p : ℕ) (a b : Talk S) → p < length places → IsAt places p a → HadTurn heard readable writable a b
+        → TurnsAt heard readable writable p places (slice_set places p (Some b))
+    put_turn places p a b within here had = record {
+      count = length-set places p (Some b);
+      others = λ q n. get_other places p q (Some b) n;
       free = λ f. let no : Some (Some a) ≡ Some None = sym here ∙ f in cc;
       turn = λ x e. let same : a ≡ x = cc (here, e) in
-          (b, get_same (slice_set places p gone) p (Some b) (put_within places p gone within), subst (λ (t : Talk S). HadTurn heard readable writable t b) same had);
+          (b, get_same places p (Some b) within, subst (λ (t : Talk S). HadTurn heard readable writable t b) same had);
     }
 
-    pub put_stand : (places : List (Option (Talk S))) (p : ℕ) (gone : Option (Talk S)) (a b : Talk S) (first before now : State) (last : ℕ) → p < length places → IsAt places p a → b.number ≡ a.number
+    pub put_stand : (places : List (Option (Talk S))) (p : ℕ) (a b : Talk S) (first before now : State) (last : ℕ) → p < length places → IsAt places p a → b.number ≡ a.number
         → ((es : List SharedEvent) → (shared_over own_id (opened first) es).state ≡ before → Stands heard es first before a → Went heard es first before now b)
-        → (es : List SharedEvent) → StandTogether heard es first before last places → GoOn heard es first now last (slice_set (slice_set places p gone) p (Some b))
-    put_stand places p gone a b first before now last within here same went es s =
-        together_turn es first before now last p a b places (slice_set (slice_set places p gone) p (Some b)) here
-        (get_same (slice_set places p gone) p (Some b) (put_within places p gone within)) (put_others places p gone (Some b)) same s
+        → (es : List SharedEvent) → StandTogether heard es first before last places → GoOn heard es first now last (slice_set places p (Some b))
+    put_stand places p a b first before now last within here same went es s =
+        together_turn es first before now last p a b places (slice_set places p (Some b)) here
+        (get_same places p (Some b) within) (λ q n. get_other places p q (Some b) n) same s
         (went es s.state_is (s.each p a here))
 
     -- the place is free
-    set_none : (places : List (Option (Talk S))) (p : ℕ) → slice_get places p ≡ Some None → slice_set places p None ≡ places
-    set_none [] p e = refl
-    set_none (x ∷ xs) zero e = let same : x ≡ None = cc in ap (λ (y : Option (Talk S)). y ∷ xs) (sym same)
-    set_none (x ∷ xs) (suc p) e = ap (λ (ys : List (Option (Talk S))). x ∷ ys) (set_none xs p e)
-
-    pub free_turn : (places : List (Option (Talk S))) (p : ℕ) → IsFree places p → TurnsAt heard readable writable p places (slice_set places p None)
-    free_turn places p f = subst (λ (after : List (Option (Talk S))). TurnsAt heard readable writable p places after) (sym (set_none places p f)) (record {
+    pub free_turn : (places : List (Option (Talk S))) (p : ℕ) → IsFree places p → TurnsAt heard readable writable p places places
+    free_turn places p f = record {
       count = refl;
       others = λ q n. refl;
       free = λ e. e;
       turn = λ a e. let no : Some (Some a) ≡ Some None = sym e ∙ f in cc;
-    })
-
-    pub free_stand : (es : List SharedEvent) (first now : State) (last : ℕ) (places : List (Option (Talk S))) (p : ℕ) → IsFree places p → StandTogether heard es first now last places
-        → GoOn heard es first now last (slice_set places p None)
-    free_stand es first now last places p f s =
-        subst (λ (after : List (Option (Talk S))). GoOn heard es first now last after) (sym (set_none places p f)) (together_same es first now last places s)
+    }

@@ -168,9 +168,8 @@ impl<S: Socket> Connections<S> {
             → GoOn S.heard es first services.new (last_of self.new) (places_of self.new) }
         ensures acted { HasActed A.acts application.old application.new }
     {
-        if let Some(mut conversation) = mem::replace(&mut self.places[place], None) {
+        if let Some(conversation) = &mut self.places[place] {
             conversation.turn(services, application);
-            self.places[place] = Some(conversation);
         }
     }
 
