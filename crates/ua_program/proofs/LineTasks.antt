@@ -17,18 +17,18 @@ bare_of line body None words otherwise same stripped = record { body = body.now;
 bare_of line body (Some x) words so same stripped = record { body = body.now; end = inl (subst (λ (b : Bor (List ℕ)). line.now ≡ b.now ++ 10 ∷ []) (sym same) so); is = stripped }
 
 -- a pause after `sleep`
-pub pause_given : (words : List ℕ) (found : Result LineTask LoopFault) → IsSleep words → IsPause found → GivesOwn words found
-pause_given words (Ok (task.Sleep n)) sleeps pause = (sleeps, pause)
-pause_given words (Ok task.Endpoints) sleeps pause = absurd pause
-pause_given words (Ok task.Nothing) sleeps pause = absurd pause
-pause_given words (Ok task.Renew) sleeps pause = absurd pause
-pause_given words (Ok (task.Ask question)) sleeps pause = absurd pause
-pause_given words (Err fault) sleeps pause = sleeps
+pub pause_given : (words time : List ℕ) (found : Result LineTask LoopFault) → IsSleep words time → IsPause time found → GivesOwn words found
+pause_given words time (Ok (task.Sleep n)) sleeps pause = record { time = time; sleeps = sleeps; is = pause }
+pause_given words time (Ok task.Endpoints) sleeps pause = absurd pause
+pause_given words time (Ok task.Nothing) sleeps pause = absurd pause
+pause_given words time (Ok task.Renew) sleeps pause = absurd pause
+pause_given words time (Ok (task.Ask question)) sleeps pause = absurd pause
+pause_given words time (Err fault) sleeps pause = (pause.0, record { time = time; sleeps = sleeps; bad = pause.1 })
 
 -- words of its own are requested, or refused
 pub own_requests : (line words : List ℕ) (found : Result LineTask LoopFault) → IsBare line words → GivesOwn words found → IfOk found (Requests line)
 own_requests line words (Ok task.Endpoints) bare own = subst (λ (w : List ℕ). IsBare line w) own bare
-own_requests line words (Ok (task.Sleep n)) bare own = ((words, bare, own.0), own.1)
+own_requests line words (Ok (task.Sleep n)) bare own = (words, bare, own)
 own_requests line words (Ok task.Nothing) bare own = absurd own
 own_requests line words (Ok task.Renew) bare own = absurd own
 own_requests line words (Ok (task.Ask question)) bare own = absurd own
@@ -36,7 +36,7 @@ own_requests line words (Err fault) bare own = tt
 
 pub own_refuses : (line words : List ℕ) (found : Result LineTask LoopFault) → IsBare line words → GivesOwn words found → IfErr found (RefusesLine line)
 own_refuses line words (Ok found) bare own = tt
-own_refuses line words (Err fault) bare own = inr (inl (words, bare, own))
+own_refuses line words (Err fault) bare own = inr (inl (own.0, (words, bare, own.1)))
 
 -- the task of a step is requested
 pub step_requested : (line : List ℕ) (before : List ScriptLine) (last : ScriptLine) (found : LineTask) → AsksFor line (before ++ last ∷ []) → IsTaskOf last.step found → Requests line found

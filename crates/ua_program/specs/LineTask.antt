@@ -3,7 +3,7 @@ use Rattle.std.specs.Prelude.{◌≡◌, ◌≢◌, ◌≤◌, ◌⊎◌, ℕ, L
 use Rattle.std.specs.Str.Lines.{strip_carriage_return}
 use Rattle.ua_nodes.specs.NodeFile.{fields}
 use Rattle.ua_session.specs.declared.looping.fault.LoopFault.{LoopFault}
-use Rattle.ua_session.specs.declared.looping.fault.LoopFault.TheVariants.{NoMemory}
+use Rattle.ua_session.specs.declared.looping.fault.LoopFault.TheVariants as loop_fault
 use Rattle.ua_session.specs.declared.question.Question.{Question}
 use Rattle.ua_session.specs.declared.question.Question.TheVariants as question
 use Rattle.ua_session.specs.ScriptFaults.{Unread}
@@ -11,6 +11,7 @@ use Rattle.ua_texts.specs.Script.{AsksFor}
 use Rattle.ua_texts.specs.declared.script.ScriptLine.{ScriptLine}
 use Rattle.ua_texts.specs.declared.script.Step.{Step}
 use Rattle.ua_texts.specs.declared.script.Step.TheVariants.{Read, Write, Renew}
+use Rattle.ua_program.specs.Words.{WritesNumber}
 use Rattle.ua_program.specs.declared.line_task.LineTask.{LineTask}
 use Rattle.ua_program.specs.declared.line_task.LineTask.TheVariants as task
 
@@ -22,26 +23,39 @@ pub record IsBare (line words : List ℕ) : Type 0 where
   pub end : (line ≡ body ++ 10 ∷ []) ⊎ ((line ≡ body) × ((front : List ℕ) → line ≢ front ++ 10 ∷ []))
   pub is : words ≡ strip_carriage_return body
 
--- `sleep`, and the text of a time after a tab
-abbrev pub IsSleep : List ℕ → Type 0
-IsSleep words = (time : List ℕ) × (fields words ≡ codes "sleep" ∷ fields time)
-
 -- the words of a line are such
-abbrev pub HasSleep : List ℕ → Type 0
-HasSleep line = (words : List ℕ) × IsBare line words × IsSleep words
+abbrev pub HasWords : (List ℕ → Type 0) → List ℕ → Type 0
+HasWords are line = (words : List ℕ) × IsBare line words × are words
 
--- what the text of a time is parsed as: a pause of at least one millisecond, or that it is none
-abbrev pub IsPause : Result LineTask LoopFault → Type 0
-IsPause (Ok (task.Sleep milliseconds)) = 1 ≤ milliseconds
-IsPause (Ok other) = ⊥
-IsPause (Err fault) = Unit {0}
+-- `sleep`, and the text of a time after a tab
+abbrev pub IsSleep : List ℕ → List ℕ → Type 0
+IsSleep words time = fields words ≡ codes "sleep" ∷ fields time
+
+-- such words, whose time is that of a pause in milliseconds
+pub record IsSleepOf (milliseconds : ℕ) (words : List ℕ) : Type 0 where
+  pub time : List ℕ
+  pub sleeps : IsSleep words time
+  pub is : WritesNumber time milliseconds
+
+-- such words, whose time is none from 1 to 4294967295
+pub record IsBadSleep (words : List ℕ) : Type 0 where
+  pub time : List ℕ
+  pub sleeps : IsSleep words time
+  pub bad : (number : ℕ) → WritesNumber time number → number ≤ 4294967295 → ⊥
+
+-- what the text of a time is parsed as: a pause of so many milliseconds; that the one line is bad
+-- where it is none
+abbrev pub IsPause : List ℕ → Result LineTask LoopFault → Type 0
+IsPause time (Ok (task.Sleep milliseconds)) = WritesNumber time milliseconds
+IsPause time (Ok other) = ⊥
+IsPause time (Err fault) = (fault ≡ loop_fault.ScriptLine 1) × ((number : ℕ) → WritesNumber time number → number ≤ 4294967295 → ⊥)
 
 -- what such words are parsed as: the endpoints, or a pause
 abbrev pub GivesOwn : List ℕ → Result LineTask LoopFault → Type 0
 GivesOwn words (Ok task.Endpoints) = words ≡ codes "endpoints"
-GivesOwn words (Ok (task.Sleep milliseconds)) = IsSleep words × (1 ≤ milliseconds)
+GivesOwn words (Ok (task.Sleep milliseconds)) = IsSleepOf milliseconds words
 GivesOwn words (Ok other) = ⊥
-GivesOwn words (Err fault) = IsSleep words
+GivesOwn words (Err fault) = (fault ≡ loop_fault.ScriptLine 1) × IsBadSleep words
 
 -- ---- steps of a script
 
@@ -72,11 +86,11 @@ pub record RequestsStep (line : List ℕ) (found : LineTask) : Type 0 where
 abbrev pub Requests : List ℕ → LineTask → Type 0
 Requests line task.Nothing = AsksFor line []
 Requests line task.Endpoints = IsBare line (codes "endpoints")
-Requests line (task.Sleep milliseconds) = HasSleep line × (1 ≤ milliseconds)
+Requests line (task.Sleep milliseconds) = HasWords (IsSleepOf milliseconds) line
 Requests line task.Renew = RequestsStep line task.Renew
 Requests line (task.Ask question) = RequestsStep line (task.Ask question)
 
--- why a line is refused: as a script it has a bad line, or it is a pause of no time; or an
+-- why a line is refused: as a script it has a bad line, or it is a pause whose time is bad; or an
 -- allocation failed
 abbrev pub RefusesLine : List ℕ → LoopFault → Type 0
-RefusesLine line fault = Unread line fault ⊎ HasSleep line ⊎ (fault ≡ NoMemory)
+RefusesLine line fault = Unread line fault ⊎ ((fault ≡ loop_fault.ScriptLine 1) × HasWords IsBadSleep line) ⊎ (fault ≡ loop_fault.NoMemory)

@@ -1,12 +1,19 @@
 -- What the words of the command line request.
 use Rattle.std.specs.Prelude.{◌≡◌, ◌⊎◌, ◌≤◌, ◌++◌, Any, ℕ, ⊤, Bool, true, cond, List, Option, None, Some, IfSome, codes}
 use Rattle.std.specs.Str.{bytes_eq}
+use Rattle.std.specs.Str.Parse.{IsNumeral, digits_value}
 use Rattle.ua_services.specs.SessionRequests.{local_url}
 use Rattle.ua_session.specs.declared.policy.TokenPolicy.{TokenPolicy}
 use Rattle.ua_session.specs.declared.policy.TokenPolicy.TheVariants.{Named, Auto}
 use Rattle.ua_texts.specs.PlainLines.{exact_lines, exact_typed}
 use Rattle.ua_program.specs.declared.arguments.Task.{Task}
 use Rattle.ua_program.specs.declared.arguments.Task.TheVariants.{Dissect, Serve, Endpoints, Read, Write, Ask, Loop, Version}
+
+-- decimal digits, without a sign, write a number that is at least 1
+pub record WritesNumber (digits : List ℕ) (number : ℕ) : Type 0 where
+  pub numeral : IsNumeral 10 digits
+  pub value : digits_value 10 digits ≡ number
+  pub some : 1 ≤ number
 
 -- the number of an attribute (OPC 10000-6, A.1)
 abbrev pub IsAttributeNumber : ℕ → Type 0

@@ -60,9 +60,9 @@ fn task_of(alloc: Global, step: Step) -> Result<LineTask, AllocError>
     }
 }
 
-/// A pause of so many milliseconds, at least 1.
+/// A pause of so many milliseconds, from 1 to 4294967295.
 fn sleep_of(time: &str) -> Result<LineTask, LoopFault>
-    ensures { IsPause result }
+    ensures { IsPause time.now result }
 {
     match parse_size(time) {
         Some(milliseconds) => Ok(LineTask::Sleep(milliseconds)),

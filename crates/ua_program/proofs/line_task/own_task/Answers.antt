@@ -9,4 +9,4 @@ returns-in-Some-sleep-default c =
     let time = c.in-Some-sleep-default.time in
     let h : pieces 9 c.args.words.now ≡ word.now ∷ pieces 9 time.now = pieces_once 9 c.args.words.now (Some (word, time)) (lit< tt) c.in-Some-sleep-default.ensures.cases in
     let is : word.now ≡ codes "sleep" = search rules in
-    pause_given c.args.words.now c.sleep_of.result (time.now, h ∙ ap (λ (w : List ℕ). w ∷ pieces 9 time.now) is) c.sleep_of.ensures
+    pause_given c.args.words.now time.now c.sleep_of.result (h ∙ ap (λ (w : List ℕ). w ∷ pieces 9 time.now) is) c.sleep_of.ensures
