@@ -15,10 +15,11 @@ _ua() {
         esac
     done
     if [ -z "$words" ] && [ "$COMP_CWORD" = 1 ]; then
-        words='dissect serve endpoints read write ask loop version help --help'
+        words='dissect judge serve endpoints read write ask loop version help --help'
     elif [ -z "$words" ]; then
         case ${COMP_WORDS[1]} in
         dissect) words='--help --hex --server --fields --names --plain --strict --why'; files='0' ;;
+        judge) words='--help --fields --names --plain --strict --why'; files='0 1' ;;
         serve) words='--help --connections --at-once --answers --kept --requests --plain --standard --live --writes --why'; files='0' ;;
         endpoints) words='--help --policies --json --path --url --record --why' ;;
         read) words='--help --attribute --range --names --times --json --plain --policy --path --url --record --strict --why' ;;
@@ -26,7 +27,7 @@ _ua() {
         ask) words='--help --every --count --names --times --json --plain --policy --path --url --record --strict --why'; files='1' ;;
         loop) words='--help --cut --tcp --names --plain --strict --why'; files='0 1' ;;
         version) words='--help' ;;
-        help) words='dissect serve endpoints read write ask loop version help' ;;
+        help) words='dissect judge serve endpoints read write ask loop version help' ;;
         esac
     fi
     if [[ " $files " == *" $place "* && $word != -* ]]; then

@@ -15,7 +15,7 @@ from dataclasses import dataclass
 sys.dont_write_bytecode = True
 TOP = os.path.dirname(os.path.dirname(os.path.abspath(__file__)))
 TABLE = "crates/ua_program/src/commands.rt"
-FILES = ("FILE", "NODES", "SCRIPT")
+FILES = ("FILE", "NODES", "SCRIPT", "UP", "DOWN")
 VALUES = {"policy": ["anonymous", "auto"], "connections": ["all"]}
 STATUS = [
     ("0", "The command did what it is for."),
@@ -47,13 +47,13 @@ class Word:
     def shown(self) -> str:
         """As a synopsis has it.
 
-        >>> [it.shown for it in (Word("NODE", "Several", ""), Word("SCRIPT", "Any", ""), Word("cut", "NumberOr", ""), Word("hex", "Flag", ""))]
-        ['NODE..', '[SCRIPT..]', '--cut N', '--hex']
+        >>> [it.shown for it in (Word("NODE", "Several", ""), Word("SCRIPT", "Any", ""), Word("DOWN", "Optional", ""), Word("cut", "NumberOr", ""))]
+        ['NODE..', '[SCRIPT..]', '[DOWN]', '--cut N']
         >>> Word("kept", "NumberOrNone", "").shown
         '--kept [N]'
         """
         if not self.is_option:
-            return f"[{self.name}..]" if self.kind == "Any" else self.name + ".." * (self.kind == "Several")
+            return {"Any": f"[{self.name}..]", "Optional": f"[{self.name}]", "Several": f"{self.name}.."}.get(self.kind, self.name)
         value = {"Flag": "", "NumberOrNone": " [N]"}.get(self.kind, " " + (self.value or "N"))
         return f"--{self.name}{value}"
 

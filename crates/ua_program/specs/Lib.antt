@@ -1,6 +1,7 @@
 pub mod AtOnce
 pub mod Digits
 pub mod Dissects
+pub mod Judges
 pub mod Lines
 pub mod Refused
 pub mod Served

@@ -7,6 +7,7 @@ use Rattle.ua_session.specs.Printed.{AreAnswerLines, AreEndpointLines, HasAdded}
 use Rattle.ua_texts.specs.declared.style.AnswerStyle.{AnswerStyle}
 use Rattle.ua_texts.specs.declared.style.EndpointStyle.{EndpointStyle}
 use Rattle.ua_program.specs.Dissects.{HasBegunDissecting}
+use Rattle.ua_program.specs.Judges.{HasJudged}
 use Rattle.ua_program.specs.Looped.{HasLoopedSome}
 use Rattle.ua_program.specs.AtOnce.{ServesAsked, ServesSomeAsked}
 use Rattle.ua_program.specs.Talked.{HasTalkedSome}
@@ -68,4 +69,4 @@ version_line = codes "ua 0.1.0 rattle-kit-13f logic dac8208d650f15bf\n"
 
 -- what a run appends that does what its words request
 abbrev pub HasPrinted : Option (List ℕ) → Option (List ℕ) → Type 0
-HasPrinted old new = HasDissected old new ⊎ HasBegun old new ⊎ Appends old new version_line
+HasPrinted old new = HasDissected old new ⊎ HasJudged old new ⊎ HasBegun old new ⊎ Appends old new version_line

@@ -7,7 +7,7 @@ use Rattle.ua_session.specs.declared.policy.TokenPolicy.{TokenPolicy}
 use Rattle.ua_session.specs.declared.policy.TokenPolicy.TheVariants.{Named, Auto}
 use Rattle.ua_texts.specs.PlainLines.{exact_lines, exact_typed}
 use Rattle.ua_program.specs.declared.arguments.Task.{Task}
-use Rattle.ua_program.specs.declared.arguments.Task.TheVariants.{Dissect, Serve, Endpoints, Read, Write, Ask, Loop, Version}
+use Rattle.ua_program.specs.declared.arguments.Task.TheVariants.{Dissect, Judge, Serve, Endpoints, Read, Write, Ask, Loop, Version}
 
 -- decimal digits, without a sign, write a number that is at least 1
 pub record WritesNumber (digits : List ℕ) (number : ℕ) : Type 0 where
@@ -30,6 +30,7 @@ IsLimited lasts most = lasts ≡ true → 1 ≤ most
 -- each number among them is at least 1, and at most 1024 connections are served at a time
 abbrev pub CountsFromOne : Task → Type 0
 CountsFromOne (Dissect asked) = ⊤
+CountsFromOne (Judge asked) = ⊤
 CountsFromOne (Serve asked) = (1 ≤ asked.port) × (1 ≤ asked.connections) × IfSome asked.at_once IsPlaces
 CountsFromOne (Endpoints asked) = 1 ≤ asked.server.port
 CountsFromOne (Read asked) = (1 ≤ asked.server.port) × IsAttributeNumber asked.attribute
@@ -61,6 +62,7 @@ SaysWhy text words = Any (λ word. text word ≡ codes "--why") words
 -- a bad StatusCode, or a frame that is rejected, has a status of its own
 abbrev pub IsStrict : Task → Type 0
 IsStrict (Dissect asked) = asked.strict ≡ true
+IsStrict (Judge asked) = asked.strict ≡ true
 IsStrict (Read asked) = asked.strict ≡ true
 IsStrict (Write asked) = asked.strict ≡ true
 IsStrict (Ask asked) = asked.strict ≡ true

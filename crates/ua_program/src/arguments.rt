@@ -17,6 +17,8 @@ use ua_texts::{AnswerStyle, EndpointStyle, LineStyle};
 pub enum Task<'a> {
     /// Print the UA TCP messages of a file, and the messages that their chunks carry.
     Dissect(Dissect<'a>),
+    /// Judge both sides of a connection.
+    Judge(JudgeRecord<'a>),
     /// Serve connections, one after the other or many at a time.
     Serve(Serve<'a>),
     /// Print the endpoints of a server.
@@ -105,6 +107,23 @@ pub struct Dissect<'a> {
     /// Which side sent the bytes, and what is printed of them.
     pub options: DissectOptions,
     /// Whether a frame that is refused has a status of its own.
+    pub strict: bool,
+}
+
+/// The words of `ua judge`.
+#[derive(Clone, Copy, Debug)]
+pub struct JudgeRecord<'a> {
+    /// The file of the bytes that a client sent, or that of the lines of both sides.
+    pub up: &'a str,
+    /// The file of the bytes that a server sent.
+    pub down: Option<&'a str>,
+    /// Whether the fields of a message follow its line.
+    pub fields: bool,
+    /// Whether the standard name of a StatusCode follows it.
+    pub names: bool,
+    /// Whether the fields are as people write them.
+    pub plain: bool,
+    /// Whether a broken protocol has a status of its own.
     pub strict: bool,
 }
 
@@ -398,6 +417,19 @@ fn dissect_of<'a>(matches: &ArgMatches<'a>) -> Task<'a>
     })
 }
 
+fn judge_of<'a>(matches: &ArgMatches<'a>) -> Task<'a>
+    ensures { CountsFromOne result }
+{
+    Task::Judge(JudgeRecord {
+        up: text_of(matches, "UP"),
+        down: matches.get_str("DOWN"),
+        fields: matches.get_flag("fields"),
+        names: matches.get_flag("names"),
+        plain: matches.get_flag("plain"),
+        strict: matches.get_flag("strict"),
+    })
+}
+
 fn serve_of<'a>(matches: &ArgMatches<'a>) -> Result<Task<'a>, BadWord<'a>>
     ensures { IfOk result CountsFromOne }
 {
@@ -491,6 +523,7 @@ fn read_of<'a>(nodes: Vec<&'a str>, matches: &ArgMatches<'a>) -> Result<Task<'a>
 #[derive(Clone, Copy)]
 enum Name {
     Dissect,
+    Judge,
     Serve,
     Endpoints,
     Read,
@@ -504,6 +537,7 @@ enum Name {
 fn name_of(command: &str) -> Name {
     match command {
         "dissect" => Name::Dissect,
+        "judge" => Name::Judge,
         "serve" => Name::Serve,
         "endpoints" => Name::Endpoints,
         "read" => Name::Read,
@@ -525,6 +559,7 @@ fn task_of<'a>(
 {
     match command {
         Name::Dissect => Ok(dissect_of(matches)),
+        Name::Judge => Ok(judge_of(matches)),
         Name::Serve => serve_of(matches),
         Name::Endpoints => endpoints_of(matches),
         Name::Read => read_of(nodes, matches),

@@ -10,6 +10,8 @@ enum Kind {
     Needed,
     /// A number that the command needs, by its place.
     Number,
+    /// One that may be left out, by its place.
+    Optional,
     /// One or more at the last place.
     Several,
     /// None or more at the last place.
@@ -151,6 +153,36 @@ const DISSECT: &[Word] = &[
         name: "strict",
         kind: Kind::Flag,
         help: "the status is 3 where a frame is refused",
+    },
+    WHY,
+];
+
+const JUDGE: &[Word] = &[
+    Word {
+        name: "UP",
+        kind: Kind::Needed,
+        help: "the file of bytes that the client sent; alone, the lines > HEX and < HEX of both sides, or - for standard input",
+    },
+    Word {
+        name: "DOWN",
+        kind: Kind::Optional,
+        help: "the file of bytes that the server sent",
+    },
+    Word {
+        name: "fields",
+        kind: Kind::Flag,
+        help: "the fields of each message stand behind its line",
+    },
+    Word {
+        name: "names",
+        kind: Kind::Flag,
+        help: "each status code has its standard name behind it",
+    },
+    PLAIN,
+    Word {
+        name: "strict",
+        kind: Kind::Flag,
+        help: "the status is 3 where a side breaks the protocol",
     },
     WHY,
 ];
@@ -333,6 +365,11 @@ const COMMANDS: &[Words] = &[
         words: DISSECT,
     },
     Words {
+        name: "judge",
+        help: "prints both sides of a connection, and which of them breaks the protocol",
+        words: JUDGE,
+    },
+    Words {
         name: "serve",
         help: "serves connections on a port, one after the other or many at a time",
         words: SERVE,
@@ -381,6 +418,7 @@ fn arg<'a>(alloc: Global, word: &Word) -> Result<Arg<'a>, AllocError> {
         Kind::Needed => arg.required(true),
         // A negative number is a word that is no number of those that are taken, and not an option.
         Kind::Number => arg.required(true).allow_negative_numbers(true),
+        Kind::Optional => arg,
         Kind::Several => arg
             .required(true)
             .action(ArgAction::Set)

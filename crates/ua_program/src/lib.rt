@@ -23,6 +23,7 @@ mod fault;
 mod heard;
 mod hex_pieces;
 mod input;
+mod judge;
 mod known;
 mod lifetime;
 mod line_task;
@@ -42,6 +43,7 @@ mod talk;
 mod tasks;
 mod tell;
 mod time_keeper;
+mod turns;
 mod version;
 mod watched;
 

@@ -14,6 +14,7 @@ use crate::asking::ask_server;
 use crate::dissect::dissect_source;
 use crate::fault::Fault;
 use crate::input::open_file;
+use crate::judge::judge_record;
 use crate::looping::run_files;
 use crate::output::{Stop, say};
 use crate::reason::{Reason, push_word};
@@ -134,6 +135,7 @@ fn perform<'a, R: Files + Net + Clock + AllocGlobal, I: Read, O: Write, E: Write
         Task::Ask(asked) => ask_server(rt, &asked, telling.why, input, out),
         Task::Loop(asked) => run_files(rt, &asked, input, out),
         Task::Dissect(asked) => dissect(rt, &asked, input, out),
+        Task::Judge(asked) => judge_record(rt, &asked, input, out),
         Task::Serve(asked) => match serve_connections(rt, &asked, input, out, telling, err) {
             Ok(()) => Ok(Verdict::AllGood),
             Err(stop) => Err(stop),
