@@ -1,5 +1,6 @@
 -- A reader that takes a piece, step by step.
-use Rattle.std.proofs.Common.{◌≡◌, ℕ, ◌+◌, ◌≤◌, List, [], ◌∷◌, ◌++◌, Option, Some, None, Ok, length, take, drop, sym, ap, subst, ◌∙◌, arith, append_assoc, length-drop}
+use Rattle.std.proofs.Common.{◌≡◌, ℕ, ◌+◌, ◌≤◌, List, [], ◌∷◌, ◌++◌, Option, Some, None, Ok, length}
+use Rattle.std.proofs.Common.{take, drop, sym, ap, subst, ◌∙◌, arith, append_assoc, length-drop}
 use Rattle.std.specs.Prelude.{Result, Err, if◌then◌else◌, true, false}
 use Rattle.std.specs.Result.{is_ok, is_err}
 use Rattle.std.proofs.Math.Seq.{take-add, take-length}
@@ -33,7 +34,8 @@ all_taken : (xs : List ℕ) (n : ℕ) → n ≡ length xs → take n xs ≡ xs
 all_taken xs n e = ap (λ k. take k xs) e ∙ take-length xs
 
 -- it took some octets of what is left, and found a frame
-pub went-frame : (x y z : Reader) (before fs : List Frame) (f : Frame) (found : Option Frame) (piece left : List ℕ) (at n : ℕ) → left ≡ drop at piece → found ≡ Some f → Went x before piece at y fs → Takes y left (Ok (n, found)) z → Stands y left n found z → Went x before piece (at + n) z (fs ++ f ∷ [])
+pub went-frame : (x y z : Reader) (before fs : List Frame) (f : Frame) (found : Option Frame) (piece left : List ℕ) (at n : ℕ) → left ≡ drop at piece
+    → found ≡ Some f → Went x before piece at y fs → Takes y left (Ok (n, found)) z → Stands y left n found z → Went x before piece (at + n) z (fs ++ f ∷ [])
 went-frame x y z before fs f found piece left at n left_is is went takes stands =
     let answers : Stands y (drop at piece) n (Some f) z = subst (λ l. Stands y l n (Some f) z) left_is (subst (λ o. Stands y left n o z) is stands) in (
       within piece at n went.0 (subst (λ l. n ≤ length l) left_is (count y z left n found takes)),
@@ -41,7 +43,8 @@ went-frame x y z before fs f found piece left at n left_is is went takes stands 
     )
 
 -- it took all that is left, and found no frame
-pub went-none : (x y z : Reader) (before fs : List Frame) (found : Option Frame) (piece left : List ℕ) (at n : ℕ) → left ≡ drop at piece → found ≡ None → Went x before piece at y fs → Takes y left (Ok (n, found)) z → Stands y left n found z → Went x before piece (at + n) z fs
+pub went-none : (x y z : Reader) (before fs : List Frame) (found : Option Frame) (piece left : List ℕ) (at n : ℕ) → left ≡ drop at piece → found ≡ None
+    → Went x before piece at y fs → Takes y left (Ok (n, found)) z → Stands y left n found z → Went x before piece (at + n) z fs
 went-none x y z before fs found piece left at n left_is is went takes stands =
     let answers : Stands y (drop at piece) n None z = subst (λ l. Stands y l n None z) left_is (subst (λ o. Stands y left n o z) is stands) in (
       within piece at n went.0 (subst (λ l. n ≤ length l) left_is (count y z left n found takes)),

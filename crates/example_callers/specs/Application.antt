@@ -53,7 +53,8 @@ AreOfSensor sensor moment channel c (reading ∷ readings) events =
 -- a connection in the state after these bytes and events was served beside a sensor: events of the
 -- first readings came after them, of all of them if the connection goes on; this many of the bytes
 -- were taken; what was added is what is sent over these events
-pub record ServesSensor (sensor : NodeId) (moment : DateTime) (readings : List Reading) (old : ServerChannel) (before : List ℕ) (hs : List ConnectionEvent) (first : State) (octets out_before : List ℕ) (sensed : Sensed) (new : ServerChannel) (out : List ℕ) (now : State) : Type 0 where
+pub record ServesSensor (sensor : NodeId) (moment : DateTime) (readings : List Reading) (old : ServerChannel) (before : List ℕ) (hs : List ConnectionEvent)
+    (first : State) (octets out_before : List ℕ) (sensed : Sensed) (new : ServerChannel) (out : List ℕ) (now : State) : Type 0 where
   pub used : List Reading
   pub unused : List Reading
   pub parts : readings ≡ used ++ unused
@@ -67,7 +68,8 @@ pub record ServesSensor (sensor : NodeId) (moment : DateTime) (readings : List R
 
 -- a connection in the state after these bytes and events has the state after these further bytes,
 -- of which frames came after each of these readings, and what was added is what is sent over that
-pub record StandsBesideSensor (sensor : NodeId) (moment : DateTime) (used : List Reading) (channel : ℕ) (new : ServerChannel) (before : List ℕ) (hs : List ConnectionEvent) (first : State) (taken : List ℕ) (out_before out : List ℕ) (now : State) : Type 0 where
+pub record StandsBesideSensor (sensor : NodeId) (moment : DateTime) (used : List Reading) (channel : ℕ) (new : ServerChannel) (before : List ℕ)
+    (hs : List ConnectionEvent) (first : State) (taken : List ℕ) (out_before out : List ℕ) (now : State) : Type 0 where
   pub events : List ConnectionEvent
   pub are : AreOfSensor sensor moment channel (course_over channel (start first []) hs) used events
   pub added : List ℕ
@@ -77,7 +79,8 @@ pub record StandsBesideSensor (sensor : NodeId) (moment : DateTime) (used : List
 
 -- a reading was rejected: those before it were set, and the nodes in their state then do not take
 -- it
-pub record RefusesReading (sensor : NodeId) (moment : DateTime) (readings : List Reading) (channel : ℕ) (new : ServerChannel) (before : List ℕ) (hs : List ConnectionEvent) (first : State) (octets out_before out : List ℕ) (now : State) (fault : SetFault) : Type 0 where
+pub record RefusesReading (sensor : NodeId) (moment : DateTime) (readings : List Reading) (channel : ℕ) (new : ServerChannel) (before : List ℕ)
+    (hs : List ConnectionEvent) (first : State) (octets out_before out : List ℕ) (now : State) (fault : SetFault) : Type 0 where
   pub used : List Reading
   pub reading : Reading
   pub unused : List Reading
@@ -98,7 +101,9 @@ step_in (Err (setpoint.NotHandedOn step)) = Ok step
 
 -- the first connection takes a step after these events, and the second one after these and what the
 -- first one's frames told
-pub record BothStep (channels : ℕ → ℕ) (limits other : Limits) (moment : DateTime) (piece rest : List ℕ) (one two : Result Step StepFault) (x : ServerChannel) (mine : Option Session) (y : ServerChannel) (theirs : Option Session) (octets others : List ℕ) (es : List SharedEvent) (begun before now : State) : Type 0 where
+pub record BothStep (channels : ℕ → ℕ) (limits other : Limits) (moment : DateTime) (piece rest : List ℕ) (one two : Result Step StepFault) (x : ServerChannel)
+    (mine : Option Session) (y : ServerChannel) (theirs : Option Session) (octets others : List ℕ) (es : List SharedEvent) (begun before now : State) : Type
+    0 where
   pub between : State
   pub first : StepAmong limits channels 0 moment piece one x mine octets es begun before between
   pub second : StepAmong other channels 1 moment rest two y theirs others (es ++ at_moment 0 moment first.told) begun between now

@@ -17,7 +17,8 @@ use Rattle.ua_client.specs.declared.reply.Reply.{Reply}
 -- each of these was done over the transport in the state in which the one before it left the client
 -- and the transport; the replies are those to the Write and to the Read, in the session whose
 -- AuthenticationToken the server gave
-pub record Talk (limits : Limits) (url : Option (List ℕ)) (moment : DateTime) (writes : List WriteValue) (reads : List ReadValueId) (before after : Option Traffic) (replies : List Reply) : Type 0 where
+pub record Talk (limits : Limits) (url : Option (List ℕ)) (moment : DateTime) (writes : List WriteValue) (reads : List ReadValueId)
+    (before after : Option Traffic) (replies : List Reply) : Type 0 where
   pub opened : Client
   pub behind_open : Option Traffic
   pub opens : OpensClient limits url moment before behind_open (Ok opened)
@@ -27,5 +28,6 @@ pub record Talk (limits : Limits) (url : Option (List ℕ)) (moment : DateTime) 
   pub begins : BeginsSession moment (connection_of opened) (connection_of serving) behind_open behind_session (Ok token)
   pub called : Client
   pub behind_calls : Option Traffic
-  pub calls : CallsAll (λ all. all) (write token moment 1 writes ∷ read token moment 2 reads ∷ []) (connection_of serving) (connection_of called) behind_session behind_calls (Ok replies)
+  pub calls : CallsAll (λ all. all) (write token moment 1 writes ∷ read token moment 2 reads ∷ []) (connection_of serving) (connection_of called) behind_session
+      behind_calls (Ok replies)
   pub closes : Closes {A = Unit {0}} moment (client_channel called) behind_calls after (Ok tt)

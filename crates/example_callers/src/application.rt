@@ -15,7 +15,8 @@ ghost use Rattle.ua_server.specs.Stepping.{StepTakes};
 ghost use Rattle.ua_server.specs.Storing.{StepStores};
 ghost use Rattle.ua_server.specs.ServingOver.{ServesApplication};
 ghost use Rattle.ua_server.specs.declared.step.StepFault.TheVariants as step_fault;
-ghost use Rattle.example_callers.specs.Application.{BothStep, IfSetFault, IfStepFault, RefusesReading, ServesSensor, pulses, step_in};
+ghost use Rattle.example_callers.specs.Application.{BothStep, IfSetFault, IfStepFault};
+ghost use Rattle.example_callers.specs.Application.{RefusesReading, ServesSensor, pulses, step_in};
 
 use std::alloc::{AllocError, Global};
 use thiserror::Error;
@@ -51,20 +52,32 @@ pub fn set_and_step(
     moment: DateTime,
 ) -> Result<Step, SensorFault>
     ensures steps { (octets : List ℕ) (told : List Told) → Goes (channel_at connection.old) octets told
-        → IfOk result (λ step. StepNow (limits_of (channel_at connection.old)) (channel_of (channel_at connection.old)) (next_of (channel_at connection.old)) moment piece.now (Ok step) (channel_at connection.new) octets told
-        (with_own_session connection.old (with_nodes services.old (after_set sensor.now reading services.old.nodes))) (with_own_session connection.new services.new)) }
+        → IfOk result (λ step. StepNow (limits_of (channel_at connection.old)) (channel_of (channel_at connection.old))
+        (next_of (channel_at connection.old)) moment piece.now (Ok step) (channel_at connection.new) octets told
+        (with_own_session connection.old (with_nodes services.old (after_set sensor.now reading services.old.nodes)))
+        (with_own_session connection.new services.new)) }
     // The same over the events of the connection, of which the reading is one.
-    ensures history { (octets : List ℕ) (hs : List ConnectionEvent) (first : State) → StandsOver (channel_at connection.old) octets hs first (with_own_session connection.old services.old)
-        → IfOk result (λ step. StepOver (limits_of (channel_at connection.old)) (channel_of (channel_at connection.old)) moment piece.now (Ok step) (channel_at connection.new) octets (hs ++ Became (after_set sensor.now reading services.old.nodes) services.old.made ∷ []) first
-        (with_own_session connection.old (with_nodes services.old (after_set sensor.now reading services.old.nodes))) (with_own_session connection.new services.new)) }
+    ensures history { (octets : List ℕ) (hs : List ConnectionEvent) (first : State)
+        → StandsOver (channel_at connection.old) octets hs first (with_own_session connection.old services.old)
+        → IfOk result (λ step. StepOver (limits_of (channel_at connection.old)) (channel_of (channel_at connection.old))
+        moment piece.now (Ok step) (channel_at connection.new) octets
+        (hs ++ Became (after_set sensor.now reading services.old.nodes) services.old.made ∷ []) first
+        (with_own_session connection.old (with_nodes services.old (after_set sensor.now reading services.old.nodes)))
+        (with_own_session connection.new services.new)) }
     ensures taken { IfOk result (λ step. StepTakes piece.now step) }
     ensures channel { channel_of (channel_at connection.new) ≡ channel_of (channel_at connection.old) }
     ensures accepted { IfOk result (λ step. set_refusal (node_at services.old.nodes sensor.now) reading ≡ None) }
-    ensures refused { IfErr result (IfSetFault (λ fault. (set_refusal (node_at services.old.nodes sensor.now) reading ≡ Some fault) × (connection.new ≡ connection.old) × (services.new ≡ services.old))) }
+    ensures refused { IfErr result
+        (IfSetFault (λ fault. (set_refusal (node_at services.old.nodes sensor.now) reading ≡ Some fault)
+        × (connection.new ≡ connection.old) × (services.new ≡ services.old))) }
     // Where the step fails the reading was set.
     ensures failed { (octets : List ℕ) (told : List Told) → Goes (channel_at connection.old) octets told
-        → IfErr result (IfStepFault (λ fault. StepNow (limits_of (channel_at connection.old)) (channel_of (channel_at connection.old)) (next_of (channel_at connection.old)) moment piece.now (Err fault) (channel_at connection.new) octets told
-        (with_own_session connection.old (with_nodes services.old (after_set sensor.now reading services.old.nodes))) (with_own_session connection.new services.new))) }
+        → IfErr result
+        (IfStepFault
+        (λ fault. StepNow (limits_of (channel_at connection.old)) (channel_of (channel_at connection.old))
+        (next_of (channel_at connection.old)) moment piece.now (Err fault) (channel_at connection.new) octets told
+        (with_own_session connection.old (with_nodes services.old (after_set sensor.now reading services.old.nodes)))
+        (with_own_session connection.new services.new))) }
 {
     a_history_goes_on_by_changes_and_steps();
     match services.set(sensor, reading) {
@@ -99,11 +112,19 @@ pub fn serve_sensor(
     moment: DateTime,
     out: &mut Vec<u8>,
 ) -> Result<Sensed, SensorFault>
-    ensures served { (before : List ℕ) (hs : List ConnectionEvent) (first : State) → StandsOver (channel_at connection.old) before hs first (with_own_session connection.old services.old)
-        → IfOk result (λ sensed. ServesSensor sensor.now moment readings.items (channel_at connection.old) before hs first octets.now out.old.items sensed (channel_at connection.new) out.new.items (with_own_session connection.new services.new)) }
-    ensures refused { (before : List ℕ) (hs : List ConnectionEvent) (first : State) → StandsOver (channel_at connection.old) before hs first (with_own_session connection.old services.old)
-        → IfErr result (IfSetFault (RefusesReading sensor.now moment readings.items (channel_of (channel_at connection.old)) (channel_at connection.new) before hs first octets.now out.old.items out.new.items (with_own_session connection.new services.new))) }
-    ensures failed { (before : List ℕ) (hs : List ConnectionEvent) (first : State) → StandsOver (channel_at connection.old) before hs first (with_own_session connection.old services.old)
+    ensures served { (before : List ℕ) (hs : List ConnectionEvent) (first : State)
+        → StandsOver (channel_at connection.old) before hs first (with_own_session connection.old services.old)
+        → IfOk result (λ sensed. ServesSensor sensor.now moment readings.items (channel_at connection.old) before hs
+        first octets.now out.old.items sensed (channel_at connection.new) out.new.items
+        (with_own_session connection.new services.new)) }
+    ensures refused { (before : List ℕ) (hs : List ConnectionEvent) (first : State)
+        → StandsOver (channel_at connection.old) before hs first (with_own_session connection.old services.old)
+        → IfErr result
+        (IfSetFault (RefusesReading sensor.now moment readings.items (channel_of (channel_at connection.old))
+        (channel_at connection.new) before hs first octets.now out.old.items out.new.items
+        (with_own_session connection.new services.new))) }
+    ensures failed { (before : List ℕ) (hs : List ConnectionEvent) (first : State)
+        → StandsOver (channel_at connection.old) before hs first (with_own_session connection.old services.old)
         → IfErr result (IfStepFault (λ fault. fault ≡ step_fault.OutOfMemory)) }
 {
     let mut taken = 0;
@@ -155,9 +176,12 @@ pub fn take_setpoints(
     setpoints: &mut Vec<WriteValue>,
 ) -> Result<Step, SetpointFault>
     ensures steps { (octets : List ℕ) (told : List Told) → Goes (channel_at connection.old) octets told
-        → StepNow (limits_of (channel_at connection.old)) (channel_of (channel_at connection.old)) (next_of (channel_at connection.old)) moment piece.now (step_in result) (channel_at connection.new) octets told (with_own_session connection.old services.old) (with_own_session connection.new services.new) }
+        → StepNow (limits_of (channel_at connection.old)) (channel_of (channel_at connection.old))
+        (next_of (channel_at connection.old)) moment piece.now (step_in result) (channel_at connection.new) octets
+        told (with_own_session connection.old services.old) (with_own_session connection.new services.new) }
     ensures stores { (octets : List ℕ) (told : List Told) → Goes (channel_at connection.old) octets told
-        → StepStores piece.now (step_in result) written.new (channel_at connection.new) octets told (with_own_session connection.old services.old) }
+        → StepStores piece.now (step_in result) written.new (channel_at connection.new) octets told
+        (with_own_session connection.old services.old) }
     ensures handed_on { IfOk result (λ step. setpoints.new.items ≡ setpoints.old.items ++ written.new) }
     ensures kept { OnErr result (setpoints.new.items ≡ setpoints.old.items) }
 {
@@ -197,7 +221,9 @@ pub fn step_both(
     ensures { (channels : ℕ → ℕ) (octets others : List ℕ) (es : List SharedEvent) (begun : State)
         → StandsAmong channels 0 (channel_at first.old) (session_at first.old) octets es begun services.old
         → StandsAmong channels 1 (channel_at second.old) (session_at second.old) others es begun services.old
-        → BothStep channels (limits_of (channel_at first.old)) (limits_of (channel_at second.old)) moment piece.now other.now result.0 result.1 (channel_at first.new) (session_at first.new) (channel_at second.new) (session_at second.new) octets others es begun services.old services.new }
+        → BothStep channels (limits_of (channel_at first.old)) (limits_of (channel_at second.old)) moment piece.now
+        other.now result.0 result.1 (channel_at first.new) (session_at first.new) (channel_at second.new)
+        (session_at second.new) octets others es begun services.old services.new }
 {
     let one = first.step(services, piece, moment);
     let two = second.step(services, other, moment);
@@ -241,7 +267,9 @@ pub fn serve_pulse<L: Line, M: Moments, W: Watch>(
     watch: &mut W,
     pulse: &mut Pulse,
 ) -> Result<End, ServeFault>
-    ensures { ServesApplication limits channel_id M.gives W.notes pulses (begun services.old, pulse.old) (moments.old, watch.old) result (services.new, pulse.new) (moments.new, watch.new) (L.traffic line.old) (L.traffic line.new) }
+    ensures { ServesApplication limits channel_id M.gives W.notes pulses (begun services.old, pulse.old)
+        (moments.old, watch.old) result (services.new, pulse.new) (moments.new, watch.new) (L.traffic line.old)
+        (L.traffic line.new) }
 {
     serve_application(
         alloc, line, services, limits, channel_id, moments, watch, pulse,

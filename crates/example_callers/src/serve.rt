@@ -29,18 +29,25 @@ pub fn serve_octets(
     out: &mut Vec<u8>,
 ) -> Result<Option<End>, StepFault>
     // Bytes in: while the connection goes on, the server took all of them.
-    ensures takes { (b : Beginning) (before : List ℕ) → Serves b server.old services.old before → moment ≡ b.moment → result ≡ Ok None → Serves b server.new services.new (before ++ octets.now) }
+    ensures takes { (b : Beginning) (before : List ℕ) → Serves b server.old services.old before → moment ≡ b.moment
+        → result ≡ Ok None → Serves b server.new services.new (before ++ octets.now) }
     // Nodes changed: the services are as all bytes leave them.
-    ensures leaves { (b : Beginning) (before : List ℕ) → Serves b server.old services.old before → moment ≡ b.moment → OnOk result (services.new ≡ services_after b (before ++ octets.now)) }
+    ensures leaves { (b : Beginning) (before : List ℕ) → Serves b server.old services.old before → moment ≡ b.moment
+        → OnOk result (services.new ≡ services_after b (before ++ octets.now)) }
     // Bytes out: what is added is the server's output for them.
-    ensures answers { (b : Beginning) (before : List ℕ) → Serves b server.old services.old before → moment ≡ b.moment → OnOk result (Answers b before (before ++ octets.now) out.old.items out.new.items) }
-    ensures ends { (b : Beginning) (before : List ℕ) → Serves b server.old services.old before → moment ≡ b.moment → IfOk result (λ end. EndsAt (stage_of end) b (before ++ octets.now)) }
+    ensures answers { (b : Beginning) (before : List ℕ) → Serves b server.old services.old before → moment ≡ b.moment
+        → OnOk result (Answers b before (before ++ octets.now) out.old.items out.new.items) }
+    ensures ends { (b : Beginning) (before : List ℕ) → Serves b server.old services.old before → moment ≡ b.moment
+        → IfOk result (λ end. EndsAt (stage_of end) b (before ++ octets.now)) }
     // If an allocation fails, the services are as a prefix of the bytes leaves them, and what is
     // added is the server's output for a prefix of that.
-    ensures breaks { (b : Beginning) (before : List ℕ) → Serves b server.old services.old before → moment ≡ b.moment → OnErr result (BreaksOff b before (before ++ octets.now) out.old.items out.new.items services.new) }
-    ensures memory { (b : Beginning) (before : List ℕ) → Serves b server.old services.old before → moment ≡ b.moment → IfErr result (λ fault. fault ≡ OutOfMemory) }
+    ensures breaks { (b : Beginning) (before : List ℕ) → Serves b server.old services.old before → moment ≡ b.moment
+        → OnErr result (BreaksOff b before (before ++ octets.now) out.old.items out.new.items services.new) }
+    ensures memory { (b : Beginning) (before : List ℕ) → Serves b server.old services.old before → moment ≡ b.moment
+        → IfErr result (λ fault. fault ≡ OutOfMemory) }
     // A server that ended takes nothing more.
-    ensures closed { IsDone (channel_in server.old) → 0 < length octets.now → (result ≡ Err Closed) × (out.new ≡ out.old) × (services.new ≡ services.old) }
+    ensures closed { IsDone (channel_in server.old) → 0 < length octets.now → (result ≡ Err Closed)
+        × (out.new ≡ out.old) × (services.new ≡ services.old) }
 {
     let mut at = 0;
     while at < octets.len() {
@@ -70,10 +77,20 @@ pub fn serve_connection(
     moment: DateTime,
     out: &mut Vec<u8>,
 ) -> Result<Option<End>, StepFault>
-    ensures leaves { OnOk result (services.new ≡ services_after (record { limits = limits; channel = channel_id; first = begun services.old; moment = moment }) octets.now) }
-    ensures answers { OnOk result (out.new.items ≡ out.old.items ++ server_output (record { limits = limits; channel = channel_id; first = begun services.old; moment = moment }) octets.now) }
-    ensures ends { IfOk result (λ end. EndsAt (stage_of end) (record { limits = limits; channel = channel_id; first = begun services.old; moment = moment }) octets.now) }
-    ensures breaks { OnErr result (BreaksOff (record { limits = limits; channel = channel_id; first = begun services.old; moment = moment }) [] octets.now out.old.items out.new.items services.new) }
+    ensures leaves { OnOk result
+        (services.new
+        ≡ services_after (record { limits = limits; channel = channel_id; first = begun services.old; moment = moment })
+        octets.now) }
+    ensures answers { OnOk result
+        (out.new.items ≡ out.old.items
+        ++ server_output (record { limits = limits; channel = channel_id; first = begun services.old; moment = moment })
+        octets.now) }
+    ensures ends { IfOk result
+        (λ end. EndsAt (stage_of end)
+        (record { limits = limits; channel = channel_id; first = begun services.old; moment = moment }) octets.now) }
+    ensures breaks { OnErr result
+        (BreaksOff (record { limits = limits; channel = channel_id; first = begun services.old; moment = moment }) []
+        octets.now out.old.items out.new.items services.new) }
     ensures memory { IfErr result (λ fault. fault ≡ OutOfMemory) }
 {
     services.begin();

@@ -26,7 +26,8 @@ pub fn write_and_read<L: Line>(
     reads: Vec<ReadValueId>,
 ) -> Result<Vec<Reply>, ClientFault>
     requires { IsTrue (text.encodable url) }
-    ensures talks { IfOk result (λ replies. Talk limits url moment writes.items reads.items (L.traffic line.old) (L.traffic line.new) replies.items) }
+    ensures talks { IfOk result (λ replies. Talk limits url moment writes.items reads.items (L.traffic line.old)
+        (L.traffic line.new) replies.items) }
     ensures count { IfOk result (λ replies. length replies.items ≡ 2) }
 {
     let mut client = Client::open(alloc, line, limits, url, moment)?;
@@ -45,7 +46,8 @@ fn requests_of(
     writes: Vec<WriteValue>,
     reads: Vec<ReadValueId>,
 ) -> Result<Vec<Request>, ClientFault>
-    ensures { IfOk result (λ requests. requests.items ≡ write token moment 1 writes.items ∷ read token moment 2 reads.items ∷ []) }
+    ensures { IfOk result
+        (λ requests. requests.items ≡ write token moment 1 writes.items ∷ read token moment 2 reads.items ∷ []) }
 {
     let Ok(same) = token.try_clone() else {
         return Err(ClientFault::OutOfMemory);

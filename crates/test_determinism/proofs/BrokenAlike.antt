@@ -81,20 +81,34 @@ module _ (limits : Limits) (channel : ℕ) (first : State) where
   -- ---- where it was said
 
   -- nothing was said: then nothing is unwritten
-  no_word : (before : List Told) (moments : List DateTime) (written unwritten : List ℕ) → before ≡ [] → output_of channel first (before ++ []) Going moments ≡ written ++ unwritten → 0 < length unwritten → ⊥
+  no_word : (before : List Told) (moments : List DateTime) (written unwritten : List ℕ) → before ≡ [] → output_of channel first (before ++ []) Going moments
+      ≡ written ++ unwritten → 0 < length unwritten → ⊥
   no_word before moments written unwritten none said_is some =
-      let silent : output_of channel first (before ++ []) Going moments ≡ [] = ap (λ (t : List Told). output_of channel first (t ++ []) Going moments) none ∙ said-nothing channel first moments in
+      let silent : output_of channel first (before ++ []) Going moments ≡ [] = ap (λ (t : List Told). output_of channel first (t ++ []) Going moments) none
+      ∙ said-nothing channel first moments in
       omega (arith, some, ap length said_is, ap length silent, length-append written unwritten)
 
   with_none : (n m : ℕ) → n ≡ m + 1 → n + 0 ≡ m + 1
   with_none n m e = omega (arith, e)
 
-  said_at : (front more whole : List ℕ) (before : List Told) (word : LastWord) (moments : List DateTime) (written unwritten : List ℕ) → front ++ more ≡ whole → EndsAt limits channel front before word
-      → output_of channel first (before ++ told_at word) (end_at word) moments ≡ written ++ unwritten → 0 < length unwritten → AreAsked limits channel front (before ++ told_at word) moments
+  said_at : (front more whole : List ℕ) (before : List Told) (word : LastWord) (moments : List DateTime) (written unwritten : List ℕ) → front ++ more ≡ whole
+      → EndsAt limits channel front before word
+      → output_of channel first (before ++ told_at word) (end_at word) moments ≡ written ++ unwritten → 0 < length unwritten
+      → AreAsked limits channel front (before ++ told_at word) moments
       → (place : SaidAt whole before (before ++ told_at word) (end_at word)) × (length moments + used_last place ≡ used_in (before ++ told_at word) + 1)
-  said_at front more whole before Nothing moments written unwritten parts ends said_is some asked = absurd (no_word before moments written unwritten ends.1 said_is some)
+  said_at front more whole before Nothing moments written unwritten parts ends said_is some asked =
+      absurd (no_word before moments written unwritten ends.1 said_is some)
   said_at front more whole before (Answer t) moments written unwritten parts ends said_is some asked = (
-    Answers t (record { front = front; more = more; parts = parts; frames = ends.frames; frame = ends.frame; run = ends.run; told_is = ends.told_is; tells = ends.tells }) refl refl,
+    Answers t (record {
+      front = front;
+      more = more;
+      parts = parts;
+      frames = ends.frames;
+      frame = ends.frame;
+      run = ends.run;
+      told_is = ends.told_is;
+      tells = ends.tells;
+    }) refl refl,
     answered-count limits channel front before t moments ends asked,
   )
   said_at front more whole before (Refusal code) moments written unwritten parts ends said_is some asked = (
@@ -106,12 +120,14 @@ module _ (limits : Limits) (channel : ℕ) (first : State) where
   fewer before word n h = omega (arith, h, used_in-append before word)
 
   -- moments more are not used
-  breaks : (whole written : List ℕ) (used more moments : List DateTime) (now : State) (asked : List AnsweredRequest) → moments ≡ used ++ more → (b : BrokeOff whole written used now asked)
+  breaks : (whole written : List ℕ) (used more moments : List DateTime) (now : State) (asked : List AnsweredRequest) → moments ≡ used ++ more
+      → (b : BrokeOff whole written used now asked)
       → Breaks whole written moments (length used) now asked (b.broken.before ++ told_at b.broken.word)
   breaks whole written used more moments now asked is b =
       let o = b.broken in
       let told = o.before ++ told_at o.word in
-      let parts : o.front ++ (o.behind ++ b.ahead) ≡ whole = sym (append_assoc o.front o.behind b.ahead) ∙ (ap (λ (t : List ℕ). t ++ b.ahead) (sym o.front_is) ∙ b.parts) in
+      let parts : o.front ++ (o.behind ++ b.ahead) ≡ whole = sym (append_assoc o.front o.behind b.ahead)
+      ∙ (ap (λ (t : List ℕ). t ++ b.ahead) (sym o.front_is) ∙ b.parts) in
       let at = said_at o.front (o.behind ++ b.ahead) whole o.before o.word used written o.unwritten parts o.ends o.said_is b.some b.counts in
       subst (λ (ms : List DateTime). Breaks whole written ms (length used) now asked (b.broken.before ++ told_at b.broken.word)) (sym is) (record {
         before = o.before;
@@ -121,7 +137,9 @@ module _ (limits : Limits) (channel : ℕ) (first : State) where
         state_is = ap (λ (c : Course). c.state) (left-more channel first told used more o.used.0) ∙ o.state_is;
         asked_is = b.tells ∙ sym (requests-more channel first told used more o.used.0);
         part = o.part;
-        written_is = o.written_is ∙ ap (λ (t : List ℕ). t ++ o.part) (sym (said-more channel first o.before Going used more (fewer o.before (told_at o.word) (length used) o.used.0)));
+        written_is = o.written_is
+            ∙ ap (λ (t : List ℕ). t ++ o.part)
+            (sym (said-more channel first o.before Going used more (fewer o.before (told_at o.word) (length used) o.used.0)));
         unwritten = o.unwritten;
         said_is = said-more channel first told (end_at o.word) used more o.used.0 ∙ o.said_is;
         some = b.some;
@@ -134,9 +152,12 @@ module _ (limits : Limits) (channel : ℕ) (first : State) where
 
   module _ (whole written : List ℕ) (moments : List DateTime) where
     -- what is said with one last word is longer than what was written, and so than what is said before another
-    no_more : (now then : State) (asked also : List AnsweredRequest) (told other more : List Told) (given other_given : ℕ) (a : Breaks whole written moments given now asked told) (b : Breaks whole written moments other_given then also other) → a.end ≡ Going → b.before ≡ told ++ more → ⊥
+    no_more : (now then : State) (asked also : List AnsweredRequest) (told other more : List Told) (given other_given : ℕ)
+        (a : Breaks whole written moments given now asked told) (b : Breaks whole written moments other_given then also other) → a.end ≡ Going
+        → b.before ≡ told ++ more → ⊥
     no_more now then asked also told other more given other_given a b going is =
-        let all : output_of channel first told Going moments ≡ written ++ a.unwritten = ap (λ (e : End ℕ). output_of channel first told e moments) (sym going) ∙ a.said_is in
+        let all : output_of channel first told Going moments ≡ written ++ a.unwritten = ap (λ (e : End ℕ). output_of channel first told e moments) (sym going)
+        ∙ a.said_is in
         let on = ap (λ (t : List Told). output_of channel first t Going moments) is ∙ said-append channel first told more Going moments in
         omega (
           arith,
@@ -150,19 +171,24 @@ module _ (limits : Limits) (channel : ℕ) (first : State) where
         )
 
     -- the frames of a longer reading go on behind the frame that is answered
-    ahead : (before : List Told) (t : Told) (a : AnswersAt whole before t) (gs : List Frame) (x : List ℕ) (end : End ℕ) → Run R whole gs x end → (later : List Frame) × (gs ≡ (a.frames ++ a.frame ∷ []) ++ later)
+    ahead : (before : List Told) (t : Told) (a : AnswersAt whole before t) (gs : List Frame) (x : List ℕ) (end : End ℕ) → Run R whole gs x end
+        → (later : List Frame) × (gs ≡ (a.frames ++ a.frame ∷ []) ++ later)
     ahead before t a gs x end run = begins R a.front a.more whole (a.frames ++ a.frame ∷ []) gs [] x Going end a.parts a.run run
 
     -- and so goes on what they tell
-    told_on : (before told other : List Told) (t : Told) (a : AnswersAt whole before t) → told ≡ before ++ t ∷ [] → (later gs : List Frame) → gs ≡ (a.frames ++ a.frame ∷ []) ++ later → events R gs ≡ other → (more : List Told) × (other ≡ told ++ more)
+    told_on : (before told other : List Told) (t : Told) (a : AnswersAt whole before t) → told ≡ before ++ t ∷ [] → (later gs : List Frame)
+        → gs ≡ (a.frames ++ a.frame ∷ []) ++ later → events R gs ≡ other → (more : List Told) × (other ≡ told ++ more)
     told_on before told other t a is later gs e tells =
         let more = each_from R.tells (a.frames ++ a.frame ∷ []) later in
         (more, sym tells ∙ (tells_more R a.frames later gs a.frame before t e a.told_is a.tells ∙ ap (λ (ts : List Told). ts ++ more) (sym is)))
 
-    module _ (now then : State) (asked also : List AnsweredRequest) (told other : List Told) (given other_given : ℕ) (a : Breaks whole written moments given now asked told) (b : Breaks whole written moments other_given then also other) where
+    module _ (now then : State) (asked also : List AnsweredRequest) (told other : List Told) (given other_given : ℕ)
+        (a : Breaks whole written moments given now asked told) (b : Breaks whole written moments other_given then also other) where
       -- both answered a frame: it is one
-      both_answered : (t u : Told) (p : AnswersAt whole a.before t) (q : AnswersAt whole b.before u) → told ≡ a.before ++ t ∷ [] → other ≡ b.before ++ u ∷ [] → a.end ≡ Going → b.end ≡ Going → told ≡ other
-      both_answered t u p q is too going going_too = by_frames (split p.frames q.frames p.frame q.frame first_behind.0 second_behind.0 (sym first_behind.1 ∙ second_behind.1))
+      both_answered : (t u : Told) (p : AnswersAt whole a.before t) (q : AnswersAt whole b.before u) → told ≡ a.before ++ t ∷ [] → other ≡ b.before ++ u ∷ []
+          → a.end ≡ Going → b.end ≡ Going → told ≡ other
+      both_answered t u p q is too going going_too =
+          by_frames (split p.frames q.frames p.frame q.frame first_behind.0 second_behind.0 (sym first_behind.1 ∙ second_behind.1))
         where
           first_behind : (later : List Frame) × ((reading R whole).frames ≡ (p.frames ++ p.frame ∷ []) ++ later)
           first_behind = ahead a.before t p (reading R whole).frames (reading R whole).rest (reading R whole).end (reading R whole).run
@@ -206,10 +232,13 @@ module _ (limits : Limits) (channel : ℕ) (first : State) where
           )
 
   -- at moments of which one list begins the other the requests that are told of are the same, and so are the states; and the moments are as many
-  pub broken_once : (whole written : List ℕ) (ms ns : List DateTime) (now then : State) (asked also : List AnsweredRequest) → Begins ms ns → BrokeOff whole written ms now asked → BrokeOff whole written ns then also → (asked ≡ also) × (now ≡ then) × (length ms ≡ length ns)
+  pub broken_once : (whole written : List ℕ) (ms ns : List DateTime) (now then : State) (asked also : List AnsweredRequest) → Begins ms ns
+      → BrokeOff whole written ms now asked → BrokeOff whole written ns then also → (asked ≡ also) × (now ≡ then) × (length ms ≡ length ns)
   broken_once whole written ms ns now then asked also (First more e) a b =
-      breaks_once whole written ns now then asked also (a.broken.before ++ told_at a.broken.word) (b.broken.before ++ told_at b.broken.word) (length ms) (length ns)
+      breaks_once whole written ns now then asked also (a.broken.before ++ told_at a.broken.word) (b.broken.before ++ told_at b.broken.word) (length ms)
+      (length ns)
       (breaks whole written ms more ns now asked e a) (breaks whole written ns [] ns then also (sym (append-nil ns)) b)
   broken_once whole written ms ns now then asked also (Second more e) a b =
-      breaks_once whole written ms now then asked also (a.broken.before ++ told_at a.broken.word) (b.broken.before ++ told_at b.broken.word) (length ms) (length ns)
+      breaks_once whole written ms now then asked also (a.broken.before ++ told_at a.broken.word) (b.broken.before ++ told_at b.broken.word) (length ms)
+      (length ns)
       (breaks whole written ms [] ms now asked (sym (append-nil ms)) a) (breaks whole written ns more ms then also e b)

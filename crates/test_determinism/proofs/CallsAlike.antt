@@ -40,11 +40,13 @@ pub record Ran (new : Connection) (sent taken : List ℕ) (line after : Option T
 regroup : (taken left got more start : List ℕ) → start ++ got ≡ taken ++ left → taken ++ (left ++ more) ≡ start ++ (got ++ more)
 regroup taken left got more start e = sym (append_assoc taken left more) ∙ (ap (λ (t : List ℕ). t ++ more) (sym e) ∙ append_assoc start got more)
 
-pub ran : (old new : Connection) (sent : List ℕ) (line after : Option Traffic) (coming : List ℕ) (t : Traffic) (m : MovesConnection old new sent line after) → line ≡ Some t → ((more : List ℕ) → untaken_of old ++ t.coming more ≡ coming) → Ran new sent m.taken line after coming
+pub ran : (old new : Connection) (sent : List ℕ) (line after : Option Traffic) (coming : List ℕ) (t : Traffic) (m : MovesConnection old new sent line after)
+    → line ≡ Some t → ((more : List ℕ) → untaken_of old ++ t.coming more ≡ coming) → Ran new sent m.taken line after coming
 ran old new sent line after coming t m e brings =
     let p = where_told (Carries m.got sent) line after t e m.carried in
     let all : (more : List ℕ) → m.taken ++ (untaken_of new ++ p.after.coming more) ≡ coming =
-    λ more. regroup m.taken (untaken_of new) m.got (p.after.coming more) (untaken_of old) m.parts ∙ (ap (λ (c : List ℕ). untaken_of old ++ c) (sym (p.holds.coming more)) ∙ brings (sent ++ more)) in
+    λ more. regroup m.taken (untaken_of new) m.got (p.after.coming more) (untaken_of old) m.parts
+    ∙ (ap (λ (c : List ℕ). untaken_of old ++ c) (sym (p.holds.coming more)) ∙ brings (sent ++ more)) in
     record {
       first = t;
       first_is = e;
@@ -55,11 +57,13 @@ ran old new sent line after coming t m e brings =
       written = p.holds.written;
     }
 
-pub ran_wrote : (new : Connection) (sent taken : List ℕ) (line after : Option Traffic) (coming : List ℕ) → Ran new sent taken line after coming → Wrote line after sent
+pub ran_wrote : (new : Connection) (sent taken : List ℕ) (line after : Option Traffic) (coming : List ℕ) → Ran new sent taken line after coming
+    → Wrote line after sent
 ran_wrote new sent taken line after coming r = wrote line after r.first r.last sent r.first_is r.last_is r.written
 
 -- two calls that wrote the same
-pub both_wrote : (one two : Connection) (sent other taken got : List ℕ) (line after elsewhere later : Option Traffic) (coming : List ℕ) → sent ≡ other → Ran one sent taken line after coming → Ran two other got elsewhere later coming → WroteAlike line after elsewhere later
+pub both_wrote : (one two : Connection) (sent other taken got : List ℕ) (line after elsewhere later : Option Traffic) (coming : List ℕ) → sent ≡ other
+    → Ran one sent taken line after coming → Ran two other got elsewhere later coming → WroteAlike line after elsewhere later
 both_wrote one two sent other taken got line after elsewhere later coming e r q = record {
   sent = sent;
   first = ran_wrote one sent taken line after coming r;
@@ -67,45 +71,65 @@ both_wrote one two sent other taken got line after elsewhere later coming e r q 
 }
 
 -- the octets that a call leaves to come
-pub ran_comes : (x : Client) (new : Connection) (sent taken : List ℕ) (line after : Option Traffic) (coming : List ℕ) (r : Ran new sent taken line after coming) → connection_of x ≡ new → ComesTo x after (untaken_of new ++ r.last.coming [])
+pub ran_comes : (x : Client) (new : Connection) (sent taken : List ℕ) (line after : Option Traffic) (coming : List ℕ) (r : Ran new sent taken line after coming)
+    → connection_of x ≡ new → ComesTo x after (untaken_of new ++ r.last.coming [])
 ran_comes x new sent taken line after coming r e =
     subst (λ (z : Option Traffic). ComesTo x z (untaken_of new ++ r.last.coming [])) (sym r.last_is)
     (λ more. ap (λ (c : Connection). untaken_of c ++ r.last.coming more) e ∙ append_cancel_left taken _ _ (r.all more ∙ sym r.parts))
 
 -- what comes to a client over a line that tells its octets
-pub comes_at : (x : Client) (line : Option Traffic) (coming : List ℕ) → ComesTo x line coming → (t : Traffic) × (line ≡ Some t) × ((more : List ℕ) → untaken_of (connection_of x) ++ t.coming more ≡ coming)
+pub comes_at : (x : Client) (line : Option Traffic) (coming : List ℕ) → ComesTo x line coming → (t : Traffic) × (line ≡ Some t)
+    × ((more : List ℕ) → untaken_of (connection_of x) ++ t.coming more ≡ coming)
 comes_at x (Some t) coming h = (t, refl, h)
 comes_at x None coming h = absurd h
 
 -- where a call stopped at the end of the input all was taken
-pub ended_all : (new : Connection) (sent taken : List ℕ) (line after : Option Traffic) (coming : List ℕ) → Ran new sent taken line after coming → untaken_of new ≡ [] → IsAtEnd after → taken ≡ coming
+pub ended_all : (new : Connection) (sent taken : List ℕ) (line after : Option Traffic) (coming : List ℕ) → Ran new sent taken line after coming
+    → untaken_of new ≡ [] → IsAtEnd after → taken ≡ coming
 ended_all new sent taken line after coming r none end =
     let last : r.last.coming [] ≡ [] = subst IsAtEnd r.last_is end in
     sym (append-nil taken) ∙ (ap (λ (t : List ℕ). taken ++ t) (sym (ap (λ (u : List ℕ). u ++ r.last.coming []) none ∙ last)) ∙ r.parts)
 
 -- and nothing is to come
-pub ended_more : (new : Connection) (sent taken : List ℕ) (line after : Option Traffic) (coming : List ℕ) (r : Ran new sent taken line after coming) → untaken_of new ≡ [] → IsAtEnd after → untaken_of new ++ r.last.coming [] ≡ []
+pub ended_more : (new : Connection) (sent taken : List ℕ) (line after : Option Traffic) (coming : List ℕ) (r : Ran new sent taken line after coming)
+    → untaken_of new ≡ [] → IsAtEnd after → untaken_of new ++ r.last.coming [] ≡ []
 ended_more new sent taken line after coming r none end = ap (λ (u : List ℕ). u ++ r.last.coming []) none ∙ subst IsAtEnd r.last_is end
 
 -- where the same octets were written to both lines both calls sent the same
-pub wrote_same : (one two : Connection) (sent other taken got : List ℕ) (line after elsewhere later : Option Traffic) (coming : List ℕ) → Ran one sent taken line after coming → Ran two other got elsewhere later coming → WroteAlike line after elsewhere later → sent ≡ other
+pub wrote_same : (one two : Connection) (sent other taken got : List ℕ) (line after elsewhere later : Option Traffic) (coming : List ℕ)
+    → Ran one sent taken line after coming → Ran two other got elsewhere later coming → WroteAlike line after elsewhere later → sent ≡ other
 wrote_same one two sent other taken got line after elsewhere later coming r q w =
     append_cancel_left r.first.written sent w.sent (sym r.written ∙ wrote_at line after r.first r.last w.sent r.first_is r.last_is w.first)
     ∙ sym (append_cancel_left q.first.written other w.sent (sym q.written ∙ wrote_at elsewhere later q.first q.last w.sent q.first_is q.last_is w.second))
 
 -- where reads of both failed behind the same octets both took the same
-pub read_same : (one two : Connection) (sent other taken got : List ℕ) (line after elsewhere later : Option Traffic) (coming : List ℕ) → Ran one sent taken line after coming → Ran two other got elsewhere later coming
+pub read_same : (one two : Connection) (sent other taken got : List ℕ) (line after elsewhere later : Option Traffic) (coming : List ℕ)
+    → Ran one sent taken line after coming → Ran two other got elsewhere later coming
     → untaken_of one ≡ [] → untaken_of two ≡ [] → ComeAlike after later → taken ≡ got
 read_same one two sent other taken got line after elsewhere later coming r q none also same =
     append_cancel_right taken got (r.last.coming [])
     (ap (λ (u : List ℕ). taken ++ (u ++ r.last.coming [])) (sym none)
-    ∙ (r.parts ∙ (sym q.parts ∙ (ap (λ (u : List ℕ). got ++ (u ++ q.last.coming [])) also ∙ ap (λ (c : List ℕ). got ++ c) (sym (come after later r.last q.last r.last_is q.last_is same))))))
+    ∙ (r.parts
+    ∙ (sym q.parts
+    ∙ (ap (λ (u : List ℕ). got ++ (u ++ q.last.coming [])) also
+    ∙ ap (λ (c : List ℕ). got ++ c) (sym (come after later r.last q.last r.last_is q.last_is same))))))
 
 -- fewer octets than the most reads
-pub few_reads : (old new : Connection) (sent : List ℕ) (line after : Option Traffic) (coming before : List ℕ) (t : Traffic) (m : MovesConnection old new sent line after) → line ≡ Some t → ((more : List ℕ) → untaken_of old ++ t.coming more ≡ coming) → length (before ++ coming) < 0xFFFF_FFFF_FFFF_FFFF → most_reads ≤ length m.got → ⊥
+pub few_reads : (old new : Connection) (sent : List ℕ) (line after : Option Traffic) (coming before : List ℕ) (t : Traffic)
+    (m : MovesConnection old new sent line after) → line ≡ Some t → ((more : List ℕ) → untaken_of old ++ t.coming more ≡ coming)
+    → length (before ++ coming) < 0xFFFF_FFFF_FFFF_FFFF → most_reads ≤ length m.got → ⊥
 few_reads old new sent line after coming before t m e brings few most =
     let p = where_told (Carries m.got sent) line after t e m.carried in
-    omega (arith, few, most, length-append before coming, ap length (brings (sent ++ [])), length-append (untaken_of old) (t.coming (sent ++ [])), ap length (p.holds.coming []), length-append m.got (p.after.coming []))
+    omega (
+      arith,
+      few,
+      most,
+      length-append before coming,
+      ap length (brings (sent ++ [])),
+      length-append (untaken_of old) (t.coming (sent ++ [])),
+      ap length (p.holds.coming []),
+      length-append m.got (p.after.coming []),
+    )
 
 -- ---- faults of waiting
 
@@ -115,8 +139,10 @@ pub data EndsBy (f : ClientFault) (e : End Why) : Type 0 where
   ByOurs : (code : StatusCode) → f ≡ fault.Refused code → e ≡ Stopped (ours code.code) → EndsBy f e
   ByEnd : f ≡ fault.Ended → e ≡ Going → EndsBy f e
 
-same_why : (code other : ℕ) (p q : Bool) (e d : End Why) → e ≡ Stopped (record { code = code; peer = p }) → d ≡ Stopped (record { code = other; peer = q }) → e ≡ d → (code ≡ other) × (p ≡ q)
-same_why code other p q e d a b same = let c : ◌≡◌ {A = End Why} (Stopped (record { code = code; peer = p })) (Stopped (record { code = other; peer = q })) = sym a ∙ (same ∙ b) in (why_code c, why_peer c)
+same_why : (code other : ℕ) (p q : Bool) (e d : End Why) → e ≡ Stopped (record { code = code; peer = p }) → d ≡ Stopped (record { code = other; peer = q })
+    → e ≡ d → (code ≡ other) × (p ≡ q)
+same_why code other p q e d a b same = let c : ◌≡◌ {A = End Why} (Stopped (record { code = code; peer = p })) (Stopped (record { code = other; peer = q })) =
+    sym a ∙ (same ∙ b) in (why_code c, why_peer c)
   where
     stopped : (v w : Why) → ◌≡◌ {A = End Why} (Stopped v) (Stopped w) → v ≡ w
     stopped v w k = cc
@@ -135,11 +161,13 @@ not_true b e = cc
 
 -- two faults behind one end are one
 pub one_fault : (f g : ClientFault) (e d : End Why) → EndsBy f e → EndsBy g d → e ≡ d → f ≡ g
-one_fault f g e d (ByPeer code p q) (ByPeer why r s) same = p ∙ (ap (λ (c : StatusCode). fault.Peer c) (same_code code why (same_why code.code why.code true true e d q s same).0) ∙ sym r)
+one_fault f g e d (ByPeer code p q) (ByPeer why r s) same = p
+    ∙ (ap (λ (c : StatusCode). fault.Peer c) (same_code code why (same_why code.code why.code true true e d q s same).0) ∙ sym r)
 one_fault f g e d (ByPeer code p q) (ByOurs why r s) same = absurd (not_true true (same_why code.code why.code true false e d q s same).1)
 one_fault f g e d (ByPeer code p q) (ByEnd r s) same = absurd (not_stopped (peers code.code) e d q s same)
 one_fault f g e d (ByOurs code p q) (ByPeer why r s) same = absurd (not_true true (sym (same_why code.code why.code false true e d q s same).1))
-one_fault f g e d (ByOurs code p q) (ByOurs why r s) same = p ∙ (ap (λ (c : StatusCode). fault.Refused c) (same_code code why (same_why code.code why.code false false e d q s same).0) ∙ sym r)
+one_fault f g e d (ByOurs code p q) (ByOurs why r s) same = p
+    ∙ (ap (λ (c : StatusCode). fault.Refused c) (same_code code why (same_why code.code why.code false false e d q s same).0) ∙ sym r)
 one_fault f g e d (ByOurs code p q) (ByEnd r s) same = absurd (not_stopped (ours code.code) e d q s same)
 one_fault f g e d (ByEnd p q) (ByPeer why r s) same = absurd (not_stopped (peers why.code) d e s q (sym same))
 one_fault f g e d (ByEnd p q) (ByOurs why r s) same = absurd (not_stopped (ours why.code) d e s q (sym same))
@@ -148,22 +176,27 @@ one_fault f g e d (ByEnd p q) (ByEnd r s) same = p ∙ sym r
 -- ---- readings
 
 -- a channel whose connection ended read all so
-pub ended_reads : (R : Rules ClientTold Why) (x : ClientChannel) (asks : List Placed) (octets more whole : List ℕ) (told : List ClientTold) (why : Why) → client_rules_of x asks ≡ R → octets ++ more ≡ whole → ClientEnded x asks octets told why → ReadsAll R whole told (Stopped why)
+pub ended_reads : (R : Rules ClientTold Why) (x : ClientChannel) (asks : List Placed) (octets more whole : List ℕ) (told : List ClientTold) (why : Why)
+    → client_rules_of x asks ≡ R → octets ++ more ≡ whole → ClientEnded x asks octets told why → ReadsAll R whole told (Stopped why)
 ended_reads R x asks octets more whole told why same parts e =
     stopped_all R whole octets more e.frames e.rest told (Stopped why) (λ k. cc) parts
-    (subst (λ (S : Rules ClientTold Why). Run S octets e.frames e.rest (Stopped why)) same e.run) (subst (λ (S : Rules ClientTold Why). events S e.frames ≡ told) same e.told_is)
+    (subst (λ (S : Rules ClientTold Why). Run S octets e.frames e.rest (Stopped why)) same e.run)
+    (subst (λ (S : Rules ClientTold Why). events S e.frames ≡ told) same e.told_is)
 
 -- one that goes on behind all read all so
-pub goes_reads : (R : Rules ClientTold Why) (x : ClientChannel) (asks : List Placed) (octets whole : List ℕ) (told : List ClientTold) → client_rules_of x asks ≡ R → octets ≡ whole → ClientGoes x asks octets told → ReadsAll R whole told Going
+pub goes_reads : (R : Rules ClientTold Why) (x : ClientChannel) (asks : List Placed) (octets whole : List ℕ) (told : List ClientTold)
+    → client_rules_of x asks ≡ R → octets ≡ whole → ClientGoes x asks octets told → ReadsAll R whole told Going
 goes_reads R x asks octets whole told same all g = record {
   frames = g.frames;
   rest = g.rest;
-  run = subst (λ (S : Rules ClientTold Why). Run S whole g.frames g.rest Going) same (subst (λ (o : List ℕ). Run (client_rules_of x asks) o g.frames g.rest Going) all g.stands.run);
+  run = subst (λ (S : Rules ClientTold Why). Run S whole g.frames g.rest Going) same
+      (subst (λ (o : List ℕ). Run (client_rules_of x asks) o g.frames g.rest Going) all g.stands.run);
   told_is = subst (λ (S : Rules ClientTold Why). events S g.frames ≡ told) same g.told_is;
 }
 
 -- and one that goes on behind a front read that so
-pub goes_front : (R : Rules ClientTold Why) (x : ClientChannel) (asks : List Placed) (octets more whole : List ℕ) (told : List ClientTold) → client_rules_of x asks ≡ R → octets ++ more ≡ whole → ClientGoes x asks octets told → ReadsFront R whole told
+pub goes_front : (R : Rules ClientTold Why) (x : ClientChannel) (asks : List Placed) (octets more whole : List ℕ) (told : List ClientTold)
+    → client_rules_of x asks ≡ R → octets ++ more ≡ whole → ClientGoes x asks octets told → ReadsFront R whole told
 goes_front R x asks octets more whole told same parts g = record {
   octets = octets;
   more = more;

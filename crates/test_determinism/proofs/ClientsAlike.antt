@@ -39,7 +39,8 @@ Came = Outcome ClientTold Why
 abbrev is_last : ClientTold → Bool
 is_last e = false
 
-pub to_tells : (R : Rules ClientTold Why) (x : ClientChannel) (asks : List Placed) (octets piece : List ℕ) (before : List ClientTold) (n : ℕ) (e : ClientTold) → client_rules_of x asks ≡ R → n ≤ length piece → ClientGoesTelling x asks (octets ++ take n piece) before e → Tells R octets piece before n e
+pub to_tells : (R : Rules ClientTold Why) (x : ClientChannel) (asks : List Placed) (octets piece : List ℕ) (before : List ClientTold) (n : ℕ) (e : ClientTold)
+    → client_rules_of x asks ≡ R → n ≤ length piece → ClientGoesTelling x asks (octets ++ take n piece) before e → Tells R octets piece before n e
 to_tells R x asks = tells_by client_side asks R x.end
 
 abbrev failed : Why → Seen
@@ -90,7 +91,8 @@ record Heard (moment : DateTime) (piece octets : List ℕ) (asks : List Placed) 
   left : (y : ClientChannel) → Left x y asks (octets ++ take count piece) before came → LeftClients a x y asks octets before piece
 
 module _ (moment : DateTime) (piece octets : List ℕ) (asks : List Placed) (before : List ClientTold) (x : ClientChannel) where
-  heard : (a : Answer) → ClientAnswers moment piece a x asks octets before → IfOk a (λ r. ComesInParts (parts_handed r.1) x asks (octets ++ take r.0 piece)) → ClientProgress piece a → ¬ (IsErrOf a OutOfMemory) → Heard moment piece octets asks before a x
+  heard : (a : Answer) → ClientAnswers moment piece a x asks octets before → IfOk a (λ r. ComesInParts (parts_handed r.1) x asks (octets ++ take r.0 piece))
+      → ClientProgress piece a → ¬ (IsErrOf a OutOfMemory) → Heard moment piece octets asks before a x
   heard (Ok (n, NeedMore)) h parts within had = record {
     count = n;
     came = Quietly;
@@ -171,7 +173,8 @@ pub record Both (a b : Answer) (x y : ClientChannel) (asks : List Placed) (octet
   pub answers : SameClientAnswer a b
   pub left : LeftClients a x y asks octets before piece
 
-module _ (moment : DateTime) (piece octets : List ℕ) (asks : List Placed) (before : List ClientTold) (x y : ClientChannel) (limits : client_limits x ≡ client_limits y) (nexts : client_next x ≡ client_next y) where
+module _ (moment : DateTime) (piece octets : List ℕ) (asks : List Placed) (before : List ClientTold) (x y : ClientChannel)
+    (limits : client_limits x ≡ client_limits y) (nexts : client_next x ≡ client_next y) where
   rules : client_rules_of x asks ≡ client_rules_of y asks
   rules = ap (λ (l : Limits). client_rules l asks) limits
 
@@ -181,24 +184,37 @@ module _ (moment : DateTime) (piece octets : List ℕ) (asks : List Placed) (bef
   stand : (told : List ClientTold) (o : List ℕ) → ClientGoes x asks o told → ClientGoes y asks o told → ClientsAlike x y asks o told
   stand told o p q = record { first = p; second = q; limits = limits; next = nexts }
 
-  leaves : (n : ℕ) (o : Came) → Comes client_side is_last x.end asks octets piece before n o → Comes client_side is_last y.end asks octets piece before n o → Left x y asks (octets ++ take n piece) before o
+  leaves : (n : ℕ) (o : Came) → Comes client_side is_last x.end asks octets piece before n o → Comes client_side is_last y.end asks octets piece before n o
+      → Left x y asks (octets ++ take n piece) before o
   leaves n Quietly c d = stand before (octets ++ take n piece) c.1 d.1
-  leaves n (Telling e) c d = stand (before ++ e ∷ []) (octets ++ take n piece) (tells_goes client_side asks x.end (octets ++ take n piece) before e c.2) (tells_goes client_side asks y.end (octets ++ take n piece) before e d.2)
+  leaves n (Telling e) c d = stand (before ++ e ∷ []) (octets ++ take n piece) (tells_goes client_side asks x.end (octets ++ take n piece) before e c.2)
+      (tells_goes client_side asks y.end (octets ++ take n piece) before e d.2)
   leaves n (Lasting e) c d = tt
-  leaves n (Stopping why) c d = record { first = c.1.done; second = d.1.done; bound = bound_stopped client_side asks is_last octets piece before x.end y.end rules bounds (octets ++ take n piece) before before why c.1 d.1 }
+  leaves n (Stopping why) c d =
+      record {
+        first = c.1.done;
+        second = d.1.done;
+        bound = bound_stopped client_side asks is_last octets piece before x.end y.end rules bounds
+            (octets ++ take n piece) before before why c.1 d.1;
+      }
 
   both : (a b : Answer) → Heard moment piece octets asks before a x → Heard moment piece octets asks before b y → Both a b x y asks octets piece before
   both a b p q =
       let one = one_at_both client_side asks is_last octets piece before x.end y.end rules p.count q.count p.came q.came p.comes q.comes in
       let handed = subst (λ (j : ℕ). HandsOutParts client_side q.parts y.end asks (octets ++ take j piece)) (sym one.0) q.handed in
-      let parts = same_parts client_side asks x.end y.end (octets ++ take p.count piece) p.parts q.parts rules (p.some ∙ (ap hands one.1 ∙ sym q.some)) p.handed handed in
+      let parts = same_parts client_side asks x.end y.end (octets ++ take p.count piece) p.parts q.parts rules (p.some ∙ (ap hands one.1 ∙ sym q.some)) p.handed
+      handed in
       let other = comes_as client_side asks is_last octets piece before x.end y.end rules p.count q.count p.came q.came one.0 one.1 q.comes in record {
-        answers = p.answer ∙ (ap (λ (k : ℕ). Ok (k, said moment p.parts p.came)) one.0 ∙ (ap (λ (ps : Option (List (List ℕ))). Ok (q.count, said moment ps p.came)) parts ∙ (ap (λ (z : Came). Ok (q.count, said moment q.parts z)) one.1 ∙ sym q.answer)));
+        answers = p.answer
+            ∙ (ap (λ (k : ℕ). Ok (k, said moment p.parts p.came)) one.0
+            ∙ (ap (λ (ps : Option (List (List ℕ))). Ok (q.count, said moment ps p.came)) parts
+            ∙ (ap (λ (z : Came). Ok (q.count, said moment q.parts z)) one.1 ∙ sym q.answer)));
         left = p.left y (leaves p.count p.came p.comes other);
       }
 
 -- what a channel says of a piece, and of what stays the same behind it
-pub record IsTaken (old new : ClientChannel) (moment : DateTime) (piece octets : List ℕ) (asks : List Placed) (before : List ClientTold) (a : Answer) : Type 0 where
+pub record IsTaken (old new : ClientChannel) (moment : DateTime) (piece octets : List ℕ) (asks : List Placed) (before : List ClientTold)
+    (a : Answer) : Type 0 where
   pub answers : ClientAnswers moment piece a new asks octets before
   pub parts : IfOk a (λ r. ComesInParts (parts_handed r.1) new asks (octets ++ take r.0 piece))
   pub progress : ClientProgress piece a
@@ -206,7 +222,10 @@ pub record IsTaken (old new : ClientChannel) (moment : DateTime) (piece octets :
   pub next : client_next new ≡ client_next old
 
 -- the same octets, handed to channels that stand alike
-pub alike : (one two x y : ClientChannel) (moment : DateTime) (piece octets : List ℕ) (asks : List Placed) (before : List ClientTold) (a b : Answer) → ClientsAlike one two asks octets before → IsTaken one x moment piece octets asks before a → IsTaken two y moment piece octets asks before b → HadMemory OutOfMemory a b → Both a b x y asks octets piece before
+pub alike : (one two x y : ClientChannel) (moment : DateTime) (piece octets : List ℕ) (asks : List Placed) (before : List ClientTold) (a b : Answer)
+    → ClientsAlike one two asks octets before → IsTaken one x moment piece octets asks before a → IsTaken two y moment piece octets asks before b
+    → HadMemory OutOfMemory a b → Both a b x y asks octets piece before
 alike one two x y moment piece octets asks before a b s p q had =
     both moment piece octets asks before x y (sym p.same.limits ∙ (s.limits ∙ q.same.limits)) (p.next ∙ (s.next ∙ sym q.next)) a b
-    (heard moment piece octets asks before x a p.answers p.parts p.progress had.first) (heard moment piece octets asks before y b q.answers q.parts q.progress had.second)
+    (heard moment piece octets asks before x a p.answers p.parts p.progress had.first)
+    (heard moment piece octets asks before y b q.answers q.parts q.progress had.second)

@@ -29,33 +29,47 @@ both_err (Ok v) b f p q = tt
 same_lines_added : (old older new newer a b : List ℕ) → old ≡ older → a ≡ b → new ≡ old ++ a → newer ≡ older ++ b → new ≡ newer
 same_lines_added old older new newer a b e f p q = p ∙ (ap (λ (t : List ℕ). t ++ a) e ∙ (ap (λ (t : List ℕ). older ++ t) f ∙ sym q))
 
-pub dissected_once : (options : DissectOptions) (octets old older new newer : List ℕ) → ((options : DissectOptions) (octets lines others : List ℕ) → options.plain ≡ false → AreLines options octets lines → AreLines options octets others → lines ≡ others)
+pub dissected_once : (options : DissectOptions) (octets old older new newer : List ℕ)
+    → ((options : DissectOptions) (octets lines others : List ℕ) → options.plain ≡ false → AreLines options octets lines → AreLines options octets others
+    → lines ≡ others)
     → options.plain ≡ false → old ≡ older → AddsLines options octets old new → AddsLines options octets older newer → new ≡ newer
-dissected_once options octets old older new newer once none e p q = same_lines_added old older new newer p.lines q.lines e (once options octets p.lines q.lines none p.are q.are) p.added q.added
+dissected_once options octets old older new newer once none e p q = same_lines_added old older new newer p.lines q.lines e
+    (once options octets p.lines q.lines none p.are q.are) p.added q.added
 
-told_once : (options : DissectOptions) (octets told lines others : List ℕ) → options.plain ≡ false → AreTold options octets (told ++ lines) → AreTold options octets (told ++ others) → lines ≡ others
+told_once : (options : DissectOptions) (octets told lines others : List ℕ) → options.plain ≡ false → AreTold options octets (told ++ lines)
+    → AreTold options octets (told ++ others) → lines ≡ others
 told_once options octets told lines others none a b =
     append_cancel_left told lines others (texts_exact options none a.frames (told ++ lines) a.told_are
-    ∙ (ap (λ (fs : List Frame). events (rules options) fs) (unique (rules options) octets a.frames b.frames a.rest b.rest a.end b.end a.run b.run).frames ∙ sym (texts_exact options none b.frames (told ++ others) b.told_are)))
+    ∙ (ap (λ (fs : List Frame). events (rules options) fs) (unique (rules options) octets a.frames b.frames a.rest b.rest a.end b.end a.run b.run).frames
+    ∙ sym (texts_exact options none b.frames (told ++ others) b.told_are)))
 
-pub taken_text : (x y : Dissector) (options : DissectOptions) (octets told old older new newer : List ℕ) → options.plain ≡ false → old ≡ older → TellsMore x options octets told old new → TellsMore y options octets told older newer → new ≡ newer
-taken_text x y options octets told old older new newer none e p q = same_lines_added old older new newer p.lines q.lines e (told_once options octets told p.lines q.lines none p.stands.are q.stands.are) p.added q.added
+pub taken_text : (x y : Dissector) (options : DissectOptions) (octets told old older new newer : List ℕ) → options.plain ≡ false → old ≡ older
+    → TellsMore x options octets told old new → TellsMore y options octets told older newer → new ≡ newer
+taken_text x y options octets told old older new newer none e p q = same_lines_added old older new newer p.lines q.lines e
+    (told_once options octets told p.lines q.lines none p.stands.are q.stands.are) p.added q.added
 
-pub taken_left : (x y : Dissector) (options : DissectOptions) (octets told piece old older new newer : List ℕ) → options.plain ≡ false → TellsMore x options (octets ++ piece) told old new → TellsMore y options (octets ++ piece) told older newer → TellsAlike x y options octets told piece
+pub taken_left : (x y : Dissector) (options : DissectOptions) (octets told piece old older new newer : List ℕ) → options.plain ≡ false
+    → TellsMore x options (octets ++ piece) told old new → TellsMore y options (octets ++ piece) told older newer → TellsAlike x y options octets told piece
 taken_left x y options octets told piece old older new newer none p q = record {
   lines = p.lines;
   alike = record {
     first = p.stands;
-    second = subst (λ (t : List ℕ). StandsBehind y options (octets ++ piece) (told ++ t)) (sym (told_once options (octets ++ piece) told p.lines q.lines none p.stands.are q.stands.are)) q.stands;
+    second = subst (λ (t : List ℕ). StandsBehind y options (octets ++ piece) (told ++ t))
+        (sym (told_once options (octets ++ piece) told p.lines q.lines none p.stands.are q.stands.are)) q.stands;
   };
 }
 
-pub ended_text : (options : DissectOptions) (octets told old older new newer : List ℕ) → ((options : DissectOptions) (octets lines others : List ℕ) → options.plain ≡ false → AreLines options octets lines → AreLines options octets others → lines ≡ others)
+pub ended_text : (options : DissectOptions) (octets told old older new newer : List ℕ)
+    → ((options : DissectOptions) (octets lines others : List ℕ) → options.plain ≡ false → AreLines options octets lines → AreLines options octets others
+    → lines ≡ others)
     → options.plain ≡ false → old ≡ older → EndsLines options octets told old new → EndsLines options octets told older newer → new ≡ newer
 ended_text options octets told old older new newer once none e p q =
-    same_lines_added old older new newer p.line q.line e (append_cancel_left told p.line q.line (once options octets (told ++ p.line) (told ++ q.line) none p.are q.are)) p.added q.added
+    same_lines_added old older new newer p.line q.line e
+    (append_cancel_left told p.line q.line (once options octets (told ++ p.line) (told ++ q.line) none p.are q.are)) p.added q.added
 
 pub held_once : (options : DissectOptions) (octets : List ℕ) (n m : ℕ) → AreHeld options octets n → AreHeld options octets m → n ≡ m
 held_once options octets n m a b =
     let same = unique (rules options) octets a.frames b.frames a.rest b.rest a.end b.end a.run b.run in
-    a.held_are ∙ (ap (λ (fs : List Frame). held_behind fs a.rest a.end) same.frames ∙ (ap (λ (r : List ℕ). held_behind b.frames r a.end) same.rests ∙ (ap (λ (e : End ℕ). held_behind b.frames b.rest e) same.ends ∙ sym b.held_are)))
+    a.held_are
+    ∙ (ap (λ (fs : List Frame). held_behind fs a.rest a.end) same.frames
+    ∙ (ap (λ (r : List ℕ). held_behind b.frames r a.end) same.rests ∙ (ap (λ (e : End ℕ). held_behind b.frames b.rest e) same.ends ∙ sym b.held_are)))

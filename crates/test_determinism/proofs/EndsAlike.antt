@@ -22,14 +22,16 @@ same_chunk : (fs gs : Frame) (c d : Chunk) → fs ≡ gs → content fs ≡ Send
 same_chunk fs gs c d e p q = let same : Sends c ≡ Sends d = sym p ∙ (ap content e ∙ q) in cc
 
 -- a piece comes to this at an end; what the last frame tells, no other tells
-abbrev pub Comes : {R P E : Type 0} (S : Side R P E) (last : S.Told → Bool) (x : EndCore R P) (k : S.Key) → List ℕ → List ℕ → List S.Told → ℕ → Outcome S.Told S.Why → Type 0
+abbrev pub Comes : {R P E : Type 0} (S : Side R P E) (last : S.Told → Bool) (x : EndCore R P) (k : S.Key) → List ℕ → List ℕ → List S.Told → ℕ
+    → Outcome S.Told S.Why → Type 0
 Comes S last x k octets piece told n Quietly = (n ≡ length piece) × EndGoes S x k (octets ++ take n piece) told
 Comes S last x k octets piece told n (Telling e) = (n ≤ length piece) × (last e ≡ false) × EndTells S x k (octets ++ take n piece) told e
 Comes S last x k octets piece told n (Lasting e) = (n ≤ length piece) × (last e ≡ true) × EndOver S x k (octets ++ take n piece) (told ++ e ∷ [])
 Comes S last x k octets piece told n (Stopping why) = (n ≤ length piece) × EndStops S x k (octets ++ take n piece) told why
 
 module _ {R P E : Type 0} (S : Side R P E) (k : S.Key) where
-  pub tells_by : (Q : Rules S.Told S.Why) (x : EndCore R P) (octets piece : List ℕ) (told : List S.Told) (n : ℕ) (e : S.Told) → rules_by S x k ≡ Q → n ≤ length piece → EndTells S x k (octets ++ take n piece) told e → Tells Q octets piece told n e
+  pub tells_by : (Q : Rules S.Told S.Why) (x : EndCore R P) (octets piece : List ℕ) (told : List S.Told) (n : ℕ) (e : S.Told) → rules_by S x k ≡ Q
+      → n ≤ length piece → EndTells S x k (octets ++ take n piece) told e → Tells Q octets piece told n e
   tells_by Q x octets piece told n e same within t = subst (λ (Z : Rules S.Told S.Why). Tells Z octets piece told n e) same (record {
     within = within;
     frames = t.frames;
@@ -40,18 +42,28 @@ module _ {R P E : Type 0} (S : Side R P E) (k : S.Key) where
   })
 
   pub tells_goes : (x : EndCore R P) (octets : List ℕ) (told : List S.Told) (e : S.Told) → EndTells S x k octets told e → EndGoes S x k octets (told ++ e ∷ [])
-  tells_goes x octets told e t = record { frames = t.frames ++ t.frame ∷ []; rest = []; stands = t.stands; told_is = told_behind (rules_by S x k) t.frames t.frame told e t.told_is t.tells }
+  tells_goes x octets told e t =
+      record {
+        frames = t.frames ++ t.frame ∷ [];
+        rest = [];
+        stands = t.stands;
+        told_is = told_behind (rules_by S x k) t.frames t.frame told e t.told_is t.tells;
+      }
 
   -- a message comes in the same parts
-  same_message : (x y : EndCore R P) (octets : List ℕ) (message text : List (List ℕ)) → rules_by S x k ≡ rules_by S y k → EndMessage S x k octets message → EndMessage S y k octets text → message ≡ text
+  same_message : (x y : EndCore R P) (octets : List ℕ) (message text : List (List ℕ)) → rules_by S x k ≡ rules_by S y k → EndMessage S x k octets message
+      → EndMessage S y k octets text → message ≡ text
   same_message x y octets message text same a b =
       let run = subst (λ (Z : Rules S.Told S.Why). Run Z octets (a.frames ++ a.frame ∷ []) [] Going) same a.stands.run in
       let one = pushed a.frames b.frames a.frame b.frame (unique (rules_by S y k) octets _ _ _ _ Going Going run b.stands.run).frames in
       let chunk = same_chunk a.frame b.frame a.ends.chunk b.ends.chunk one.1 a.ends.carries b.ends.carries in
-      a.ends.parts_are ∙ (ap (λ (fs : List Frame). bodies (gathered (received fs).messages a.ends.chunk)) one.0 ∙ (ap (λ (c : Chunk). bodies (gathered (received b.frames).messages c)) chunk ∙ sym b.ends.parts_are))
+      a.ends.parts_are
+      ∙ (ap (λ (fs : List Frame). bodies (gathered (received fs).messages a.ends.chunk)) one.0
+      ∙ (ap (λ (c : Chunk). bodies (gathered (received b.frames).messages c)) chunk ∙ sym b.ends.parts_are))
 
   -- a message comes both times or neither time, and in the same parts
-  pub same_parts : (x y : EndCore R P) (octets : List ℕ) (p q : Option (List (List ℕ))) → rules_by S x k ≡ rules_by S y k → is_some p ≡ is_some q → HandsOutParts S p x k octets → HandsOutParts S q y k octets → p ≡ q
+  pub same_parts : (x y : EndCore R P) (octets : List ℕ) (p q : Option (List (List ℕ))) → rules_by S x k ≡ rules_by S y k → is_some p ≡ is_some q
+      → HandsOutParts S p x k octets → HandsOutParts S q y k octets → p ≡ q
   same_parts x y octets None None same e a b = refl
   same_parts x y octets None (Some text) same e a b = absurd cc
   same_parts x y octets (Some message) None same e a b = absurd cc
@@ -66,19 +78,23 @@ module _ {R P E : Type 0} (S : Side R P E) (k : S.Key) where
       run = subst (λ (t : List ℕ). Run (rules_by S x k) t c.1.frames c.1.rest Going) (whole_taken octets piece n c.0) c.1.stands.run;
       told_is = c.1.told_is;
     }
-    reads x n (Telling e) c = (c.1, record { within = c.0; frames = c.2.frames; frame = c.2.frame; run = c.2.stands.run; told_is = c.2.told_is; tells = c.2.tells })
+    reads x n (Telling e) c =
+        (c.1, record { within = c.0; frames = c.2.frames; frame = c.2.frame; run = c.2.stands.run; told_is = c.2.told_is; tells = c.2.tells })
     reads x n (Lasting e) c = (c.1, record { within = c.0; frames = c.2.frames; run = c.2.run; told_is = c.2.told_is })
     reads x n (Stopping why) c = record { within = c.0; frames = c.1.frames; rest = c.1.rest; run = c.1.run; stops = c.1.stops; told_is = c.1.told_is }
 
     module _ (x y : EndCore R P) (same : rules_by S x k ≡ rules_by S y k) where
       -- it is one at both
-      pub one_at_both : (n m : ℕ) (o p : Outcome S.Told S.Why) → Comes S last x k octets piece told n o → Comes S last y k octets piece told m p → (n ≡ m) × (o ≡ p)
+      pub one_at_both : (n m : ℕ) (o p : Outcome S.Told S.Why) → Comes S last x k octets piece told n o → Comes S last y k octets piece told m p
+          → (n ≡ m) × (o ≡ p)
       one_at_both n m o p c d =
-          one_outcome (rules_by S y k) octets piece told last n m o p (subst (λ (Z : Rules S.Told S.Why). Reads Z last octets piece told n o) same (reads x n o c)) (reads y m p d)
+          one_outcome (rules_by S y k) octets piece told last n m o p
+          (subst (λ (Z : Rules S.Told S.Why). Reads Z last octets piece told n o) same (reads x n o c)) (reads y m p d)
 
       pub comes_as : (n m : ℕ) (o p : Outcome S.Told S.Why) → n ≡ m → o ≡ p → Comes S last y k octets piece told m p → Comes S last y k octets piece told n o
       comes_as n m o p e f d =
-          subst (λ (z : Outcome S.Told S.Why). Comes S last y k octets piece told n z) (sym f) (subst (λ (j : ℕ). Comes S last y k octets piece told j p) (sym e) d)
+          subst (λ (z : Outcome S.Told S.Why). Comes S last y k octets piece told n z) (sym f)
+          (subst (λ (j : ℕ). Comes S last y k octets piece told j p) (sym e) d)
 
       module _ (bounds : (fs : List Frame) → S.bound x.rules fs ≡ S.bound y.rules fs) where
         same_bound : (fs gs : List Frame) → fs ≡ gs → x.bound ≡ S.bound x.rules fs → y.bound ≡ S.bound y.rules gs → x.bound ≡ y.bound
@@ -87,8 +103,12 @@ module _ {R P E : Type 0} (S : Side R P E) (k : S.Key) where
         -- ends that ended hold as much at most
         pub bound_over : (o : List ℕ) (us vs : List S.Told) → EndOver S x k o us → EndOver S y k o vs → x.bound ≡ y.bound
         bound_over o us vs c d =
-            same_bound c.frames d.frames (unique (rules_by S y k) o c.frames d.frames [] [] Over Over (subst (λ (Z : Rules S.Told S.Why). Run Z o c.frames [] Over) same c.run) d.run).frames c.bound_is d.bound_is
+            same_bound c.frames d.frames
+            (unique (rules_by S y k) o c.frames d.frames [] [] Over Over (subst (λ (Z : Rules S.Told S.Why). Run Z o c.frames [] Over) same c.run)
+            d.run).frames c.bound_is d.bound_is
 
         pub bound_stopped : (o : List ℕ) (us vs : List S.Told) (why : S.Why) → EndStops S x k o us why → EndStops S y k o vs why → x.bound ≡ y.bound
         bound_stopped o us vs why c d =
-            same_bound c.frames d.frames (unique (rules_by S y k) o c.frames d.frames c.rest d.rest (Stopped why) (Stopped why) (subst (λ (Z : Rules S.Told S.Why). Run Z o c.frames c.rest (Stopped why)) same c.run) d.run).frames c.bound_is d.bound_is
+            same_bound c.frames d.frames
+            (unique (rules_by S y k) o c.frames d.frames c.rest d.rest (Stopped why) (Stopped why)
+            (subst (λ (Z : Rules S.Told S.Why). Run Z o c.frames c.rest (Stopped why)) same c.run) d.run).frames c.bound_is d.bound_is

@@ -18,7 +18,8 @@ use Rattle.test_determinism.proofs.StreamsAlike.Splits.{Here, Later, Sooner}
 
 accepted_from : {A : Type 0} (P : List A → A → Type 0) (start before behind : List A) (t : A) → AllFrom P start (before ++ t ∷ behind) → P (start ++ before) t
 accepted_from {A = A} P start [] behind t h = subst (λ (xs : List A). P xs t) (sym (append-nil start)) h.0
-accepted_from {A = A} P start (b ∷ before) behind t h = subst (λ (xs : List A). P xs t) (append_assoc start (b ∷ []) before) (accepted_from P (start ++ b ∷ []) before behind t h.1)
+accepted_from {A = A} P start (b ∷ before) behind t h = subst (λ (xs : List A). P xs t) (append_assoc start (b ∷ []) before)
+    (accepted_from P (start ++ b ∷ []) before behind t h.1)
 
 accepted_at : (before behind : List Turn) (t : Turn) → AreAccepted (before ++ t ∷ behind) → turn_refusal before t ≡ None
 unfolding AllAfter
@@ -33,12 +34,15 @@ not_refused turns fault all r = no_fault (turn_refusal r.before r.turn) fault (a
 same_reason : (o : Option PairFault) (fault other : PairFault) → o ≡ Some fault → o ≡ Some other → fault ≡ other
 same_reason o fault other p q = let e : Some fault ≡ Some other = sym p ∙ q in cc
 
-earlier_refused : (before other more : List Turn) (t : Turn) (fault : PairFault) → other ≡ (before ++ t ∷ []) ++ more → AreAccepted other → turn_refusal before t ≡ Some fault → ⊥
+earlier_refused : (before other more : List Turn) (t : Turn) (fault : PairFault) → other ≡ (before ++ t ∷ []) ++ more → AreAccepted other
+    → turn_refusal before t ≡ Some fault → ⊥
 earlier_refused before other more t fault e all r =
     no_fault (turn_refusal before t) fault (accepted_at before more t (subst AreAccepted (e ∙ append_assoc before (t ∷ []) more) all)) r
 
-by_places : (before other xs ys : List Turn) (t d : Turn) (fault reason : PairFault) → Splits before other t d xs ys → AreAccepted before → AreAccepted other → turn_refusal before t ≡ Some fault → turn_refusal other d ≡ Some reason → fault ≡ reason
-by_places before other xs ys t d fault reason (Here p q) all also r s = same_reason (turn_refusal other d) fault reason (ap (λ (ts : List Turn). turn_refusal ts d) (sym p) ∙ (ap (turn_refusal before) (sym q) ∙ r)) s
+by_places : (before other xs ys : List Turn) (t d : Turn) (fault reason : PairFault) → Splits before other t d xs ys → AreAccepted before → AreAccepted other
+    → turn_refusal before t ≡ Some fault → turn_refusal other d ≡ Some reason → fault ≡ reason
+by_places before other xs ys t d fault reason (Here p q) all also r s =
+    same_reason (turn_refusal other d) fault reason (ap (λ (ts : List Turn). turn_refusal ts d) (sym p) ∙ (ap (turn_refusal before) (sym q) ∙ r)) s
 by_places before other xs ys t d fault reason (Later m p) all also r s = absurd (earlier_refused before other m t fault p also r)
 by_places before other xs ys t d fault reason (Sooner m p) all also r s = absurd (earlier_refused other before m d reason p all s)
 
@@ -48,7 +52,8 @@ regrouped before behind t = append_assoc before (t ∷ []) behind
 one_refused : (turns : List Turn) (fault other : PairFault) → FirstRefused turns fault → FirstRefused turns other → fault ≡ other
 one_refused turns fault other a b =
     by_places a.before b.before a.behind b.behind a.turn b.turn fault other
-    (split a.before b.before a.turn b.turn a.behind b.behind (regrouped a.before a.behind a.turn ∙ (sym a.parts ∙ (b.parts ∙ sym (regrouped b.before b.behind b.turn)))))
+    (split a.before b.before a.turn b.turn a.behind b.behind (regrouped a.before a.behind a.turn
+    ∙ (sym a.parts ∙ (b.parts ∙ sym (regrouped b.before b.behind b.turn)))))
     a.accepted b.accepted a.refused b.refused
 
 some_head : (a b : Reply) (us vs : List (Option Reply)) → Some a ∷ us ≡ Some b ∷ vs → a ≡ b
@@ -64,7 +69,8 @@ same_replies : (us vs : List Reply) → map Some us ≡ map Some vs → us ≡ v
 same_replies [] [] e = refl
 same_replies [] (b ∷ vs) e = cc
 same_replies (a ∷ us) [] e = cc
-same_replies (a ∷ us) (b ∷ vs) e = more_same a b us vs (some_head a b (map Some us) (map Some vs) e) (same_replies us vs (some_tail (Some a) (Some b) (map Some us) (map Some vs) e))
+same_replies (a ∷ us) (b ∷ vs) e = more_same a b us vs (some_head a b (map Some us) (map Some vs) e)
+    (same_replies us vs (some_tail (Some a) (Some b) (map Some us) (map Some vs) e))
 
 -- what an exchange says of its answer
 pub record IsExchanged (turns : List Turn) (up down : List ℕ) (replies : List (Option Reply)) (left : State) (a : Result Transcript PairFault) : Type 0 where
@@ -76,7 +82,8 @@ pub record IsExchanged (turns : List Turn) (up down : List ℕ) (replies : List 
   pub closed : IfOk a (λ t. t.end ≡ Closed)
   pub services_are : IfOk a (λ t. t.services ≡ left)
 
-pub exchanged : (turns : List Turn) (up down : List ℕ) (replies : List (Option Reply)) (left : State) (a b : Result Transcript PairFault) → IsExchanged turns up down replies left a → IsExchanged turns up down replies left b → HadMemory OutOfMemory a b → SameExchange a b
+pub exchanged : (turns : List Turn) (up down : List ℕ) (replies : List (Option Reply)) (left : State) (a b : Result Transcript PairFault)
+    → IsExchanged turns up down replies left a → IsExchanged turns up down replies left b → HadMemory OutOfMemory a b → SameExchange a b
 exchanged turns up down replies left (Ok t) (Ok u) p q had = record {
   up = p.up_is ∙ sym q.up_is;
   down = p.down_is ∙ sym q.down_is;

@@ -41,7 +41,8 @@ took old new piece (Err Closed) h had = Shut refl h.0 h.1
 -- the octets of a frame that is taken begin those that were held and came
 begins : (held piece : List ℕ) (n : ℕ) (f : Frame) → held ++ take n piece ≡ frame_octets f → held ++ piece ≡ frame_octets f ++ drop n piece
 begins held piece n f e =
-    ap (λ (t : List ℕ). held ++ t) (sym (take-append-drop n piece)) ∙ (sym (append_assoc held (take n piece) (drop n piece)) ∙ ap (λ (t : List ℕ). t ++ drop n piece) e)
+    ap (λ (t : List ℕ). held ++ t) (sym (take-append-drop n piece))
+    ∙ (sym (append_assoc held (take n piece) (drop n piece)) ∙ ap (λ (t : List ℕ). t ++ drop n piece) e)
 
 not_failed : (old : Reader) → old.failed ≡ false → old.failed ≡ true → ⊥
 not_failed old f t = let c : false ≡ true = sym f ∙ t in cc
@@ -58,13 +59,16 @@ part_not_wrong : (gate : Gate) (octets : List ℕ) (fault : FrameFault) → IsPa
 part_not_wrong gate octets fault (inl short) whole wrong = omega (arith, short, whole)
 part_not_wrong gate octets fault (inr part) whole wrong = good_not_wrong _ fault part.0 wrong
 
-frame_not_wrong : (gate : Gate) (octets more : List ℕ) (f : Frame) (fault : FrameFault) → octets ≡ frame_octets f ++ more → IsSized f → LetsIn gate f → header_fault gate octets ≡ Some fault → ⊥
-frame_not_wrong gate octets more f fault e sized let_in wrong = good_not_wrong _ fault (ap (header_fault gate) e ∙ frame_more_fault gate f more sized let_in) wrong
+frame_not_wrong : (gate : Gate) (octets more : List ℕ) (f : Frame) (fault : FrameFault) → octets ≡ frame_octets f ++ more → IsSized f → LetsIn gate f
+    → header_fault gate octets ≡ Some fault → ⊥
+frame_not_wrong gate octets more f fault e sized let_in wrong = good_not_wrong _ fault (ap (header_fault gate) e ∙ frame_more_fault gate f more sized let_in)
+    wrong
 
 same_fault : (a b : FrameFault) → Some a ≡ Some b → a ≡ b
 same_fault a b e = cc
 
-same_taken : (held piece : List ℕ) (n m : ℕ) (f g : Frame) → n ≤ length piece → m ≤ length piece → held ++ take n piece ≡ frame_octets f → held ++ take m piece ≡ frame_octets g → IsSized f → IsSized g → (n ≡ m) × (f ≡ g)
+same_taken : (held piece : List ℕ) (n m : ℕ) (f g : Frame) → n ≤ length piece → m ≤ length piece → held ++ take n piece ≡ frame_octets f
+    → held ++ take m piece ≡ frame_octets g → IsSized f → IsSized g → (n ≡ m) × (f ≡ g)
 same_taken held piece n m f g le ge e d sized sized' =
     let one = one_frame f g (drop n piece) (drop m piece) sized sized' (sym (begins held piece n f e) ∙ begins held piece m g d) in
     (omega (arith, le, ge, ap length one.1, length-drop n piece, length-drop m piece), one.0)
@@ -82,10 +86,12 @@ alike old x y piece a b (One n f p t) (Whole m q u) = absurd (no_part old.gate _
 alike old x y piece a b (One n f p t) (One m g q u) =
     let same = same_taken old.held piece n m f g t.within u.within t.octets u.octets t.sized u.sized in
     (p ∙ (ap (λ (k : ℕ). frame_of k f) same.0 ∙ ap (frame_of m) same.1) ∙ sym q, t.new_is ∙ sym u.new_is)
-alike old x y piece a b (One n f p t) (No fault q u) = absurd (frame_not_wrong old.gate _ _ f fault (begins old.held piece n f t.octets) t.sized t.let_in u.fault_is)
+alike old x y piece a b (One n f p t) (No fault q u) =
+    absurd (frame_not_wrong old.gate _ _ f fault (begins old.held piece n f t.octets) t.sized t.let_in u.fault_is)
 alike old x y piece a b (One n f p t) (Shut q failed u) = absurd (not_failed old t.open failed)
 alike old x y piece a b (No fault p t) (Whole m q u) = absurd (part_not_wrong old.gate _ fault u.partial t.header t.fault_is)
-alike old x y piece a b (No fault p t) (One m g q u) = absurd (frame_not_wrong old.gate _ _ g fault (begins old.held piece m g u.octets) u.sized u.let_in t.fault_is)
+alike old x y piece a b (No fault p t) (One m g q u) =
+    absurd (frame_not_wrong old.gate _ _ g fault (begins old.held piece m g u.octets) u.sized u.let_in t.fault_is)
 alike old x y piece a b (No fault p t) (No other q u) = (p ∙ ap Err (same_fault fault other (sym t.fault_is ∙ u.fault_is)) ∙ sym q, t.new_is ∙ sym u.new_is)
 alike old x y piece a b (No fault p t) (Shut q failed u) = absurd (not_failed old t.open failed)
 alike old x y piece a b (Shut p failed t) (Whole m q u) = absurd (not_failed old u.open failed)
@@ -94,6 +100,7 @@ alike old x y piece a b (Shut p failed t) (No other q u) = absurd (not_failed ol
 alike old x y piece a b (Shut p failed t) (Shut q failed' u) = (p ∙ sym q, t ∙ sym u)
 
 -- the same octets, handed to readers that hold the same
-pub taken_alike : (old other x y : Reader) → old ≡ other → (piece : List ℕ) (a b : Answer) → Takes old piece a x → Takes other piece b y → HadMemory OutOfMemory a b → AreSame a b x y
+pub taken_alike : (old other x y : Reader) → old ≡ other → (piece : List ℕ) (a b : Answer) → Takes old piece a x → Takes other piece b y
+    → HadMemory OutOfMemory a b → AreSame a b x y
 taken_alike old other x y same piece a b p q had =
     alike old x y piece a b (took old x piece a p had.first) (took old y piece b (subst (λ (r : Reader). Takes r piece b y) (sym same) q) had.second)

@@ -18,7 +18,8 @@ either_first {A = A} (u ∷ us) (v ∷ vs) xs ys e = further (either_first us vs
     head : u ≡ v
     head = same_head u v (us ++ xs) (vs ++ ys) e
 
-    further : ((more : List A) × (vs ≡ us ++ more)) ⊎ ((more : List A) × (us ≡ vs ++ more)) → ((more : List A) × (v ∷ vs ≡ (u ∷ us) ++ more)) ⊎ ((more : List A) × (u ∷ us ≡ (v ∷ vs) ++ more))
+    further : ((more : List A) × (vs ≡ us ++ more)) ⊎ ((more : List A) × (us ≡ vs ++ more)) → ((more : List A) × (v ∷ vs ≡ (u ∷ us) ++ more))
+        ⊎ ((more : List A) × (u ∷ us ≡ (v ∷ vs) ++ more))
     further (inl m) = inl (m.0, same_list v u vs (us ++ m.0) (sym head) m.1)
     further (inr m) = inr (m.0, same_list u v us (vs ++ m.0) head m.1)
 
@@ -49,7 +50,8 @@ module _ {E X : Type 0} (R : Rules E X) (whole : List ℕ) where
       (sym a.told_is ∙ (ap (events R) same.frames ∙ b.told_is), same.ends)
 
   -- what stopped in front of more stands so for all
-  pub stopped_all : (octets more : List ℕ) (frames : List Frame) (rest : List ℕ) (told : List E) (end : End X) → (end ≡ Going → ⊥) → octets ++ more ≡ whole → Run R octets frames rest end → events R frames ≡ told → ReadsAll R whole told end
+  pub stopped_all : (octets more : List ℕ) (frames : List Frame) (rest : List ℕ) (told : List E) (end : End X) → (end ≡ Going → ⊥) → octets ++ more ≡ whole
+      → Run R octets frames rest end → events R frames ≡ told → ReadsAll R whole told end
   stopped_all octets more frames rest told end not_going e run is = record {
     frames = frames;
     rest = rest ++ more;
@@ -66,7 +68,8 @@ module _ {E X : Type 0} (R : Rules E X) (whole : List ℕ) where
       )
 
   -- there is a reading of all, and so what two fronts tell begins one list
-  pub fronts_first : (told other : List E) → ReadsFront R whole told → ReadsFront R whole other → (all more rest : List E) × (all ≡ told ++ more) × (all ≡ other ++ rest)
+  pub fronts_first : (told other : List E) → ReadsFront R whole told → ReadsFront R whole other → (all more rest : List E) × (all ≡ told ++ more)
+      × (all ≡ other ++ rest)
   fronts_first told other f g =
       let r = reading R whole in
       let a : ReadsAll R whole (events R r.frames) r.end = record { frames = r.frames; rest = r.rest; run = r.run; told_is = refl } in

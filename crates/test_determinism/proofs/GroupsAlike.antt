@@ -57,13 +57,18 @@ group_once g h others more e p q =
 -- a client that stands there calls these requests, over a line from which these octets are to come: all are answered, or the first group is
 -- not, by this fault; or it is, and so on from there. What was sent and taken, the replies that are kept, and how many requests stand before
 -- the one that the fault names.
-pub data Walk (b : Bool) (limits : Limits) (x : ClientChannel) (o : Option ClientFault) : List Request → ClientPlace → List ℕ → List ℕ → List ℕ → List Reply → ℕ → Type 0 where
-  Over : {requests : List Request} {s : ClientPlace} {coming sent taken : List ℕ} {replies : List Reply} {count : ℕ} → requests ≡ [] → o ≡ None → sent ≡ [] → taken ≡ [] → replies ≡ [] → count ≡ 0 → StandsAt x s
+pub data Walk (b : Bool) (limits : Limits) (x : ClientChannel) (o : Option ClientFault) : List Request → ClientPlace → List ℕ → List ℕ → List ℕ → List Reply → ℕ
+    → Type 0 where
+  Over : {requests : List Request} {s : ClientPlace} {coming sent taken : List ℕ} {replies : List Reply} {count : ℕ} → requests ≡ [] → o ≡ None → sent ≡ []
+      → taken ≡ [] → replies ≡ [] → count ≡ 0 → StandsAt x s
       → Walk b limits x o requests s coming sent taken replies count
-  Breaks : {requests : List Request} {s : ClientPlace} {coming sent taken : List ℕ} {replies : List Reply} {count : ℕ} (f : ClientFault) (g others : List Request) → o ≡ Some f → requests ≡ g ++ others → IsGroup g others
+  Breaks : {requests : List Request} {s : ClientPlace} {coming sent taken : List ℕ} {replies : List Reply} {count : ℕ} (f : ClientFault)
+      (g others : List Request) → o ≡ Some f → requests ≡ g ++ others → IsGroup g others
       → Broke b limits g s coming x sent taken replies count f → Walk b limits x o requests s coming sent taken replies count
-  Step : {requests : List Request} {s : ClientPlace} {coming sent taken : List ℕ} {replies : List Reply} {count : ℕ} (g others : List Request) (z : ClientChannel) (m : ClientPlace) (part later out rest : List ℕ) (added further : List Reply) (n : ℕ)
-      → requests ≡ g ++ others → IsGroup g others → IsDone limits g s coming z m part added → coming ≡ part ++ later → sent ≡ sent_at s g ++ out → taken ≡ part ++ rest → replies ≡ added ++ further → count ≡ length g + n
+  Step : {requests : List Request} {s : ClientPlace} {coming sent taken : List ℕ} {replies : List Reply} {count : ℕ} (g others : List Request)
+      (z : ClientChannel) (m : ClientPlace) (part later out rest : List ℕ) (added further : List Reply) (n : ℕ)
+      → requests ≡ g ++ others → IsGroup g others → IsDone limits g s coming z m part added → coming ≡ part ++ later → sent ≡ sent_at s g ++ out
+      → taken ≡ part ++ rest → replies ≡ added ++ further → count ≡ length g + n
       → Walk b limits x o others m later out rest further n → Walk b limits x o requests s coming sent taken replies count
 
 -- the client may be called again
@@ -80,7 +85,8 @@ pub record Place (x y : ClientChannel) (s : ClientPlace) (taken got : List ℕ) 
   pub same : taken ≡ got
 
 -- two are one
-pub record WalkOnce (x y : ClientChannel) (o p : Option ClientFault) (s : ClientPlace) (sent other taken got : List ℕ) (replies also : List Reply) (n k : ℕ) : Type 0 where
+pub record WalkOnce (x y : ClientChannel) (o p : Option ClientFault) (s : ClientPlace) (sent other taken got : List ℕ) (replies also : List Reply)
+    (n k : ℕ) : Type 0 where
   pub outcome : o ≡ p
   pub sent_is : sent ≡ other
   pub replies_are : replies ≡ also
@@ -103,7 +109,8 @@ not_going f e = by (ends f) refl
     by false is = is
 
 module _ (once : OneBody) (b : Bool) (limits : Limits) (x y : ClientChannel) (o p : Option ClientFault) where
-  over_both : (s : ClientPlace) (sent other taken got : List ℕ) (replies also : List Reply) (n k : ℕ) → o ≡ None → p ≡ None → sent ≡ [] → other ≡ [] → taken ≡ [] → got ≡ [] → replies ≡ [] → also ≡ [] → n ≡ 0 → k ≡ 0 → StandsAt x s → StandsAt y s
+  over_both : (s : ClientPlace) (sent other taken got : List ℕ) (replies also : List Reply) (n k : ℕ) → o ≡ None → p ≡ None → sent ≡ [] → other ≡ []
+      → taken ≡ [] → got ≡ [] → replies ≡ [] → also ≡ [] → n ≡ 0 → k ≡ 0 → StandsAt x s → StandsAt y s
       → WalkOnce x y o p s sent other taken got replies also n k
   over_both s sent other taken got replies also n k a a' e e' d d' r r' c c' at at' = record {
     outcome = a ∙ sym a';
@@ -113,10 +120,13 @@ module _ (once : OneBody) (b : Bool) (limits : Limits) (x y : ClientChannel) (o 
     stays = λ goes. record { site = s; first = at; second = at'; octets = sym (ap (λ (t : List ℕ). s.octets ++ t) d ∙ append-nil s.octets); same = d ∙ sym d' };
   }
 
-  break_both : (s : ClientPlace) (coming sent other taken got : List ℕ) (replies also : List Reply) (n k : ℕ) (f g : ClientFault) (requests : List Request) → o ≡ Some f → p ≡ Some g → Faults o p sent other
-      → Broke b limits requests s coming x sent taken replies n f → Broke b limits requests s coming y other got also k g → WalkOnce x y o p s sent other taken got replies also n k
+  break_both : (s : ClientPlace) (coming sent other taken got : List ℕ) (replies also : List Reply) (n k : ℕ) (f g : ClientFault) (requests : List Request)
+      → o ≡ Some f → p ≡ Some g → Faults o p sent other
+      → Broke b limits requests s coming x sent taken replies n f → Broke b limits requests s coming y other got also k g
+      → WalkOnce x y o p s sent other taken got replies also n k
   break_both s coming sent other taken got replies also n k f g requests e d faults u v =
-      let one = broke_once once limits requests s coming b x y sent other taken got replies also n k f g (faults.alike f g e d) (λ is. faults.written (inl (e ∙ ap Some is))) u v in
+      let one = broke_once once limits requests s coming b x y sent other taken got replies also n k f g (faults.alike f g e d)
+      (λ is. faults.written (inl (e ∙ ap Some is))) u v in
       record {
         outcome = e ∙ (ap Some one.fault_is ∙ sym d);
         sent_is = one.sent_is;
@@ -127,68 +137,94 @@ module _ (once : OneBody) (b : Bool) (limits : Limits) (x y : ClientChannel) (o 
             record { site = s; first = h.2; second = h.3; octets = sym (ap (λ (t : List ℕ). s.octets ++ t) h.0 ∙ append-nil s.octets); same = h.0 ∙ sym h.1 };
       }
 
-  behind_step : (s m : ClientPlace) (part sent other out also_out taken got rest also_rest : List ℕ) (replies also added further also_further : List Reply) (n k c i j : ℕ) (start : List ℕ)
-      → sent ≡ start ++ out → other ≡ start ++ also_out → taken ≡ part ++ rest → got ≡ part ++ also_rest → replies ≡ added ++ further → also ≡ added ++ also_further → n ≡ c + i → k ≡ c + j → m.octets ≡ s.octets ++ part
+  behind_step : (s m : ClientPlace) (part sent other out also_out taken got rest also_rest : List ℕ) (replies also added further also_further : List Reply)
+      (n k c i j : ℕ) (start : List ℕ)
+      → sent ≡ start ++ out → other ≡ start ++ also_out → taken ≡ part ++ rest → got ≡ part ++ also_rest → replies ≡ added ++ further
+      → also ≡ added ++ also_further → n ≡ c + i → k ≡ c + j → m.octets ≡ s.octets ++ part
       → WalkOnce x y o p m out also_out rest also_rest further also_further i j → WalkOnce x y o p s sent other taken got replies also n k
-  behind_step s m part sent other out also_out taken got rest also_rest replies also added further also_further n k c i j start e e' d d' r r' q q' at w = record {
-    outcome = w.outcome;
-    sent_is = e ∙ (ap (λ (t : List ℕ). start ++ t) w.sent_is ∙ sym e');
-    replies_are = r ∙ (ap (λ (t : List Reply). added ++ t) w.replies_are ∙ sym r');
-    count_is = q ∙ (ap (λ (t : ℕ). c + t) w.count_is ∙ sym q');
-    stays = λ goes.
-        let h = w.stays goes in
-        record {
-          site = h.site;
-          first = h.first;
-          second = h.second;
-          octets = h.octets ∙ (ap (λ (t : List ℕ). t ++ rest) at ∙ (append_assoc s.octets part rest ∙ ap (λ (t : List ℕ). s.octets ++ t) (sym d)));
-          same = d ∙ (ap (λ (t : List ℕ). part ++ t) h.same ∙ sym d');
-        };
-  }
+  behind_step s m part sent other out also_out taken got rest also_rest replies also added further also_further n k c i j start e e' d d' r r' q q' at w =
+      record {
+        outcome = w.outcome;
+        sent_is = e ∙ (ap (λ (t : List ℕ). start ++ t) w.sent_is ∙ sym e');
+        replies_are = r ∙ (ap (λ (t : List Reply). added ++ t) w.replies_are ∙ sym r');
+        count_is = q ∙ (ap (λ (t : ℕ). c + t) w.count_is ∙ sym q');
+        stays = λ goes.
+            let h = w.stays goes in
+            record {
+              site = h.site;
+              first = h.first;
+              second = h.second;
+              octets = h.octets ∙ (ap (λ (t : List ℕ). t ++ rest) at ∙ (append_assoc s.octets part rest ∙ ap (λ (t : List ℕ). s.octets ++ t) (sym d)));
+              same = d ∙ (ap (λ (t : List ℕ). part ++ t) h.same ∙ sym d');
+            };
+      }
 
   -- one that breaks off where the other goes on
-  parts_ways : (limits_too : Limits) (s : ClientPlace) (coming sent other : List ℕ) (g h others more : List Request) (z w : ClientChannel) (m : ClientPlace) (part got out : List ℕ) (added kept : List Reply) (k : ℕ) (f : ClientFault)
-      → g ≡ h → IsDone limits_too g s coming z m part added → sent ≡ sent_at s g ++ out → (f ≡ fault.Write → sent ≡ other) → Broke b limits_too h s coming w other got kept k f → ⊥
+  parts_ways : (limits_too : Limits) (s : ClientPlace) (coming sent other : List ℕ) (g h others more : List Request) (z w : ClientChannel) (m : ClientPlace)
+      (part got out : List ℕ) (added kept : List Reply) (k : ℕ) (f : ClientFault)
+      → g ≡ h → IsDone limits_too g s coming z m part added → sent ≡ sent_at s g ++ out → (f ≡ fault.Write → sent ≡ other)
+      → Broke b limits_too h s coming w other got kept k f → ⊥
   parts_ways limits_too s coming sent other g h others more z w m part got out added kept k f same d e written u =
-      not_broken once limits_too g s coming b z w m part other got added kept k f d (subst (λ (ms : List Request). Broke b limits_too ms s coming w other got kept k f) (sym same) u)
+      not_broken once limits_too g s coming b z w m part other got added kept k f d
+      (subst (λ (ms : List Request). Broke b limits_too ms s coming w other got kept k f) (sym same) u)
       (λ is. let lengths = ap length (sym (written is) ∙ e) in omega (arith, lengths, length-append (sent_at s g) out))
 
-  pub walks_once : (requests : List Request) (s : ClientPlace) (coming sent other taken got : List ℕ) (replies also : List Reply) (n k : ℕ) → Walk b limits x o requests s coming sent taken replies n → Walk b limits y p requests s coming other got also k
+  pub walks_once : (requests : List Request) (s : ClientPlace) (coming sent other taken got : List ℕ) (replies also : List Reply) (n k : ℕ)
+      → Walk b limits x o requests s coming sent taken replies n → Walk b limits y p requests s coming other got also k
       → Faults o p sent other → WalkOnce x y o p s sent other taken got replies also n k
-  walks_once requests s coming sent other taken got replies also n k (Over none a e d r c at) (Over none' a' e' d' r' c' at') faults = over_both s sent other taken got replies also n k a a' e e' d d' r r' c c' at at'
-  walks_once requests s coming sent other taken got replies also n k (Over none a e d r c at) (Breaks g h more a' is' group' u) faults = absurd (no_requests requests h more none is' group')
-  walks_once requests s coming sent other taken got replies also n k (Over none a e d r c at) (Step h more z m part later out rest added further i is' group' done' c' e' d' r' q' w) faults = absurd (no_requests requests h more none is' group')
-  walks_once requests s coming sent other taken got replies also n k (Breaks f g others a is group u) (Over none a' e' d' r' c' at') faults = absurd (no_requests requests g others none is group)
+  walks_once requests s coming sent other taken got replies also n k (Over none a e d r c at) (Over none' a' e' d' r' c' at') faults =
+      over_both s sent other taken got replies also n k a a' e e' d d' r r' c c' at at'
+  walks_once requests s coming sent other taken got replies also n k (Over none a e d r c at) (Breaks g h more a' is' group' u) faults =
+      absurd (no_requests requests h more none is' group')
+  walks_once requests s coming sent other taken got replies also n k (Over none a e d r c at)
+      (Step h more z m part later out rest added further i is' group' done' c' e' d' r' q' w) faults = absurd (no_requests requests h more none is' group')
+  walks_once requests s coming sent other taken got replies also n k (Breaks f g others a is group u) (Over none a' e' d' r' c' at') faults =
+      absurd (no_requests requests g others none is group)
   walks_once requests s coming sent other taken got replies also n k (Breaks f g others a is group u) (Breaks f' g' others' a' is' group' u') faults =
       let same = group_once g g' others others' (sym is ∙ is') group group' in
-      break_both s coming sent other taken got replies also n k f f' g a a' faults u (subst (λ (ms : List Request). Broke b limits ms s coming y other got also k f') (sym same.0) u')
-  walks_once requests s coming sent other taken got replies also n k (Breaks f g others a is group u) (Step g' others' z m part later out rest added further i is' group' done c' e' d' r' q' w) faults =
+      break_both s coming sent other taken got replies also n k f f' g a a' faults u
+      (subst (λ (ms : List Request). Broke b limits ms s coming y other got also k f') (sym same.0) u')
+  walks_once requests s coming sent other taken got replies also n k (Breaks f g others a is group u)
+      (Step g' others' z m part later out rest added further i is' group' done c' e' d' r' q' w) faults =
       let same = group_once g' g others' others (sym is' ∙ is) group' group in
-      absurd (parts_ways limits s coming other sent g' g others' others z x m part taken out added replies n f same.0 done e' (λ write. sym (faults.written (inl (a ∙ ap Some write)))) u)
-  walks_once requests s coming sent other taken got replies also n k (Step g others z m part later out rest added further i is group done c e d r q w) (Over none a' e' d' r' c' at') faults = absurd (no_requests requests g others none is group)
-  walks_once requests s coming sent other taken got replies also n k (Step g others z m part later out rest added further i is group done c e d r q w) (Breaks f g' others' a' is' group' u) faults =
+      absurd (parts_ways limits s coming other sent g' g others' others z x m part taken out added replies n f same.0 done e'
+      (λ write. sym (faults.written (inl (a ∙ ap Some write)))) u)
+  walks_once requests s coming sent other taken got replies also n k (Step g others z m part later out rest added further i is group done c e d r q w)
+      (Over none a' e' d' r' c' at') faults = absurd (no_requests requests g others none is group)
+  walks_once requests s coming sent other taken got replies also n k (Step g others z m part later out rest added further i is group done c e d r q w)
+      (Breaks f g' others' a' is' group' u) faults =
       let same = group_once g g' others others' (sym is ∙ is') group group' in
-      absurd (parts_ways limits s coming sent other g g' others others' z y m part got out added also k f same.0 done e (λ write. faults.written (inr (a' ∙ ap Some write))) u)
-  walks_once requests s coming sent other taken got replies also n k (Step g others z m part later out rest added further i is group done c e d r q w) (Step g' others' z' m' part' later' out' rest' added' further' j is' group' done' c' e' d' r' q' w') faults =
+      absurd (parts_ways limits s coming sent other g g' others others' z y m part got out added also k f same.0 done e
+      (λ write. faults.written (inr (a' ∙ ap Some write))) u)
+  walks_once requests s coming sent other taken got replies also n k (Step g others z m part later out rest added further i is group done c e d r q w)
+      (Step g' others' z' m' part' later' out' rest' added' further' j is' group' done' c' e' d' r' q' w') faults =
       let same = group_once g g' others others' (sym is ∙ is') group group' in
-      let one = done_once once limits g s coming z z' m m' part part' added added' done (subst (λ (ms : List Request). IsDone limits ms s coming z' m' part' added') (sym same.0) done') in
+      let one = done_once once limits g s coming z z' m m' part part' added added' done
+      (subst (λ (ms : List Request). IsDone limits ms s coming z' m' part' added') (sym same.0) done') in
       let ahead : later' ≡ later = append_cancel_left part later' later (ap (λ (t : List ℕ). t ++ later') one.octets ∙ (sym c' ∙ c)) in
       let there : Walk b limits y p others m later out' rest' further' j =
       subst (λ (ms : List Request). Walk b limits y p ms m later out' rest' further' j) (sym same.1)
-      (subst (λ (t : ClientPlace). Walk b limits y p others' t later out' rest' further' j) (sym one.place) (subst (λ (t : List ℕ). Walk b limits y p others' m' t out' rest' further' j) ahead w')) in
+      (subst (λ (t : ClientPlace). Walk b limits y p others' t later out' rest' further' j) (sym one.place)
+      (subst (λ (t : List ℕ). Walk b limits y p others' m' t out' rest' further' j) ahead w')) in
       let start : other ≡ sent_at s g ++ out' = e' ∙ ap (λ (ms : List Request). sent_at s ms ++ out') (sym same.0) in
-      behind_step s m part sent other out out' taken got rest rest' replies also added further further' n k (length g) i j (sent_at s g) e start d (d' ∙ ap (λ (t : List ℕ). t ++ rest') (sym one.octets)) r
+      behind_step s m part sent other out out' taken got rest rest' replies also added further further' n k (length g) i j (sent_at s g) e start d
+      (d' ∙ ap (λ (t : List ℕ). t ++ rest') (sym one.octets)) r
       (r' ∙ ap (λ (t : List Reply). t ++ further') (sym one.replies_are)) q (q' ∙ ap (λ (ms : List Request). length ms + j) (sym same.0)) done.answered.octets
       (walks_once others m later out out' rest rest' further further' i j w there
       (record { alike = faults.alike; written = λ write. append_cancel_left (sent_at s g) out out' (sym e ∙ (faults.written write ∙ start)) }))
 
 -- ---- rounds as a walk
 
-pub walk_as : (b : Bool) (limits : Limits) (x : ClientChannel) (o : Option ClientFault) (requests others : List Request) (s : ClientPlace) (coming later sent out taken rest : List ℕ) (replies further : List Reply) (n k : ℕ)
-    → requests ≡ others → coming ≡ later → sent ≡ out → taken ≡ rest → replies ≡ further → n ≡ k → Walk b limits x o requests s coming sent taken replies n → Walk b limits x o others s later out rest further k
+pub walk_as : (b : Bool) (limits : Limits) (x : ClientChannel) (o : Option ClientFault) (requests others : List Request) (s : ClientPlace)
+    (coming later sent out taken rest : List ℕ) (replies further : List Reply) (n k : ℕ)
+    → requests ≡ others → coming ≡ later → sent ≡ out → taken ≡ rest → replies ≡ further → n ≡ k → Walk b limits x o requests s coming sent taken replies n
+    → Walk b limits x o others s later out rest further k
 walk_as b limits x o requests others s coming later sent out taken rest replies further n k p c e d r q w =
-    subst (λ (t : ℕ). Walk b limits x o others s later out rest further t) q (subst (λ (t : List Reply). Walk b limits x o others s later out rest t n) r (subst (λ (t : List ℕ). Walk b limits x o others s later out t replies n) d
-    (subst (λ (t : List ℕ). Walk b limits x o others s later t taken replies n) e (subst (λ (t : List ℕ). Walk b limits x o others s t sent taken replies n) c (subst (λ (t : List Request). Walk b limits x o t s coming sent taken replies n) p w)))))
+    subst (λ (t : ℕ). Walk b limits x o others s later out rest further t) q
+    (subst (λ (t : List Reply). Walk b limits x o others s later out rest t n) r (subst (λ (t : List ℕ). Walk b limits x o others s later out t replies n) d
+    (subst (λ (t : List ℕ). Walk b limits x o others s later t taken replies n) e
+    (subst (λ (t : List ℕ). Walk b limits x o others s t sent taken replies n) c
+    (subst (λ (t : List Request). Walk b limits x o t s coming sent taken replies n) p w)))))
 
 -- each is a group, in front of those behind it and of the others
 abbrev pub Grouped : List (List Request) → List Request → Type 0
@@ -224,22 +260,30 @@ last_group (k ∷ gs) g h = last_group gs g h.3
 
 module _ (b : Bool) (limits : Limits) (x client : ClientChannel) (same : client_limits client ≡ limits) (o : Option ClientFault) (s : ClientPlace) where
   -- rounds, and from there a walk
-  prepend : {groups : List (List Request)} {t : ClientPlace} {sent taken : List ℕ} {replies : List Reply} (others : List Request) (later out rest : List ℕ) (further : List Reply) (n : ℕ) → Rounds client s groups t sent taken replies → Grouped groups others
-      → Walk b limits x o others t later out rest further n → Walk b limits x o (all_of groups ++ others) s (taken ++ later) (sent ++ out) (taken ++ rest) (replies ++ further) (length (all_of groups) + n)
-  prepend others later out rest further n NoRound h w = walk_as b limits x o others others s later later out out rest rest further further n (0 + n) refl refl refl refl refl (omega arith) w
-  prepend others later out rest further n (OneRound {groups = gs} {m = m} {t = t} {sent = sent} {taken = taken} {part = part} {replies = replies} {added = added} group z r behind a) h w =
+  prepend : {groups : List (List Request)} {t : ClientPlace} {sent taken : List ℕ} {replies : List Reply} (others : List Request) (later out rest : List ℕ)
+      (further : List Reply) (n : ℕ) → Rounds client s groups t sent taken replies → Grouped groups others
+      → Walk b limits x o others t later out rest further n → Walk b limits x o (all_of groups ++ others) s (taken ++ later) (sent ++ out) (taken ++ rest)
+      (replies ++ further) (length (all_of groups) + n)
+  prepend others later out rest further n NoRound h w = walk_as b limits x o others others s later later out out rest rest further further n
+      (0 + n) refl refl refl refl refl (omega arith) w
+  prepend others later out rest further n
+      (OneRound {groups = gs} {m = m} {t = t} {sent = sent} {taken = taken} {part = part} {replies = replies} {added = added} group z r behind a) h w =
       let split = grouped_last gs group others h in
-      walk_as b limits x o (all_of gs ++ (group ++ others)) (all_of (gs ++ group ∷ []) ++ others) s (taken ++ (part ++ later)) ((taken ++ part) ++ later) (sent ++ (sent_at m group ++ out)) ((sent ++ sent_at m group) ++ out) (taken ++ (part ++ rest)) ((taken ++ part) ++ rest)
+      walk_as b limits x o (all_of gs ++ (group ++ others)) (all_of (gs ++ group ∷ []) ++ others) s (taken ++ (part ++ later)) ((taken ++ part) ++ later)
+      (sent ++ (sent_at m group ++ out)) ((sent ++ sent_at m group) ++ out) (taken ++ (part ++ rest)) ((taken ++ part) ++ rest)
       (replies ++ (added ++ further)) ((replies ++ added) ++ further) (length (all_of gs) + (length group + n)) (length (all_of (gs ++ group ∷ [])) + n)
-      (sym (all_behind gs group others)) (sym (append_assoc taken part later)) (sym (append_assoc sent (sent_at m group) out)) (sym (append_assoc taken part rest)) (sym (append_assoc replies added further))
+      (sym (all_behind gs group others)) (sym (append_assoc taken part later)) (sym (append_assoc sent (sent_at m group) out))
+      (sym (append_assoc taken part rest)) (sym (append_assoc replies added further))
       (let e = ap length (concat-push gs group) in omega (arith, e, length-append (all_of gs) group))
       (prepend (group ++ others) (part ++ later) (sent_at m group ++ out) (part ++ rest) (added ++ further) (length group + n) r split.0
       (Step group others z t part later out rest added further n refl split.1
-      (record { limits_are = behind.same.limits ∙ same; at = behind.at; came = behind.came; answered = a; more = later; parts = refl }) refl refl refl refl refl w))
+      (record { limits_are = behind.same.limits ∙ same; at = behind.at; came = behind.came; answered = a; more = later; parts = refl }) refl refl refl refl refl
+      w))
 
 -- ---- where a group is not answered
 
-module _ (limits : Limits) (requests : List Request) (s : ClientPlace) (new : Connection) (sent taken more : List ℕ) (same : client_limits (channel_of new) ≡ limits) where
+module _ (limits : Limits) (requests : List Request) (s : ClientPlace) (new : Connection) (sent taken more : List ℕ)
+    (same : client_limits (channel_of new) ≡ limits) where
   abbrev R : Rules ClientTold Why
   R = rules_at limits requests s
 
@@ -255,45 +299,62 @@ module _ (limits : Limits) (requests : List Request) (s : ClientPlace) (new : Co
   abbrev Ending : Bool → List Reply → ℕ → ClientFault → Type 0
   Ending b kept place f = Broke b limits requests s (taken ++ more) (channel_of new) sent taken kept place f
 
-  ended_by : (b : Bool) (kept : List Reply) (place : ℕ) (f : ClientFault) (why : Why) → EndsBy f (Stopped why) → IsSentAt requests s sent × EndsOn (channel_of new) (asked_at s requests) (s.octets ++ taken) s.told why (AreAwaited requests (id_at s))
+  ended_by : (b : Bool) (kept : List Reply) (place : ℕ) (f : ClientFault) (why : Why) → EndsBy f (Stopped why) → IsSentAt requests s sent
+      × EndsOn (channel_of new) (asked_at s requests) (s.octets ++ taken) s.told why (AreAwaited requests (id_at s))
       → ((told : List ClientTold) → ReadsAll R whole told (Stopped why) → Keeps b IsUntold requests (id_at s) told kept place) → Ending b kept place f
   ended_by b kept place f why by k keeps =
       let all = ended_reads R (channel_of new) (asked_at s requests) (s.octets ++ taken) more whole (s.told ++ k.1.0) why rules parts k.1.1 in
       Waited (Stopped why) (ByFault by) k.0 (s.told ++ k.1.0) all k.1.2 (keeps (s.told ++ k.1.0) all)
 
-  gone_by : (b : Bool) (kept : List Reply) (place : ℕ) (f : ClientFault) → WaitsBy f Going → more ≡ [] → IsSentAt requests s sent × ClientGoesOn (channel_of new) (asked_at s requests) (s.octets ++ taken) s.told (AreAwaited requests (id_at s))
-      → ((told : List ClientTold) → ClientGoes (channel_of new) (asked_at s requests) (s.octets ++ taken) told → Keeps b IsUntold requests (id_at s) told kept place) → Ending b kept place f
+  gone_by : (b : Bool) (kept : List Reply) (place : ℕ) (f : ClientFault) → WaitsBy f Going → more ≡ [] → IsSentAt requests s sent
+      × ClientGoesOn (channel_of new) (asked_at s requests) (s.octets ++ taken) s.told (AreAwaited requests (id_at s))
+      → ((told : List ClientTold) → ClientGoes (channel_of new) (asked_at s requests) (s.octets ++ taken) told
+      → Keeps b IsUntold requests (id_at s) told kept place) → Ending b kept place f
   gone_by b kept place f by none k keeps =
       Waited Going by k.0 (s.told ++ k.1.0)
-      (goes_reads R (channel_of new) (asked_at s requests) (s.octets ++ taken) whole (s.told ++ k.1.0) rules (ap (λ (o : List ℕ). s.octets ++ o) (sym (ap (λ (o : List ℕ). taken ++ o) none ∙ append-nil taken))) k.1.1)
+      (goes_reads R (channel_of new) (asked_at s requests) (s.octets ++ taken) whole (s.told ++ k.1.0) rules
+      (ap (λ (o : List ℕ). s.octets ++ o) (sym (ap (λ (o : List ℕ). taken ++ o) none ∙ append-nil taken))) k.1.1)
       k.1.2 (keeps (s.told ++ k.1.0) k.1.1)
 
-  missed_by : (b : Bool) (kept : List Reply) (place : ℕ) → IsSentAt requests s sent × ClientGoesOn (channel_of new) (asked_at s requests) (s.octets ++ taken) s.told (IsMisanswered requests (id_at s))
-      → ((told : List ClientTold) → ClientGoes (channel_of new) (asked_at s requests) (s.octets ++ taken) told → Keeps b LacksAnswer requests (id_at s) told kept place) → Ending b kept place fault.UnknownResponse
-  missed_by b kept place k keeps = Missed refl k.0 (s.told ++ k.1.0) (goes_front R (channel_of new) (asked_at s requests) (s.octets ++ taken) more whole (s.told ++ k.1.0) rules parts k.1.1) k.1.2 (keeps (s.told ++ k.1.0) k.1.1)
+  missed_by : (b : Bool) (kept : List Reply) (place : ℕ) → IsSentAt requests s sent × ClientGoesOn (channel_of new) (asked_at s requests)
+      (s.octets ++ taken) s.told (IsMisanswered requests (id_at s))
+      → ((told : List ClientTold) → ClientGoes (channel_of new) (asked_at s requests) (s.octets ++ taken) told
+      → Keeps b LacksAnswer requests (id_at s) told kept place) → Ending b kept place fault.UnknownResponse
+  missed_by b kept place k keeps =
+      Missed refl k.0 (s.told ++ k.1.0) (goes_front R (channel_of new) (asked_at s requests) (s.octets ++ taken) more whole (s.told ++ k.1.0) rules parts k.1.1)
+      k.1.2 (keeps (s.told ++ k.1.0) k.1.1)
 
   -- what is kept is told of what was read
-  keeps_ended : (why : Why) (kept : List Reply) (place : ℕ) → (place ≡ length kept) × EndsOn (channel_of new) (asked_at s requests) (s.octets ++ taken) s.told why (IsFront IsUntold kept requests (id_at s))
+  keeps_ended : (why : Why) (kept : List Reply) (place : ℕ)
+      → (place ≡ length kept) × EndsOn (channel_of new) (asked_at s requests) (s.octets ++ taken) s.told why (IsFront IsUntold kept requests (id_at s))
       → (told : List ClientTold) → ReadsAll R whole told (Stopped why) → Keeps true IsUntold requests (id_at s) told kept place
   keeps_ended why kept place q told all =
-      let same_told = all_once R whole (s.told ++ q.1.0) told (Stopped why) (Stopped why) (ended_reads R (channel_of new) (asked_at s requests) (s.octets ++ taken) more whole (s.told ++ q.1.0) why rules parts q.1.1) all in
+      let same_told = all_once R whole (s.told ++ q.1.0) told (Stopped why) (Stopped why)
+      (ended_reads R (channel_of new) (asked_at s requests) (s.octets ++ taken) more whole (s.told ++ q.1.0) why rules parts q.1.1) all in
       (q.0, subst (λ (ts : List ClientTold). IsFront IsUntold kept requests (id_at s) ts) same_told.0 q.1.2)
 
-  keeps_gone : (Misses : Request → ℕ → List ClientTold → Type 0) (kept : List Reply) (place : ℕ) → (place ≡ length kept) × ClientGoesOn (channel_of new) (asked_at s requests) (s.octets ++ taken) s.told (IsFront Misses kept requests (id_at s))
-      → (told : List ClientTold) → ClientGoes (channel_of new) (asked_at s requests) (s.octets ++ taken) told → Keeps true Misses requests (id_at s) told kept place
+  keeps_gone : (Misses : Request → ℕ → List ClientTold → Type 0) (kept : List Reply) (place : ℕ)
+      → (place ≡ length kept) × ClientGoesOn (channel_of new) (asked_at s requests) (s.octets ++ taken) s.told (IsFront Misses kept requests (id_at s))
+      → (told : List ClientTold) → ClientGoes (channel_of new) (asked_at s requests) (s.octets ++ taken) told
+      → Keeps true Misses requests (id_at s) told kept place
   keeps_gone Misses kept place q told g =
       let here = goes_reads R (channel_of new) (asked_at s requests) (s.octets ++ taken) (s.octets ++ taken) (s.told ++ q.1.0) rules refl q.1.1 in
-      let there = goes_reads R (channel_of new) (asked_at s requests) (s.octets ++ taken) (s.octets ++ taken) told rules refl g in
-      (q.0, subst (λ (ts : List ClientTold). IsFront Misses kept requests (id_at s) ts) (all_once R (s.octets ++ taken) (s.told ++ q.1.0) told Going Going here there).0 q.1.2)
+      let there = goes_reads R (channel_of new) (asked_at s requests) (s.octets ++ taken) (s.octets ++ taken) told rules refl g in (
+        q.0,
+        subst (λ (ts : List ClientTold). IsFront Misses kept requests (id_at s) ts)
+            (all_once R (s.octets ++ taken) (s.told ++ q.1.0) told Going Going here there).0 q.1.2,
+      )
 
   module _ (f : ClientFault) (stop : (f ≡ fault.Ended) ⊎ (f ≡ fault.Read) → more ≡ []) (had : f ≡ fault.OutOfMemory → ⊥) (short : f ≡ fault.TooLong → ⊥) where
     -- what is kept of it is not told
     pub broke_all : BreaksAt requests s new sent taken f → Ending false [] 0 f
     broke_all k = by f stop had short k
       where
-        by : (g : ClientFault) → ((g ≡ fault.Ended) ⊎ (g ≡ fault.Read) → more ≡ []) → (g ≡ fault.OutOfMemory → ⊥) → (g ≡ fault.TooLong → ⊥) → BreaksAt requests s new sent taken g → Ending false [] 0 g
+        by : (g : ClientFault) → ((g ≡ fault.Ended) ⊎ (g ≡ fault.Read) → more ≡ []) → (g ≡ fault.OutOfMemory → ⊥) → (g ≡ fault.TooLong → ⊥)
+            → BreaksAt requests s new sent taken g → Ending false [] 0 g
         by (fault.Peer code) stops memory long k = ended_by false [] 0 (fault.Peer code) (peers code.code) (ByPeer code refl refl) k (λ told all. (refl, refl))
-        by (fault.Refused code) stops memory long k = ended_by false [] 0 (fault.Refused code) (ours code.code) (ByOurs code refl refl) k (λ told all. (refl, refl))
+        by (fault.Refused code) stops memory long k = ended_by false [] 0 (fault.Refused code) (ours code.code) (ByOurs code refl refl) k
+            (λ told all. (refl, refl))
         by fault.Ended stops memory long k = gone_by false [] 0 fault.Ended (ByFault (ByEnd refl refl)) (stops (inl refl)) k (λ told g. (refl, refl))
         by fault.Read stops memory long k = gone_by false [] 0 fault.Read (ByRead refl refl) (stops (inr refl)) k (λ told g. (refl, refl))
         by fault.UnknownResponse stops memory long k = missed_by false [] 0 k (λ told g. (refl, refl))
@@ -308,13 +369,18 @@ module _ (limits : Limits) (requests : List Request) (s : ClientPlace) (new : Co
         by (fault.Service code) stops memory long k = absurd k
 
     -- what is kept of it is told, and which request is named
-    pub broke_into : (place : ℕ) (kept : List Reply) → BreaksAt requests s new sent taken f → KeepsAt requests s new taken f place kept → Ending true kept place f
+    pub broke_into : (place : ℕ) (kept : List Reply) → BreaksAt requests s new sent taken f → KeepsAt requests s new taken f place kept
+        → Ending true kept place f
     broke_into place kept k q = by f stop had short k q
       where
-        by : (g : ClientFault) → ((g ≡ fault.Ended) ⊎ (g ≡ fault.Read) → more ≡ []) → (g ≡ fault.OutOfMemory → ⊥) → (g ≡ fault.TooLong → ⊥) → BreaksAt requests s new sent taken g → KeepsAt requests s new taken g place kept → Ending true kept place g
-        by (fault.Peer code) stops memory long k q = ended_by true kept place (fault.Peer code) (peers code.code) (ByPeer code refl refl) k (keeps_ended (peers code.code) kept place q)
-        by (fault.Refused code) stops memory long k q = ended_by true kept place (fault.Refused code) (ours code.code) (ByOurs code refl refl) k (keeps_ended (ours code.code) kept place q)
-        by fault.Ended stops memory long k q = gone_by true kept place fault.Ended (ByFault (ByEnd refl refl)) (stops (inl refl)) k (keeps_gone IsUntold kept place q)
+        by : (g : ClientFault) → ((g ≡ fault.Ended) ⊎ (g ≡ fault.Read) → more ≡ []) → (g ≡ fault.OutOfMemory → ⊥) → (g ≡ fault.TooLong → ⊥)
+            → BreaksAt requests s new sent taken g → KeepsAt requests s new taken g place kept → Ending true kept place g
+        by (fault.Peer code) stops memory long k q = ended_by true kept place (fault.Peer code) (peers code.code) (ByPeer code refl refl) k
+            (keeps_ended (peers code.code) kept place q)
+        by (fault.Refused code) stops memory long k q = ended_by true kept place (fault.Refused code) (ours code.code) (ByOurs code refl refl) k
+            (keeps_ended (ours code.code) kept place q)
+        by fault.Ended stops memory long k q = gone_by true kept place fault.Ended (ByFault (ByEnd refl refl)) (stops (inl refl)) k
+            (keeps_gone IsUntold kept place q)
         by fault.Read stops memory long k q = gone_by true kept place fault.Read (ByRead refl refl) (stops (inr refl)) k (keeps_gone IsUntold kept place q)
         by fault.UnknownResponse stops memory long k q = missed_by true kept place k (keeps_gone LacksAnswer kept place q)
         by fault.TooLong stops memory long k q = absurd (long refl)
@@ -331,20 +397,26 @@ module _ (limits : Limits) (requests : List Request) (s : ClientPlace) (new : Co
 
 module _ (b : Bool) (limits : Limits) (requests : List Request) (s : ClientPlace) (sent taken more : List ℕ) where
   -- all are answered
-  pub walk_answered : (x : ClientChannel) → client_limits x ≡ limits → (replies : List Reply) (a : AnsweredAll requests s x sent taken replies) → Walk b limits x None requests s (taken ++ more) sent taken replies (length (all_of a.groups) + 0)
+  pub walk_answered : (x : ClientChannel) → client_limits x ≡ limits → (replies : List Reply) (a : AnsweredAll requests s x sent taken replies)
+      → Walk b limits x None requests s (taken ++ more) sent taken replies (length (all_of a.groups) + 0)
   walk_answered x same replies a =
-      walk_as b limits x None (all_of a.groups ++ []) requests s (taken ++ more) (taken ++ more) (sent ++ []) sent (taken ++ []) taken (replies ++ []) replies (length (all_of a.groups) + 0) (length (all_of a.groups) + 0)
+      walk_as b limits x None (all_of a.groups ++ []) requests s (taken ++ more) (taken ++ more) (sent ++ []) sent (taken ++ []) taken (replies ++ []) replies
+      (length (all_of a.groups) + 0) (length (all_of a.groups) + 0)
       (append-nil (all_of a.groups) ∙ sym a.parts) refl (append-nil sent) (append-nil taken) (append-nil replies) refl
       (prepend b limits x x same None s [] more [] [] [] 0 a.rounds (grouped_all a.groups a.sized) (Over refl refl refl refl refl refl a.at))
 
   -- behind groups that are, one is not
-  pub walk_broken : (new : Connection) → client_limits (channel_of new) ≡ limits → (f : ClientFault) (k : BrokenAll requests s new sent taken f) (kept : List Reply) (place : ℕ)
+  pub walk_broken : (new : Connection) → client_limits (channel_of new) ≡ limits
+      → (f : ClientFault) (k : BrokenAll requests s new sent taken f) (kept : List Reply) (place : ℕ)
       → Broke b limits k.group k.behind (k.taken_then ++ more) (channel_of new) k.sent_then k.taken_then kept place f
       → Walk b limits (channel_of new) (Some f) requests s (taken ++ more) sent taken (k.replies ++ kept) (length (all_of k.groups) + place)
   walk_broken new same f k kept place u =
       let one = last_group k.groups k.group k.sized in
-      walk_as b limits (channel_of new) (Some f) (all_of k.groups ++ (k.group ++ k.others)) requests s (k.taken_before ++ (k.taken_then ++ more)) (taken ++ more) (k.sent_before ++ k.sent_then) sent (k.taken_before ++ k.taken_then) taken
+      walk_as b limits (channel_of new) (Some f) (all_of k.groups ++ (k.group ++ k.others)) requests s (k.taken_before ++ (k.taken_then ++ more))
+      (taken ++ more) (k.sent_before ++ k.sent_then) sent (k.taken_before ++ k.taken_then) taken
       (k.replies ++ kept) (k.replies ++ kept) (length (all_of k.groups) + place) (length (all_of k.groups) + place)
-      (sym k.parts) (sym (ap (λ (o : List ℕ). o ++ more) k.taken_parts ∙ append_assoc k.taken_before k.taken_then more)) (sym k.sent_parts) (sym k.taken_parts) refl refl
-      (prepend b limits (channel_of new) (channel_of new) same (Some f) s (k.group ++ k.others) (k.taken_then ++ more) k.sent_then k.taken_then kept place k.rounds (grouped_before k.groups k.group (k.group ++ k.others) k.sized)
+      (sym k.parts) (sym (ap (λ (o : List ℕ). o ++ more) k.taken_parts ∙ append_assoc k.taken_before k.taken_then more)) (sym k.sent_parts)
+      (sym k.taken_parts) refl refl
+      (prepend b limits (channel_of new) (channel_of new) same (Some f) s (k.group ++ k.others) (k.taken_then ++ more) k.sent_then k.taken_then kept place
+      k.rounds (grouped_before k.groups k.group (k.group ++ k.others) k.sized)
       (Breaks f k.group k.others refl refl (one.0, one.1, k.full) u))

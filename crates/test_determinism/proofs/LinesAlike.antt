@@ -46,7 +46,8 @@ differ : {P : Type 0} → true ≡ false → P
 differ e = cc
 
 -- two answers whose faults are one leave two clients alike
-leaves : {A : Type 0} (a b : Result A ClientFault) (x y : Client) (after later : Option Traffic) → fault_of a ≡ fault_of b → IsLeft a x → IsLeft b y → (goes_on (fault_of a) ≡ true → IsReady x → IsReady y → StandBy false x y after later)
+leaves : {A : Type 0} (a b : Result A ClientFault) (x y : Client) (after later : Option Traffic) → fault_of a ≡ fault_of b → IsLeft a x → IsLeft b y
+    → (goes_on (fault_of a) ≡ true → IsReady x → IsReady y → StandBy false x y after later)
     → LeavesBoth a x y after later
 leaves (Ok v) (Ok w) x y after later e left left_too stands = stands refl left left_too
 leaves (Ok v) (Err g) x y after later e left left_too stands = none_option g e
@@ -71,8 +72,10 @@ pub record Ways {A : Type 0} (a b : Result A ClientFault) (taken got sent other 
   pub stop_too : (f : ClientFault) → fault_of b ≡ Some f → (f ≡ fault.Ended) ⊎ (f ≡ fault.Read) → rest ≡ []
   pub faults : Faults (fault_of a) (fault_of b) sent other
 
-module _ {A : Type 0} (one two x y : Client) (a b : Result A ClientFault) (line after other later : Option Traffic) (s : ClientPlace) (coming : List ℕ) (stand : StandReady one two line other s coming)
-    (sent also : List ℕ) (m : MovesConnection (connection_of one) (connection_of x) sent line after) (n : MovesConnection (connection_of two) (connection_of y) also other later)
+module _ {A : Type 0} (one two x y : Client) (a b : Result A ClientFault) (line after other later : Option Traffic) (s : ClientPlace) (coming : List ℕ)
+    (stand : StandReady one two line other s coming)
+    (sent also : List ℕ) (m : MovesConnection (connection_of one) (connection_of x) sent line after)
+    (n : MovesConnection (connection_of two) (connection_of y) also other later)
     (same : SameClient (client_channel one) (client_channel x)) (same_too : SameClient (client_channel two) (client_channel y))
     (stops : StopsAt most_reads most_reads m.got (connection_of x) after a) (stops_too : StopsAt most_reads most_reads n.got (connection_of y) later b) where
   p : (t : Traffic) × (line ≡ Some t) × ((more : List ℕ) → untaken_of (connection_of one) ++ t.coming more ≡ coming)
@@ -100,12 +103,16 @@ module _ {A : Type 0} (one two x y : Client) (a b : Result A ClientFault) (line 
   -- fewer octets came than the most reads
   pub not_long : (f : ClientFault) → fault_of a ≡ Some f → f ≡ fault.TooLong → ⊥
   not_long f e is =
-      let k : StopsAt {A = A} most_reads most_reads m.got (connection_of x) after (Err fault.TooLong) = subst (λ (c : Result A ClientFault). StopsAt most_reads most_reads m.got (connection_of x) after c) (fault_err a fault.TooLong (e ∙ ap Some is)) stops in
+      let k : StopsAt {A = A} most_reads most_reads m.got (connection_of x) after (Err fault.TooLong) =
+      subst (λ (c : Result A ClientFault). StopsAt most_reads most_reads m.got (connection_of x) after c) (fault_err a fault.TooLong (e ∙ ap Some is)) stops
+      in
       few_reads (connection_of one) (connection_of x) sent line after coming s.octets p.0 m p.1 p.2 stand.few k.1
 
   pub not_long_too : (f : ClientFault) → fault_of b ≡ Some f → f ≡ fault.TooLong → ⊥
   not_long_too f e is =
-      let k : StopsAt {A = A} most_reads most_reads n.got (connection_of y) later (Err fault.TooLong) = subst (λ (c : Result A ClientFault). StopsAt most_reads most_reads n.got (connection_of y) later c) (fault_err b fault.TooLong (e ∙ ap Some is)) stops_too in
+      let k : StopsAt {A = A} most_reads most_reads n.got (connection_of y) later (Err fault.TooLong) =
+      subst (λ (c : Result A ClientFault). StopsAt most_reads most_reads n.got (connection_of y) later c) (fault_err b fault.TooLong (e ∙ ap Some is))
+      stops_too in
       few_reads (connection_of two) (connection_of y) also other later coming s.octets q.0 n q.1 q.2 stand.few k.1
 
   abbrev Both : Type 0
@@ -129,13 +136,17 @@ module _ {A : Type 0} (one two x y : Client) (a b : Result A ClientFault) (line 
     where
       by : (h : ClientFault) → fault_of a ≡ Some h → (h ≡ fault.Ended) ⊎ (h ≡ fault.Read) → untaken_of (connection_of x) ++ first.last.coming [] ≡ []
       by h e (inl is) =
-          let k : StopsAt {A = A} most_reads most_reads m.got (connection_of x) after (Err fault.Ended) = subst (λ (c : Result A ClientFault). StopsAt most_reads most_reads m.got (connection_of x) after c) (fault_err a fault.Ended (e ∙ ap Some is)) stops in
+          let k : StopsAt {A = A} most_reads most_reads m.got (connection_of x) after (Err fault.Ended) =
+          subst (λ (c : Result A ClientFault). StopsAt most_reads most_reads m.got (connection_of x) after c) (fault_err a fault.Ended (e ∙ ap Some is))
+          stops in
           ended_more (connection_of x) sent m.taken line after coming first k.0 k.1
       by h e (inr is) = absurd (unbroken h (sym (line_of a h e) ∙ f) is)
 
       by_too : (h : ClientFault) → fault_of b ≡ Some h → (h ≡ fault.Ended) ⊎ (h ≡ fault.Read) → untaken_of (connection_of y) ++ second.last.coming [] ≡ []
       by_too h e (inl is) =
-          let k : StopsAt {A = A} most_reads most_reads n.got (connection_of y) later (Err fault.Ended) = subst (λ (c : Result A ClientFault). StopsAt most_reads most_reads n.got (connection_of y) later c) (fault_err b fault.Ended (e ∙ ap Some is)) stops_too in
+          let k : StopsAt {A = A} most_reads most_reads n.got (connection_of y) later (Err fault.Ended) =
+          subst (λ (c : Result A ClientFault). StopsAt most_reads most_reads n.got (connection_of y) later c) (fault_err b fault.Ended (e ∙ ap Some is))
+          stops_too in
           ended_more (connection_of y) also n.taken other later coming second k.0 k.1
       by_too h e (inr is) = absurd (unbroken h (sym (line_of b h e) ∙ g) is)
 
@@ -149,12 +160,15 @@ module _ {A : Type 0} (one two x y : Client) (a b : Result A ClientFault) (line 
 
   at_read : IsErrOf a fault.Read → IsErrOf b fault.Read → ComeAlike after later → Both
   at_read f g c =
-      let k : StopsAt {A = A} most_reads most_reads m.got (connection_of x) after (Err fault.Read) = subst (λ (d : Result A ClientFault). StopsAt most_reads most_reads m.got (connection_of x) after d) f stops in
-      let l : StopsAt {A = A} most_reads most_reads n.got (connection_of y) later (Err fault.Read) = subst (λ (d : Result A ClientFault). StopsAt most_reads most_reads n.got (connection_of y) later d) g stops_too in
+      let k : StopsAt {A = A} most_reads most_reads m.got (connection_of x) after (Err fault.Read) =
+      subst (λ (d : Result A ClientFault). StopsAt most_reads most_reads m.got (connection_of x) after d) f stops in
+      let l : StopsAt {A = A} most_reads most_reads n.got (connection_of y) later (Err fault.Read) =
+      subst (λ (d : Result A ClientFault). StopsAt most_reads most_reads n.got (connection_of y) later d) g stops_too in
       record {
         more = [];
         rest = [];
-        whole = ap (λ (o : List ℕ). o ++ []) (sym (read_same (connection_of x) (connection_of y) sent also m.taken n.taken line after other later coming first second k l c));
+        whole = ap (λ (o : List ℕ). o ++ [])
+            (sym (read_same (connection_of x) (connection_of y) sent also m.taken n.taken line after other later coming first second k l c));
         stop = λ h e is. refl;
         stop_too = λ h e is. refl;
         faults = record { alike = one_of fault.Read f g; written = written };
@@ -174,7 +188,12 @@ module _ {A : Type 0} (one two x y : Client) (a b : Result A ClientFault) (line 
     whole = second.parts ∙ sym first.parts;
     stop = λ h e is. absurd (not_stop a f h e is);
     stop_too = λ h e is. absurd (not_stop b g h e is);
-    faults = record { alike = one_of fault.Write f g; written = λ either. wrote_same (connection_of x) (connection_of y) sent also m.taken n.taken line after other later coming first second w };
+    faults =
+        record {
+          alike = one_of fault.Write f g;
+          written = λ either. wrote_same (connection_of x) (connection_of y) sent also m.taken n.taken line after other
+              later coming first second w;
+        };
   }
     where
       not_stop : (c : Result A ClientFault) → IsErrOf c fault.Write → (h : ClientFault) → fault_of c ≡ Some h → (h ≡ fault.Ended) ⊎ (h ≡ fault.Read) → ⊥
@@ -191,7 +210,8 @@ module _ {A : Type 0} (one two x y : Client) (a b : Result A ClientFault) (line 
   placed : Place (client_channel x) (client_channel y) s m.taken n.taken → IsReady x → IsReady y → StandBy false x y after later
   placed h ready ready_too =
       let ahead : untaken_of (connection_of x) ++ first.last.coming [] ≡ untaken_of (connection_of y) ++ second.last.coming [] =
-      append_cancel_left m.taken _ _ (first.parts ∙ (sym second.parts ∙ ap (λ (o : List ℕ). o ++ (untaken_of (connection_of y) ++ second.last.coming [])) (sym h.same))) in (
+      append_cancel_left m.taken _ _
+      (first.parts ∙ (sym second.parts ∙ ap (λ (o : List ℕ). o ++ (untaken_of (connection_of y) ++ second.last.coming [])) (sym h.same))) in (
         h.site,
         untaken_of (connection_of x) ++ first.last.coming [],
         record {
@@ -202,17 +222,22 @@ module _ {A : Type 0} (one two x y : Client) (a b : Result A ClientFault) (line 
           same = record { limits = sym same.limits ∙ (stand.same.limits ∙ same_too.limits); url = sym same.url ∙ (stand.same.url ∙ same_too.url) };
           comes = ran_comes x (connection_of x) sent m.taken line after coming first refl;
           comes_too = subst (ComesTo y later) (sym ahead) (ran_comes y (connection_of y) also n.taken other later coming second refl);
-          few = subst (λ (o : List ℕ). length o < 0xFFFF_FFFF_FFFF_FFFF) (sym (ap (λ (o : List ℕ). o ++ (untaken_of (connection_of x) ++ first.last.coming [])) h.octets ∙ behind_parts s.octets m.taken (untaken_of (connection_of x) ++ first.last.coming []) coming first.parts)) stand.few;
+          few = subst (λ (o : List ℕ). length o < 0xFFFF_FFFF_FFFF_FFFF)
+              (sym (ap (λ (o : List ℕ). o ++ (untaken_of (connection_of x) ++ first.last.coming [])) h.octets
+              ∙ behind_parts s.octets m.taken (untaken_of (connection_of x) ++ first.last.coming []) coming first.parts)) stand.few;
         },
       )
 
-  pub left_both : fault_of a ≡ fault_of b → IsLeft a x → IsLeft b y → (goes_on (fault_of a) ≡ true → Place (client_channel x) (client_channel y) s m.taken n.taken) → LeavesBoth a x y after later
+  pub left_both : fault_of a ≡ fault_of b → IsLeft a x → IsLeft b y
+      → (goes_on (fault_of a) ≡ true → Place (client_channel x) (client_channel y) s m.taken n.taken) → LeavesBoth a x y after later
   left_both e left left_too stays = leaves a b x y after later e left left_too (λ goes ready ready_too. placed (stays goes) ready ready_too)
 
 -- ---- memory was had
 
-pub had_first : {A : Type 0} (a b : Result A ClientFault) → HadMemory fault.OutOfMemory a b → (f : ClientFault) → fault_of a ≡ Some f → f ≡ fault.OutOfMemory → ⊥
+pub had_first : {A : Type 0} (a b : Result A ClientFault) → HadMemory fault.OutOfMemory a b → (f : ClientFault) → fault_of a ≡ Some f → f ≡ fault.OutOfMemory
+    → ⊥
 had_first a b had f e is = had.first (fault_err a fault.OutOfMemory (e ∙ ap Some is))
 
-pub had_second : {A : Type 0} (a b : Result A ClientFault) → HadMemory fault.OutOfMemory a b → (f : ClientFault) → fault_of b ≡ Some f → f ≡ fault.OutOfMemory → ⊥
+pub had_second : {A : Type 0} (a b : Result A ClientFault) → HadMemory fault.OutOfMemory a b → (f : ClientFault) → fault_of b ≡ Some f → f ≡ fault.OutOfMemory
+    → ⊥
 had_second a b had f e is = had.second (fault_err b fault.OutOfMemory (e ∙ ap Some is))

@@ -14,7 +14,8 @@ behind : {A : Type 0} (u v : A) (us vs : List A) → u ≡ v → Begins us vs �
 behind u v us vs e (First more p) = First more (let q : v ∷ vs ≡ u ∷ (us ++ more) = cc in q)
 behind u v us vs e (Second more p) = Second more (let q : u ∷ us ≡ v ∷ (vs ++ more) = cc in q)
 
-pub given_once : {M : Type 0} (gives : M → ℤ → M → Type 0) → ((m x y : M) (t u : ℤ) → gives m t x → gives m u y → (t ≡ u) × (x ≡ y)) → (before last other : M) (ts us : List ℤ) → Gives gives before ts last → Gives gives before us other → Begins ts us
+pub given_once : {M : Type 0} (gives : M → ℤ → M → Type 0) → ((m x y : M) (t u : ℤ) → gives m t x → gives m u y → (t ≡ u) × (x ≡ y))
+    → (before last other : M) (ts us : List ℤ) → Gives gives before ts last → Gives gives before us other → Begins ts us
 given_once gives once before last other [] us p q = First us refl
 given_once gives once before last other (t ∷ ts) [] p q = Second (t ∷ ts) refl
 given_once {M = M} gives once before last other (t ∷ ts) (u ∷ us) p q =
@@ -22,7 +23,8 @@ given_once {M = M} gives once before last other (t ∷ ts) (u ∷ us) p q =
     behind t u ts us same.0 (given_once gives once p.0 last other ts us p.2 (subst (λ (m : M). Gives gives m us other) (sym same.1) q.2))
 
 -- as many moments leave what gives them in one state
-pub left_once : {M : Type 0} (gives : M → ℤ → M → Type 0) → ((m x y : M) (t u : ℤ) → gives m t x → gives m u y → (t ≡ u) × (x ≡ y)) → (before last other : M) (ts us : List ℤ) → length ts ≡ length us → Gives gives before ts last → Gives gives before us other → last ≡ other
+pub left_once : {M : Type 0} (gives : M → ℤ → M → Type 0) → ((m x y : M) (t u : ℤ) → gives m t x → gives m u y → (t ≡ u) × (x ≡ y))
+    → (before last other : M) (ts us : List ℤ) → length ts ≡ length us → Gives gives before ts last → Gives gives before us other → last ≡ other
 left_once gives once before last other [] [] n p q = sym p ∙ q
 left_once gives once before last other [] (u ∷ us) n p q = absurd (omega (arith, n))
 left_once gives once before last other (t ∷ ts) [] n p q = absurd (omega (arith, n))

@@ -29,7 +29,8 @@ use Rattle.test_determinism.specs.Calling.{CallsAlike, ComesTo, LeavesBoth, Stan
 use Rattle.test_determinism.specs.Calling.CallsAlike.{NoFault, AtRead, AtWrite}
 use Rattle.test_determinism.specs.Lines.{Wrote, WroteAlike}
 use Rattle.test_determinism.specs.Pinned.{HadMemory}
-use Rattle.test_determinism.proofs.CallsAlike.{EndsBy, Ran, behind_parts, both_wrote, comes_at, ended_all, ended_reads, few_reads, goes_front, goes_reads, one_fault, ran, ran_comes, same_rules}
+use Rattle.test_determinism.proofs.CallsAlike.{EndsBy, Ran, behind_parts, both_wrote, comes_at, ended_all, ended_reads}
+use Rattle.test_determinism.proofs.CallsAlike.{few_reads, goes_front, goes_reads, one_fault, ran, ran_comes, same_rules}
 use Rattle.test_determinism.proofs.CallsAlike.EndsBy.{ByPeer, ByOurs, ByEnd}
 use Rattle.test_determinism.proofs.ClientsAlike.{to_tells}
 use Rattle.test_determinism.proofs.FrontsAlike.{ReadsAll, ReadsFront, all_once, front_first}
@@ -50,7 +51,8 @@ true_false e = cc
 abbrev ClosesTo : ClientPlace → DateTime → List ℕ → Result (Unit {0}) ClientFault → Type 0
 ClosesTo s moment sent a = (a ≡ Ok tt) × (sent ≡ closing_at s moment)
 
-closes_to : (s : ClientPlace) (moment : DateTime) (sent : List ℕ) (a : Result (Unit {0}) ClientFault) → ClosesAt s moment sent a → line_failed a ≡ false → ¬ (IsErrOf a fault.OutOfMemory) → ClosesTo s moment sent a
+closes_to : (s : ClientPlace) (moment : DateTime) (sent : List ℕ) (a : Result (Unit {0}) ClientFault) → ClosesAt s moment sent a → line_failed a ≡ false
+    → ¬ (IsErrOf a fault.OutOfMemory) → ClosesTo s moment sent a
 closes_to s moment sent (Ok u) h unbroken had = (refl, h)
 closes_to s moment sent (Err fault.Write) h unbroken had = absurd (true_false unbroken)
 closes_to s moment sent (Err fault.OutOfMemory) h unbroken had = absurd (had refl)
@@ -60,7 +62,8 @@ pub record ClosedOnce (a b : Result (Unit {0}) ClientFault) (line after other la
   pub answers : a ≡ b
   pub written : WroteAlike line after other later
 
-pub closed_once : (one two : Client) (moment : DateTime) (a b : Result (Unit {0}) ClientFault) (line after other later : Option Traffic) (s : ClientPlace) (coming : List ℕ) → StandReady one two line other s coming → HadMemory fault.OutOfMemory a b → CallsAlike a b line after other later
+pub closed_once : (one two : Client) (moment : DateTime) (a b : Result (Unit {0}) ClientFault) (line after other later : Option Traffic) (s : ClientPlace)
+    (coming : List ℕ) → StandReady one two line other s coming → HadMemory fault.OutOfMemory a b → CallsAlike a b line after other later
     → Closes moment (client_channel one) line after a → Closes moment (client_channel two) other later b → ClosedOnce a b line after other later
 closed_once one two moment a b line after other later s coming stand had faults h k = by_faults faults
   where
@@ -97,11 +100,15 @@ closed_once one two moment a b line after other later s coming stand had faults 
 -- ---- one place
 
 -- two channels of the same limits stand in one place, where they asked the same, took the same and send the same number next
-pub site_once : (x y : ClientChannel) (s t : ClientPlace) → StandsAt x s → StandsAt y t → client_limits x ≡ client_limits y → s.asks ≡ t.asks → s.octets ≡ t.octets → s.number ≡ t.number → s ≡ t
-site_once x y s t p q limits asks octets number = same s.asks t.asks s.octets t.octets s.before t.before s.told t.told s.number t.number asks octets before told number
+pub site_once : (x y : ClientChannel) (s t : ClientPlace) → StandsAt x s → StandsAt y t → client_limits x ≡ client_limits y → s.asks ≡ t.asks
+    → s.octets ≡ t.octets → s.number ≡ t.number → s ≡ t
+site_once x y s t p q limits asks octets number = same s.asks t.asks s.octets t.octets s.before t.before s.told t.told s.number t.number asks octets before told
+    number
   where
     run : Run (client_rules_of y t.asks) t.octets p.goes.frames p.goes.rest Going
-    run = subst (λ (a : List Placed). Run (client_rules_of y a) t.octets p.goes.frames p.goes.rest Going) asks (subst (λ (o : List ℕ). Run (client_rules_of y s.asks) o p.goes.frames p.goes.rest Going) octets (subst (λ (S : Rules ClientTold Why). Run S s.octets p.goes.frames p.goes.rest Going) (same_rules x y s.asks limits) p.goes.stands.run))
+    run = subst (λ (a : List Placed). Run (client_rules_of y a) t.octets p.goes.frames p.goes.rest Going) asks
+        (subst (λ (o : List ℕ). Run (client_rules_of y s.asks) o p.goes.frames p.goes.rest Going) octets
+        (subst (λ (S : Rules ClientTold Why). Run S s.octets p.goes.frames p.goes.rest Going) (same_rules x y s.asks limits) p.goes.stands.run))
 
     frames : p.goes.frames ≡ q.goes.frames
     frames = (unique (client_rules_of y t.asks) t.octets p.goes.frames q.goes.frames p.goes.rest q.goes.rest Going Going run q.goes.stands.run).frames
@@ -113,18 +120,22 @@ site_once x y s t p q limits asks octets number = same s.asks t.asks s.octets t.
     told = sym p.goes.told_is ∙ (ap (events (client_rules_of x s.asks)) frames ∙ q.goes.told_is)
 
     same : (asked bs : List Placed) (os ps : List ℕ) (b c : Received) (ts us : List ClientTold) (m n : ℕ) → asked ≡ bs → os ≡ ps → b ≡ c → ts ≡ us → m ≡ n
-        → ◌≡◌ {A = ClientPlace} (record { asks = asked; octets = os; before = b; told = ts; number = m }) (record { asks = bs; octets = ps; before = c; told = us; number = n })
+        → ◌≡◌ {A = ClientPlace} (record { asks = asked; octets = os; before = b; told = ts; number = m })
+        (record { asks = bs; octets = ps; before = c; told = us; number = n })
     same asked bs os ps b c ts us m n e1 e2 e3 e4 e5 = cc
 
 -- ---- a renewal
 
 -- what a renewal comes to, where no call of the line failed and memory was had
-data RenewsTo (R : Rules ClientTold Why) (whole : List ℕ) (s : ClientPlace) (moment : DateTime) (new : ClientChannel) (sent taken : List ℕ) (a : Result (Unit {0}) ClientFault) : Type 0 where
+data RenewsTo (R : Rules ClientTold Why) (whole : List ℕ) (s : ClientPlace) (moment : DateTime) (new : ClientChannel) (sent taken : List ℕ)
+    (a : Result (Unit {0}) ClientFault) : Type 0 where
   Done : a ≡ Ok tt → sent ≡ renewal_at s moment → (t : ClientPlace) → IsRenewed new s t taken → RenewsTo R whole s moment new sent taken a
-  Waited : (f : ClientFault) (e : End Why) → a ≡ Err f → EndsBy f e → sent ≡ renewal_at s moment → (heard : List ClientTold) → list_any is_renewed heard ≡ false → ReadsAll R whole (s.told ++ heard) e → RenewsTo R whole s moment new sent taken a
+  Waited : (f : ClientFault) (e : End Why) → a ≡ Err f → EndsBy f e → sent ≡ renewal_at s moment → (heard : List ClientTold) → list_any is_renewed heard ≡ false
+      → ReadsAll R whole (s.told ++ heard) e → RenewsTo R whole s moment new sent taken a
   Judged : (f : ClientFault) → a ≡ Err f → refused_by a ≡ Some f → IsRefusal a → sent ≡ [] → RenewsTo R whole s moment new sent taken a
 
-module _ (R : Rules ClientTold Why) (old new : Connection) (moment : DateTime) (s : ClientPlace) (line after : Option Traffic) (coming : List ℕ) (t : Traffic) (line_is : line ≡ Some t) (brings : (more : List ℕ) → untaken_of old ++ t.coming more ≡ coming) (few : length (s.octets ++ coming) < 0xFFFF_FFFF_FFFF_FFFF)
+module _ (R : Rules ClientTold Why) (old new : Connection) (moment : DateTime) (s : ClientPlace) (line after : Option Traffic) (coming : List ℕ) (t : Traffic)
+    (line_is : line ≡ Some t) (brings : (more : List ℕ) → untaken_of old ++ t.coming more ≡ coming) (few : length (s.octets ++ coming) < 0xFFFF_FFFF_FFFF_FFFF)
     (a : Result (Unit {0}) ClientFault) (h : Renews moment old new line after a) (rules : client_rules_of (channel_of new) (asks_renewed s) ≡ R) where
   r : Ran new h.sent h.moves.taken line after coming
   r = ran old new h.sent line after coming t h.moves line_is brings
@@ -132,15 +143,25 @@ module _ (R : Rules ClientTold Why) (old new : Connection) (moment : DateTime) (
   parts : (s.octets ++ h.moves.taken) ++ (untaken_of new ++ r.last.coming []) ≡ s.octets ++ coming
   parts = behind_parts s.octets h.moves.taken (untaken_of new ++ r.last.coming []) coming r.parts
 
-  broken : (f : ClientFault) (why : Why) → EndsBy f (Stopped why) → a ≡ Err f → (h.sent ≡ renewal_at s moment) × EndsWithout is_renewed (channel_of new) (asks_renewed s) (s.octets ++ h.moves.taken) s.told why → RenewsTo R (s.octets ++ coming) s moment (channel_of new) h.sent h.moves.taken a
-  broken f why e p w = Waited f (Stopped why) p e w.0 w.1.heard w.1.none (ended_reads R (channel_of new) (asks_renewed s) (s.octets ++ h.moves.taken) (untaken_of new ++ r.last.coming []) (s.octets ++ coming) (s.told ++ w.1.heard) why rules parts w.1.ended)
+  broken : (f : ClientFault) (why : Why) → EndsBy f (Stopped why) → a ≡ Err f → (h.sent ≡ renewal_at s moment)
+      × EndsWithout is_renewed (channel_of new) (asks_renewed s) (s.octets ++ h.moves.taken) s.told why
+      → RenewsTo R (s.octets ++ coming) s moment (channel_of new) h.sent h.moves.taken a
+  broken f why e p w =
+      Waited f (Stopped why) p e w.0 w.1.heard w.1.none
+      (ended_reads R (channel_of new) (asks_renewed s) (s.octets ++ h.moves.taken) (untaken_of new ++ r.last.coming []) (s.octets ++ coming)
+      (s.told ++ w.1.heard) why rules parts w.1.ended)
 
-  ran_out : a ≡ Err fault.Ended → StopsAt {A = Unit {0}} most_reads most_reads h.moves.got new after (Err fault.Ended) → (h.sent ≡ renewal_at s moment) × GoesWithout is_renewed (channel_of new) (asks_renewed s) (s.octets ++ h.moves.taken) s.told → RenewsTo R (s.octets ++ coming) s moment (channel_of new) h.sent h.moves.taken a
+  ran_out : a ≡ Err fault.Ended → StopsAt {A = Unit {0}} most_reads most_reads h.moves.got new after (Err fault.Ended) → (h.sent ≡ renewal_at s moment)
+      × GoesWithout is_renewed (channel_of new) (asks_renewed s) (s.octets ++ h.moves.taken) s.told
+      → RenewsTo R (s.octets ++ coming) s moment (channel_of new) h.sent h.moves.taken a
   ran_out p stops w =
       Waited fault.Ended Going p (ByEnd refl refl) w.0 w.1.heard w.1.none
-      (goes_reads R (channel_of new) (asks_renewed s) (s.octets ++ h.moves.taken) (s.octets ++ coming) (s.told ++ w.1.heard) rules (ap (λ (o : List ℕ). s.octets ++ o) (ended_all new h.sent h.moves.taken line after coming r stops.0 stops.1)) w.1.goes)
+      (goes_reads R (channel_of new) (asks_renewed s) (s.octets ++ h.moves.taken) (s.octets ++ coming) (s.told ++ w.1.heard) rules
+      (ap (λ (o : List ℕ). s.octets ++ o) (ended_all new h.sent h.moves.taken line after coming r stops.0 stops.1)) w.1.goes)
 
-  renews_by : (b : Result (Unit {0}) ClientFault) → a ≡ b → RenewsAt s moment (channel_of new) h.sent h.moves.taken b → StopsAt most_reads most_reads h.moves.got new after b → line_failed b ≡ false → ¬ (IsErrOf b fault.OutOfMemory) → RenewsTo R (s.octets ++ coming) s moment (channel_of new) h.sent h.moves.taken a
+  renews_by : (b : Result (Unit {0}) ClientFault) → a ≡ b → RenewsAt s moment (channel_of new) h.sent h.moves.taken b
+      → StopsAt most_reads most_reads h.moves.got new after b → line_failed b ≡ false → ¬ (IsErrOf b fault.OutOfMemory)
+      → RenewsTo R (s.octets ++ coming) s moment (channel_of new) h.sent h.moves.taken a
   renews_by (Ok u) e k stops unbroken had = Done e k.0 k.1.0 k.1.1
   renews_by (Err fault.Write) e k stops unbroken had = absurd (true_false unbroken)
   renews_by (Err fault.Read) e k stops unbroken had = absurd (true_false unbroken)
@@ -153,7 +174,8 @@ module _ (R : Rules ClientTold Why) (old new : Connection) (moment : DateTime) (
   renews_by (Err (fault.Refused code)) e k stops unbroken had = broken (fault.Refused code) (ours code.code) (ByOurs code refl refl) e k
   renews_by (Err f) e k stops unbroken had = absurd k
 
-  renews_to : StandsAt (channel_of old) s → line_failed a ≡ false → ¬ (IsErrOf a fault.OutOfMemory) → RenewsTo R (s.octets ++ coming) s moment (channel_of new) h.sent h.moves.taken a
+  renews_to : StandsAt (channel_of old) s → line_failed a ≡ false → ¬ (IsErrOf a fault.OutOfMemory)
+      → RenewsTo R (s.octets ++ coming) s moment (channel_of new) h.sent h.moves.taken a
   renews_to at unbroken had = renews_by a refl (h.answers s at) h.stops unbroken had
 
 -- ---- two renewals are one
@@ -166,10 +188,12 @@ any_behind us more token = list_any-append is_renewed us (Renewed token ∷ more
     either false = refl
 
 -- what was heard without a further token has none
-not_heard : (told heard us more : List ClientTold) (token : ℕ) → told ++ heard ≡ ((told ++ us) ++ Renewed token ∷ []) ++ more → list_any is_renewed heard ≡ false → ⊥
+not_heard : (told heard us more : List ClientTold) (token : ℕ) → told ++ heard ≡ ((told ++ us) ++ Renewed token ∷ []) ++ more
+    → list_any is_renewed heard ≡ false → ⊥
 not_heard told heard us more token e none =
     let parts : heard ≡ us ++ Renewed token ∷ more =
-    append_cancel_left told heard (us ++ Renewed token ∷ more) (e ∙ (append_assoc (told ++ us) (Renewed token ∷ []) more ∙ append_assoc told us (Renewed token ∷ more))) in
+    append_cancel_left told heard (us ++ Renewed token ∷ more)
+    (e ∙ (append_assoc (told ++ us) (Renewed token ∷ []) more ∙ append_assoc told us (Renewed token ∷ more))) in
     true_false (sym (any_behind us more token) ∙ (ap (list_any is_renewed) (sym parts) ∙ none))
 
 no_fault : (f : ClientFault) → ◌≡◌ {A = Option ClientFault} None (Some f) → ⊥
@@ -180,14 +204,17 @@ waited_unrefused f e (ByPeer code p q) = subst (λ (g : ClientFault). (refused_b
 waited_unrefused f e (ByOurs code p q) = subst (λ (g : ClientFault). (refused_by {A = Unit {0}} (Err g) ≡ None) × (ends g ≡ true)) (sym p) (refl, refl)
 waited_unrefused f e (ByEnd p q) = subst (λ (g : ClientFault). (refused_by {A = Unit {0}} (Err g) ≡ None) × (ends g ≡ true)) (sym p) (refl, refl)
 
-done_by : (f : ClientFault) (one two : Client) (a : Result (Unit {0}) ClientFault) (after later : Option Traffic) → a ≡ Err f → ends f ≡ true → IsDone one → IsDone two → LeavesBoth a one two after later
+done_by : (f : ClientFault) (one two : Client) (a : Result (Unit {0}) ClientFault) (after later : Option Traffic) → a ≡ Err f → ends f ≡ true → IsDone one
+    → IsDone two → LeavesBoth a one two after later
 done_by f one two a after later e d p q =
-    subst (λ (z : Result (Unit {0}) ClientFault). LeavesBoth z one two after later) (sym e) (subst (λ (b : Bool). StandBy b one two after later) (sym d) (record { first = p; second = q }))
+    subst (λ (z : Result (Unit {0}) ClientFault). LeavesBoth z one two after later) (sym e)
+    (subst (λ (b : Bool). StandBy b one two after later) (sym d) (record { first = p; second = q }))
 
 left_done : (f : ClientFault) (x : Client) (a : Result (Unit {0}) ClientFault) → a ≡ Err f → ends f ≡ true → IsLeft a x → IsDone x
 left_done f x a e d h = let k : IsLeft {A = Unit {0}} (Err f) x = subst (λ (z : Result (Unit {0}) ClientFault). IsLeft z x) e h in k ∙ d
 
-module _ (one two x y : Client) (moment : DateTime) (a b : Result (Unit {0}) ClientFault) (line after other later : Option Traffic) (s : ClientPlace) (coming : List ℕ)
+module _ (one two x y : Client) (moment : DateTime) (a b : Result (Unit {0}) ClientFault) (line after other later : Option Traffic) (s : ClientPlace)
+    (coming : List ℕ)
     (stand : StandReady one two line other s coming) (had : HadMemory fault.OutOfMemory a b)
     (h : Renews moment (connection_of one) (connection_of x) line after a) (k : Renews moment (connection_of two) (connection_of y) other later b)
     (left : IsLeft a x) (left_too : IsLeft b y)
@@ -223,43 +250,59 @@ module _ (one two x y : Client) (moment : DateTime) (a b : Result (Unit {0}) Cli
   front octets taken more e = ap (λ (o : List ℕ). octets ++ o) (ap (take (length taken)) (sym e) ∙ take-append_seam taken more)
 
   -- the frame that brought the token is the first that tells one
-  told_by : (z : Client) (taken more : List ℕ) (t : ClientPlace) (r : IsRenewed (client_channel z) s t taken) → client_rules_of (client_channel z) (asks_renewed s) ≡ R → taken ++ more ≡ coming
+  told_by : (z : Client) (taken more : List ℕ) (t : ClientPlace) (r : IsRenewed (client_channel z) s t taken)
+      → client_rules_of (client_channel z) (asks_renewed s) ≡ R → taken ++ more ≡ coming
       → Tells R s.octets coming (s.told ++ r.heard) (length taken) (Renewed r.token)
   told_by z taken more t r rules e =
-      to_tells R (client_channel z) (asks_renewed s) s.octets coming (s.told ++ r.heard) (length taken) (Renewed r.token) rules (omega (arith, ap length e, length-append taken more))
-      (subst (λ (o : List ℕ). ClientGoesTelling (client_channel z) (asks_renewed s) o (s.told ++ r.heard) (Renewed r.token)) (r.octets ∙ sym (front s.octets taken more e))
+      to_tells R (client_channel z) (asks_renewed s) s.octets coming (s.told ++ r.heard) (length taken) (Renewed r.token) rules
+      (omega (arith, ap length e, length-append taken more))
+      (subst (λ (o : List ℕ). ClientGoesTelling (client_channel z) (asks_renewed s) o (s.told ++ r.heard) (Renewed r.token))
+      (r.octets ∙ sym (front s.octets taken more e))
       (subst (λ (asked : List Placed). ClientGoesTelling (client_channel z) asked t.octets (s.told ++ r.heard) (Renewed r.token)) r.asks r.tells))
 
   -- what was told up to the token begins all that is told
-  front_told : (z : Client) (taken more : List ℕ) (t : ClientPlace) (r : IsRenewed (client_channel z) s t taken) → client_rules_of (client_channel z) (asks_renewed s) ≡ R → taken ++ more ≡ coming → ReadsFront R (s.octets ++ coming) ((s.told ++ r.heard) ++ Renewed r.token ∷ [])
+  front_told : (z : Client) (taken more : List ℕ) (t : ClientPlace) (r : IsRenewed (client_channel z) s t taken)
+      → client_rules_of (client_channel z) (asks_renewed s) ≡ R → taken ++ more ≡ coming
+      → ReadsFront R (s.octets ++ coming) ((s.told ++ r.heard) ++ Renewed r.token ∷ [])
   front_told z taken more t r rules e =
-      goes_front R (client_channel z) (asks_renewed s) (s.octets ++ taken) more (s.octets ++ coming) ((s.told ++ r.heard) ++ Renewed r.token ∷ []) rules (behind_parts s.octets taken more coming e)
-      (subst (λ (ts : List ClientTold). ClientGoes (client_channel z) (asks_renewed s) (s.octets ++ taken) ts) (r.told ∙ sym (append_assoc s.told r.heard (Renewed r.token ∷ [])))
-      (subst (λ (o : List ℕ). ClientGoes (client_channel z) (asks_renewed s) o t.told) r.octets (subst (λ (asked : List Placed). ClientGoes (client_channel z) asked t.octets t.told) r.asks r.at.goes)))
+      goes_front R (client_channel z) (asks_renewed s) (s.octets ++ taken) more (s.octets ++ coming) ((s.told ++ r.heard) ++ Renewed r.token ∷ []) rules
+      (behind_parts s.octets taken more coming e)
+      (subst (λ (ts : List ClientTold). ClientGoes (client_channel z) (asks_renewed s) (s.octets ++ taken) ts)
+      (r.told ∙ sym (append_assoc s.told r.heard (Renewed r.token ∷ [])))
+      (subst (λ (o : List ℕ). ClientGoes (client_channel z) (asks_renewed s) o t.told) r.octets
+      (subst (λ (asked : List Placed). ClientGoes (client_channel z) asked t.octets t.told) r.asks r.at.goes)))
 
-  never_waited : (z : Client) (taken more : List ℕ) (t : ClientPlace) (r : IsRenewed (client_channel z) s t taken) → client_rules_of (client_channel z) (asks_renewed s) ≡ R → taken ++ more ≡ coming
+  never_waited : (z : Client) (taken more : List ℕ) (t : ClientPlace) (r : IsRenewed (client_channel z) s t taken)
+      → client_rules_of (client_channel z) (asks_renewed s) ≡ R → taken ++ more ≡ coming
       → (e : End Why) (heard : List ClientTold) → list_any is_renewed heard ≡ false → ReadsAll R (s.octets ++ coming) (s.told ++ heard) e → ⊥
   never_waited z taken more t r rules parts e heard none all =
-      let f = front_first R (s.octets ++ coming) ((s.told ++ r.heard) ++ Renewed r.token ∷ []) (s.told ++ heard) e (front_told z taken more t r rules parts) all in
+      let f = front_first R (s.octets ++ coming) ((s.told ++ r.heard) ++ Renewed r.token ∷ []) (s.told ++ heard) e (front_told z taken more t r rules parts) all
+      in
       not_heard s.told heard r.heard f.0 r.token f.1 none
 
   same_taken : (t u : ClientPlace) (r : IsRenewed (client_channel x) s t h.moves.taken) (v : IsRenewed (client_channel y) s u k.moves.taken)
-      → Meets (s.told ++ r.heard) (s.told ++ v.heard) (length h.moves.taken) (length k.moves.taken) (Renewed r.token) (Renewed v.token) → h.moves.taken ≡ k.moves.taken
+      → Meets (s.told ++ r.heard) (s.told ++ v.heard) (length h.moves.taken) (length k.moves.taken) (Renewed r.token) (Renewed v.token)
+      → h.moves.taken ≡ k.moves.taken
   same_taken t u r v (AsOne n e d) =
       sym (take-append_seam h.moves.taken (untaken_of (connection_of x) ++ first.last.coming [])) ∙ (ap (take (length h.moves.taken)) first.parts
-      ∙ (ap (λ (m : ℕ). take m coming) n ∙ (ap (take (length k.moves.taken)) (sym second.parts) ∙ take-append_seam k.moves.taken (untaken_of (connection_of y) ++ second.last.coming []))))
+      ∙ (ap (λ (m : ℕ). take m coming) n
+      ∙ (ap (take (length k.moves.taken)) (sym second.parts) ∙ take-append_seam k.moves.taken (untaken_of (connection_of y) ++ second.last.coming []))))
   same_taken t u r v (Within more e) = absurd (not_heard s.told v.heard r.heard more r.token e v.none_before)
   same_taken t u r v (Around more e) = absurd (not_heard s.told r.heard v.heard more v.token e r.none_before)
 
-  both_done : a ≡ Ok tt → b ≡ Ok tt → h.sent ≡ renewal_at s moment → k.sent ≡ renewal_at s moment → (t u : ClientPlace) → IsRenewed (client_channel x) s t h.moves.taken → IsRenewed (client_channel y) s u k.moves.taken → CalledOnce a b x y line after other later
+  both_done : a ≡ Ok tt → b ≡ Ok tt → h.sent ≡ renewal_at s moment → k.sent ≡ renewal_at s moment → (t u : ClientPlace)
+      → IsRenewed (client_channel x) s t h.moves.taken → IsRenewed (client_channel y) s u k.moves.taken → CalledOnce a b x y line after other later
   both_done e d sent also t u r v =
-      let m = tells_tells R s.octets coming (s.told ++ r.heard) (s.told ++ v.heard) (length h.moves.taken) (length k.moves.taken) (Renewed r.token) (Renewed v.token)
-      (told_by x h.moves.taken (untaken_of (connection_of x) ++ first.last.coming []) t r mine first.parts) (told_by y k.moves.taken (untaken_of (connection_of y) ++ second.last.coming []) u v theirs second.parts) in
+      let m = tells_tells R s.octets coming (s.told ++ r.heard) (s.told ++ v.heard) (length h.moves.taken) (length k.moves.taken) (Renewed r.token)
+      (Renewed v.token)
+      (told_by x h.moves.taken (untaken_of (connection_of x) ++ first.last.coming []) t r mine first.parts)
+      (told_by y k.moves.taken (untaken_of (connection_of y) ++ second.last.coming []) u v theirs second.parts) in
       let taken : h.moves.taken ≡ k.moves.taken = same_taken t u r v m in
       let octets : t.octets ≡ u.octets = r.octets ∙ (ap (λ (o : List ℕ). s.octets ++ o) taken ∙ sym v.octets) in
       let place : t ≡ u = site_once (client_channel x) (client_channel y) t u r.at v.at limits_same (r.asks ∙ sym v.asks) octets (r.number ∙ sym v.number) in
       let ahead : untaken_of (connection_of x) ++ first.last.coming [] ≡ untaken_of (connection_of y) ++ second.last.coming [] =
-      append_cancel_left h.moves.taken _ _ (first.parts ∙ (sym second.parts ∙ ap (λ (o : List ℕ). o ++ (untaken_of (connection_of y) ++ second.last.coming [])) (sym taken))) in
+      append_cancel_left h.moves.taken _ _
+      (first.parts ∙ (sym second.parts ∙ ap (λ (o : List ℕ). o ++ (untaken_of (connection_of y) ++ second.last.coming [])) (sym taken))) in
       record {
         answers = e ∙ sym d;
         written = wrote_both (sent ∙ sym also);
@@ -274,27 +317,34 @@ module _ (one two x y : Client) (moment : DateTime) (a b : Result (Unit {0}) Cli
             same = record { limits = limits_same; url = sym h.same.url ∙ (stand.same.url ∙ k.same.url) };
             comes = ran_comes x (connection_of x) h.sent h.moves.taken line after coming first refl;
             comes_too = subst (ComesTo y later) (sym ahead) (ran_comes y (connection_of y) k.sent k.moves.taken other later coming second refl);
-            few = subst (λ (o : List ℕ). length o < 0xFFFF_FFFF_FFFF_FFFF) (sym (ap (λ (o : List ℕ). o ++ (untaken_of (connection_of x) ++ first.last.coming [])) r.octets ∙ behind_parts s.octets h.moves.taken (untaken_of (connection_of x) ++ first.last.coming []) coming first.parts)) stand.few;
+            few = subst (λ (o : List ℕ). length o < 0xFFFF_FFFF_FFFF_FFFF)
+                (sym (ap (λ (o : List ℕ). o ++ (untaken_of (connection_of x) ++ first.last.coming [])) r.octets
+                ∙ behind_parts s.octets h.moves.taken (untaken_of (connection_of x) ++ first.last.coming []) coming first.parts)) stand.few;
           },
         );
       }
 
-  both_waited : (f g : ClientFault) (e d : End Why) → a ≡ Err f → b ≡ Err g → EndsBy f e → EndsBy g d → h.sent ≡ renewal_at s moment → k.sent ≡ renewal_at s moment → (heard also : List ClientTold) → ReadsAll R (s.octets ++ coming) (s.told ++ heard) e → ReadsAll R (s.octets ++ coming) (s.told ++ also) d
+  both_waited : (f g : ClientFault) (e d : End Why) → a ≡ Err f → b ≡ Err g → EndsBy f e → EndsBy g d → h.sent ≡ renewal_at s moment
+      → k.sent ≡ renewal_at s moment → (heard also : List ClientTold) → ReadsAll R (s.octets ++ coming) (s.told ++ heard) e
+      → ReadsAll R (s.octets ++ coming) (s.told ++ also) d
       → CalledOnce a b x y line after other later
   both_waited f g e d is is_too by by_too sent sent_too heard also all all_too =
       let same = all_once R (s.octets ++ coming) (s.told ++ heard) (s.told ++ also) e d all all_too in
       record {
         answers = is ∙ (ap Err (one_fault f g e d by by_too same.1) ∙ sym is_too);
         written = wrote_both (sent ∙ sym sent_too);
-        left = done_by f x y a after later is (waited_unrefused f e by).1 (left_done f x a is (waited_unrefused f e by).1 left) (left_done g y b is_too (waited_unrefused g d by_too).1 left_too);
+        left = done_by f x y a after later is (waited_unrefused f e by).1 (left_done f x a is (waited_unrefused f e by).1 left)
+            (left_done g y b is_too (waited_unrefused g d by_too).1 left_too);
       }
 
   stays : IsRefusal a → IsRefusal b → StandBy false x y after later
   stays f g = (
     s,
     coming,
-    subst (λ (z : Client). StandReady z y after later s coming) (sym (kept f).0) (subst (λ (z : Client). StandReady one z after later s coming) (sym (kept_too g).0)
-        (subst (λ (z : Option Traffic). StandReady one two z later s coming) (sym (kept f).1) (subst (λ (z : Option Traffic). StandReady one two line z s coming) (sym (kept_too g).1) stand))),
+    subst (λ (z : Client). StandReady z y after later s coming) (sym (kept f).0)
+        (subst (λ (z : Client). StandReady one z after later s coming) (sym (kept_too g).0)
+        (subst (λ (z : Option Traffic). StandReady one two z later s coming) (sym (kept f).1)
+        (subst (λ (z : Option Traffic). StandReady one two line z s coming) (sym (kept_too g).1) stand))),
   )
 
   refusal_stays : (f : ClientFault) → refused_by {A = Unit {0}} (Err f) ≡ Some f → ends f ≡ false
@@ -302,13 +352,15 @@ module _ (one two x y : Client) (moment : DateTime) (a b : Result (Unit {0}) Cli
   refusal_stays fault.Exhausted e = refl
   refusal_stays f e = cc
 
-  both_judged : (f g : ClientFault) → a ≡ Err f → b ≡ Err g → refused_by a ≡ Some f → refused_by b ≡ Some g → IsRefusal a → IsRefusal b → h.sent ≡ [] → k.sent ≡ [] → CalledOnce a b x y line after other later
+  both_judged : (f g : ClientFault) → a ≡ Err f → b ≡ Err g → refused_by a ≡ Some f → refused_by b ≡ Some g → IsRefusal a → IsRefusal b → h.sent ≡ []
+      → k.sent ≡ [] → CalledOnce a b x y line after other later
   both_judged f g e d is is_too unbroken no_too sent also =
       let same : f ≡ g = same_some f g (sym is ∙ (h.judged s stand.first ∙ (sym (k.judged s stand.second) ∙ is_too))) in
       record {
         answers = e ∙ (ap Err same ∙ sym d);
         written = wrote_both (sent ∙ sym also);
-        left = subst (λ (z : Result (Unit {0}) ClientFault). LeavesBoth z x y after later) (sym e) (subst (λ (w : Bool). StandBy w x y after later) (sym (refusal_stays f (sym (ap refused_by e) ∙ is))) (stays unbroken no_too));
+        left = subst (λ (z : Result (Unit {0}) ClientFault). LeavesBoth z x y after later) (sym e)
+            (subst (λ (w : Bool). StandBy w x y after later) (sym (refusal_stays f (sym (ap refused_by e) ∙ is))) (stays unbroken no_too));
       }
 
   -- a refusal is that of the place
@@ -318,18 +370,22 @@ module _ (one two x y : Client) (moment : DateTime) (a b : Result (Unit {0}) Cli
   refused_both_too : (f : ClientFault) → refused_by a ≡ Some f → refused_by b ≡ None → ⊥
   refused_both_too f some none = no_fault f (sym none ∙ (k.judged s stand.second ∙ (sym (h.judged s stand.first) ∙ some)))
 
-  both : RenewsTo R (s.octets ++ coming) s moment (client_channel x) h.sent h.moves.taken a → RenewsTo R (s.octets ++ coming) s moment (client_channel y) k.sent k.moves.taken b → CalledOnce a b x y line after other later
+  both : RenewsTo R (s.octets ++ coming) s moment (client_channel x) h.sent h.moves.taken a
+      → RenewsTo R (s.octets ++ coming) s moment (client_channel y) k.sent k.moves.taken b → CalledOnce a b x y line after other later
   both (Done e sent t r) (Done d also u v) = both_done e d sent also t u r v
-  both (Done e sent t r) (Waited f c d by also heard none all) = absurd (never_waited x h.moves.taken (untaken_of (connection_of x) ++ first.last.coming []) t r mine first.parts c heard none all)
+  both (Done e sent t r) (Waited f c d by also heard none all) =
+      absurd (never_waited x h.moves.taken (untaken_of (connection_of x) ++ first.last.coming []) t r mine first.parts c heard none all)
   both (Done e sent t r) (Judged f d is unbroken also) = absurd (refused_both f (ap refused_by e) is)
-  both (Waited f c e by sent heard none all) (Done d also u v) = absurd (never_waited y k.moves.taken (untaken_of (connection_of y) ++ second.last.coming []) u v theirs second.parts c heard none all)
+  both (Waited f c e by sent heard none all) (Done d also u v) =
+      absurd (never_waited y k.moves.taken (untaken_of (connection_of y) ++ second.last.coming []) u v theirs second.parts c heard none all)
   both (Waited f c e by sent heard none all) (Waited g i d by_too also heard' none' all') = both_waited f g c i e d by by_too sent also heard heard' all all'
   both (Waited f c e by sent heard none all) (Judged g d is unbroken also) = absurd (refused_both g (ap refused_by e ∙ (waited_unrefused f c by).0) is)
   both (Judged f e is unbroken sent) (Done d also u v) = absurd (refused_both_too f is (ap refused_by d))
   both (Judged f e is unbroken sent) (Waited g c d by also heard none all) = absurd (refused_both_too f is (ap refused_by d ∙ (waited_unrefused g c by).0))
   both (Judged f e is unbroken sent) (Judged g d is_too no_too also) = both_judged f g e d is is_too unbroken no_too sent also
 
-  sent_at_read : (z : Client) (sent taken : List ℕ) (d : Result (Unit {0}) ClientFault) → d ≡ Err fault.Read → RenewsAt s moment (client_channel z) sent taken d → sent ≡ renewal_at s moment
+  sent_at_read : (z : Client) (sent taken : List ℕ) (d : Result (Unit {0}) ClientFault) → d ≡ Err fault.Read → RenewsAt s moment (client_channel z) sent taken d
+      → sent ≡ renewal_at s moment
   sent_at_read z sent taken d e w = (subst (λ (c : Result (Unit {0}) ClientFault). RenewsAt s moment (client_channel z) sent taken c) e w).0
 
   by_faults : CallsAlike a b line after other later → CalledOnce a b x y line after other later
@@ -338,7 +394,8 @@ module _ (one two x y : Client) (moment : DateTime) (a b : Result (Unit {0}) Cli
       (renews_to R (connection_of two) (connection_of y) moment s other later coming q.0 q.1 q.2 stand.few b k theirs stand.second g had.second)
   by_faults (AtRead f g c) = record {
     answers = f ∙ sym g;
-    written = wrote_both (sent_at_read x h.sent h.moves.taken a f (h.answers s stand.first) ∙ sym (sent_at_read y k.sent k.moves.taken b g (k.answers s stand.second)));
+    written = wrote_both (sent_at_read x h.sent h.moves.taken a f (h.answers s stand.first)
+        ∙ sym (sent_at_read y k.sent k.moves.taken b g (k.answers s stand.second)));
     left = done_by fault.Read x y a after later f refl (left_done fault.Read x a f refl left) (left_done fault.Read y b g refl left_too);
   }
   by_faults (AtWrite f g w) = record {
@@ -347,7 +404,10 @@ module _ (one two x y : Client) (moment : DateTime) (a b : Result (Unit {0}) Cli
     left = done_by fault.Write x y a after later f refl (left_done fault.Write x a f refl left) (left_done fault.Write y b g refl left_too);
   }
 
-pub renewed_once : (one two x y : Client) (moment : DateTime) (a b : Result (Unit {0}) ClientFault) (line after other later : Option Traffic) (s : ClientPlace) (coming : List ℕ) → StandReady one two line other s coming → HadMemory fault.OutOfMemory a b → CallsAlike a b line after other later
-    → Renews moment (connection_of one) (connection_of x) line after a → Renews moment (connection_of two) (connection_of y) other later b → IsLeft a x → IsLeft b y
+pub renewed_once : (one two x y : Client) (moment : DateTime) (a b : Result (Unit {0}) ClientFault) (line after other later : Option Traffic) (s : ClientPlace)
+    (coming : List ℕ) → StandReady one two line other s coming → HadMemory fault.OutOfMemory a b → CallsAlike a b line after other later
+    → Renews moment (connection_of one) (connection_of x) line after a → Renews moment (connection_of two) (connection_of y) other later b → IsLeft a x
+    → IsLeft b y
     → (IsRefusal a → (x ≡ one) × (after ≡ line)) → (IsRefusal b → (y ≡ two) × (later ≡ other)) → CalledOnce a b x y line after other later
-renewed_once one two x y moment a b line after other later s coming stand had faults h k left left_too kept kept_too = by_faults one two x y moment a b line after other later s coming stand had h k left left_too kept kept_too faults
+renewed_once one two x y moment a b line after other later s coming stand had faults h k left left_too kept kept_too =
+    by_faults one two x y moment a b line after other later s coming stand had h k left left_too kept kept_too faults

@@ -24,7 +24,8 @@ use Rattle.ua_channel.specs.declared.server_event.ServerEvent.TheVariants as eve
 use Rattle.ua_channel.specs.declared.server_fault.ChannelFault.{ChannelFault}
 use Rattle.ua_channel.specs.declared.server_fault.ChannelFault.TheVariants.{Refused, Closed, OutOfMemory}
 use Rattle.test_determinism.specs.Pinned.{HadMemory}
-use Rattle.test_determinism.specs.Servers.{ServersAlike, ServersDone, Seen, SameServerAnswer, SameServerOutcome, LeftServers, answer_seen, counted_with, outcome_seen}
+use Rattle.test_determinism.specs.Servers.{ServersAlike, ServersDone, Seen, SameServerAnswer, SameServerOutcome}
+use Rattle.test_determinism.specs.Servers.{LeftServers, answer_seen, counted_with, outcome_seen}
 use Rattle.test_determinism.specs.Servers.{Seen as seen}
 use Rattle.test_determinism.proofs.EndsAlike.{Comes, bound_over, bound_stopped, comes_as, one_at_both, same_parts, tells_by, tells_goes}
 use Rattle.test_determinism.proofs.StreamsAlike.{Lasts, Outcome, Quiet, Tells}
@@ -41,14 +42,19 @@ same_code code other e = ap (λ (n : ℕ). let c : StatusCode = record { code = 
 
 -- ---- by the rules of both
 
-pub to_quiet : (R : Rules Told ℕ) (x : ServerChannel) (octets piece : List ℕ) (before : List Told) (n : ℕ) → rules_of x ≡ R → n ≡ length piece → Goes x (octets ++ piece) before → Quiet R octets piece before n
-to_quiet R x octets piece before n same all goes = subst (λ (Z : Rules Told ℕ). Quiet Z octets piece before n) same (record { all = all; frames = goes.frames; rest = goes.rest; run = goes.stands.run; told_is = goes.told_is })
+pub to_quiet : (R : Rules Told ℕ) (x : ServerChannel) (octets piece : List ℕ) (before : List Told) (n : ℕ) → rules_of x ≡ R → n ≡ length piece
+    → Goes x (octets ++ piece) before → Quiet R octets piece before n
+to_quiet R x octets piece before n same all goes = subst (λ (Z : Rules Told ℕ). Quiet Z octets piece before n) same
+    (record { all = all; frames = goes.frames; rest = goes.rest; run = goes.stands.run; told_is = goes.told_is })
 
-pub to_tells : (R : Rules Told ℕ) (x : ServerChannel) (octets piece : List ℕ) (before : List Told) (n : ℕ) (e : Told) → rules_of x ≡ R → n ≤ length piece → GoesTelling x (octets ++ take n piece) before e → Tells R octets piece before n e
+pub to_tells : (R : Rules Told ℕ) (x : ServerChannel) (octets piece : List ℕ) (before : List Told) (n : ℕ) (e : Told) → rules_of x ≡ R → n ≤ length piece
+    → GoesTelling x (octets ++ take n piece) before e → Tells R octets piece before n e
 to_tells R x = tells_by server_side tt R x.end
 
-pub to_lasts : (R : Rules Told ℕ) (x : ServerChannel) (octets piece : List ℕ) (before : List Told) (n : ℕ) (e : Told) → rules_of x ≡ R → n ≤ length piece → ClosedAt x (octets ++ take n piece) (before ++ e ∷ []) → Lasts R octets piece before n e
-to_lasts R x octets piece before n e same within c = subst (λ (Z : Rules Told ℕ). Lasts Z octets piece before n e) same (record { within = within; frames = c.frames; run = c.run; told_is = c.told_is })
+pub to_lasts : (R : Rules Told ℕ) (x : ServerChannel) (octets piece : List ℕ) (before : List Told) (n : ℕ) (e : Told) → rules_of x ≡ R → n ≤ length piece
+    → ClosedAt x (octets ++ take n piece) (before ++ e ∷ []) → Lasts R octets piece before n e
+to_lasts R x octets piece before n e same within c = subst (λ (Z : Rules Told ℕ). Lasts Z octets piece before n e) same
+    (record { within = within; frames = c.frames; run = c.run; told_is = c.told_is })
 
 -- ---- what a piece comes to
 
@@ -71,7 +77,8 @@ parts_in (Some parts) = parts
 abbrev said : ℕ → ℕ → DateTime → Option (List (List ℕ)) → Came → Result Seen ChannelFault
 said channel number moment parts Quietly = Ok seen.NeedsMore
 said channel number moment parts (Telling (Agreed a)) = Ok (seen.Sends (frame_octets (ack_frame a.ack)))
-said channel number moment parts (Telling (Opened id handle token lifetime)) = Ok (seen.Sends (frame_octets (opened_frame channel number id handle token lifetime moment)))
+said channel number moment parts (Telling (Opened id handle token lifetime)) =
+    Ok (seen.Sends (frame_octets (opened_frame channel number id handle token lifetime moment)))
 said channel number moment parts (Telling (told.Asked id token octets)) = Ok (seen.Asks id (parts_in parts))
 said channel number moment parts (Telling (told.GaveUp id)) = Ok (seen.Aborts id)
 said channel number moment parts (Telling told.Closed) = Ok seen.Closes
@@ -128,7 +135,8 @@ is_sent channel number moment (told.GaveUp id) out p = absurd p
 is_sent channel number moment told.Closed out p = absurd p
 
 module _ (channel number : ℕ) (moment : DateTime) (piece octets : List ℕ) (before : List Told) (x : ServerChannel) where
-  heard : (n : ℕ) (a : Answer) → AnswersAt channel number moment piece n a x octets before → IfOk a (λ e. AsksInParts (parts_asked e) x (octets ++ take n piece)) → ¬ (IsErrOf a OutOfMemory) → Heard channel number moment piece octets before n a x
+  heard : (n : ℕ) (a : Answer) → AnswersAt channel number moment piece n a x octets before
+      → IfOk a (λ e. AsksInParts (parts_asked e) x (octets ++ take n piece)) → ¬ (IsErrOf a OutOfMemory) → Heard channel number moment piece octets before n a x
   heard n (Ok NeedMore) h parts had = record {
     came = Quietly;
     comes = (h.0, h.1.0);
@@ -201,7 +209,8 @@ pub record Both (n m : ℕ) (a b : Answer) (x y : ServerChannel) (octets piece :
   pub answers : SameServerOutcome a b
   pub left : LeftServers (counted_with n a) x y octets before piece
 
-module _ (channel number : ℕ) (moment : DateTime) (piece octets : List ℕ) (before : List Told) (x y : ServerChannel) (limits : limits_of x ≡ limits_of y) (ids : channel_of x ≡ channel_of y) where
+module _ (channel number : ℕ) (moment : DateTime) (piece octets : List ℕ) (before : List Told) (x y : ServerChannel) (limits : limits_of x ≡ limits_of y)
+    (ids : channel_of x ≡ channel_of y) where
   rules : rules_of x ≡ rules_of y
   rules = ap (λ (l : Limits). server_rules l (channel_of x)) limits ∙ ap (server_rules (limits_of y)) ids
 
@@ -211,21 +220,39 @@ module _ (channel number : ℕ) (moment : DateTime) (piece octets : List ℕ) (b
   stand : (told : List Told) (o : List ℕ) → Goes x o told → Goes y o told → next_of x ≡ next_of y → ServersAlike x y o told
   stand told o p q next = record { first = p; second = q; limits = limits; channel = ids; next = next }
 
-  leaves : (n : ℕ) (o : Came) → Comes server_side is_last x.end tt octets piece before n o → Comes server_side is_last y.end tt octets piece before n o → NextIs x number o → NextIs y number o → Left x y (octets ++ take n piece) before o
+  leaves : (n : ℕ) (o : Came) → Comes server_side is_last x.end tt octets piece before n o → Comes server_side is_last y.end tt octets piece before n o
+      → NextIs x number o → NextIs y number o → Left x y (octets ++ take n piece) before o
   leaves n Quietly c d p q = stand before (octets ++ take n piece) c.1 d.1 (p ∙ sym q)
-  leaves n (Telling e) c d p q = stand (before ++ e ∷ []) (octets ++ take n piece) (tells_goes server_side tt x.end (octets ++ take n piece) before e c.2) (tells_goes server_side tt y.end (octets ++ take n piece) before e d.2) (p ∙ sym q)
-  leaves n (Lasting e) c d p q = record { first = c.2.done; second = d.2.done; bound = bound_over server_side tt is_last octets piece before x.end y.end rules bounds (octets ++ take n piece) (before ++ e ∷ []) (before ++ e ∷ []) c.2 d.2 }
-  leaves n (Stopping why) c d p q = record { first = c.1.done; second = d.1.done; bound = bound_stopped server_side tt is_last octets piece before x.end y.end rules bounds (octets ++ take n piece) before before why c.1 d.1 }
+  leaves n (Telling e) c d p q = stand (before ++ e ∷ []) (octets ++ take n piece) (tells_goes server_side tt x.end (octets ++ take n piece) before e c.2)
+      (tells_goes server_side tt y.end (octets ++ take n piece) before e d.2) (p ∙ sym q)
+  leaves n (Lasting e) c d p q =
+      record {
+        first = c.2.done;
+        second = d.2.done;
+        bound = bound_over server_side tt is_last octets piece before x.end y.end rules bounds
+            (octets ++ take n piece) (before ++ e ∷ []) (before ++ e ∷ []) c.2 d.2;
+      }
+  leaves n (Stopping why) c d p q =
+      record {
+        first = c.1.done;
+        second = d.1.done;
+        bound = bound_stopped server_side tt is_last octets piece before x.end y.end rules bounds
+            (octets ++ take n piece) before before why c.1 d.1;
+      }
 
-  both : (n m : ℕ) (a b : Answer) → Heard channel number moment piece octets before n a x → Heard channel number moment piece octets before m b y → Both n m a b x y octets piece before
+  both : (n m : ℕ) (a b : Answer) → Heard channel number moment piece octets before n a x → Heard channel number moment piece octets before m b y
+      → Both n m a b x y octets piece before
   both n m a b p q =
       let one = one_at_both server_side tt is_last octets piece before x.end y.end rules n m p.came q.came p.comes q.comes in
       let handed = subst (λ (j : ℕ). HandsOutParts server_side q.parts y.end tt (octets ++ take j piece)) (sym one.0) q.handed in
-      let parts = same_parts server_side tt x.end y.end (octets ++ take n piece) p.parts q.parts rules (p.some ∙ (ap hands one.1 ∙ sym q.some)) p.handed handed in
+      let parts = same_parts server_side tt x.end y.end (octets ++ take n piece) p.parts q.parts rules (p.some ∙ (ap hands one.1 ∙ sym q.some)) p.handed handed
+      in
       let other = comes_as server_side tt is_last octets piece before x.end y.end rules n m p.came q.came one.0 one.1 q.comes in
       let next = subst (λ (z : Came). NextIs y number z) (sym one.1) q.next in record {
         taken = one.0;
-        answers = p.answer ∙ (ap (λ (ps : Option (List (List ℕ))). said channel number moment ps p.came) parts ∙ (ap (said channel number moment q.parts) one.1 ∙ sym q.answer));
+        answers = p.answer
+            ∙ (ap (λ (ps : Option (List (List ℕ))). said channel number moment ps p.came) parts
+            ∙ (ap (said channel number moment q.parts) one.1 ∙ sym q.answer));
         left = p.left y (leaves n p.came p.comes other p.next next);
       }
 
@@ -237,12 +264,15 @@ pub record IsTaken (old new : ServerChannel) (moment : DateTime) (piece octets :
   pub channel : channel_of new ≡ channel_of old
 
 -- the same octets, handed to channels that stand alike
-pub alike : (one two x y : ServerChannel) (moment : DateTime) (piece octets : List ℕ) (before : List Told) (n m : ℕ) (a b : Answer) → ServersAlike one two octets before → IsTaken one x moment piece octets before n a → IsTaken two y moment piece octets before m b → HadMemory OutOfMemory a b → Both n m a b x y octets piece before
+pub alike : (one two x y : ServerChannel) (moment : DateTime) (piece octets : List ℕ) (before : List Told) (n m : ℕ) (a b : Answer)
+    → ServersAlike one two octets before → IsTaken one x moment piece octets before n a → IsTaken two y moment piece octets before m b
+    → HadMemory OutOfMemory a b → Both n m a b x y octets piece before
 alike one two x y moment piece octets before n m a b s p q had =
     both (channel_of one) (next_of one) moment piece octets before x y (p.limits ∙ (s.limits ∙ sym q.limits)) (p.channel ∙ (s.channel ∙ sym q.channel)) n m a b
     (heard (channel_of one) (next_of one) moment piece octets before x n a p.answers p.parts had.first)
     (heard (channel_of one) (next_of one) moment piece octets before y m b
-    (subst (λ (k : ℕ). AnswersAt k (next_of one) moment piece m b y octets before) (sym s.channel) (subst (λ (k : ℕ). AnswersAt (channel_of two) k moment piece m b y octets before) (sym s.next) q.answers)) q.parts had.second)
+    (subst (λ (k : ℕ). AnswersAt k (next_of one) moment piece m b y octets before) (sym s.channel)
+    (subst (λ (k : ℕ). AnswersAt (channel_of two) k moment piece m b y octets before) (sym s.next) q.answers)) q.parts had.second)
 
 -- ---- where a fault does not say how many octets were taken
 
@@ -262,9 +292,12 @@ record IsCounted (old new : ServerChannel) (moment : DateTime) (piece octets : L
   is : a ≡ counted_with count outcome
   taken : IsTaken old new moment piece octets before count outcome
 
-counted : (old new : ServerChannel) (moment : DateTime) (piece octets : List ℕ) (before : List Told) (a : Taken) → IsAnswered old new moment piece octets before a → IsCounted old new moment piece octets before a
-counted old new moment piece octets before (Ok (n, e)) p = record { count = n; outcome = Ok e; is = refl; taken = record { answers = p.answers; parts = p.parts; limits = p.limits; channel = p.channel } }
-counted old new moment piece octets before (Err fault) p = record { count = p.answers.0; outcome = Err fault; is = refl; taken = record { answers = p.answers.1; parts = tt; limits = p.limits; channel = p.channel } }
+counted : (old new : ServerChannel) (moment : DateTime) (piece octets : List ℕ) (before : List Told) (a : Taken)
+    → IsAnswered old new moment piece octets before a → IsCounted old new moment piece octets before a
+counted old new moment piece octets before (Ok (n, e)) p =
+    record { count = n; outcome = Ok e; is = refl; taken = record { answers = p.answers; parts = p.parts; limits = p.limits; channel = p.channel } }
+counted old new moment piece octets before (Err fault) p =
+    record { count = p.answers.0; outcome = Err fault; is = refl; taken = record { answers = p.answers.1; parts = tt; limits = p.limits; channel = p.channel } }
 
 abbrev with_count : ℕ → Result Seen ChannelFault → Result (ℕ × Seen) ChannelFault
 with_count n (Ok s) = Ok (n, s)
@@ -281,11 +314,17 @@ pub record BothTaken (a b : Taken) (x y : ServerChannel) (octets piece : List �
   pub answers : SameServerAnswer a b
   pub left : LeftServers a x y octets before piece
 
-pub taken_alike : (one two x y : ServerChannel) (moment : DateTime) (piece octets : List ℕ) (before : List Told) (a b : Taken) → ServersAlike one two octets before → IsAnswered one x moment piece octets before a → IsAnswered two y moment piece octets before b → HadMemory OutOfMemory a b → BothTaken a b x y octets piece before
+pub taken_alike : (one two x y : ServerChannel) (moment : DateTime) (piece octets : List ℕ) (before : List Told) (a b : Taken)
+    → ServersAlike one two octets before → IsAnswered one x moment piece octets before a → IsAnswered two y moment piece octets before b
+    → HadMemory OutOfMemory a b → BothTaken a b x y octets piece before
 taken_alike one two x y moment piece octets before a b s p q had =
     let c = counted one x moment piece octets before a p in
     let d = counted two y moment piece octets before b q in
-    let both = alike one two x y moment piece octets before c.count d.count c.outcome d.outcome s c.taken d.taken (record { first = starved c.count c.outcome a c.is had.first; second = starved d.count d.outcome b d.is had.second }) in record {
-      answers = ap answer_seen c.is ∙ (counted_seen c.count c.outcome ∙ (ap (λ (k : ℕ). with_count k (outcome_seen c.outcome)) both.taken ∙ (ap (with_count d.count) both.answers ∙ (sym (counted_seen d.count d.outcome) ∙ sym (ap answer_seen d.is)))));
+    let both = alike one two x y moment piece octets before c.count d.count c.outcome d.outcome s c.taken d.taken
+    (record { first = starved c.count c.outcome a c.is had.first; second = starved d.count d.outcome b d.is had.second }) in record {
+      answers = ap answer_seen c.is
+          ∙ (counted_seen c.count c.outcome
+          ∙ (ap (λ (k : ℕ). with_count k (outcome_seen c.outcome)) both.taken
+          ∙ (ap (with_count d.count) both.answers ∙ (sym (counted_seen d.count d.outcome) ∙ sym (ap answer_seen d.is)))));
       left = subst (λ (z : Taken). LeftServers z x y octets before piece) (sym c.is) both.left;
     }

@@ -16,13 +16,15 @@ pub record IsRead {A : Type 0} (f : Format A) (levels : ℕ) (old new : List ℕ
   pub none : IsErrOf answer NoValue → (v : A) (front rest : List ℕ) → old ≡ front ++ rest → f.depth v ≤ levels → ¬ (f.encodes v front)
 
 -- fronts of the same octets that encode values are one, and so are the values and the rests
-same_front : {A : Type 0} (f : Format A) → EncodesOnce f.encodes → (old other : List ℕ) → old ≡ other → (v w : A) (x y : List ℕ) → Begins f.encodes old v x → Begins f.encodes other w y → (v ≡ w) × (x ≡ y)
+same_front : {A : Type 0} (f : Format A) → EncodesOnce f.encodes → (old other : List ℕ) → old ≡ other → (v w : A) (x y : List ℕ) → Begins f.encodes old v x
+    → Begins f.encodes other w y → (v ≡ w) × (x ≡ y)
 same_front f once old other same v w x y b c =
     let one = once v w b.front c.front x y b.encoded c.encoded (sym b.parts ∙ same ∙ c.parts) in
     (one.0, append_cancel_left c.front x y (ap (λ (t : List ℕ). t ++ x) (sym one.1) ∙ sym b.parts ∙ same ∙ c.parts))
 
 -- a value is found by one reader, and none by the other: that can't be
-apart : {A : Type 0} (f : Format A) (levels : ℕ) (old other x y : List ℕ) → old ≡ other → (v : A) → IsRead f levels old x (Ok v) → IsRead f levels other y (Err NoValue) → ⊥
+apart : {A : Type 0} (f : Format A) (levels : ℕ) (old other x y : List ℕ) → old ≡ other → (v : A) → IsRead f levels old x (Ok v)
+    → IsRead f levels other y (Err NoValue) → ⊥
 apart f levels old other x y same v a b = b.none refl v a.found.front x (sym same ∙ a.found.parts) a.within a.found.encoded
 
 pub read_alike : {A : Type 0} (f : Format A) → EncodesOnce f.encodes → (levels : ℕ) (old other x y : List ℕ) → old ≡ other → (a b : Result A ReadFault)
@@ -72,7 +74,8 @@ pub record IsReadBy {X A : Type 0} (view : X → A) (f : Format A) (levels : ℕ
 same_fault : {A : Type 0} (e d : ReadFault) → ◌≡◌ {A = Result A ReadFault} (Err e) (Err d) → e ≡ d
 same_fault e d same = cc
 
-by_view : {X A : Type 0} (view : X → A) (f : Format A) (levels : ℕ) (old new : List ℕ) (answer : Result X ReadFault) → IsReadBy view f levels old new answer → IsRead f levels old new (seen view answer)
+by_view : {X A : Type 0} (view : X → A) (f : Format A) (levels : ℕ) (old new : List ℕ) (answer : Result X ReadFault) → IsReadBy view f levels old new answer
+    → IsRead f levels old new (seen view answer)
 by_view view f levels old new (Ok x) r = record { found = r.found; within = r.within; none = λ e. absurd cc }
 by_view view f levels old new (Err e) r = record { found = tt; within = tt; none = λ same. r.none (ap (λ (z : ReadFault). Err z) (same_fault e NoValue same)) }
 
@@ -81,5 +84,8 @@ left_seen view (Ok v) (Ok w) P h = h
 left_seen view (Ok v) (Err e) P h = tt
 left_seen view (Err e) b P h = tt
 
-pub left_alike_by : {X A : Type 0} (view : X → A) (f : Format A) → EncodesOnce f.encodes → (levels : ℕ) (old other x y : List ℕ) → old ≡ other → (a b : Result X ReadFault) → IsReadBy view f levels old x a → IsReadBy view f levels other y b → OnOk a (OnOk b (x ≡ y))
-left_alike_by view f once levels old other x y same a b p q = left_seen view a b (x ≡ y) (left_alike f once levels old other x y same (seen view a) (seen view b) (by_view view f levels old x a p) (by_view view f levels other y b q))
+pub left_alike_by : {X A : Type 0} (view : X → A) (f : Format A) → EncodesOnce f.encodes → (levels : ℕ) (old other x y : List ℕ) → old ≡ other
+    → (a b : Result X ReadFault) → IsReadBy view f levels old x a → IsReadBy view f levels other y b → OnOk a (OnOk b (x ≡ y))
+left_alike_by view f once levels old other x y same a b p q =
+    left_seen view a b (x ≡ y) (left_alike f once levels old other x y same (seen view a) (seen view b) (by_view view f levels old x a p)
+    (by_view view f levels other y b q))

@@ -29,7 +29,8 @@ pub data ServesAlike (a b : Result End ServeFault) (line after other later : Opt
   AtWrite : IsWriteFault a → IsWriteFault b → WroteAlike line after other later → ServesAlike a b line after other later
 
 -- two watches were told of the same requests, in the same order
-pub record ToldAlike {W V : Type 0} (notes : W → AnsweredRequest → W → Type 0) (others : V → AnsweredRequest → V → Type 0) (before after : W) (again later : V) : Type 0 where
+pub record ToldAlike {W V : Type 0} (notes : W → AnsweredRequest → W → Type 0) (others : V → AnsweredRequest → V → Type 0) (before after : W)
+    (again later : V) : Type 0 where
   pub requests : List AnsweredRequest
   pub first : Leads notes before requests after
   pub second : Leads others again requests later

@@ -14,7 +14,8 @@ use Rattle.test_determinism.specs.Servers.{ServersDone}
 -- two servers with the same limits and the same id are in the state after these bytes, which told
 -- both this, if their services were in the same state when the connection began, and each of the
 -- timestamps was used
-pub record StepsAlike (one two : ServerChannel) (octets : List ℕ) (told : List Told) (begun : State) (moments : List DateTime) (state other : State) : Type 0 where
+pub record StepsAlike (one two : ServerChannel) (octets : List ℕ) (told : List Told) (begun : State) (moments : List DateTime) (state other : State) : Type
+    0 where
   pub first : ServerStands one octets told begun moments state
   pub second : ServerStands two octets told begun moments other
   pub limits : limits_of one ≡ limits_of two
@@ -36,10 +37,12 @@ SameStepAnswer (Err fault) (Err other) = fault ≡ other
 -- the states in which a step leaves them: both have ended; or they have the same state, with what
 -- was told and the timestamps that were used after those before
 abbrev pub LeavesSteps : Option End → ServerChannel → ServerChannel → List ℕ → List Told → State → List DateTime → State → State → Type 0
-LeavesSteps None one two octets told begun moments state other = (later : List Told) × (more : List DateTime) × StepsAlike one two octets (told ++ later) begun (moments ++ more) state other
+LeavesSteps None one two octets told begun moments state other = (later : List Told) × (more : List DateTime)
+    × StepsAlike one two octets (told ++ later) begun (moments ++ more) state other
 LeavesSteps (Some end) one two octets told begun moments state other = ServersDone one two
 
 -- the states in which an outcome for a fragment leaves them
 abbrev pub LeftSteps : Result Step StepFault → ServerChannel → ServerChannel → List ℕ → List Told → State → List DateTime → List ℕ → State → State → Type 0
-LeftSteps (Ok step) one two octets told begun moments piece state other = LeavesSteps step.end one two (octets ++ take step.taken piece) told begun moments state other
+LeftSteps (Ok step) one two octets told begun moments piece state other = LeavesSteps step.end one two (octets ++ take step.taken piece) told begun moments
+    state other
 LeftSteps (Err fault) one two octets told begun moments piece state other = ServersDone one two

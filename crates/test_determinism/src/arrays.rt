@@ -23,7 +23,8 @@ pub fn read_array_twice<T: Wire + Drop, S: Source, R: Source>(
 )
     requires levels { depth ≤ most_levels }
     requires same { S.octets one.old ≡ R.octets two.old }
-    ensures answers { HadMemory OutOfMemory result.0 result.1 → SameBy (λ v. option_map (λ items. items.items) v) result.0 result.1 }
+    ensures answers { HadMemory OutOfMemory result.0 result.1
+        → SameBy (λ v. option_map (λ items. items.items) v) result.0 result.1 }
     ensures left { OnOk result.0 (OnOk result.1 (S.octets one.new ≡ R.octets two.new)) }
 {
     encodes_once::<UaArray<T>>();

@@ -22,8 +22,10 @@ pub fn accept_twice(
 )
     requires same { chunk ≡ again }
     ensures answers { (cs : List Chunk) → StandAlike one.old two.old cs → AnswerAlike OutOfMemory result.0 result.1 }
-    ensures stand { (cs : List Chunk) → StandAlike one.old two.old cs → OnOk result.0 (OnOk result.1 (StandAlike one.new two.new (cs ++ chunk ∷ []))) }
-    ensures closed { (cs : List Chunk) → StandAlike one.old two.old cs → OnErr result.0 (OnErr result.1 (AreClosed one.new two.new)) }
+    ensures stand { (cs : List Chunk) → StandAlike one.old two.old cs
+        → OnOk result.0 (OnOk result.1 (StandAlike one.new two.new (cs ++ chunk ∷ []))) }
+    ensures closed { (cs : List Chunk) → StandAlike one.old two.old cs
+        → OnErr result.0 (OnErr result.1 (AreClosed one.new two.new)) }
 {
     let first = one.accept(chunk);
     let second = two.accept(again);
@@ -38,8 +40,10 @@ pub fn step_twice(
     sequence: u32,
 ) -> (Result<(), AssembleFault>, Result<(), AssembleFault>)
     ensures answers { (cs : List Chunk) → StandAlike one.old two.old cs → result.0 ≡ result.1 }
-    ensures stand { (cs : List Chunk) → StandAlike one.old two.old cs → OnOk result.0 (OnOk result.1 (StandAlike one.new two.new cs)) }
-    ensures closed { (cs : List Chunk) → StandAlike one.old two.old cs → OnErr result.0 (OnErr result.1 (AreClosed one.new two.new)) }
+    ensures stand { (cs : List Chunk) → StandAlike one.old two.old cs
+        → OnOk result.0 (OnOk result.1 (StandAlike one.new two.new cs)) }
+    ensures closed { (cs : List Chunk) → StandAlike one.old two.old cs
+        → OnErr result.0 (OnErr result.1 (AreClosed one.new two.new)) }
 {
     let first = one.step(sequence);
     let second = two.step(sequence);

@@ -32,10 +32,15 @@ pub fn open_twice<L: Line, K: Line>(
 ) -> (Result<Client, ClientFault>, Result<Client, ClientFault>)
     requires url { IsTrue (text.encodable url) }
     requires same { url ≡ again }
-    ensures answers { (coming : List ℕ) → LinesAlike (L.traffic line.old) (K.traffic other.old) coming → HadMemory OutOfMemory result.0 result.1
-        → CallsAlike result.0 result.1 (L.traffic line.old) (L.traffic line.new) (K.traffic other.old) (K.traffic other.new) → OpenAlike result.0 result.1 (L.traffic line.new) (K.traffic other.new) }
-    ensures written { (coming : List ℕ) → LinesAlike (L.traffic line.old) (K.traffic other.old) coming → HadMemory OutOfMemory result.0 result.1
-        → CallsAlike result.0 result.1 (L.traffic line.old) (L.traffic line.new) (K.traffic other.old) (K.traffic other.new) → WroteAlike (L.traffic line.old) (L.traffic line.new) (K.traffic other.old) (K.traffic other.new) }
+    ensures answers { (coming : List ℕ) → LinesAlike (L.traffic line.old) (K.traffic other.old) coming
+        → HadMemory OutOfMemory result.0 result.1
+        → CallsAlike result.0 result.1 (L.traffic line.old) (L.traffic line.new) (K.traffic other.old)
+        (K.traffic other.new) → OpenAlike result.0 result.1 (L.traffic line.new) (K.traffic other.new) }
+    ensures written { (coming : List ℕ) → LinesAlike (L.traffic line.old) (K.traffic other.old) coming
+        → HadMemory OutOfMemory result.0 result.1
+        → CallsAlike result.0 result.1 (L.traffic line.old) (L.traffic line.new) (K.traffic other.old)
+        (K.traffic other.new) → WroteAlike (L.traffic line.old) (L.traffic line.new) (K.traffic other.old)
+        (K.traffic other.new) }
 {
     clients_are_settled();
     let first = Client::open(alloc, line, limits, url, moment);
@@ -52,10 +57,17 @@ pub fn close_twice<L: Line, K: Line>(
     other: &mut K,
     moment: DateTime,
 ) -> (Result<(), ClientFault>, Result<(), ClientFault>)
-    ensures answers { (s : ClientPlace) (coming : List ℕ) → StandReady one.old two.old (L.traffic line.old) (K.traffic other.old) s coming → HadMemory OutOfMemory result.0 result.1
-        → CallsAlike result.0 result.1 (L.traffic line.old) (L.traffic line.new) (K.traffic other.old) (K.traffic other.new) → result.0 ≡ result.1 }
-    ensures written { (s : ClientPlace) (coming : List ℕ) → StandReady one.old two.old (L.traffic line.old) (K.traffic other.old) s coming → HadMemory OutOfMemory result.0 result.1
-        → CallsAlike result.0 result.1 (L.traffic line.old) (L.traffic line.new) (K.traffic other.old) (K.traffic other.new) → WroteAlike (L.traffic line.old) (L.traffic line.new) (K.traffic other.old) (K.traffic other.new) }
+    ensures answers { (s : ClientPlace) (coming : List ℕ)
+        → StandReady one.old two.old (L.traffic line.old) (K.traffic other.old) s coming
+        → HadMemory OutOfMemory result.0 result.1
+        → CallsAlike result.0 result.1 (L.traffic line.old) (L.traffic line.new) (K.traffic other.old)
+        (K.traffic other.new) → result.0 ≡ result.1 }
+    ensures written { (s : ClientPlace) (coming : List ℕ)
+        → StandReady one.old two.old (L.traffic line.old) (K.traffic other.old) s coming
+        → HadMemory OutOfMemory result.0 result.1
+        → CallsAlike result.0 result.1 (L.traffic line.old) (L.traffic line.new) (K.traffic other.old)
+        (K.traffic other.new) → WroteAlike (L.traffic line.old) (L.traffic line.new) (K.traffic other.old)
+        (K.traffic other.new) }
     ensures left { AreDone one.new two.new }
 {
     let first = one.close(line, moment);
@@ -73,12 +85,22 @@ pub fn renew_twice<L: Line, K: Line>(
     other: &mut K,
     moment: DateTime,
 ) -> (Result<(), ClientFault>, Result<(), ClientFault>)
-    ensures answers { (s : ClientPlace) (coming : List ℕ) → StandReady one.old two.old (L.traffic line.old) (K.traffic other.old) s coming → HadMemory OutOfMemory result.0 result.1
-        → CallsAlike result.0 result.1 (L.traffic line.old) (L.traffic line.new) (K.traffic other.old) (K.traffic other.new) → result.0 ≡ result.1 }
-    ensures written { (s : ClientPlace) (coming : List ℕ) → StandReady one.old two.old (L.traffic line.old) (K.traffic other.old) s coming → HadMemory OutOfMemory result.0 result.1
-        → CallsAlike result.0 result.1 (L.traffic line.old) (L.traffic line.new) (K.traffic other.old) (K.traffic other.new) → WroteAlike (L.traffic line.old) (L.traffic line.new) (K.traffic other.old) (K.traffic other.new) }
-    ensures left { (s : ClientPlace) (coming : List ℕ) → StandReady one.old two.old (L.traffic line.old) (K.traffic other.old) s coming → HadMemory OutOfMemory result.0 result.1
-        → CallsAlike result.0 result.1 (L.traffic line.old) (L.traffic line.new) (K.traffic other.old) (K.traffic other.new) → LeavesBoth result.0 one.new two.new (L.traffic line.new) (K.traffic other.new) }
+    ensures answers { (s : ClientPlace) (coming : List ℕ)
+        → StandReady one.old two.old (L.traffic line.old) (K.traffic other.old) s coming
+        → HadMemory OutOfMemory result.0 result.1
+        → CallsAlike result.0 result.1 (L.traffic line.old) (L.traffic line.new) (K.traffic other.old)
+        (K.traffic other.new) → result.0 ≡ result.1 }
+    ensures written { (s : ClientPlace) (coming : List ℕ)
+        → StandReady one.old two.old (L.traffic line.old) (K.traffic other.old) s coming
+        → HadMemory OutOfMemory result.0 result.1
+        → CallsAlike result.0 result.1 (L.traffic line.old) (L.traffic line.new) (K.traffic other.old)
+        (K.traffic other.new) → WroteAlike (L.traffic line.old) (L.traffic line.new) (K.traffic other.old)
+        (K.traffic other.new) }
+    ensures left { (s : ClientPlace) (coming : List ℕ)
+        → StandReady one.old two.old (L.traffic line.old) (K.traffic other.old) s coming
+        → HadMemory OutOfMemory result.0 result.1
+        → CallsAlike result.0 result.1 (L.traffic line.old) (L.traffic line.new) (K.traffic other.old)
+        (K.traffic other.new) → LeavesBoth result.0 one.new two.new (L.traffic line.new) (K.traffic other.new) }
 {
     let first = one.renew(line, moment);
     let second = two.renew(other, moment);
@@ -96,12 +118,22 @@ pub fn call_twice<L: Line, K: Line>(
     request: &Request,
     moment: DateTime,
 ) -> (Result<Reply, ClientFault>, Result<Reply, ClientFault>)
-    ensures answers { (s : ClientPlace) (coming : List ℕ) → StandReady one.old two.old (L.traffic line.old) (K.traffic other.old) s coming → HadMemory OutOfMemory result.0 result.1
-        → CallsAlike result.0 result.1 (L.traffic line.old) (L.traffic line.new) (K.traffic other.old) (K.traffic other.new) → result.0 ≡ result.1 }
-    ensures written { (s : ClientPlace) (coming : List ℕ) → StandReady one.old two.old (L.traffic line.old) (K.traffic other.old) s coming → HadMemory OutOfMemory result.0 result.1
-        → CallsAlike result.0 result.1 (L.traffic line.old) (L.traffic line.new) (K.traffic other.old) (K.traffic other.new) → WroteAlike (L.traffic line.old) (L.traffic line.new) (K.traffic other.old) (K.traffic other.new) }
-    ensures left { (s : ClientPlace) (coming : List ℕ) → StandReady one.old two.old (L.traffic line.old) (K.traffic other.old) s coming → HadMemory OutOfMemory result.0 result.1
-        → CallsAlike result.0 result.1 (L.traffic line.old) (L.traffic line.new) (K.traffic other.old) (K.traffic other.new) → LeavesBoth result.0 one.new two.new (L.traffic line.new) (K.traffic other.new) }
+    ensures answers { (s : ClientPlace) (coming : List ℕ)
+        → StandReady one.old two.old (L.traffic line.old) (K.traffic other.old) s coming
+        → HadMemory OutOfMemory result.0 result.1
+        → CallsAlike result.0 result.1 (L.traffic line.old) (L.traffic line.new) (K.traffic other.old)
+        (K.traffic other.new) → result.0 ≡ result.1 }
+    ensures written { (s : ClientPlace) (coming : List ℕ)
+        → StandReady one.old two.old (L.traffic line.old) (K.traffic other.old) s coming
+        → HadMemory OutOfMemory result.0 result.1
+        → CallsAlike result.0 result.1 (L.traffic line.old) (L.traffic line.new) (K.traffic other.old)
+        (K.traffic other.new) → WroteAlike (L.traffic line.old) (L.traffic line.new) (K.traffic other.old)
+        (K.traffic other.new) }
+    ensures left { (s : ClientPlace) (coming : List ℕ)
+        → StandReady one.old two.old (L.traffic line.old) (K.traffic other.old) s coming
+        → HadMemory OutOfMemory result.0 result.1
+        → CallsAlike result.0 result.1 (L.traffic line.old) (L.traffic line.new) (K.traffic other.old)
+        (K.traffic other.new) → LeavesBoth result.0 one.new two.new (L.traffic line.new) (K.traffic other.new) }
 {
     bodies_of_responses_differ();
     let first = one.call(line, request, moment);
@@ -123,12 +155,22 @@ pub fn call_all_twice<L: Line, K: Line>(
     Result<Vec<Reply>, ClientFault>,
     Result<Vec<Reply>, ClientFault>,
 )
-    ensures answers { (s : ClientPlace) (coming : List ℕ) → StandReady one.old two.old (L.traffic line.old) (K.traffic other.old) s coming → HadMemory OutOfMemory result.0 result.1
-        → CallsAlike result.0 result.1 (L.traffic line.old) (L.traffic line.new) (K.traffic other.old) (K.traffic other.new) → SameBy (λ replies. replies.items) result.0 result.1 }
-    ensures written { (s : ClientPlace) (coming : List ℕ) → StandReady one.old two.old (L.traffic line.old) (K.traffic other.old) s coming → HadMemory OutOfMemory result.0 result.1
-        → CallsAlike result.0 result.1 (L.traffic line.old) (L.traffic line.new) (K.traffic other.old) (K.traffic other.new) → WroteAlike (L.traffic line.old) (L.traffic line.new) (K.traffic other.old) (K.traffic other.new) }
-    ensures left { (s : ClientPlace) (coming : List ℕ) → StandReady one.old two.old (L.traffic line.old) (K.traffic other.old) s coming → HadMemory OutOfMemory result.0 result.1
-        → CallsAlike result.0 result.1 (L.traffic line.old) (L.traffic line.new) (K.traffic other.old) (K.traffic other.new) → LeavesBoth result.0 one.new two.new (L.traffic line.new) (K.traffic other.new) }
+    ensures answers { (s : ClientPlace) (coming : List ℕ)
+        → StandReady one.old two.old (L.traffic line.old) (K.traffic other.old) s coming
+        → HadMemory OutOfMemory result.0 result.1
+        → CallsAlike result.0 result.1 (L.traffic line.old) (L.traffic line.new) (K.traffic other.old)
+        (K.traffic other.new) → SameBy (λ replies. replies.items) result.0 result.1 }
+    ensures written { (s : ClientPlace) (coming : List ℕ)
+        → StandReady one.old two.old (L.traffic line.old) (K.traffic other.old) s coming
+        → HadMemory OutOfMemory result.0 result.1
+        → CallsAlike result.0 result.1 (L.traffic line.old) (L.traffic line.new) (K.traffic other.old)
+        (K.traffic other.new) → WroteAlike (L.traffic line.old) (L.traffic line.new) (K.traffic other.old)
+        (K.traffic other.new) }
+    ensures left { (s : ClientPlace) (coming : List ℕ)
+        → StandReady one.old two.old (L.traffic line.old) (K.traffic other.old) s coming
+        → HadMemory OutOfMemory result.0 result.1
+        → CallsAlike result.0 result.1 (L.traffic line.old) (L.traffic line.new) (K.traffic other.old)
+        (K.traffic other.new) → LeavesBoth result.0 one.new two.new (L.traffic line.new) (K.traffic other.new) }
 {
     bodies_of_responses_differ();
     let first = one.call_all(line, requests, moment);
@@ -149,14 +191,28 @@ pub fn call_into_twice<L: Line, K: Line>(
     others: &mut Vec<Reply>,
 ) -> (Result<(), CallsFault>, Result<(), CallsFault>)
     requires same { replies.old.items ≡ others.old.items }
-    ensures answers { (s : ClientPlace) (coming : List ℕ) → StandReady one.old two.old (L.traffic line.old) (K.traffic other.old) s coming → HadMemory OutOfMemory (fault_alone result.0) (fault_alone result.1)
-        → CallsAlike (fault_alone result.0) (fault_alone result.1) (L.traffic line.old) (L.traffic line.new) (K.traffic other.old) (K.traffic other.new) → result.0 ≡ result.1 }
-    ensures kept { (s : ClientPlace) (coming : List ℕ) → StandReady one.old two.old (L.traffic line.old) (K.traffic other.old) s coming → HadMemory OutOfMemory (fault_alone result.0) (fault_alone result.1)
-        → CallsAlike (fault_alone result.0) (fault_alone result.1) (L.traffic line.old) (L.traffic line.new) (K.traffic other.old) (K.traffic other.new) → replies.new.items ≡ others.new.items }
-    ensures written { (s : ClientPlace) (coming : List ℕ) → StandReady one.old two.old (L.traffic line.old) (K.traffic other.old) s coming → HadMemory OutOfMemory (fault_alone result.0) (fault_alone result.1)
-        → CallsAlike (fault_alone result.0) (fault_alone result.1) (L.traffic line.old) (L.traffic line.new) (K.traffic other.old) (K.traffic other.new) → WroteAlike (L.traffic line.old) (L.traffic line.new) (K.traffic other.old) (K.traffic other.new) }
-    ensures left { (s : ClientPlace) (coming : List ℕ) → StandReady one.old two.old (L.traffic line.old) (K.traffic other.old) s coming → HadMemory OutOfMemory (fault_alone result.0) (fault_alone result.1)
-        → CallsAlike (fault_alone result.0) (fault_alone result.1) (L.traffic line.old) (L.traffic line.new) (K.traffic other.old) (K.traffic other.new) → LeavesBoth (fault_alone result.0) one.new two.new (L.traffic line.new) (K.traffic other.new) }
+    ensures answers { (s : ClientPlace) (coming : List ℕ)
+        → StandReady one.old two.old (L.traffic line.old) (K.traffic other.old) s coming
+        → HadMemory OutOfMemory (fault_alone result.0) (fault_alone result.1)
+        → CallsAlike (fault_alone result.0) (fault_alone result.1) (L.traffic line.old) (L.traffic line.new)
+        (K.traffic other.old) (K.traffic other.new) → result.0 ≡ result.1 }
+    ensures kept { (s : ClientPlace) (coming : List ℕ)
+        → StandReady one.old two.old (L.traffic line.old) (K.traffic other.old) s coming
+        → HadMemory OutOfMemory (fault_alone result.0) (fault_alone result.1)
+        → CallsAlike (fault_alone result.0) (fault_alone result.1) (L.traffic line.old) (L.traffic line.new)
+        (K.traffic other.old) (K.traffic other.new) → replies.new.items ≡ others.new.items }
+    ensures written { (s : ClientPlace) (coming : List ℕ)
+        → StandReady one.old two.old (L.traffic line.old) (K.traffic other.old) s coming
+        → HadMemory OutOfMemory (fault_alone result.0) (fault_alone result.1)
+        → CallsAlike (fault_alone result.0) (fault_alone result.1) (L.traffic line.old) (L.traffic line.new)
+        (K.traffic other.old) (K.traffic other.new)
+        → WroteAlike (L.traffic line.old) (L.traffic line.new) (K.traffic other.old) (K.traffic other.new) }
+    ensures left { (s : ClientPlace) (coming : List ℕ)
+        → StandReady one.old two.old (L.traffic line.old) (K.traffic other.old) s coming
+        → HadMemory OutOfMemory (fault_alone result.0) (fault_alone result.1)
+        → CallsAlike (fault_alone result.0) (fault_alone result.1) (L.traffic line.old) (L.traffic line.new)
+        (K.traffic other.old) (K.traffic other.new)
+        → LeavesBoth (fault_alone result.0) one.new two.new (L.traffic line.new) (K.traffic other.new) }
 {
     bodies_of_responses_differ();
     let first = one.call_into(line, requests, moment, replies);
@@ -174,12 +230,22 @@ pub fn begin_session_twice<L: Line, K: Line>(
     other: &mut K,
     moment: DateTime,
 ) -> (Result<NodeId, ClientFault>, Result<NodeId, ClientFault>)
-    ensures answers { (s : ClientPlace) (coming : List ℕ) → StandReady one.old two.old (L.traffic line.old) (K.traffic other.old) s coming → HadMemory OutOfMemory result.0 result.1
-        → CallsAlike result.0 result.1 (L.traffic line.old) (L.traffic line.new) (K.traffic other.old) (K.traffic other.new) → result.0 ≡ result.1 }
-    ensures written { (s : ClientPlace) (coming : List ℕ) → StandReady one.old two.old (L.traffic line.old) (K.traffic other.old) s coming → HadMemory OutOfMemory result.0 result.1
-        → CallsAlike result.0 result.1 (L.traffic line.old) (L.traffic line.new) (K.traffic other.old) (K.traffic other.new) → WroteAlike (L.traffic line.old) (L.traffic line.new) (K.traffic other.old) (K.traffic other.new) }
-    ensures left { (s : ClientPlace) (coming : List ℕ) → StandReady one.old two.old (L.traffic line.old) (K.traffic other.old) s coming → HadMemory OutOfMemory result.0 result.1
-        → CallsAlike result.0 result.1 (L.traffic line.old) (L.traffic line.new) (K.traffic other.old) (K.traffic other.new) → LeavesBoth result.0 one.new two.new (L.traffic line.new) (K.traffic other.new) }
+    ensures answers { (s : ClientPlace) (coming : List ℕ)
+        → StandReady one.old two.old (L.traffic line.old) (K.traffic other.old) s coming
+        → HadMemory OutOfMemory result.0 result.1
+        → CallsAlike result.0 result.1 (L.traffic line.old) (L.traffic line.new) (K.traffic other.old)
+        (K.traffic other.new) → result.0 ≡ result.1 }
+    ensures written { (s : ClientPlace) (coming : List ℕ)
+        → StandReady one.old two.old (L.traffic line.old) (K.traffic other.old) s coming
+        → HadMemory OutOfMemory result.0 result.1
+        → CallsAlike result.0 result.1 (L.traffic line.old) (L.traffic line.new) (K.traffic other.old)
+        (K.traffic other.new) → WroteAlike (L.traffic line.old) (L.traffic line.new) (K.traffic other.old)
+        (K.traffic other.new) }
+    ensures left { (s : ClientPlace) (coming : List ℕ)
+        → StandReady one.old two.old (L.traffic line.old) (K.traffic other.old) s coming
+        → HadMemory OutOfMemory result.0 result.1
+        → CallsAlike result.0 result.1 (L.traffic line.old) (L.traffic line.new) (K.traffic other.old)
+        (K.traffic other.new) → LeavesBoth result.0 one.new two.new (L.traffic line.new) (K.traffic other.new) }
 {
     bodies_of_responses_differ();
     let first = one.begin_session(line, moment);
@@ -198,12 +264,22 @@ pub fn begin_session_as_twice<L: Line, K: Line>(
     moment: DateTime,
 ) -> (Result<NodeId, ClientFault>, Result<NodeId, ClientFault>)
     requires same { policy_id ≡ again }
-    ensures answers { (s : ClientPlace) (coming : List ℕ) → StandReady one.old two.old (L.traffic line.old) (K.traffic other.old) s coming → HadMemory OutOfMemory result.0 result.1
-        → CallsAlike result.0 result.1 (L.traffic line.old) (L.traffic line.new) (K.traffic other.old) (K.traffic other.new) → result.0 ≡ result.1 }
-    ensures written { (s : ClientPlace) (coming : List ℕ) → StandReady one.old two.old (L.traffic line.old) (K.traffic other.old) s coming → HadMemory OutOfMemory result.0 result.1
-        → CallsAlike result.0 result.1 (L.traffic line.old) (L.traffic line.new) (K.traffic other.old) (K.traffic other.new) → WroteAlike (L.traffic line.old) (L.traffic line.new) (K.traffic other.old) (K.traffic other.new) }
-    ensures left { (s : ClientPlace) (coming : List ℕ) → StandReady one.old two.old (L.traffic line.old) (K.traffic other.old) s coming → HadMemory OutOfMemory result.0 result.1
-        → CallsAlike result.0 result.1 (L.traffic line.old) (L.traffic line.new) (K.traffic other.old) (K.traffic other.new) → LeavesBoth result.0 one.new two.new (L.traffic line.new) (K.traffic other.new) }
+    ensures answers { (s : ClientPlace) (coming : List ℕ)
+        → StandReady one.old two.old (L.traffic line.old) (K.traffic other.old) s coming
+        → HadMemory OutOfMemory result.0 result.1
+        → CallsAlike result.0 result.1 (L.traffic line.old) (L.traffic line.new) (K.traffic other.old)
+        (K.traffic other.new) → result.0 ≡ result.1 }
+    ensures written { (s : ClientPlace) (coming : List ℕ)
+        → StandReady one.old two.old (L.traffic line.old) (K.traffic other.old) s coming
+        → HadMemory OutOfMemory result.0 result.1
+        → CallsAlike result.0 result.1 (L.traffic line.old) (L.traffic line.new) (K.traffic other.old)
+        (K.traffic other.new) → WroteAlike (L.traffic line.old) (L.traffic line.new) (K.traffic other.old)
+        (K.traffic other.new) }
+    ensures left { (s : ClientPlace) (coming : List ℕ)
+        → StandReady one.old two.old (L.traffic line.old) (K.traffic other.old) s coming
+        → HadMemory OutOfMemory result.0 result.1
+        → CallsAlike result.0 result.1 (L.traffic line.old) (L.traffic line.new) (K.traffic other.old)
+        (K.traffic other.new) → LeavesBoth result.0 one.new two.new (L.traffic line.new) (K.traffic other.new) }
 {
     bodies_of_responses_differ();
     let first = one.begin_session_as(line, policy_id, moment);

@@ -6,7 +6,8 @@ ghost use Rattle.ua_channel.specs.Asks.Asking.{Call, Renewal};
 ghost use Rattle.ua_channel.specs.ClientTold.{ClientTold};
 ghost use Rattle.ua_channel.specs.declared.client.fault.AskFault.TheVariants.{OutOfMemory as no_asking_memory};
 ghost use Rattle.ua_channel.specs.declared.client.fault.ClientTakeFault.TheVariants.{OutOfMemory};
-ghost use Rattle.test_determinism.specs.Clients.{AsksAlike, ClientsAlike, ClosesAlike, LeftClients, SameAsked, SameClientAnswer};
+ghost use Rattle.test_determinism.specs.Clients.{AsksAlike, ClientsAlike, ClosesAlike};
+ghost use Rattle.test_determinism.specs.Clients.{LeftClients, SameAsked, SameClientAnswer};
 ghost use Rattle.test_determinism.specs.Pinned.{HadMemory, SameBy};
 
 use ua_builtin::DateTime;
@@ -24,9 +25,11 @@ pub fn client_take_twice(
     Result<(usize, ClientEvent), ClientTakeFault>,
     Result<(usize, ClientEvent), ClientTakeFault>,
 )
-    ensures answers { (asks : List Placed) (octets : List ℕ) (told : List ClientTold) → ClientsAlike one.old two.old asks octets told
+    ensures answers { (asks : List Placed) (octets : List ℕ) (told : List ClientTold)
+        → ClientsAlike one.old two.old asks octets told
         → HadMemory OutOfMemory result.0 result.1 → SameClientAnswer result.0 result.1 }
-    ensures left { (asks : List Placed) (octets : List ℕ) (told : List ClientTold) → ClientsAlike one.old two.old asks octets told
+    ensures left { (asks : List Placed) (octets : List ℕ) (told : List ClientTold)
+        → ClientsAlike one.old two.old asks octets told
         → HadMemory OutOfMemory result.0 result.1 → LeftClients result.0 one.new two.new asks octets told piece.now }
 {
     let first = one.take(piece, moment);
@@ -45,9 +48,11 @@ pub fn client_ask_twice(
     Result<(u32, Vec<u8>), AskFault>,
 )
     requires body { 0 < length body.now }
-    ensures answers { (asks : List Placed) (octets : List ℕ) (told : List ClientTold) → ClientsAlike one.old two.old asks octets told
+    ensures answers { (asks : List Placed) (octets : List ℕ) (told : List ClientTold)
+        → ClientsAlike one.old two.old asks octets told
         → HadMemory no_asking_memory result.0 result.1 → SameAsked (λ out. out.items) result.0 result.1 }
-    ensures left { (asks : List Placed) (octets : List ℕ) (told : List ClientTold) → ClientsAlike one.old two.old asks octets told
+    ensures left { (asks : List Placed) (octets : List ℕ) (told : List ClientTold)
+        → ClientsAlike one.old two.old asks octets told
         → HadMemory no_asking_memory result.0 result.1 → AsksAlike Call result.0 one.new two.new asks octets told }
 {
     client_is_open();
@@ -66,9 +71,11 @@ pub fn client_renew_twice(
     Result<(u32, Vec<u8>), AskFault>,
     Result<(u32, Vec<u8>), AskFault>,
 )
-    ensures answers { (asks : List Placed) (octets : List ℕ) (told : List ClientTold) → ClientsAlike one.old two.old asks octets told
+    ensures answers { (asks : List Placed) (octets : List ℕ) (told : List ClientTold)
+        → ClientsAlike one.old two.old asks octets told
         → HadMemory no_asking_memory result.0 result.1 → SameAsked (λ out. out.items) result.0 result.1 }
-    ensures left { (asks : List Placed) (octets : List ℕ) (told : List ClientTold) → ClientsAlike one.old two.old asks octets told
+    ensures left { (asks : List Placed) (octets : List ℕ) (told : List ClientTold)
+        → ClientsAlike one.old two.old asks octets told
         → HadMemory no_asking_memory result.0 result.1 → AsksAlike Renewal result.0 one.new two.new asks octets told }
 {
     client_is_open();
@@ -84,9 +91,11 @@ pub fn client_close_twice(
     two: &mut ClientChannel,
     moment: DateTime,
 ) -> (Result<Vec<u8>, AskFault>, Result<Vec<u8>, AskFault>)
-    ensures answers { (asks : List Placed) (octets : List ℕ) (told : List ClientTold) → ClientsAlike one.old two.old asks octets told
+    ensures answers { (asks : List Placed) (octets : List ℕ) (told : List ClientTold)
+        → ClientsAlike one.old two.old asks octets told
         → HadMemory no_asking_memory result.0 result.1 → SameBy (λ out. out.items) result.0 result.1 }
-    ensures left { (asks : List Placed) (octets : List ℕ) (told : List ClientTold) → ClientsAlike one.old two.old asks octets told
+    ensures left { (asks : List Placed) (octets : List ℕ) (told : List ClientTold)
+        → ClientsAlike one.old two.old asks octets told
         → HadMemory no_asking_memory result.0 result.1 → ClosesAlike result.0 one.new two.new asks octets told }
 {
     client_is_open();
@@ -102,7 +111,8 @@ pub fn client_judge_twice(
     before: usize,
     len: usize,
 ) -> (Result<(), AskFault>, Result<(), AskFault>)
-    ensures answers { (asks : List Placed) (octets : List ℕ) (told : List ClientTold) → ClientsAlike one.now two.now asks octets told
+    ensures answers { (asks : List Placed) (octets : List ℕ) (told : List ClientTold)
+        → ClientsAlike one.now two.now asks octets told
         → result.0 ≡ result.1 }
 {
     client_is_open();
@@ -117,9 +127,12 @@ pub fn client_tells_twice(
     one: &ClientChannel,
     two: &ClientChannel,
 ) -> ((usize, usize, u32), (usize, usize, u32))
-    ensures held { (asks : List Placed) (octets : List ℕ) (told : List ClientTold) → ClientsAlike one.now two.now asks octets told → result.0.0 ≡ result.1.0 }
-    ensures bound { (asks : List Placed) (octets : List ℕ) (told : List ClientTold) → ClientsAlike one.now two.now asks octets told → result.0.1 ≡ result.1.1 }
-    ensures next { (asks : List Placed) (octets : List ℕ) (told : List ClientTold) → ClientsAlike one.now two.now asks octets told → result.0.2 ≡ result.1.2 }
+    ensures held { (asks : List Placed) (octets : List ℕ) (told : List ClientTold)
+        → ClientsAlike one.now two.now asks octets told → result.0.0 ≡ result.1.0 }
+    ensures bound { (asks : List Placed) (octets : List ℕ) (told : List ClientTold)
+        → ClientsAlike one.now two.now asks octets told → result.0.1 ≡ result.1.1 }
+    ensures next { (asks : List Placed) (octets : List ℕ) (told : List ClientTold)
+        → ClientsAlike one.now two.now asks octets told → result.0.2 ≡ result.1.2 }
 {
     let first = (one.held(), one.bound(), one.next_id());
     let second = (two.held(), two.bound(), two.next_id());

@@ -36,9 +36,11 @@ pub fn dissector_take_twice(
     also: &mut String,
 ) -> (Result<(), AllocError>, Result<(), AllocError>)
     requires same { string_bytes out.old ≡ string_bytes also.old }
-    ensures text { (options : DissectOptions) (octets told : List ℕ) → options.plain ≡ false → DissectorsAlike one.old two.old options octets told
+    ensures text { (options : DissectOptions) (octets told : List ℕ) → options.plain ≡ false
+        → DissectorsAlike one.old two.old options octets told
         → OnOk result.0 (OnOk result.1 (string_bytes out.new ≡ string_bytes also.new)) }
-    ensures left { (options : DissectOptions) (octets told : List ℕ) → options.plain ≡ false → DissectorsAlike one.old two.old options octets told
+    ensures left { (options : DissectOptions) (octets told : List ℕ) → options.plain ≡ false
+        → DissectorsAlike one.old two.old options octets told
         → OnOk result.0 (OnOk result.1 (TellsAlike one.new two.new options octets told piece.now)) }
     ensures closed { OnErr result.0 (OnErr result.1 (DissectorsClosed one.new two.new)) }
 {
@@ -56,7 +58,8 @@ pub fn dissector_finish_twice(
     also: &mut String,
 ) -> (Result<(), AllocError>, Result<(), AllocError>)
     requires same { string_bytes out.old ≡ string_bytes also.old }
-    ensures text { (options : DissectOptions) (octets told : List ℕ) → options.plain ≡ false → DissectorsAlike one.now two.now options octets told
+    ensures text { (options : DissectOptions) (octets told : List ℕ) → options.plain ≡ false
+        → DissectorsAlike one.now two.now options octets told
         → OnOk result.0 (OnOk result.1 (string_bytes out.new ≡ string_bytes also.new)) }
 {
     one_reading();
@@ -67,7 +70,8 @@ pub fn dissector_finish_twice(
 
 /// How many bytes two dissectors hold that stand alike.
 pub fn dissector_held_twice(one: &Dissector, two: &Dissector) -> (usize, usize)
-    ensures held { (options : DissectOptions) (octets told : List ℕ) → DissectorsAlike one.now two.now options octets told → result.0 ≡ result.1 }
+    ensures held { (options : DissectOptions) (octets told : List ℕ)
+        → DissectorsAlike one.now two.now options octets told → result.0 ≡ result.1 }
 {
     (one.held(), two.held())
 }

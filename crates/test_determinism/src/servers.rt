@@ -5,7 +5,8 @@ ghost use Rattle.ua_channel.specs.ServerTold.{Told};
 ghost use Rattle.ua_channel.specs.declared.server_fault.ChannelFault.TheVariants.{OutOfMemory};
 ghost use Rattle.ua_channel.specs.declared.server_fault.ReplyFault.TheVariants.{OutOfMemory as no_reply_memory};
 ghost use Rattle.test_determinism.specs.Pinned.{HadMemory, SameBy};
-ghost use Rattle.test_determinism.specs.Servers.{LeftServers, SameServerAnswer, SameServerOutcome, ServersAlike, counted_with};
+ghost use Rattle.test_determinism.specs.Servers.{LeftServers, SameServerAnswer};
+ghost use Rattle.test_determinism.specs.Servers.{SameServerOutcome, ServersAlike, counted_with};
 
 use ua_builtin::DateTime;
 use ua_channel::{ChannelFault, ReplyFault, ServerChannel, ServerEvent};
@@ -47,7 +48,8 @@ pub fn server_advance_twice(
     ensures answers { (octets : List ℕ) (told : List Told) → ServersAlike one.old two.old octets told
         → HadMemory OutOfMemory result.0.1 result.1.1 → SameServerOutcome result.0.1 result.1.1 }
     ensures left { (octets : List ℕ) (told : List Told) → ServersAlike one.old two.old octets told
-        → HadMemory OutOfMemory result.0.1 result.1.1 → LeftServers (counted_with result.0.0 result.0.1) one.new two.new octets told piece.now }
+        → HadMemory OutOfMemory result.0.1 result.1.1
+        → LeftServers (counted_with result.0.0 result.0.1) one.new two.new octets told piece.now }
 {
     let first = one.advance(piece, moment);
     let second = two.advance(piece, moment);
@@ -79,9 +81,12 @@ pub fn server_tells_twice(
     one: &ServerChannel,
     two: &ServerChannel,
 ) -> ((usize, usize, usize), (usize, usize, usize))
-    ensures held { (octets : List ℕ) (told : List Told) → ServersAlike one.now two.now octets told → result.0.0 ≡ result.1.0 }
-    ensures bound { (octets : List ℕ) (told : List Told) → ServersAlike one.now two.now octets told → result.0.1 ≡ result.1.1 }
-    ensures count { (octets : List ℕ) (told : List Told) → ServersAlike one.now two.now octets told → result.0.2 ≡ result.1.2 }
+    ensures held { (octets : List ℕ) (told : List Told) → ServersAlike one.now two.now octets told
+        → result.0.0 ≡ result.1.0 }
+    ensures bound { (octets : List ℕ) (told : List Told) → ServersAlike one.now two.now octets told
+        → result.0.1 ≡ result.1.1 }
+    ensures count { (octets : List ℕ) (told : List Told) → ServersAlike one.now two.now octets told
+        → result.0.2 ≡ result.1.2 }
 {
     let first = (one.held(), one.bound(), one.open_count());
     let second = (two.held(), two.bound(), two.open_count());

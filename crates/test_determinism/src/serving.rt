@@ -28,14 +28,23 @@ pub fn serve_twice<L: Line, K: Line, M: Moments>(
     requires same { services.old ≡ others.old }
     requires moments { moments.old ≡ again.old }
     requires once { (m x y : M) (t u : ℤ) → M.gives m t x → M.gives m u y → (t ≡ u) × (x ≡ y) }
-    ensures answers { (coming : List ℕ) → LinesAlike (L.traffic line.old) (K.traffic other.old) coming → HadMemory OutOfMemory result.0 result.1
-        → ServesAlike result.0 result.1 (L.traffic line.old) (L.traffic line.new) (K.traffic other.old) (K.traffic other.new) → result.0 ≡ result.1 }
-    ensures written { (coming : List ℕ) → LinesAlike (L.traffic line.old) (K.traffic other.old) coming → HadMemory OutOfMemory result.0 result.1
-        → ServesAlike result.0 result.1 (L.traffic line.old) (L.traffic line.new) (K.traffic other.old) (K.traffic other.new) → WroteAlike (L.traffic line.old) (L.traffic line.new) (K.traffic other.old) (K.traffic other.new) }
-    ensures state { (coming : List ℕ) → LinesAlike (L.traffic line.old) (K.traffic other.old) coming → HadMemory OutOfMemory result.0 result.1
-        → ServesAlike result.0 result.1 (L.traffic line.old) (L.traffic line.new) (K.traffic other.old) (K.traffic other.new) → services.new ≡ others.new }
-    ensures left { (coming : List ℕ) → LinesAlike (L.traffic line.old) (K.traffic other.old) coming → HadMemory OutOfMemory result.0 result.1
-        → ServesAlike result.0 result.1 (L.traffic line.old) (L.traffic line.new) (K.traffic other.old) (K.traffic other.new) → moments.new ≡ again.new }
+    ensures answers { (coming : List ℕ) → LinesAlike (L.traffic line.old) (K.traffic other.old) coming
+        → HadMemory OutOfMemory result.0 result.1
+        → ServesAlike result.0 result.1 (L.traffic line.old) (L.traffic line.new) (K.traffic other.old)
+        (K.traffic other.new) → result.0 ≡ result.1 }
+    ensures written { (coming : List ℕ) → LinesAlike (L.traffic line.old) (K.traffic other.old) coming
+        → HadMemory OutOfMemory result.0 result.1
+        → ServesAlike result.0 result.1 (L.traffic line.old) (L.traffic line.new) (K.traffic other.old)
+        (K.traffic other.new) → WroteAlike (L.traffic line.old) (L.traffic line.new) (K.traffic other.old)
+        (K.traffic other.new) }
+    ensures state { (coming : List ℕ) → LinesAlike (L.traffic line.old) (K.traffic other.old) coming
+        → HadMemory OutOfMemory result.0 result.1
+        → ServesAlike result.0 result.1 (L.traffic line.old) (L.traffic line.new) (K.traffic other.old)
+        (K.traffic other.new) → services.new ≡ others.new }
+    ensures left { (coming : List ℕ) → LinesAlike (L.traffic line.old) (K.traffic other.old) coming
+        → HadMemory OutOfMemory result.0 result.1
+        → ServesAlike result.0 result.1 (L.traffic line.old) (L.traffic line.new) (K.traffic other.old)
+        (K.traffic other.new) → moments.new ≡ again.new }
 {
     let first = serve(alloc, line, services, limits, channel_id, moments);
     let second = serve(alloc, other, others, limits, channel_id, again);
@@ -60,16 +69,27 @@ pub fn serve_watched_twice<L: Line, K: Line, M: Moments, W: Watch, V: Watch>(
     requires same { services.old ≡ others.old }
     requires moments { moments.old ≡ again.old }
     requires once { (m x y : M) (t u : ℤ) → M.gives m t x → M.gives m u y → (t ≡ u) × (x ≡ y) }
-    ensures answers { (coming : List ℕ) → LinesAlike (L.traffic line.old) (K.traffic other.old) coming → HadMemory OutOfMemory result.0 result.1
-        → ServesAlike result.0 result.1 (L.traffic line.old) (L.traffic line.new) (K.traffic other.old) (K.traffic other.new) → result.0 ≡ result.1 }
-    ensures written { (coming : List ℕ) → LinesAlike (L.traffic line.old) (K.traffic other.old) coming → HadMemory OutOfMemory result.0 result.1
-        → ServesAlike result.0 result.1 (L.traffic line.old) (L.traffic line.new) (K.traffic other.old) (K.traffic other.new) → WroteAlike (L.traffic line.old) (L.traffic line.new) (K.traffic other.old) (K.traffic other.new) }
-    ensures state { (coming : List ℕ) → LinesAlike (L.traffic line.old) (K.traffic other.old) coming → HadMemory OutOfMemory result.0 result.1
-        → ServesAlike result.0 result.1 (L.traffic line.old) (L.traffic line.new) (K.traffic other.old) (K.traffic other.new) → services.new ≡ others.new }
-    ensures left { (coming : List ℕ) → LinesAlike (L.traffic line.old) (K.traffic other.old) coming → HadMemory OutOfMemory result.0 result.1
-        → ServesAlike result.0 result.1 (L.traffic line.old) (L.traffic line.new) (K.traffic other.old) (K.traffic other.new) → moments.new ≡ again.new }
-    ensures told { (coming : List ℕ) → LinesAlike (L.traffic line.old) (K.traffic other.old) coming → HadMemory OutOfMemory result.0 result.1
-        → ServesAlike result.0 result.1 (L.traffic line.old) (L.traffic line.new) (K.traffic other.old) (K.traffic other.new) → ToldAlike W.notes V.notes watch.old watch.new beside.old beside.new }
+    ensures answers { (coming : List ℕ) → LinesAlike (L.traffic line.old) (K.traffic other.old) coming
+        → HadMemory OutOfMemory result.0 result.1
+        → ServesAlike result.0 result.1 (L.traffic line.old) (L.traffic line.new) (K.traffic other.old)
+        (K.traffic other.new) → result.0 ≡ result.1 }
+    ensures written { (coming : List ℕ) → LinesAlike (L.traffic line.old) (K.traffic other.old) coming
+        → HadMemory OutOfMemory result.0 result.1
+        → ServesAlike result.0 result.1 (L.traffic line.old) (L.traffic line.new) (K.traffic other.old)
+        (K.traffic other.new) → WroteAlike (L.traffic line.old) (L.traffic line.new) (K.traffic other.old)
+        (K.traffic other.new) }
+    ensures state { (coming : List ℕ) → LinesAlike (L.traffic line.old) (K.traffic other.old) coming
+        → HadMemory OutOfMemory result.0 result.1
+        → ServesAlike result.0 result.1 (L.traffic line.old) (L.traffic line.new) (K.traffic other.old)
+        (K.traffic other.new) → services.new ≡ others.new }
+    ensures left { (coming : List ℕ) → LinesAlike (L.traffic line.old) (K.traffic other.old) coming
+        → HadMemory OutOfMemory result.0 result.1
+        → ServesAlike result.0 result.1 (L.traffic line.old) (L.traffic line.new) (K.traffic other.old)
+        (K.traffic other.new) → moments.new ≡ again.new }
+    ensures told { (coming : List ℕ) → LinesAlike (L.traffic line.old) (K.traffic other.old) coming
+        → HadMemory OutOfMemory result.0 result.1
+        → ServesAlike result.0 result.1 (L.traffic line.old) (L.traffic line.new) (K.traffic other.old)
+        (K.traffic other.new) → ToldAlike W.notes V.notes watch.old watch.new beside.old beside.new }
 {
     let first = serve_watched(alloc, line, services, limits, channel_id, moments, watch);
     let second = serve_watched(alloc, other, others, limits, channel_id, again, beside);

@@ -23,12 +23,17 @@ pub fn step_server_twice(
     piece: &[u8],
     moment: DateTime,
 ) -> (Result<Step, StepFault>, Result<Step, StepFault>)
-    ensures answers { (octets : List ℕ) (told : List Told) (begun : State) (moments : List DateTime) → StepsAlike (channel_in one.old) (channel_in two.old) octets told begun moments services.old others.old
+    ensures answers { (octets : List ℕ) (told : List Told) (begun : State) (moments : List DateTime)
+        → StepsAlike (channel_in one.old) (channel_in two.old) octets told begun moments services.old others.old
         → HadMemory OutOfMemory result.0 result.1 → SameStepAnswer result.0 result.1 }
-    ensures state { (octets : List ℕ) (told : List Told) (begun : State) (moments : List DateTime) → StepsAlike (channel_in one.old) (channel_in two.old) octets told begun moments services.old others.old
+    ensures state { (octets : List ℕ) (told : List Told) (begun : State) (moments : List DateTime)
+        → StepsAlike (channel_in one.old) (channel_in two.old) octets told begun moments services.old others.old
         → HadMemory OutOfMemory result.0 result.1 → services.new ≡ others.new }
-    ensures left { (octets : List ℕ) (told : List Told) (begun : State) (moments : List DateTime) → StepsAlike (channel_in one.old) (channel_in two.old) octets told begun moments services.old others.old
-        → HadMemory OutOfMemory result.0 result.1 → LeftSteps result.0 (channel_in one.new) (channel_in two.new) octets told begun moments piece.now services.new others.new }
+    ensures left { (octets : List ℕ) (told : List Told) (begun : State) (moments : List DateTime)
+        → StepsAlike (channel_in one.old) (channel_in two.old) octets told begun moments services.old others.old
+        → HadMemory OutOfMemory result.0 result.1
+        → LeftSteps result.0 (channel_in one.new) (channel_in two.new) octets told begun moments piece.now
+        services.new others.new }
 {
     let first = one.step(services, piece, moment);
     let second = two.step(others, piece, moment);

@@ -13,7 +13,8 @@ use Rattle.ua_wire.proofs.Lawfulness.{sound_number, sound_made, sound_both, lawf
 use Rattle.ua_wire.proofs.Leasts.{least_starts}
 use Rattle.ua_builtin.specs.Flags.{has, flag_bit, flagged_text, EncodesFlagged}
 use Rattle.ua_builtin.specs.NodeId.{in_form, form_of, EncodesNodeId}
-use Rattle.ua_builtin.specs.ExpandedNodeId.{expanded, expanded_node_id, expanded_fits, expanded_octets, octet_of, is_here, behind_octet, flagged_index, EncodesIndex, EncodesExpanded}
+use Rattle.ua_builtin.specs.ExpandedNodeId.{expanded, expanded_node_id, expanded_fits, expanded_octets, octet_of}
+use Rattle.ua_builtin.specs.ExpandedNodeId.{is_here, behind_octet, flagged_index, EncodesIndex, EncodesExpanded}
 use Rattle.ua_builtin.specs.declared.expanded_node_id.ExpandedNodeId.{ExpandedNodeId}
 use Rattle.ua_builtin.proofs.FlagBits.{flag_has, sound_flagged, sound_flagged_text, text_there, text_back, text_written}
 use Rattle.ua_builtin.proofs.NodeIdLawful.{sound_in_form, form_is, form_below, in_form_of}
@@ -75,7 +76,8 @@ sound_octet octet =
 
 -- what stands behind the octet, by its form and flags
 abbrev behind_form : ℕ → Bool → Bool → Flat ExpandedNodeId
-behind_form form uri index = made expanded (λ v. (v.node_id, (v.namespace_uri, v.server_index))) (both (in_form form) (both (flagged_text uri) (flagged_index index)))
+behind_form form uri index = made expanded (λ v. (v.node_id, (v.namespace_uri, v.server_index)))
+    (both (in_form form) (both (flagged_text uri) (flagged_index index)))
 
 index_there : (set : Bool) (v : ℕ) (b : List ℕ) → EncodesIndex set v b → (flagged_index set).encodes v b
 index_there true v b h = h
@@ -94,7 +96,8 @@ expanded_back v b h =
     let form_is : h.form ≡ f.form = (let e = f.octets in cc) in
     let node_is : h.node ≡ f.back = (let e = f.octets in cc) in
     let small : h.form < 6 = omega (arith, f.small, form_is) in
-    let node_encoded : (in_form h.form).encodes v.node_id h.node = subst (λ (k : ℕ). (in_form k).encodes v.node_id h.node) (sym form_is) (subst ((in_form f.form).encodes v.node_id) (sym node_is) f.encoded) in
+    let node_encoded : (in_form h.form).encodes v.node_id h.node = subst (λ (k : ℕ). (in_form k).encodes v.node_id h.node) (sym form_is)
+    (subst ((in_form f.form).encodes v.node_id) (sym node_is) f.encoded) in
     let says = flags_say h.form h.has_uri h.has_index small in
     let fits : m < 256 = ltb-true m 256 says.3 in
     let back : List ℕ = h.node ++ (h.uri ++ h.index) in
@@ -102,7 +105,23 @@ expanded_back v b h =
     subst (λ (k : ℕ). (behind_form k (has m 128) (has m 64)).encodes v back) (sym says.0)
     (subst (λ (x : Bool). (behind_form h.form x (has m 64)).encodes v back) (sym says.1)
     (subst (λ (y : Bool). (behind_form h.form h.has_uri y).encodes v back) (sym says.2)
-    (record { of = (v.node_id, (v.namespace_uri, v.server_index)); is = refl; encoded = record { front = h.node; back = h.uri ++ h.index; parts = refl; first_encoded = node_encoded; second_encoded = record { front = h.uri; back = h.index; parts = refl; first_encoded = text_there h.has_uri v.namespace_uri h.uri h.uri_encoded; second_encoded = index_there h.has_index v.server_index h.index h.index_encoded } } }))) in
+    (record {
+      of = (v.node_id, (v.namespace_uri, v.server_index));
+      is = refl;
+      encoded = record {
+        front = h.node;
+        back = h.uri ++ h.index;
+        parts = refl;
+        first_encoded = node_encoded;
+        second_encoded = record {
+          front = h.uri;
+          back = h.index;
+          parts = refl;
+          first_encoded = text_there h.has_uri v.namespace_uri h.uri h.uri_encoded;
+          second_encoded = index_there h.has_index v.server_index h.index h.index_encoded;
+        };
+      };
+    }))) in
     record { head = m; front = number_octets 1 m; back = back; parts = front_octet m b back fits h.octets; head_encoded = (fits, refl); rest_encoded = within }
 
 expanded_there : (v : ExpandedNodeId) (b : List ℕ) → Follows (IsNumber 1) (λ octet. (behind_octet octet).encodes) v b → EncodesExpanded v b
@@ -118,9 +137,12 @@ expanded_there v b h =
       node = node;
       uri = rest.front;
       index = rest.back;
-      node_encoded = subst (λ (x : ExpandedNodeId). EncodesNodeId x.node_id (bit_and o 63 ∷ node)) (sym p.is) (form_is (bit_and o 63) p.of.0 node p.encoded.first_encoded);
-      uri_encoded = subst (λ (x : ExpandedNodeId). EncodesFlagged (has o 128) x.namespace_uri rest.front) (sym p.is) (text_back (has o 128) p.of.1.0 rest.front rest.first_encoded);
-      index_encoded = subst (λ (x : ExpandedNodeId). EncodesIndex (has o 64) x.server_index rest.back) (sym p.is) (index_back (has o 64) p.of.1.1 rest.back rest.second_encoded);
+      node_encoded = subst (λ (x : ExpandedNodeId). EncodesNodeId x.node_id (bit_and o 63 ∷ node)) (sym p.is)
+          (form_is (bit_and o 63) p.of.0 node p.encoded.first_encoded);
+      uri_encoded = subst (λ (x : ExpandedNodeId). EncodesFlagged (has o 128) x.namespace_uri rest.front) (sym p.is)
+          (text_back (has o 128) p.of.1.0 rest.front rest.first_encoded);
+      index_encoded = subst (λ (x : ExpandedNodeId). EncodesIndex (has o 64) x.server_index rest.back) (sym p.is)
+          (index_back (has o 64) p.of.1.1 rest.back rest.second_encoded);
       octets = octet_front o b h.front h.back h.parts h.head_encoded
           ∙ ap (λ (t : List ℕ). o ∷ t) (p.encoded.parts ∙ ap (λ (t : List ℕ). node ++ t) rest.parts)
           ∙ ap (λ (m : ℕ). m ∷ (node ++ (rest.front ++ rest.back))) (octet_sum o h.head_encoded.0);
@@ -131,7 +153,8 @@ written_octet v h =
     let form : ℕ = form_of v.node_id in
     let uri : Bool = is_some v.namespace_uri in
     let index : Bool = not (is_here v.server_index) in
-    let first = both_true ((in_form form).encodable v.node_id) ((flagged_text uri).encodable v.namespace_uri && (flagged_index index).encodable v.server_index) h in
+    let first = both_true ((in_form form).encodable v.node_id) ((flagged_text uri).encodable v.namespace_uri && (flagged_index index).encodable v.server_index)
+    h in
     let rest = both_true ((flagged_text uri).encodable v.namespace_uri) ((flagged_index index).encodable v.server_index) first.1 in
     let fits : octet_of v < 256 = ltb-true (octet_of v) 256 (flags_say form uri index (form_below v.node_id)).3 in
     record {
@@ -143,8 +166,12 @@ written_octet v h =
       index = (flagged_index index).canonical v.server_index;
       node_encoded = form_is form v.node_id ((in_form form).canonical v.node_id) ((sound_in_form form).canonical_encodes v.node_id first.0);
       uri_encoded = text_written v.namespace_uri rest.0;
-      index_encoded = index_back index v.server_index ((flagged_index index).canonical v.server_index) ((sound_index index).canonical_encodes v.server_index rest.1);
-      octets = ap (λ (t : List ℕ). t ++ ((in_form form).canonical v.node_id ++ ((flagged_text uri).canonical v.namespace_uri ++ (flagged_index index).canonical v.server_index))) (one_octet (octet_of v) fits);
+      index_encoded = index_back index v.server_index ((flagged_index index).canonical v.server_index)
+          ((sound_index index).canonical_encodes v.server_index rest.1);
+      octets =
+          ap (λ (t : List ℕ).
+          t ++ ((in_form form).canonical v.node_id ++ ((flagged_text uri).canonical v.namespace_uri ++ (flagged_index index).canonical v.server_index)))
+          (one_octet (octet_of v) fits);
     }
 
 pub sound_expanded_node_id : IsSound expanded_node_id
@@ -152,7 +179,8 @@ unfolding expanded_node_id
 sound_expanded_node_id = record {
   exact =
       exact_same (Follows (IsNumber 1) (λ octet. (behind_octet octet).encodes)) EncodesExpanded expanded_node_id.decode expanded_there expanded_back
-      (exact_bind (IsNumber 1) (number_at 1) (λ octet. (behind_octet octet).encodes) (λ octet. (behind_octet octet).decode) (exact_number 1) (λ octet. (sound_octet octet).exact));
+      (exact_bind (IsNumber 1) (number_at 1) (λ octet. (behind_octet octet).encodes) (λ octet. (behind_octet octet).decode) (exact_number 1)
+      (λ octet. (sound_octet octet).exact));
   canonical_encodes = written_octet;
 }
 

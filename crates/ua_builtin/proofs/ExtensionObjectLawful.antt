@@ -58,12 +58,17 @@ no_kind kind zero one two (Xml v) b h = two h.0
 
 exact_kind : (kind : ℕ) → Exact (OfKind kind) (behind_kind kind)
 exact_kind kind =
-    exact_chosen (nat_eq kind 0) (OfKind kind) (only_read Absent) _ (λ is. exact_same (IsOnly Absent) (OfKind kind) (only_read Absent) (absent_there kind (eqb-true kind 0 is)) (absent_back kind (eqb-true kind 0 is)) (exact_only Absent)) (λ zero.
+    exact_chosen (nat_eq kind 0) (OfKind kind) (only_read Absent) _
+    (λ is. exact_same (IsOnly Absent) (OfKind kind) (only_read Absent) (absent_there kind (eqb-true kind 0 is)) (absent_back kind (eqb-true kind 0 is))
+    (exact_only Absent)) (λ zero.
     exact_chosen (nat_eq kind 1) (OfKind kind) (image_read ByteString counted.decode) _
-    (λ is. exact_same (Image ByteString counted.encodes) (OfKind kind) (image_read ByteString counted.decode) (octets_there kind (eqb-true kind 1 is)) (octets_back kind (eqb-true kind 1 is)) (exact_image ByteString counted.encodes counted.decode sound_counted.exact)) (λ one.
+    (λ is. exact_same (Image ByteString counted.encodes) (OfKind kind) (image_read ByteString counted.decode) (octets_there kind (eqb-true kind 1 is))
+    (octets_back kind (eqb-true kind 1 is)) (exact_image ByteString counted.encodes counted.decode sound_counted.exact)) (λ one.
     exact_chosen (nat_eq kind 2) (OfKind kind) (image_read Xml xml_element.decode) never_read
-    (λ is. exact_same (Image Xml xml_element.encodes) (OfKind kind) (image_read Xml xml_element.decode) (xml_there kind (eqb-true kind 2 is)) (xml_back kind (eqb-true kind 2 is)) (exact_image Xml xml_element.encodes xml_element.decode sound_xml_element.exact))
-    (λ two. exact_same Never (OfKind kind) never_read (λ v b h. absurd h) (no_kind kind (eqb-false kind 0 zero) (eqb-false kind 1 one) (eqb-false kind 2 two)) exact_never)))
+    (λ is. exact_same (Image Xml xml_element.encodes) (OfKind kind) (image_read Xml xml_element.decode) (xml_there kind (eqb-true kind 2 is))
+    (xml_back kind (eqb-true kind 2 is)) (exact_image Xml xml_element.encodes xml_element.decode sound_xml_element.exact))
+    (λ two. exact_same Never (OfKind kind) never_read (λ v b h. absurd h) (no_kind kind (eqb-false kind 0 zero) (eqb-false kind 1 one) (eqb-false kind 2 two))
+    exact_never)))
 
 -- ---- the body
 
@@ -76,7 +81,14 @@ body_there (ByteString v) b h = (h.back, behind_octet 1 h.head b h.front h.back 
 body_there (Xml v) b h = (h.back, behind_octet 2 h.head b h.front h.back h.rest_encoded.0 h.parts h.head_encoded, h.rest_encoded.1)
 
 kind_follows : (kind : ℕ) (v : ExtensionBody) (b back : List ℕ) → kind < 256 → b ≡ kind ∷ back → OfKind kind v back → Follows (IsNumber 1) OfKind v b
-kind_follows kind v b back fits e h = record { head = kind; front = number_octets 1 kind; back = back; parts = front_octet kind b back fits e; head_encoded = (fits, refl); rest_encoded = h }
+kind_follows kind v b back fits e h = record {
+  head = kind;
+  front = number_octets 1 kind;
+  back = back;
+  parts = front_octet kind b back fits e;
+  head_encoded = (fits, refl);
+  rest_encoded = h;
+}
 
 body_back : (v : ExtensionBody) (b : List ℕ) → EncodesBody v b → Follows (IsNumber 1) OfKind v b
 body_back Absent b h = kind_follows 0 Absent b [] (lit< tt) h (refl, refl)
@@ -90,7 +102,8 @@ body_written (Xml v) h = (xml_element.canonical v, refl, sound_xml_element.canon
 
 sound_body : IsSound body
 sound_body = record {
-  exact = exact_same (Follows (IsNumber 1) OfKind) EncodesBody body_at body_there body_back (exact_bind (IsNumber 1) (number_at 1) OfKind behind_kind (exact_number 1) exact_kind);
+  exact = exact_same (Follows (IsNumber 1) OfKind) EncodesBody body_at body_there body_back
+      (exact_bind (IsNumber 1) (number_at 1) OfKind behind_kind (exact_number 1) exact_kind);
   canonical_encodes = body_written;
 }
 
@@ -105,7 +118,8 @@ lawful_extension_object = lawful_flat sound_extension_object (least_starts 2 ext
 
 -- ---- what is written of the body
 
-pub written_kind : {E : Type 0} (r : Result (Unit {0}) E) (b : ExtensionBody) (kind : ℕ) (back octets start new : List ℕ) → kind < 256 → body_octets b ≡ kind ∷ back
+pub written_kind : {E : Type 0} (r : Result (Unit {0}) E) (b : ExtensionBody) (kind : ℕ) (back octets start new : List ℕ) → kind < 256
+    → body_octets b ≡ kind ∷ back
     → octets ≡ number_octets 1 kind ++ back → OnOk r (new ≡ start ++ octets) → OnOk r (new ≡ start ++ body_octets b)
 written_kind (Ok _) b kind back octets start new fits is all was =
     was ∙ ap (λ (t : List ℕ). start ++ t) (all ∙ ap (λ (t : List ℕ). t ++ back) (one_octet kind fits) ∙ sym is)

@@ -34,7 +34,8 @@ flag_has m k = ap (flag_bit (2 ^ k)) (has_bit m k) ∙ flag_times (m / 2 ^ k % 2
 
 -- ---- flagged parts
 
-pub sound_flagged : {A : Type 0} (f : Flat A) (absent : A) (is : A → Bool) → ((v : A) → IsTrue (is v) → v ≡ absent) → IsSound f → (set : Bool) → IsSound (flagged f absent is set)
+pub sound_flagged : {A : Type 0} (f : Flat A) (absent : A) (is : A → Bool) → ((v : A) → IsTrue (is v) → v ≡ absent) → IsSound f → (set : Bool)
+    → IsSound (flagged f absent is set)
 sound_flagged f absent is same sound set = sound_chosen set f (only absent is) sound (sound_only absent is same)
 
 pub null_is : (v : Option (List ℕ)) → IsTrue (is_null v) → v ≡ None
@@ -53,5 +54,6 @@ text_back true v b h = h
 text_back false v b h = h
 
 -- what is written for a text that is flagged where it isn't null
-pub text_written : (v : Option (List ℕ)) → IsTrue ((flagged_text (is_some v)).encodable v) → EncodesFlagged (is_some v) v ((flagged_text (is_some v)).canonical v)
+pub text_written : (v : Option (List ℕ)) → IsTrue ((flagged_text (is_some v)).encodable v)
+    → EncodesFlagged (is_some v) v ((flagged_text (is_some v)).canonical v)
 text_written v h = text_back (is_some v) v ((flagged_text (is_some v)).canonical v) ((sound_flagged_text (is_some v)).canonical_encodes v h)

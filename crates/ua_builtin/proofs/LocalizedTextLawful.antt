@@ -1,6 +1,7 @@
 -- The format of LocalizedTexts is sound and lawful.
 use Rattle.std.specs.Prelude.{IsTrue, ◌^◌, is_some}
-use Rattle.std.proofs.Common.{◌≡◌, ◌<◌, ◌≤◌, ◌+◌, inl, inr, ℕ, zero, suc, Bool, true, false, cond, nat_lt, List, ◌∷◌, ◌++◌, refl, sym, ap, subst, ◌∙◌, arith, lit<}
+use Rattle.std.proofs.Common.{◌≡◌, ◌<◌, ◌≤◌, ◌+◌, inl, inr, ℕ, zero, suc, Bool, true, false, cond}
+use Rattle.std.proofs.Common.{nat_lt, List, ◌∷◌, ◌++◌, refl, sym, ap, subst, ◌∙◌, arith, lit<}
 use Rattle.std.proofs.lemmas.Bool.{ltb-false}
 use Rattle.ua_wire.specs.Exact.{Follows}
 use Rattle.ua_wire.specs.Number.{number_octets, number_at, IsNumber}
@@ -18,7 +19,8 @@ use Rattle.ua_builtin.proofs.NodeIdLawful.{cond_encodes}
 use Rattle.ua_builtin.proofs.Leasts.{localized_text_least}
 
 -- the flags of a mask of two bits
-mask_flags : (a b : Bool) → (has (flag_bit 1 a + flag_bit 2 b) 1 ≡ a) × (has (flag_bit 1 a + flag_bit 2 b) 2 ≡ b) × (nat_lt 3 (flag_bit 1 a + flag_bit 2 b) ≡ false) × (nat_lt (flag_bit 1 a + flag_bit 2 b) (256 ^ 1) ≡ true)
+mask_flags : (a b : Bool) → (has (flag_bit 1 a + flag_bit 2 b) 1 ≡ a) × (has (flag_bit 1 a + flag_bit 2 b) 2 ≡ b)
+    × (nat_lt 3 (flag_bit 1 a + flag_bit 2 b) ≡ false) × (nat_lt (flag_bit 1 a + flag_bit 2 b) (256 ^ 1) ≡ true)
 mask_flags false false = (refl, refl, refl, refl)
 mask_flags false true = (refl, refl, refl, refl)
 mask_flags true false = (refl, refl, refl, refl)
@@ -56,8 +58,25 @@ localized_back v b h =
     subst (λ (t : Bool). (cond t nothing (behind_flags (has m 1) (has m 2))).encodes v (h.locale ++ h.text)) (sym flags.2)
     (subst (λ (x : Bool). (behind_flags x (has m 2)).encodes v (h.locale ++ h.text)) (sym flags.0)
     (subst (λ (y : Bool). (behind_flags h.has_locale y).encodes v (h.locale ++ h.text)) (sym flags.1)
-    (record { of = (v.locale, v.text); is = refl; encoded = record { front = h.locale; back = h.text; parts = refl; first_encoded = text_there h.has_locale v.locale h.locale h.locale_encoded; second_encoded = text_there h.has_text v.text h.text h.text_encoded } }))) in
-    record { head = m; front = number_octets 1 m; back = h.locale ++ h.text; parts = front_octet m b (h.locale ++ h.text) fits h.octets; head_encoded = (fits, refl); rest_encoded = within }
+    (record {
+      of = (v.locale, v.text);
+      is = refl;
+      encoded = record {
+        front = h.locale;
+        back = h.text;
+        parts = refl;
+        first_encoded = text_there h.has_locale v.locale h.locale h.locale_encoded;
+        second_encoded = text_there h.has_text v.text h.text h.text_encoded;
+      };
+    }))) in
+    record {
+      head = m;
+      front = number_octets 1 m;
+      back = h.locale ++ h.text;
+      parts = front_octet m b (h.locale ++ h.text) fits h.octets;
+      head_encoded = (fits, refl);
+      rest_encoded = within;
+    }
 
 localized_there : (v : LocalizedText) (b : List ℕ) → Follows (IsNumber 1) (λ mask. (behind_mask mask).encodes) v b → EncodesLocalizedText v b
 localized_there v b h =
@@ -68,8 +87,10 @@ localized_there v b h =
         has_text = has h.head 2;
         locale = p.1.encoded.front;
         text = p.1.encoded.back;
-        locale_encoded = subst (λ (x : LocalizedText). EncodesFlagged (has h.head 1) x.locale p.1.encoded.front) (sym p.1.is) (text_back (has h.head 1) p.1.of.0 p.1.encoded.front p.1.encoded.first_encoded);
-        text_encoded = subst (λ (x : LocalizedText). EncodesFlagged (has h.head 2) x.text p.1.encoded.back) (sym p.1.is) (text_back (has h.head 2) p.1.of.1 p.1.encoded.back p.1.encoded.second_encoded);
+        locale_encoded = subst (λ (x : LocalizedText). EncodesFlagged (has h.head 1) x.locale p.1.encoded.front) (sym p.1.is)
+            (text_back (has h.head 1) p.1.of.0 p.1.encoded.front p.1.encoded.first_encoded);
+        text_encoded = subst (λ (x : LocalizedText). EncodesFlagged (has h.head 2) x.text p.1.encoded.back) (sym p.1.is)
+            (text_back (has h.head 2) p.1.of.1 p.1.encoded.back p.1.encoded.second_encoded);
         octets = octet_front h.head b h.front h.back h.parts h.head_encoded
             ∙ ap (λ (t : List ℕ). h.head ∷ t) p.1.encoded.parts
             ∙ ap (λ (m : ℕ). m ∷ (p.1.encoded.front ++ p.1.encoded.back)) (mask_sum h.head (ltb-false 3 h.head p.0));
@@ -86,7 +107,8 @@ written_mask v h =
       text = (flagged_text (is_some v.text)).canonical v.text;
       locale_encoded = text_written v.locale w.0;
       text_encoded = text_written v.text w.1;
-      octets = ap (λ (t : List ℕ). t ++ ((flagged_text (is_some v.locale)).canonical v.locale ++ (flagged_text (is_some v.text)).canonical v.text)) (one_octet (mask_of v) (below_256 (is_some v.locale) (is_some v.text)));
+      octets = ap (λ (t : List ℕ). t ++ ((flagged_text (is_some v.locale)).canonical v.locale ++ (flagged_text (is_some v.text)).canonical v.text))
+          (one_octet (mask_of v) (below_256 (is_some v.locale) (is_some v.text)));
     }
 
 pub sound_localized_text : IsSound localized_text
@@ -94,7 +116,8 @@ unfolding localized_text
 sound_localized_text = record {
   exact =
       exact_same (Follows (IsNumber 1) (λ mask. (behind_mask mask).encodes)) EncodesLocalizedText localized_text.decode localized_there localized_back
-      (exact_bind (IsNumber 1) (number_at 1) (λ mask. (behind_mask mask).encodes) (λ mask. (behind_mask mask).decode) (exact_number 1) (λ mask. (sound_mask mask).exact));
+      (exact_bind (IsNumber 1) (number_at 1) (λ mask. (behind_mask mask).encodes) (λ mask. (behind_mask mask).decode) (exact_number 1)
+      (λ mask. (sound_mask mask).exact));
   canonical_encodes = written_mask;
 }
 

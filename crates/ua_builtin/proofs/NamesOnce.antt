@@ -19,7 +19,8 @@ use Rattle.ua_builtin.proofs.Texts.{apart, no_namespace, Numbered, numbered, no_
 same_octets : (a b : List ℕ) → IsBytes a → IsBytes b → encode_of standard a ≡ encode_of standard b → a ≡ b
 same_octets a b p q e =
     let ok : IsConsistent standard = refl in
-    let same : ◌≡◌ {A = Result (List ℕ) DecodeError} (Ok a) (Ok b) = sym (decode_of-encode_of standard a ok p) ∙ ap (decode_of standard) e ∙ decode_of-encode_of standard b ok q in
+    let same : ◌≡◌ {A = Result (List ℕ) DecodeError} (Ok a) (Ok b) = sym (decode_of-encode_of standard a ok p) ∙ ap (decode_of standard) e
+    ∙ decode_of-encode_of standard b ok q in
     cc
 
 same_guid : (g h : Guid) → g.uuid ≡ h.uuid → g ≡ h
@@ -79,8 +80,12 @@ pub one_node : (v w : NodeId) (text : List ℕ) → NamesNode v text → NamesNo
 one_node v w text h k =
     elim h.namespace as (λ _. v ≡ w) [
       | inl p ↦ elim k.namespace as (λ _. v ≡ w) [
-        | inl q ↦ same_node v w (p.0 ∙ sym q.0) (one_identifier v.identifier w.identifier h.back h.identifier (subst (NamesIdentifier w.identifier) (sym (whole text k.front k.back k.parts q.1) ∙ whole text h.front h.back h.parts p.1) k.identifier))
-        | inr q ↦ absurd (no_namespace v.identifier text ((q.digits ++ semicolon ∷ []) ++ k.back) (subst (NamesIdentifier v.identifier) (sym (whole text h.front h.back h.parts p.1)) h.identifier) (k.parts ∙ ap (λ (f : List ℕ). f ++ k.back) q.is))
+        | inl q ↦ same_node v w (p.0 ∙ sym q.0)
+            (one_identifier v.identifier w.identifier h.back h.identifier
+            (subst (NamesIdentifier w.identifier) (sym (whole text k.front k.back k.parts q.1) ∙ whole text h.front h.back h.parts p.1) k.identifier))
+        | inr q ↦ absurd
+            (no_namespace v.identifier text ((q.digits ++ semicolon ∷ []) ++ k.back)
+            (subst (NamesIdentifier v.identifier) (sym (whole text h.front h.back h.parts p.1)) h.identifier) (k.parts ∙ ap (λ (f : List ℕ). f ++ k.back) q.is))
       ]
       | inr p ↦
           let rest : List ℕ = (p.digits ++ semicolon ∷ []) ++ h.back in

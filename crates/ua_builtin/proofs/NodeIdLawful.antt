@@ -11,7 +11,9 @@ use Rattle.ua_wire.proofs.NumbersRead.{one_octet, octet_front, front_octet, exac
 use Rattle.ua_wire.proofs.Lawfulness.{sound_number, sound_nothing, sound_image, sound_both, sound_chosen, lawful_flat}
 use Rattle.ua_wire.proofs.CountedLawful.{sound_text, sound_counted}
 use Rattle.ua_wire.proofs.Leasts.{least_starts}
-use Rattle.ua_builtin.specs.NodeId.{node, node_id, in_form, form_of, is_short, two_octets, numeric, textual, by_guid, opaque, is_numeric, is_textual, is_guid, is_opaque, number_of, text_of, guid_of, octets_of, TwoOctet, FourOctet, NumericForm, StringForm, GuidForm, OpaqueForm, EncodesNodeId, two_octet, four_octet, numeric_form, string_form, guid_form, opaque_form}
+use Rattle.ua_builtin.specs.NodeId.{node, node_id, in_form, form_of, is_short, two_octets, numeric, textual, by_guid, opaque, is_numeric, is_textual}
+use Rattle.ua_builtin.specs.NodeId.{is_guid, is_opaque, number_of, text_of, guid_of, octets_of, TwoOctet, FourOctet, NumericForm, StringForm}
+use Rattle.ua_builtin.specs.NodeId.{GuidForm, OpaqueForm, EncodesNodeId, two_octet, four_octet, numeric_form, string_form, guid_form, opaque_form}
 use Rattle.ua_builtin.specs.declared.node_id.NodeId.{NodeId}
 use Rattle.ua_builtin.specs.declared.node_id.Identifier.{Identifier}
 use Rattle.ua_builtin.specs.declared.node_id.Identifier.TheVariants.{Numeric, Text, Guid as Global, Opaque}
@@ -73,7 +75,8 @@ sound_in_form form =
 
 -- ---- from the format to the forms
 
-pub cond_encodes : {A : Type 0} (test : Bool) (f g : Flat A) (v : A) (b : List ℕ) → (cond test f g).encodes v b → ((test ≡ true) × f.encodes v b) ⊎ ((test ≡ false) × g.encodes v b)
+pub cond_encodes : {A : Type 0} (test : Bool) (f g : Flat A) (v : A) (b : List ℕ) → (cond test f g).encodes v b → ((test ≡ true) × f.encodes v b)
+    ⊎ ((test ≡ false) × g.encodes v b)
 cond_encodes true f g v b h = inl (refl, h)
 cond_encodes false f g v b h = inr (refl, h)
 
@@ -87,7 +90,10 @@ four_is v b h = record {
   is = h.is;
   namespace_fits = h.encoded.first_encoded.0;
   id_fits = h.encoded.second_encoded.0;
-  octets = ap (λ (t : List ℕ). 1 ∷ t) (h.encoded.parts ∙ ap (λ (t : List ℕ). t ++ h.encoded.back) (h.encoded.first_encoded.1 ∙ one_octet h.of.0 h.encoded.first_encoded.0) ∙ ap (λ (t : List ℕ). h.of.0 ∷ t) h.encoded.second_encoded.1);
+  octets =
+      ap (λ (t : List ℕ). 1 ∷ t) (h.encoded.parts
+      ∙ ap (λ (t : List ℕ). t ++ h.encoded.back) (h.encoded.first_encoded.1 ∙ one_octet h.of.0 h.encoded.first_encoded.0)
+      ∙ ap (λ (t : List ℕ). h.of.0 ∷ t) h.encoded.second_encoded.1);
 }
 
 numeric_is : (v : NodeId) (b : List ℕ) → (numeric 2 4).encodes v b → NumericForm v (2 ∷ b)
@@ -97,7 +103,8 @@ numeric_is v b h = record {
   is = h.is;
   namespace_fits = h.encoded.first_encoded.0;
   id_fits = h.encoded.second_encoded.0;
-  octets = ap (λ (t : List ℕ). 2 ∷ t) (h.encoded.parts ∙ ap (λ (t : List ℕ). t ++ h.encoded.back) h.encoded.first_encoded.1 ∙ ap (λ (t : List ℕ). number_octets 2 h.of.0 ++ t) h.encoded.second_encoded.1);
+  octets = ap (λ (t : List ℕ). 2 ∷ t) (h.encoded.parts ∙ ap (λ (t : List ℕ). t ++ h.encoded.back) h.encoded.first_encoded.1
+      ∙ ap (λ (t : List ℕ). number_octets 2 h.of.0 ++ t) h.encoded.second_encoded.1);
 }
 
 string_is : (v : NodeId) (b : List ℕ) → textual.encodes v b → StringForm v (3 ∷ b)
@@ -181,35 +188,92 @@ in_form_of v b (four_octet h) = record {
   back = h.namespace ∷ number_octets 2 h.id;
   octets = h.octets;
   small = lit< tt;
-  encoded = record { of = (h.namespace, h.id); is = h.is; encoded = record { front = number_octets 1 h.namespace; back = number_octets 2 h.id; parts = ap (λ (t : List ℕ). t ++ number_octets 2 h.id) (sym (one_octet h.namespace h.namespace_fits)); first_encoded = (h.namespace_fits, refl); second_encoded = (h.id_fits, refl) } };
+  encoded =
+      record {
+        of = (h.namespace, h.id);
+        is = h.is;
+        encoded =
+            record {
+              front = number_octets 1 h.namespace;
+              back = number_octets 2 h.id;
+              parts = ap (λ (t : List ℕ). t ++ number_octets 2 h.id)
+                  (sym (one_octet h.namespace h.namespace_fits));
+              first_encoded = (h.namespace_fits, refl);
+              second_encoded = (h.id_fits, refl);
+            };
+      };
 }
 in_form_of v b (numeric_form h) = record {
   form = 2;
   back = number_octets 2 h.namespace ++ number_octets 4 h.id;
   octets = h.octets;
   small = lit< tt;
-  encoded = record { of = (h.namespace, h.id); is = h.is; encoded = record { front = number_octets 2 h.namespace; back = number_octets 4 h.id; parts = refl; first_encoded = (h.namespace_fits, refl); second_encoded = (h.id_fits, refl) } };
+  encoded =
+      record {
+        of = (h.namespace, h.id);
+        is = h.is;
+        encoded = record {
+          front = number_octets 2 h.namespace;
+          back = number_octets 4 h.id;
+          parts = refl;
+          first_encoded = (h.namespace_fits, refl);
+          second_encoded = (h.id_fits, refl);
+        };
+      };
 }
 in_form_of v b (string_form h) = record {
   form = 3;
   back = number_octets 2 h.namespace ++ h.back;
   octets = h.octets;
   small = lit< tt;
-  encoded = record { of = (h.namespace, h.id); is = h.is; encoded = record { front = number_octets 2 h.namespace; back = h.back; parts = refl; first_encoded = (h.namespace_fits, refl); second_encoded = h.id_encoded } };
+  encoded =
+      record {
+        of = (h.namespace, h.id);
+        is = h.is;
+        encoded = record {
+          front = number_octets 2 h.namespace;
+          back = h.back;
+          parts = refl;
+          first_encoded = (h.namespace_fits, refl);
+          second_encoded = h.id_encoded;
+        };
+      };
 }
 in_form_of v b (guid_form h) = record {
   form = 4;
   back = number_octets 2 h.namespace ++ h.back;
   octets = h.octets;
   small = lit< tt;
-  encoded = record { of = (h.namespace, h.id); is = h.is; encoded = record { front = number_octets 2 h.namespace; back = h.back; parts = refl; first_encoded = (h.namespace_fits, refl); second_encoded = h.id_encoded } };
+  encoded =
+      record {
+        of = (h.namespace, h.id);
+        is = h.is;
+        encoded = record {
+          front = number_octets 2 h.namespace;
+          back = h.back;
+          parts = refl;
+          first_encoded = (h.namespace_fits, refl);
+          second_encoded = h.id_encoded;
+        };
+      };
 }
 in_form_of v b (opaque_form h) = record {
   form = 5;
   back = number_octets 2 h.namespace ++ h.back;
   octets = h.octets;
   small = lit< tt;
-  encoded = record { of = (h.namespace, h.id); is = h.is; encoded = record { front = number_octets 2 h.namespace; back = h.back; parts = refl; first_encoded = (h.namespace_fits, refl); second_encoded = h.id_encoded } };
+  encoded =
+      record {
+        of = (h.namespace, h.id);
+        is = h.is;
+        encoded = record {
+          front = number_octets 2 h.namespace;
+          back = h.back;
+          parts = refl;
+          first_encoded = (h.namespace_fits, refl);
+          second_encoded = h.id_encoded;
+        };
+      };
 }
 
 form_there : (v : NodeId) (b : List ℕ) → Follows (IsNumber 1) (λ form. (in_form form).encodes) v b → EncodesNodeId v b
@@ -219,7 +283,14 @@ form_back : (v : NodeId) (b : List ℕ) → EncodesNodeId v b → Follows (IsNum
 form_back v b h =
     let f = in_form_of v b h in
     let fits : f.form < 256 = omega (arith, f.small) in
-    record { head = f.form; front = number_octets 1 f.form; back = f.back; parts = front_octet f.form b f.back fits f.octets; head_encoded = (fits, refl); rest_encoded = f.encoded }
+    record {
+      head = f.form;
+      front = number_octets 1 f.form;
+      back = f.back;
+      parts = front_octet f.form b f.back fits f.octets;
+      head_encoded = (fits, refl);
+      rest_encoded = f.encoded;
+    }
 
 -- ---- the whole
 
@@ -242,14 +313,16 @@ written_form : (v : NodeId) → IsTrue ((in_form (form_of v)).encodable v) → E
 written_form v h =
     let small : form_of v < 6 = form_below v in
     let fits : form_of v < 256 = omega arith in
-    subst (EncodesNodeId v) (ap (λ (t : List ℕ). t ++ (in_form (form_of v)).canonical v) (sym (one_octet (form_of v) fits))) (form_is (form_of v) v ((in_form (form_of v)).canonical v) ((sound_in_form (form_of v)).canonical_encodes v h))
+    subst (EncodesNodeId v) (ap (λ (t : List ℕ). t ++ (in_form (form_of v)).canonical v) (sym (one_octet (form_of v) fits)))
+    (form_is (form_of v) v ((in_form (form_of v)).canonical v) ((sound_in_form (form_of v)).canonical_encodes v h))
 
 pub sound_node_id : IsSound node_id
 unfolding node_id
 sound_node_id = record {
   exact =
       exact_same (Follows (IsNumber 1) (λ form. (in_form form).encodes)) EncodesNodeId node_id.decode form_there form_back
-      (exact_bind (IsNumber 1) (number_at 1) (λ form. (in_form form).encodes) (λ form. (in_form form).decode) (exact_number 1) (λ form. (sound_in_form form).exact));
+      (exact_bind (IsNumber 1) (number_at 1) (λ form. (in_form form).encodes) (λ form. (in_form form).decode) (exact_number 1)
+      (λ form. (sound_in_form form).exact));
   canonical_encodes = written_form;
 }
 

@@ -1,5 +1,6 @@
 -- What texts name, as it is read from their parts.
-use Rattle.std.proofs.Common.{◌≡◌, ◌<◌, ◌^◌, ◌⊎◌, inl, inr, ℕ, Bool, true, false, cond, nat_eq, List, [], ◌∷◌, ◌++◌, Option, Some, None, option_map, Result, Ok, Err, Bor, refl, sym, ap, subst, ◌∙◌, append_assoc, arith, lit<}
+use Rattle.std.proofs.Common.{◌≡◌, ◌<◌, ◌^◌, ◌⊎◌, inl, inr, ℕ, Bool, true, false, cond, nat_eq, List, [], ◌∷◌, ◌++◌, Option}
+use Rattle.std.proofs.Common.{Some, None, option_map, Result, Ok, Err, Bor, refl, sym, ap, subst, ◌∙◌, append_assoc, arith, lit<}
 use Rattle.std.specs.Result.{OkIff, result_ok}
 use Rattle.std.proofs.lemmas.Bool.{eqb-true}
 use Rattle.std.proofs.lemmas.Str.Pattern.{IsSplitOnceResult, split_after, split_parts}
@@ -12,7 +13,8 @@ use Rattle.std.specs.Fmt.{decimal}
 use Rattle.std.proofs.lemmas.Str.Parse.{digit_at}
 use Rattle.std.proofs.lemmas.Fmt.{decimal_is_IsNumeral}
 use Rattle.ua_wire.proofs.Readers.{some_is}
-use Rattle.ua_builtin.specs.NodeText.{list_of, semicolon, namespace_text, identifier_text, node_text, IsDecimal, IsGuidText, NamesIdentifier, NamesNamespace, NamesNode, filled, filled_identifier, HasNoSemicolon, IsCutAtSemicolon, IsRest}
+use Rattle.ua_builtin.specs.NodeText.{list_of, semicolon, namespace_text, identifier_text, node_text, IsDecimal, IsGuidText, NamesIdentifier}
+use Rattle.ua_builtin.specs.NodeText.{NamesNamespace, NamesNode, filled, filled_identifier, HasNoSemicolon, IsCutAtSemicolon, IsRest}
 use Rattle.ua_builtin.specs.declared.guid.Guid.{Guid}
 use Rattle.ua_builtin.specs.declared.node_id.NodeId.{NodeId}
 use Rattle.ua_builtin.specs.declared.node_id.Identifier.{Identifier}
@@ -60,7 +62,8 @@ numbered v text rest e h =
       | inr q ↦ record {
         digits = q.digits;
         back = h.back;
-        parts = behind_same rest (q.digits ++ semicolon ∷ h.back) (sym e ∙ h.parts ∙ ap (λ (f : List ℕ). f ++ h.back) q.is ∙ ap (λ (t : List ℕ). codes "ns=" ++ t) (append_assoc q.digits (semicolon ∷ []) h.back));
+        parts = behind_same rest (q.digits ++ semicolon ∷ h.back) (sym e ∙ h.parts ∙ ap (λ (f : List ℕ). f ++ h.back) q.is
+            ∙ ap (λ (t : List ℕ). codes "ns=" ++ t) (append_assoc q.digits (semicolon ∷ []) h.back));
         decimal = q.decimal;
         identifier = h.identifier;
       }
@@ -79,23 +82,30 @@ pub record Named (v : NodeId) (digits back : List ℕ) : Type 0 where
   pub decimal : IsDecimal (2 ^ 16) v.namespace digits
   pub identifier : NamesIdentifier v.identifier back
 
-named : (text rest digits back : List ℕ) → text ≡ codes "ns=" ++ rest → IsCutAtSemicolon rest (Some (digits, back)) → (v : NodeId) → NamesNode v text → Named v digits back
+named : (text rest digits back : List ℕ) → text ≡ codes "ns=" ++ rest → IsCutAtSemicolon rest (Some (digits, back)) → (v : NodeId) → NamesNode v text
+    → Named v digits back
 named text rest digits back e cut v h =
     let n = numbered v text rest e h in
     let same = cut.1 n.digits n.back (no_semicolon (2 ^ 16) v.namespace n.digits n.decimal) n.parts in
-    record { decimal = subst (IsDecimal (2 ^ 16) v.namespace) (sym same.0) n.decimal; identifier = subst (NamesIdentifier v.identifier) (sym same.1) n.identifier }
+    record {
+      decimal = subst (IsDecimal (2 ^ 16) v.namespace) (sym same.0) n.decimal;
+      identifier = subst (NamesIdentifier v.identifier) (sym same.1) n.identifier;
+    }
 
-pub no_decimal : (text rest digits back : List ℕ) → text ≡ codes "ns=" ++ rest → IsCutAtSemicolon rest (Some (digits, back)) → ((n : ℕ) → IsDecimal (2 ^ 32) n digits → ⊥) → (v : NodeId) → NamesNode v text → ⊥
+pub no_decimal : (text rest digits back : List ℕ) → text ≡ codes "ns=" ++ rest → IsCutAtSemicolon rest (Some (digits, back))
+    → ((n : ℕ) → IsDecimal (2 ^ 32) n digits → ⊥) → (v : NodeId) → NamesNode v text → ⊥
 no_decimal text rest digits back e cut none v h =
     let d = (named text rest digits back e cut v h).decimal in
     none v.namespace (record { numeral = d.numeral; value = d.value; fits = omega (arith, d.fits) })
 
-pub no_namespace_number : (text rest digits back : List ℕ) (n : ℕ) → text ≡ codes "ns=" ++ rest → IsCutAtSemicolon rest (Some (digits, back)) → IsDecimal (2 ^ 32) n digits → (n < 2 ^ 16 → ⊥) → (v : NodeId) → NamesNode v text → ⊥
+pub no_namespace_number : (text rest digits back : List ℕ) (n : ℕ) → text ≡ codes "ns=" ++ rest → IsCutAtSemicolon rest (Some (digits, back))
+    → IsDecimal (2 ^ 32) n digits → (n < 2 ^ 16 → ⊥) → (v : NodeId) → NamesNode v text → ⊥
 no_namespace_number text rest digits back n e cut decimal large v h =
     let d = (named text rest digits back e cut v h).decimal in
     large (omega (arith, sym decimal.value ∙ d.value, d.fits))
 
-pub numbered_rest : (text rest digits back : List ℕ) (n : ℕ) → text ≡ codes "ns=" ++ rest → IsCutAtSemicolon rest (Some (digits, back)) → IsDecimal (2 ^ 32) n digits → n < 2 ^ 16 → IsRest n back text
+pub numbered_rest : (text rest digits back : List ℕ) (n : ℕ) → text ≡ codes "ns=" ++ rest → IsCutAtSemicolon rest (Some (digits, back))
+    → IsDecimal (2 ^ 32) n digits → n < 2 ^ 16 → IsRest n back text
 numbered_rest text rest digits back n e cut decimal small = record {
   names = λ i h. record {
     front = codes "ns=" ++ (digits ++ semicolon ∷ []);
@@ -118,7 +128,8 @@ numeric_is_named n fits = (decimal n, refl, decimal_names (2 ^ 32) n fits (omega
 pub numeric_names : (i : Identifier) (n : ℕ) → i ≡ Numeric n → n < 2 ^ 32 → NamesIdentifier (filled_identifier i) (identifier_text i)
 numeric_names i n e fits = subst (λ (j : Identifier). NamesIdentifier (filled_identifier j) (identifier_text j)) (sym e) (numeric_is_named n fits)
 
-pub guid_names : (i : Identifier) (g : Guid) (shown : List ℕ) → i ≡ Global g → shown ≡ hyphenated_text lower g.uuid → Some g.uuid ≡ parsed shown → NamesIdentifier (filled_identifier i) (identifier_text i)
+pub guid_names : (i : Identifier) (g : Guid) (shown : List ℕ) → i ≡ Global g → shown ≡ hyphenated_text lower g.uuid → Some g.uuid ≡ parsed shown
+    → NamesIdentifier (filled_identifier i) (identifier_text i)
 guid_names i g shown e is back =
     let named : NamesIdentifier (filled_identifier (Global g)) (identifier_text (Global g)) =
     (hyphenated_text lower g.uuid, refl, (by_index_length 36 _, ap parsed (sym is) ∙ sym back)) in
@@ -132,9 +143,15 @@ opaque_names i b e bytes =
 
 namespace_cases : (n : ℕ) (zero_is : Bool) → nat_eq n 0 ≡ zero_is → n < 2 ^ 16 → ((n ≡ 0) × (namespace_text n ≡ [])) ⊎ NamesNamespace n (namespace_text n)
 namespace_cases n true e small = inl (eqb-true n 0 e, ap (λ (t : Bool). cond t [] (codes "ns=" ++ (decimal n ++ semicolon ∷ []))) e)
-namespace_cases n false e small = inr (record { digits = decimal n; is = ap (λ (t : Bool). cond t [] (codes "ns=" ++ (decimal n ++ semicolon ∷ []))) e; decimal = decimal_names (2 ^ 16) n small (omega arith) })
+namespace_cases n false e small =
+    inr (record {
+      digits = decimal n;
+      is = ap (λ (t : Bool). cond t [] (codes "ns=" ++ (decimal n ++ semicolon ∷ []))) e;
+      decimal = decimal_names (2 ^ 16) n small (omega arith);
+    })
 
-pub node_names : (v : NodeId) (text : List ℕ) → v.namespace < 2 ^ 16 → text ≡ node_text v → NamesIdentifier (filled_identifier v.identifier) (identifier_text v.identifier) → NamesNode (filled v) text
+pub node_names : (v : NodeId) (text : List ℕ) → v.namespace < 2 ^ 16 → text ≡ node_text v
+    → NamesIdentifier (filled_identifier v.identifier) (identifier_text v.identifier) → NamesNode (filled v) text
 node_names v text small e named = record {
   front = namespace_text v.namespace;
   back = identifier_text v.identifier;

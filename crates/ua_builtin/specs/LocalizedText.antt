@@ -31,7 +31,8 @@ localized_text_fits v = (flagged_text (is_some v.locale)).encodable v.locale && 
 
 -- the mask, and the texts that aren't null
 abbrev pub localized_text_octets : LocalizedText → List ℕ
-localized_text_octets v = number_octets 1 (mask_of v) ++ ((flagged_text (is_some v.locale)).canonical v.locale ++ (flagged_text (is_some v.text)).canonical v.text)
+localized_text_octets v = number_octets 1 (mask_of v)
+    ++ ((flagged_text (is_some v.locale)).canonical v.locale ++ (flagged_text (is_some v.text)).canonical v.text)
 
 -- ---- what is read
 
@@ -41,7 +42,8 @@ localized p = record { locale = p.0; text = p.1 }
 
 -- after the mask: the locale if 0x01 is set, then the text if 0x02 is; no other bit may be set
 abbrev pub behind_mask : ℕ → Flat LocalizedText
-behind_mask mask = cond (nat_lt 0x03 mask) nothing (made localized (λ v. (v.locale, v.text)) (both (flagged_text (has mask 0x01)) (flagged_text (has mask 0x02))))
+behind_mask mask =
+    cond (nat_lt 0x03 mask) nothing (made localized (λ v. (v.locale, v.text)) (both (flagged_text (has mask 0x01)) (flagged_text (has mask 0x02))))
 
 -- a mask byte, and the flagged texts
 unfoldable pub localized_text : Flat LocalizedText

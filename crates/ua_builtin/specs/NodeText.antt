@@ -102,7 +102,8 @@ HasNoSemicolon text = (i : ℕ) → i < length text → get_or text i 0 ≡ semi
 -- the parts at the first semicolon, or that there is none
 abbrev pub IsCutAtSemicolon : List ℕ → Option (List ℕ × List ℕ) → Type 0
 IsCutAtSemicolon text None = (front back : List ℕ) → HasNoSemicolon front → text ≡ front ++ semicolon ∷ back → ⊥
-IsCutAtSemicolon text (Some p) = (text ≡ p.0 ++ semicolon ∷ p.1) × ((front back : List ℕ) → HasNoSemicolon front → text ≡ front ++ semicolon ∷ back → (p.0 ≡ front) × (p.1 ≡ back))
+IsCutAtSemicolon text (Some p) = (text ≡ p.0 ++ semicolon ∷ p.1) × ((front back : List ℕ) → HasNoSemicolon front → text ≡ front ++ semicolon ∷ back
+    → (p.0 ≡ front) × (p.1 ≡ back))
 
 -- a text names a NodeId of this namespace if the rest names its identifier, and no other NodeId
 pub record IsRest (namespace : ℕ) (rest text : List ℕ) : Type 0 where

@@ -50,7 +50,9 @@ impl ExpandedNodeId {
 
     // Appends the index unless it is 0.
     fn append_index(&self, out: &mut Vec<u8>) -> Result<(), AllocError>
-        ensures ok { OnOk result (out.new.items ≡ out.old.items ++ (flagged_index (not (is_here self.now.server_index))).canonical self.now.server_index) }
+        ensures ok { OnOk result
+            (out.new.items ≡ out.old.items ++ (flagged_index (not (is_here self.now.server_index))).canonical
+            self.now.server_index) }
         ensures err { OnErr result (Extends out.old.items out.new.items) }
     {
         if self.server_index == 0 {
@@ -62,7 +64,10 @@ impl ExpandedNodeId {
     // Appends the URI unless it is null, and the index unless it is 0.
     fn append_behind(&self, out: &mut Vec<u8>) -> Result<(), AllocError>
         requires { IsTrue ((flagged_text (is_some self.now.namespace_uri)).encodable self.now.namespace_uri) }
-        ensures ok { OnOk result (out.new.items ≡ out.old.items ++ ((flagged_text (is_some self.now.namespace_uri)).canonical self.now.namespace_uri ++ (flagged_index (not (is_here self.now.server_index))).canonical self.now.server_index)) }
+        ensures ok { OnOk result
+            (out.new.items ≡ out.old.items
+            ++ ((flagged_text (is_some self.now.namespace_uri)).canonical self.now.namespace_uri
+            ++ (flagged_index (not (is_here self.now.server_index))).canonical self.now.server_index)) }
         ensures err { OnErr result (Extends out.old.items out.new.items) }
     {
         flags::append_flagged(&self.namespace_uri, out)?;

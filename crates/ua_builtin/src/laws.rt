@@ -51,9 +51,14 @@ pub fn status_is_encodable(status: &StatusCode)
 /// that of the second; a last entry that does not hold changes nothing; renaming the errors renames
 /// the result.
 pub fn first_reasons<A, B>()
-    ensures joined { (reasons more : List (A × Bool)) → first_reason (reasons ++ more) ≡ or_else (first_reason reasons) (first_reason more) }
-    ensures among { (reasons more : List (A × Bool)) (a : A) → first_reason reasons ≡ Some a → first_reason (reasons ++ more) ≡ Some a }
-    ensures behind { (reasons more : List (A × Bool)) → first_reason reasons ≡ None → first_reason (reasons ++ more) ≡ first_reason more }
-    ensures last { (reasons : List (A × Bool)) (a : A) (b : Bool) → b ≡ false → first_reason (reasons ++ (a, b) ∷ []) ≡ first_reason reasons }
-    ensures renamed { (name : A → B) (reasons : List (A × Bool)) → first_reason (map (renamed_reason name) reasons) ≡ option_map name (first_reason reasons) }
+    ensures joined { (reasons more : List (A × Bool)) → first_reason (reasons ++ more) ≡ or_else (first_reason reasons)
+        (first_reason more) }
+    ensures among { (reasons more : List (A × Bool)) (a : A) → first_reason reasons ≡ Some a
+        → first_reason (reasons ++ more) ≡ Some a }
+    ensures behind { (reasons more : List (A × Bool)) → first_reason reasons ≡ None
+        → first_reason (reasons ++ more) ≡ first_reason more }
+    ensures last { (reasons : List (A × Bool)) (a : A) (b : Bool) → b ≡ false → first_reason (reasons ++ (a, b) ∷ [])
+        ≡ first_reason reasons }
+    ensures renamed { (name : A → B) (reasons : List (A × Bool)) → first_reason (map (renamed_reason name) reasons)
+        ≡ option_map name (first_reason reasons) }
 {}

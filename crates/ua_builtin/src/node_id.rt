@@ -201,7 +201,8 @@ impl NodeId {
 
 /// Appends a number and its namespace in the shortest form that holds both.
 fn append_numeric(namespace: u16, number: u32, out: &mut Vec<u8>) -> Result<(), AllocError>
-    ensures ok { OnOk result (out.new.items ≡ out.old.items ++ (in_form (shortest_form namespace number)).canonical (node namespace (Numeric number))) }
+    ensures ok { OnOk result (out.new.items ≡ out.old.items ++ (in_form (shortest_form namespace number)).canonical
+        (node namespace (Numeric number))) }
     ensures err { OnErr result (Extends out.old.items out.new.items) }
 {
     if namespace == 0 && number < 256 {

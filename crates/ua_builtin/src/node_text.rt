@@ -1,9 +1,12 @@
 //! NodeIds in their text form.
 
-ghost use Rattle.std.specs.Prelude.{◌≡◌, ◌^◌, ◌++◌, ℕ, List, string_bytes, Some, option_map, IfOk, IsErrOf, IfSome, IsNone, OnOk, MatchOption};
+ghost use Rattle.std.specs.Prelude.{◌≡◌, ◌^◌, ◌++◌, ℕ, List, string_bytes, Some, option_map};
+ghost use Rattle.std.specs.Prelude.{IfOk, IsErrOf, IfSome, IsNone, OnOk, MatchOption};
 ghost use Rattle.base64.specs.Engines.{standard};
 ghost use Rattle.base64.specs.GeneralPurpose.{encode_of, IsBytes};
-ghost use Rattle.ua_builtin.specs.NodeText.{node_text, namespace_text, identifier_text, IsDecimal, NamesIdentifier, NamesNode, filled, filled_identifier, IsBehind, IsCutAtSemicolon, IsRest, IsGuidText, IsBase64};
+ghost use Rattle.ua_builtin.specs.NodeText.{node_text, namespace_text, identifier_text, IsDecimal};
+ghost use Rattle.ua_builtin.specs.NodeText.{NamesIdentifier, NamesNode, filled, filled_identifier};
+ghost use Rattle.ua_builtin.specs.NodeText.{IsBehind, IsCutAtSemicolon, IsRest, IsGuidText, IsBase64};
 ghost use Rattle.ua_builtin.specs.declared.fault.TextFault.TheVariants.{NotNodeId};
 ghost use Rattle.ua_builtin.specs.declared.guid.Guid.{Guid};
 ghost use Rattle.ua_builtin.specs.declared.node_id.NodeId.{NodeId};

@@ -25,7 +25,8 @@ use Rattle.ua_c.specs.declared.shared.SharedNodes.{SharedNodes}
 
 -- a connection was made
 pub connection_made : (limits : UaLimits) (channel : ℕ) (old new : Option Holding) (status : ℕ) (these : Limits) (served : ServedConnection)
-    → AreEnough limits → AreThese limits these → IsNewConnection these channel served.connection → untold_in served.written ≡ [] → Seats (machine.Connection served) old new status
+    → AreEnough limits → AreThese limits these → IsNewConnection these channel served.connection → untold_in served.written ≡ []
+    → Seats (machine.Connection served) old new status
     → MakesConnection limits channel old new status
 connection_made limits channel old new status these served enough are made none seated = inl (record {
   these = these;
@@ -38,13 +39,18 @@ connection_made limits channel old new status these served enough are made none 
 })
 
 -- what a step does with what two handles hold, where they hold a connection and nodes, and nothing waits
-pub steps_shared : (old new before after : Holding) (piece : List ℕ) (moment : DateTime) (report : Report) (was is : ServedConnection) (shared left : SharedNodes) (answer : Result Step StepFault) (written : List WriteValue)
-    → old.machine ≡ machine.Connection was → before.machine ≡ machine.Nodes shared → (0 < length old.waiting → ⊥) → StepsConnectionAs was.connection shared.services piece moment answer written is.connection left.services
-    → new.machine ≡ machine.Connection is → after ≡ record { machine = machine.Nodes left; waiting = before.waiting } → Shows answer report old.waiting new.waiting
+pub steps_shared : (old new before after : Holding) (piece : List ℕ) (moment : DateTime) (report : Report) (was is : ServedConnection)
+    (shared left : SharedNodes) (answer : Result Step StepFault) (written : List WriteValue)
+    → old.machine ≡ machine.Connection was → before.machine ≡ machine.Nodes shared → (0 < length old.waiting → ⊥)
+    → StepsConnectionAs was.connection shared.services piece moment answer written is.connection left.services
+    → new.machine ≡ machine.Connection is → after ≡ record { machine = machine.Nodes left; waiting = before.waiting }
+    → Shows answer report old.waiting new.waiting
     → untold_in is.written ≡ stored_after answer written (untold_in was.written) → StepsShared old new before after piece moment report
 steps_shared old new before after piece moment report was is shared left answer written was_is shared_is none steps machine_is after_is shown stored =
-    subst (λ m. OfShared m before.machine (SaysOnly report before after other_handle × (new ≡ old)) (λ c s. WhereNone old new (SaysOnly report before after) (StepsConnection c s new before after piece moment report))) (sym was_is)
-    (subst (λ m. OfNodes m (SaysOnly report before after other_handle × (new ≡ old)) (λ s. WhereNone old new (SaysOnly report before after) (StepsConnection was s new before after piece moment report))) (sym shared_is) (
+    subst (λ m. OfShared m before.machine (SaysOnly report before after other_handle × (new ≡ old))
+    (λ c s. WhereNone old new (SaysOnly report before after) (StepsConnection c s new before after piece moment report))) (sym was_is)
+    (subst (λ m. OfNodes m (SaysOnly report before after other_handle × (new ≡ old))
+    (λ s. WhereNone old new (SaysOnly report before after) (StepsConnection was s new before after piece moment report))) (sym shared_is) (
       (λ some. absurd (none some)),
       (λ e. record {
         answer = answer;
@@ -86,35 +92,47 @@ nodes_made file url application_uri name most old new line reason status shared 
 })
 
 -- what it does where the second handle holds no nodes
-pub steps_other : (old new before after : Holding) (piece : List ℕ) (moment : DateTime) (report : Report) (was : ServedConnection) → old.machine ≡ machine.Connection was → ((s : SharedNodes) → before.machine ≡ machine.Nodes s → ⊥)
+pub steps_other : (old new before after : Holding) (piece : List ℕ) (moment : DateTime) (report : Report) (was : ServedConnection)
+    → old.machine ≡ machine.Connection was → ((s : SharedNodes) → before.machine ≡ machine.Nodes s → ⊥)
     → new ≡ old → after ≡ before → report ≡ nothing other_handle → StepsShared old new before after piece moment report
 steps_other old new before after piece moment report was was_is other same kept told =
-    subst (λ m. OfShared m before.machine (SaysOnly report before after other_handle × (new ≡ old)) (λ c s. WhereNone old new (SaysOnly report before after) (StepsConnection c s new before after piece moment report))) (sym was_is)
+    subst (λ m. OfShared m before.machine (SaysOnly report before after other_handle × (new ≡ old))
+    (λ c s. WhereNone old new (SaysOnly report before after) (StepsConnection c s new before after piece moment report))) (sym was_is)
     (by before.machine other)
   where
     by : (m : Machine) → ((s : SharedNodes) → m ≡ machine.Nodes s → ⊥)
-        → OfNodes m (SaysOnly report before after other_handle × (new ≡ old)) (λ s. WhereNone old new (SaysOnly report before after) (StepsConnection was s new before after piece moment report))
+        → OfNodes m (SaysOnly report before after other_handle × (new ≡ old))
+        (λ s. WhereNone old new (SaysOnly report before after) (StepsConnection was s new before after piece moment report))
     by (machine.Server station) none = ((told, kept), same)
     by (machine.Client client) none = ((told, kept), same)
     by (machine.Nodes shared) none = absurd (none shared refl)
     by (machine.Connection connection) none = ((told, kept), same)
 
 -- what it does where octets wait
-pub steps_waiting : (old new before after : Holding) (piece : List ℕ) (moment : DateTime) (report : Report) (was : ServedConnection) (shared : SharedNodes) → old.machine ≡ machine.Connection was → before.machine ≡ machine.Nodes shared
+pub steps_waiting : (old new before after : Holding) (piece : List ℕ) (moment : DateTime) (report : Report) (was : ServedConnection) (shared : SharedNodes)
+    → old.machine ≡ machine.Connection was → before.machine ≡ machine.Nodes shared
     → 0 < length old.waiting → new ≡ old → after ≡ before → report ≡ nothing fetch_first → StepsShared old new before after piece moment report
 steps_waiting old new before after piece moment report was shared was_is shared_is some same kept told =
-    subst (λ m. OfShared m before.machine (SaysOnly report before after other_handle × (new ≡ old)) (λ c s. WhereNone old new (SaysOnly report before after) (StepsConnection c s new before after piece moment report))) (sym was_is)
-    (subst (λ m. OfNodes m (SaysOnly report before after other_handle × (new ≡ old)) (λ s. WhereNone old new (SaysOnly report before after) (StepsConnection was s new before after piece moment report))) (sym shared_is) (
+    subst (λ m. OfShared m before.machine (SaysOnly report before after other_handle × (new ≡ old))
+    (λ c s. WhereNone old new (SaysOnly report before after) (StepsConnection c s new before after piece moment report))) (sym was_is)
+    (subst (λ m. OfNodes m (SaysOnly report before after other_handle × (new ≡ old))
+    (λ s. WhereNone old new (SaysOnly report before after) (StepsConnection was s new before after piece moment report))) (sym shared_is) (
       (λ _. ((told, kept), same)),
       (λ e. absurd (omega (arith, some, ap length e))),
     ))
 
 -- what it does with a handle that holds this connection
-pub steps_held : (old new before after : Holding) (piece : List ℕ) (moment : DateTime) (report : Report) (was : ServedConnection) → old.machine ≡ machine.Connection was
-    → StepsShared (record { machine = machine.Connection was; waiting = old.waiting }) new before after piece moment report → StepsShared old new before after piece moment report
-steps_held old new before after piece moment report was is steps = subst (λ m. StepsShared (record { machine = m; waiting = old.waiting }) new before after piece moment report) (sym is) steps
+pub steps_held : (old new before after : Holding) (piece : List ℕ) (moment : DateTime) (report : Report) (was : ServedConnection)
+    → old.machine ≡ machine.Connection was
+    → StepsShared (record { machine = machine.Connection was; waiting = old.waiting }) new before after piece moment report
+    → StepsShared old new before after piece moment report
+steps_held old new before after piece moment report was is steps =
+    subst (λ m. StepsShared (record { machine = m; waiting = old.waiting }) new before after piece moment report) (sym is) steps
 
 -- what it does with a handle that holds these nodes
-pub steps_nodes : (old new before after : Holding) (piece : List ℕ) (moment : DateTime) (report : Report) (shared : SharedNodes) → before.machine ≡ machine.Nodes shared
-    → StepsShared old new (record { machine = machine.Nodes shared; waiting = before.waiting }) after piece moment report → StepsShared old new before after piece moment report
-steps_nodes old new before after piece moment report shared is steps = subst (λ m. StepsShared old new (record { machine = m; waiting = before.waiting }) after piece moment report) (sym is) steps
+pub steps_nodes : (old new before after : Holding) (piece : List ℕ) (moment : DateTime) (report : Report) (shared : SharedNodes)
+    → before.machine ≡ machine.Nodes shared
+    → StepsShared old new (record { machine = machine.Nodes shared; waiting = before.waiting }) after piece moment report
+    → StepsShared old new before after piece moment report
+steps_nodes old new before after piece moment report shared is steps =
+    subst (λ m. StepsShared old new (record { machine = m; waiting = before.waiting }) after piece moment report) (sym is) steps

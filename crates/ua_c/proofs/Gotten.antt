@@ -31,21 +31,27 @@ encodes_sound id v sound =
 some_same : {x y : Variable} → ◌≡◌ {A = Option Variable} (Some x) (Some y) → x ≡ y
 some_same e = cc
 
-encodes_at : (nodes : Nodes) (index : ℕ) (v : Variable) → IsSound nodes → option_map (λ (node : NodeId × Variable). node.1) (slice_get nodes index) ≡ Some v → IsTrue (variant_encodable v.value)
+encodes_at : (nodes : Nodes) (index : ℕ) (v : Variable) → IsSound nodes → option_map (λ (node : NodeId × Variable). node.1) (slice_get nodes index) ≡ Some v
+    → IsTrue (variant_encodable v.value)
 encodes_at [] index v sound e = absurd cc
 encodes_at (node ∷ nodes) zero v sound e = subst (λ (w : Variable). IsTrue (variant_encodable w.value)) (some_same e) (encodes_sound node.0 node.1 sound.0)
 encodes_at (node ∷ nodes) (suc i) v sound e = encodes_at nodes i v sound.1 e
 
-pub encodes_at_index : (shared : SharedNodes) (index : ℕ) (v : Variable) → IsSound shared.services.nodes → node_at_index shared index ≡ Some v → IsTrue (variant_encodable v.value)
+pub encodes_at_index : (shared : SharedNodes) (index : ℕ) (v : Variable) → IsSound shared.services.nodes → node_at_index shared index ≡ Some v
+    → IsTrue (variant_encodable v.value)
 encodes_at_index shared index v sound e = encodes_at shared.services.nodes index v sound e
 
 -- so there is no reason but one
-pub only_memory : (value : Variant) (v : VariantData) (status : ℕ) → variant_of value ≡ v → IsTrue (variant_encodable v) → IsNoEncoding value status → status ≡ no_memory
+pub only_memory : (value : Variant) (v : VariantData) (status : ℕ) → variant_of value ≡ v → IsTrue (variant_encodable v) → IsNoEncoding value status
+    → status ≡ no_memory
 unfolding variant_format
 only_memory value v status is fits (inl starved) = starved
-only_memory value v status is fits (inr bad) = let good : IsTrue (variant_encodable (variant_of value)) = subst (λ (d : VariantData). IsTrue (variant_encodable d)) (sym is) fits in let wrong = bad.1 in absurd cc
+only_memory value v status is fits (inr bad) = let good : IsTrue (variant_encodable (variant_of value)) =
+    subst (λ (d : VariantData). IsTrue (variant_encodable d)) (sym is) fits in let wrong = bad.1 in absurd cc
 
 -- nothing is got
-pub gets_none : (at : Option Variable) (node : Variable) (before after : List ℕ) (needed : ℕ) (reading : UaReading) (status : ℕ) → at ≡ Some node → status ≡ no_memory
+pub gets_none : (at : Option Variable) (node : Variable) (before after : List ℕ) (needed : ℕ) (reading : UaReading) (status : ℕ) → at ≡ Some node
+    → status ≡ no_memory
     → GetsNone before after needed reading → GetsAt at before after needed reading status
-gets_none at node before after needed reading status e starved none = subst (λ (o : Option Variable). GetsAt o before after needed reading status) (sym e) (inr (starved, none))
+gets_none at node before after needed reading status e starved none = subst (λ (o : Option Variable). GetsAt o before after needed reading status) (sym e)
+    (inr (starved, none))

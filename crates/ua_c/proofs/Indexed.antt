@@ -10,7 +10,10 @@ use Rattle.ua_c.specs.declared.readings.UaReading.{UaReading}
 use Rattle.ua_c.specs.declared.shared.SharedNodes.{SharedNodes}
 
 -- what setting a node does with what a handle holds, where it holds nodes
-pub sets_node : (old new : Holding) (index : ℕ) (octets : List ℕ) (given : UaReading) (status : ℕ) (shared left : SharedNodes) → old.machine ≡ machine.Nodes shared
-    → new ≡ record { machine = machine.Nodes left; waiting = old.waiting } → SetsAt (id_at shared.services.nodes index) shared left octets given status → SetsNode old new index octets given status
+pub sets_node : (old new : Holding) (index : ℕ) (octets : List ℕ) (given : UaReading) (status : ℕ) (shared left : SharedNodes)
+    → old.machine ≡ machine.Nodes shared
+    → new ≡ record { machine = machine.Nodes left; waiting = old.waiting } → SetsAt (id_at shared.services.nodes index) shared left octets given status
+    → SetsNode old new index octets given status
 sets_node old new index octets given status shared left is new_is sets =
-    subst (λ m. OfNodes m ((status ≡ other_handle) × (new ≡ old)) (λ s. SetsHeld s old new index octets given status)) (sym is) (record { left = left; new_is = new_is; sets = sets })
+    subst (λ m. OfNodes m ((status ≡ other_handle) × (new ≡ old)) (λ s. SetsHeld s old new index octets given status)) (sym is)
+    (record { left = left; new_is = new_is; sets = sets })

@@ -17,8 +17,10 @@ as_it_came : (octets : List ℕ) (url : Option (List ℕ)) → IsStringOf octets
 as_it_came octets url u = record { is = refl; utf8 = u.utf8; writable = subst (λ (t : Option (List ℕ)). IsTrue (text.encodable t)) u.is u.writable }
 
 -- a client was made
-pub client_made : (limits : UaLimits) (octets : List ℕ) (old new : Option Holding) (status : ℕ) (these : Limits) (url : Option (List ℕ)) (client : ClientChannel)
-    → AreEnough limits → AreThese limits these → IsStringOf octets url → ClientStands client [] [] [] [] → client_limits client ≡ these → url_of client ≡ url → client_next client ≡ 2
+pub client_made : (limits : UaLimits) (octets : List ℕ) (old new : Option Holding) (status : ℕ) (these : Limits) (url : Option (List ℕ))
+    (client : ClientChannel)
+    → AreEnough limits → AreThese limits these → IsStringOf octets url → ClientStands client [] [] [] [] → client_limits client ≡ these → url_of client ≡ url
+    → client_next client ≡ 2
     → Seats (machine.Client client) old new status → MakesClient limits octets old new status
 client_made limits octets old new status these url client enough are u stands limits_is url_is next_is seated = inl (record {
   these = these;
@@ -31,7 +33,8 @@ client_made limits octets old new status these url client enough are u stands li
 })
 
 -- a server was made
-pub server_made : (nodes : List ℕ) (limits : UaLimits) (url : List ℕ) (channel : ℕ) (old new : Option Holding) (line status : ℕ) (these : Limits) (station : Station)
+pub server_made : (nodes : List ℕ) (limits : UaLimits) (url : List ℕ) (channel : ℕ) (old new : Option Holding) (line status : ℕ) (these : Limits)
+    (station : Station)
     → AreEnough limits → AreThese limits these → IsStation nodes these url channel station → line ≡ 0 → Seats (machine.Server station) old new status
     → MakesServer nodes limits url channel old new line status
 server_made nodes limits url channel old new line status these station enough are made no_line seated = inl (record {

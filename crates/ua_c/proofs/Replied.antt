@@ -33,14 +33,16 @@ use Rattle.ua_c.specs.declared.readings.UaReading.{UaReading}
 
 -- ---- two readers, one behind the other
 
-pair_reads : {A B : Type 0} (f : List ℕ → Option (A × List ℕ)) (g : List ℕ → Option (B × List ℕ)) (old mid : List ℕ) (a : A) (o : Option (B × List ℕ)) → f old ≡ Some (a, mid) → g mid ≡ o
+pair_reads : {A B : Type 0} (f : List ℕ → Option (A × List ℕ)) (g : List ℕ → Option (B × List ℕ)) (old mid : List ℕ) (a : A) (o : Option (B × List ℕ))
+    → f old ≡ Some (a, mid) → g mid ≡ o
     → pair_read f g old ≡ (o >>= λ y. Some ((a, y.0), y.1))
 pair_reads f g old mid a o e h = ap (λ u. u >>= λ x. g x.1 >>= λ y. Some ((x.0, y.0), y.1)) e ∙ ap (λ u. u >>= λ y. Some ((a, y.0), y.1)) h
 
 pair_none : {A B : Type 0} (f : List ℕ → Option (A × List ℕ)) (g : List ℕ → Option (B × List ℕ)) (old : List ℕ) → f old ≡ None → pair_read f g old ≡ None
 pair_none f g old e = ap (λ u. u >>= λ x. g x.1 >>= λ y. Some ((x.0, y.0), y.1)) e
 
-image_reads : {A B : Type 0} (make : A → B) (read : List ℕ → Option (A × List ℕ)) (old : List ℕ) (o : Option (A × List ℕ)) → read old ≡ o → image_read make read old ≡ (o >>= λ x. Some (make x.0, x.1))
+image_reads : {A B : Type 0} (make : A → B) (read : List ℕ → Option (A × List ℕ)) (old : List ℕ) (o : Option (A × List ℕ)) → read old ≡ o
+    → image_read make read old ≡ (o >>= λ x. Some (make x.0, x.1))
 image_reads make read old o e = ap (λ u. u >>= λ x. Some (make x.0, x.1)) e
 
 -- ---- the structure
@@ -64,8 +66,10 @@ reply_is : (old : List ℕ) → reply_read old ≡ image_read reply_of (pair_rea
 unfolding read_response
 reply_is old = refl
 
-pub reply_seen : {X : Type 0} (items : X → List UaReading) (body old a b new : List ℕ) (header : ResponseHeader) (infos : Option (List DiagnosticInfo)) (x : X) → header_read old ≡ Some (header, a)
-    → Sees array_read (λ ds. AreViewsOf body ds (items x)) a b → diagnostics_read b ≡ Some (infos, new) → Sees reply_read (λ m. AreViewsOf body m.results (items x)) old new
+pub reply_seen : {X : Type 0} (items : X → List UaReading) (body old a b new : List ℕ) (header : ResponseHeader) (infos : Option (List DiagnosticInfo)) (x : X)
+    → header_read old ≡ Some (header, a)
+    → Sees array_read (λ ds. AreViewsOf body ds (items x)) a b → diagnostics_read b ≡ Some (infos, new)
+    → Sees reply_read (λ m. AreViewsOf body m.results (items x)) old new
 reply_seen items body old a b new header infos x e s i = record {
   value = reply_of (header, (s.value, infos));
   read_is = reply_is old ∙ image_reads reply_of (pair_read header_read (pair_read array_read diagnostics_read)) old _
@@ -73,22 +77,27 @@ reply_seen items body old a b new header infos x e s i = record {
   are = s.are;
 }
 
-pub header_fault : {X : Type 0} (Are : X → ReadResponse → Type 0) (old new last : List ℕ) (e : ReadFault) → Gives header_read old new (Err e) → SeesBy reply_read Are old last (Err e)
-header_fault Are old new last NoValue h = reply_is old ∙ image_reads reply_of (pair_read header_read (pair_read array_read diagnostics_read)) old None (pair_none header_read (pair_read array_read diagnostics_read) old h)
+pub header_fault : {X : Type 0} (Are : X → ReadResponse → Type 0) (old new last : List ℕ) (e : ReadFault) → Gives header_read old new (Err e)
+    → SeesBy reply_read Are old last (Err e)
+header_fault Are old new last NoValue h = reply_is old ∙ image_reads reply_of (pair_read header_read (pair_read array_read diagnostics_read)) old None
+    (pair_none header_read (pair_read array_read diagnostics_read) old h)
 header_fault Are old new last OutOfMemory h = tt
 
-pub array_fault : {X Y : Type 0} (All : Y → Option (List DataValue) → Type 0) (Are : X → ReadResponse → Type 0) (old a new last : List ℕ) (header : ResponseHeader) (e : ReadFault) → header_read old ≡ Some (header, a)
+pub array_fault : {X Y : Type 0} (All : Y → Option (List DataValue) → Type 0) (Are : X → ReadResponse → Type 0) (old a new last : List ℕ)
+    (header : ResponseHeader) (e : ReadFault) → header_read old ≡ Some (header, a)
     → SeesBy array_read All a new (Err e) → SeesBy reply_read Are old last (Err e)
 array_fault All Are old a new last header NoValue h none =
     reply_is old ∙ image_reads reply_of (pair_read header_read (pair_read array_read diagnostics_read)) old None
     (pair_reads header_read (pair_read array_read diagnostics_read) old a header None h (pair_none array_read diagnostics_read a none))
 array_fault All Are old a new last header OutOfMemory h none = tt
 
-pub diagnostics_fault : {X : Type 0} (Are : X → ReadResponse → Type 0) (One : Option (List DataValue) → Type 0) (old a b new last : List ℕ) (header : ResponseHeader) (e : ReadFault) → header_read old ≡ Some (header, a)
+pub diagnostics_fault : {X : Type 0} (Are : X → ReadResponse → Type 0) (One : Option (List DataValue) → Type 0) (old a b new last : List ℕ)
+    (header : ResponseHeader) (e : ReadFault) → header_read old ≡ Some (header, a)
     → Sees array_read One a b → Gives diagnostics_read b new (Err e) → SeesBy reply_read Are old last (Err e)
 diagnostics_fault Are One old a b new last header NoValue h s none =
     reply_is old ∙ image_reads reply_of (pair_read header_read (pair_read array_read diagnostics_read)) old None
-    (pair_reads header_read (pair_read array_read diagnostics_read) old a header None h (pair_reads array_read diagnostics_read a b s.value None s.read_is none))
+    (pair_reads header_read (pair_read array_read diagnostics_read) old a header None h
+    (pair_reads array_read diagnostics_read a b s.value None s.read_is none))
 diagnostics_fault Are One old a b new last header OutOfMemory h s none = tt
 
 -- ---- the body
@@ -97,28 +106,37 @@ diagnostics_fault Are One old a b new last header OutOfMemory h s none = tt
 refused : (body : List ℕ) → Reads (Err Unreadable) (response_read body) → IsNoBody response body
 refused body h = (response_refused body (Err Unreadable) h).1
 
-pub no_response : (body : List ℕ) (e : ReadFault) (new : List ℕ) (status : ℕ) → Gives node_id.decode body new (Err e) → status ≡ status_of e → IsNoResponse body status
+pub no_response : (body : List ℕ) (e : ReadFault) (new : List ℕ) (status : ℕ) → Gives node_id.decode body new (Err e) → status ≡ status_of e
+    → IsNoResponse body status
 no_response body NoValue new status h is = inr (is, refused body (id_fails body new NoValue h))
 no_response body OutOfMemory new status h is = inl is
 
-kind_of_reply : (rest : List ℕ) (o : Option (ReadResponse × List ℕ)) → reply_read rest ≡ o → kind_at responses most_levels (Some kind.Read) rest ≡ (o >>= λ x. Some (Read x.0, x.1))
+kind_of_reply : (rest : List ℕ) (o : Option (ReadResponse × List ℕ)) → reply_read rest ≡ o → kind_at responses most_levels (Some kind.Read) rest
+    ≡ (o >>= λ x. Some (Read x.0, x.1))
 kind_of_reply rest o e = image_reads Read reply_read rest o e
 
-pub no_reply : {X : Type 0} (Are : X → ReadResponse → Type 0) (body rest new : List ℕ) (id : NodeId) (e : ReadFault) (status : ℕ) → node_id.decode body ≡ Some (id, rest) → response_kind id ≡ Some kind.Read
+pub no_reply : {X : Type 0} (Are : X → ReadResponse → Type 0) (body rest new : List ℕ) (id : NodeId) (e : ReadFault) (status : ℕ)
+    → node_id.decode body ≡ Some (id, rest) → response_kind id ≡ Some kind.Read
     → SeesBy reply_read Are rest new (Err e) → status ≡ status_of e → IsNoResponse body status
 no_reply Are body rest new id NoValue status found is none e =
     inr (e, refused body (kind_found kind.Read body rest id (Err Unreadable) found is (kind_fails kind.Read rest new NoValue (kind_of_reply rest None none))))
 no_reply Are body rest new id OutOfMemory status found is none e = inl e
 
-pub reply_left : (Are : ReadResponse → Type 0) (body rest new : List ℕ) (id : NodeId) (status : ℕ) → node_id.decode body ≡ Some (id, rest) → response_kind id ≡ Some kind.Read → Sees reply_read Are rest new → 0 < length new
+pub reply_left : (Are : ReadResponse → Type 0) (body rest new : List ℕ) (id : NodeId) (status : ℕ) → node_id.decode body ≡ Some (id, rest)
+    → response_kind id ≡ Some kind.Read → Sees reply_read Are rest new → 0 < length new
     → status ≡ bad_octets → IsNoResponse body status
 reply_left Are body rest new id status found is s more e =
-    inr (e, refused body (kind_found kind.Read body rest id (Err Unreadable) found is (kind_left kind.Read rest new (Read s.value) (kind_of_reply rest _ s.read_is) more)))
+    inr (
+      e,
+      refused body
+          (kind_found kind.Read body rest id (Err Unreadable) found is (kind_left kind.Read rest new (Read s.value) (kind_of_reply rest _ s.read_is) more)),
+    )
 
 pub reply_found : (body rest new : List ℕ) (id : NodeId) (readings : List UaReading) → node_id.decode body ≡ Some (id, rest) → response_kind id ≡ Some kind.Read
     → Sees reply_read (λ m. AreViewsOf body m.results readings) rest new → length new ≤ 0 → OfResponse body (AreResults body readings)
 reply_found body rest new id readings found is s none =
-    let whole = kind_found kind.Read body rest id (Ok (Read s.value)) found is (kind_whole kind.Read rest new (Read s.value) (kind_of_reply rest _ s.read_is) none) in
+    let whole = kind_found kind.Read body rest id (Ok (Read s.value)) found is
+    (kind_whole kind.Read rest new (Read s.value) (kind_of_reply rest _ s.read_is) none) in
     record { r = Read s.value; is = response_found body (Ok (Read s.value)) whole; holds = record { results = s.value.results; given = refl; are = s.are } }
 
 -- ---- another response
@@ -143,7 +161,8 @@ made_by k other r (Some x) e =
     let same : responses.make k x.0 ≡ r = ap (λ (p : Response × List ℕ). p.0) (some_is p q e) in
     subst HasNoResults same (of_another_kind k other x.0)
 
-announced_by : (o : Option ResponseKind) → (o ≡ Some kind.Read → ⊥) → (r : Response) (rest : List ℕ) → kind_at responses most_levels o rest ≡ Some (r, []) → HasNoResults r
+announced_by : (o : Option ResponseKind) → (o ≡ Some kind.Read → ⊥) → (r : Response) (rest : List ℕ) → kind_at responses most_levels o rest ≡ Some (r, [])
+    → HasNoResults r
 announced_by None other r rest e = absurd cc
 announced_by (Some k) other r rest e = made_by k (λ is. other (ap Some is)) r ((responses.format k).decode most_levels rest) e
 
@@ -164,10 +183,12 @@ pub match_none : {A : Type 0} (o : Option A) (P : Type 0) (Q : A → Type 0) →
 match_none None P Q e h = h
 match_none (Some a) P Q e h = absurd cc
 
-pub no_id : (body at new : List ℕ) (e : ReadFault) (status : ℕ) → at ≡ body → Gives node_id.decode at new (Err e) → status ≡ status_of e → IsNoResponse body status
+pub no_id : (body at new : List ℕ) (e : ReadFault) (status : ℕ) → at ≡ body → Gives node_id.decode at new (Err e) → status ≡ status_of e
+    → IsNoResponse body status
 no_id body at new e status is h told = no_response body e new status (subst (λ (b : List ℕ). Gives node_id.decode b new (Err e)) is h) told
 
-pub announces_other : (body at rest : List ℕ) (id : NodeId) (said : Bool) → at ≡ body → node_id.decode at ≡ Some (id, rest) → (IsTrue said ↔ (response_kind id ≡ Some kind.Read)) → said ≡ false → AnnouncesOther body
+pub announces_other : (body at rest : List ℕ) (id : NodeId) (said : Bool) → at ≡ body → node_id.decode at ≡ Some (id, rest)
+    → (IsTrue said ↔ (response_kind id ≡ Some kind.Read)) → said ≡ false → AnnouncesOther body
 announces_other body at rest id said is found tells not_said = record {
   id = id;
   rest = rest;

@@ -27,13 +27,21 @@ steps_server old new piece moment report answer station steps limits machine_is 
 
 -- what a step does with what a handle holds, where it holds a server and nothing waits
 pub steps_machine : (old new : Holding) (piece : List ℕ) (moment : DateTime) (report : Report) (before left : Station) (answer : Result Step StepFault)
-    → old.machine ≡ machine.Server before → (0 < length old.waiting → ⊥) → StepsAs before.server before.services piece moment answer left.server left.services → left.limits ≡ before.limits
+    → old.machine ≡ machine.Server before → (0 < length old.waiting → ⊥) → StepsAs before.server before.services piece moment answer left.server left.services
+    → left.limits ≡ before.limits
     → new.machine ≡ machine.Server left → Shows answer report old.waiting new.waiting → StepsMachine old new piece moment report
 steps_machine old new piece moment report before left answer is none steps limits machine_is shown =
-    subst (λ m. OfServer m old new (λ why. report ≡ nothing why) (λ station. WhereNone old new (λ why. report ≡ nothing why) (StepsServer station new piece moment report))) (sym is)
-    ((λ some. absurd (none some)), (λ e. steps_server before new piece moment report answer left steps limits machine_is (subst (λ w. Shows answer report w new.waiting) e shown)))
+    subst (λ m.
+    OfServer m old new (λ why. report ≡ nothing why)
+    (λ station. WhereNone old new (λ why. report ≡ nothing why) (StepsServer station new piece moment report))) (sym is) (
+      (λ some. absurd (none some)),
+      (λ e. steps_server before new piece moment report answer left steps limits machine_is (subst (λ w. Shows answer report w new.waiting) e shown)),
+    )
 
 -- the next connection
-pub next_machine : (old new : Holding) (channel : ℕ) (before : Station) → old.machine ≡ machine.Server before → HoldsFresh before.limits channel (begun before.services) new
+pub next_machine : (old new : Holding) (channel : ℕ) (before : Station) → old.machine ≡ machine.Server before
+    → HoldsFresh before.limits channel (begun before.services) new
     → NextMachine old new channel 0
-next_machine old new channel before is fresh = subst (λ m. OfServer m old new (λ why. 0 ≡ why) (λ station. (0 ≡ ok) × HoldsFresh station.limits channel (begun station.services) new)) (sym is) (refl, fresh)
+next_machine old new channel before is fresh =
+    subst (λ m. OfServer m old new (λ why. 0 ≡ why) (λ station. (0 ≡ ok) × HoldsFresh station.limits channel (begun station.services) new)) (sym is)
+    (refl, fresh)

@@ -1,5 +1,6 @@
 -- What is printed of a value, and that it does not denote the value.
-use Rattle.std.proofs.Common.{◌≡◌, ◌≢◌, ◌⊎◌, inl, inr, ℕ, zero, suc, ◌<◌, Bool, true, false, cond, List, [], ◌∷◌, ◌++◌, length, get_or, nat_eq, Option, None, Some, refl, sym, ◌∙◌, ap, subst, arith, IsTrue, IsFalse}
+use Rattle.std.proofs.Common.{◌≡◌, ◌≢◌, ◌⊎◌, inl, inr, ℕ, zero, suc, ◌<◌, Bool, true, false, cond, List, [], ◌∷◌, ◌++◌}
+use Rattle.std.proofs.Common.{length, get_or, nat_eq, Option, None, Some, refl, sym, ◌∙◌, ap, subst, arith, IsTrue, IsFalse}
 use Rattle.std.specs.Str.{IsUtf8}
 use Rattle.ua_nodes.specs.TypeName.{type_denoted}
 use Rattle.ua_texts.specs.Plain.{IsPlainTyped}
@@ -25,7 +26,8 @@ no_parts text [] rest free e = subst HasNoSpace e free 0 (omega arith) refl
 no_parts text (k ∷ kind) rest free e = no_parts (kind ++ 32 ∷ rest) kind rest (λ i less. subst HasNoSpace e free (suc i) (omega (arith, less))) refl
 
 -- a text has one first space
-pub parts_once : (kind rest named behind : List ℕ) → HasNoSpace kind → HasNoSpace named → kind ++ 32 ∷ rest ≡ named ++ 32 ∷ behind → (named ≡ kind) × (behind ≡ rest)
+pub parts_once : (kind rest named behind : List ℕ) → HasNoSpace kind → HasNoSpace named → kind ++ 32 ∷ rest ≡ named ++ 32 ∷ behind
+    → (named ≡ kind) × (behind ≡ rest)
 parts_once [] rest [] behind free other e = (refl, sym (tail_of e))
   where
     tail_of : {x : ℕ} {xs ys : List ℕ} → x ∷ xs ≡ x ∷ ys → xs ≡ ys
@@ -51,7 +53,8 @@ parts_once (k ∷ kind) rest (n ∷ named) behind free other e =
 -- ---- what does not denote the value
 
 -- a type and a text that denote no value
-none_by : (plain : Bool) (kind text : List ℕ) (bad : BadText) → HasNoValueBy plain kind text bad → (bad.status ≡ no_memory → ⊥) → (value : Variant) → IsValueBy plain kind text value → ⊥
+none_by : (plain : Bool) (kind text : List ℕ) (bad : BadText) → HasNoValueBy plain kind text bad → (bad.status ≡ no_memory → ⊥) → (value : Variant)
+    → IsValueBy plain kind text value → ⊥
 none_by plain kind text bad (inl it) other value is = by it.2.1
   where
     by : (¬ (IsUtf8 kind)) ⊎ (type_denoted kind ≡ None) → ⊥
@@ -75,7 +78,8 @@ none_by plain kind text bad (inr it) other value is = by it.2
         let one : (d.number, d.array) ≡ (is.number, is.array) = same (sym d.type_is ∙ is.type_is) in
         apart (sym d.none ∙ ap (λ (t : ℕ × Bool). denoted_by plain t.0 t.1 text) one ∙ is.value_is)
 
-pub not_named : (plain : Bool) (kind text canonical : List ℕ) (bad : BadText) → HasNoValueBy plain kind text bad → (bad.status ≡ no_memory → ⊥) → ¬ (IsBack plain kind text canonical)
+pub not_named : (plain : Bool) (kind text canonical : List ℕ) (bad : BadText) → HasNoValueBy plain kind text bad → (bad.status ≡ no_memory → ⊥)
+    → ¬ (IsBack plain kind text canonical)
 not_named plain kind text canonical bad it other b = none_by plain kind text bad it other b.value b.is
 
 -- a type and a text denote one value
@@ -95,11 +99,13 @@ encodable_by : (a b : Variant) → variant_of a ≡ variant_of b → variant_for
 unfolding variant_format
 encodable_by a b e = ap variant_encodable e
 
-pub not_same : (plain : Bool) (kind text canonical octets : List ℕ) (value : Variant) → IsValueBy plain kind text value → IsEncodingOf value octets → (octets ≡ canonical → ⊥) → ¬ (IsBack plain kind text canonical)
+pub not_same : (plain : Bool) (kind text canonical octets : List ℕ) (value : Variant) → IsValueBy plain kind text value → IsEncodingOf value octets
+    → (octets ≡ canonical → ⊥) → ¬ (IsBack plain kind text canonical)
 not_same plain kind text canonical octets value is are other b =
     other (are.1 ∙ canonical_by value b.value (one_value plain kind text value b.value is b.is) ∙ sym b.are.1)
 
-pub not_encoded : (plain : Bool) (kind text canonical : List ℕ) (status : ℕ) (value : Variant) → IsValueBy plain kind text value → IsNoEncoding value status → (status ≡ no_memory → ⊥) → ¬ (IsBack plain kind text canonical)
+pub not_encoded : (plain : Bool) (kind text canonical : List ℕ) (status : ℕ) (value : Variant) → IsValueBy plain kind text value → IsNoEncoding value status
+    → (status ≡ no_memory → ⊥) → ¬ (IsBack plain kind text canonical)
 not_encoded plain kind text canonical status value is (inl memory) other b = other memory
 not_encoded plain kind text canonical status value is (inr it) other b =
     apart (sym it.1 ∙ encodable_by value b.value (one_value plain kind text value b.value is b.is) ∙ b.are.0)
@@ -114,7 +120,8 @@ pub without_space : (plain : Bool) (v : VariantData) (text canonical : List ℕ)
 without_space plain v text canonical printed free = record { text = text; printed = printed; not = λ n s. no_parts text s.kind s.rest free s.parts }
 
 -- nor is one whose parts at the first space do not denote the value
-pub not_parts : (plain : Bool) (v : VariantData) (text kind rest canonical : List ℕ) → IsSpelled plain v text → text ≡ kind ++ 32 ∷ rest → HasNoSpace kind → ¬ (IsBack plain kind rest canonical)
+pub not_parts : (plain : Bool) (v : VariantData) (text kind rest canonical : List ℕ) → IsSpelled plain v text → text ≡ kind ++ 32 ∷ rest → HasNoSpace kind
+    → ¬ (IsBack plain kind rest canonical)
     → IsNotBack plain v canonical
 not_parts plain v text kind rest canonical printed parts free other =
     record {

@@ -11,7 +11,8 @@ use Rattle.ua_frame.specs.declared.frame.Frame.{Frame}
 use Rattle.ua_frame.specs.declared.limits.Limits.{Limits}
 use Rattle.ua_channel.specs.Asks.{Placed, asked_in}
 use Rattle.ua_channel.specs.Asks.Asking.{Call, Renewal}
-use Rattle.ua_channel.specs.Client.{ClientStands, ClientGoes, ClientStarvedAt, IsClientDone, SameClient, client_limits, url_of, client_next, client_bound, call_refused, renewal_refused, closing_refused, SendsCall, SendsRenewal, SendsClosing}
+use Rattle.ua_channel.specs.Client.{ClientStands, ClientGoes, ClientStarvedAt, IsClientDone, SameClient, client_limits, url_of, client_next}
+use Rattle.ua_channel.specs.Client.{client_bound, call_refused, renewal_refused, closing_refused, SendsCall, SendsRenewal, SendsClosing}
 use Rattle.ua_channel.specs.ClientAnswers.{ClientAnswers, ComesInParts, ClientProgress, parts_handed}
 use Rattle.ua_channel.specs.ClientAsks.{AnswersFor, IsCalled, IsClosed, IsRenewed, call_reasons, closing_reasons, renewing_reasons}
 use Rattle.ua_channel.specs.ClientSends.{hello_frame, hello_to}
@@ -98,8 +99,10 @@ pub record IsNewClient (limits : Limits) (url : List ℕ) (client : ClientChanne
 
 -- what `ClientChannel::take` ensures of its outcome for a fragment at a time, and of the channel
 -- that it leaves
-pub record TakesAs (client : ClientChannel) (piece : List ℕ) (moment : DateTime) (answer : Result (ℕ × ClientEvent) ClientTakeFault) (new : ClientChannel) : Type 0 where
-  pub answers : (asks : List Placed) (octets : List ℕ) (told : List ToldOfFrame) → ClientGoes client asks octets told → ClientAnswers moment piece answer new asks octets told
+pub record TakesAs (client : ClientChannel) (piece : List ℕ) (moment : DateTime) (answer : Result (ℕ × ClientEvent) ClientTakeFault)
+    (new : ClientChannel) : Type 0 where
+  pub answers : (asks : List Placed) (octets : List ℕ) (told : List ToldOfFrame) → ClientGoes client asks octets told
+      → ClientAnswers moment piece answer new asks octets told
   pub parts : (asks : List Placed) (octets : List ℕ) (told : List ToldOfFrame) → ClientGoes client asks octets told
       → IfOk answer (λ r. ComesInParts (parts_handed r.1) new asks (octets ++ take r.0 piece))
   pub progress : ClientProgress piece answer
@@ -184,7 +187,8 @@ pub record AsksClient (old : ClientChannel) (new : Holding) (body : List ℕ) (s
 
 -- a call with an empty body is refused
 abbrev pub AsksBody : ClientChannel → Holding → Holding → List ℕ → ℕ → ℕ → Type 0
-AsksBody client old new body status id = (length body ≡ 0 → (status ≡ empty) × (id ≡ 0) × (new ≡ old)) × (0 < length body → AsksClient client new body status id)
+AsksBody client old new body status id = (length body ≡ 0 → (status ≡ empty) × (id ≡ 0) × (new ≡ old))
+    × (0 < length body → AsksClient client new body status id)
 
 -- one renewal
 pub record RenewsClient (old : ClientChannel) (new : Holding) (moment : DateTime) (status id : ℕ) : Type 0 where
@@ -204,17 +208,21 @@ pub record ClosesClient (old : ClientChannel) (new : Holding) (moment : DateTime
 
 -- what each call does with the content of a handle
 abbrev pub HelloMachine : Holding → Holding → ℕ → Type 0
-HelloMachine old new status = OfClient old.machine old new (λ why. status ≡ why) (λ client. WhereNone old new (λ why. status ≡ why) (HelloBy client old new status))
+HelloMachine old new status = OfClient old.machine old new (λ why. status ≡ why)
+    (λ client. WhereNone old new (λ why. status ≡ why) (HelloBy client old new status))
 
 abbrev pub TakesMachine : Holding → Holding → List ℕ → DateTime → Told → Type 0
-TakesMachine old new piece moment told = OfClient old.machine old new (λ why. told ≡ only why) (λ client. WhereNone old new (λ why. told ≡ only why) (TakesClient client new piece moment told))
+TakesMachine old new piece moment told = OfClient old.machine old new (λ why. told ≡ only why)
+    (λ client. WhereNone old new (λ why. told ≡ only why) (TakesClient client new piece moment told))
 
 abbrev pub AsksMachine : Holding → Holding → List ℕ → ℕ → ℕ → Type 0
 AsksMachine old new body status id = OfClient old.machine old new (λ why. (status ≡ why) × (id ≡ 0))
     (λ client. WhereNone old new (λ why. (status ≡ why) × (id ≡ 0)) (AsksBody client old new body status id))
 
 abbrev pub RenewsMachine : Holding → Holding → DateTime → ℕ → ℕ → Type 0
-RenewsMachine old new moment status id = OfClient old.machine old new (λ why. (status ≡ why) × (id ≡ 0)) (λ client. WhereNone old new (λ why. (status ≡ why) × (id ≡ 0)) (RenewsClient client new moment status id))
+RenewsMachine old new moment status id = OfClient old.machine old new (λ why. (status ≡ why) × (id ≡ 0))
+    (λ client. WhereNone old new (λ why. (status ≡ why) × (id ≡ 0)) (RenewsClient client new moment status id))
 
 abbrev pub ClosesMachine : Holding → Holding → DateTime → ℕ → Type 0
-ClosesMachine old new moment status = OfClient old.machine old new (λ why. status ≡ why) (λ client. WhereNone old new (λ why. status ≡ why) (ClosesClient client new moment status))
+ClosesMachine old new moment status = OfClient old.machine old new (λ why. status ≡ why)
+    (λ client. WhereNone old new (λ why. status ≡ why) (ClosesClient client new moment status))

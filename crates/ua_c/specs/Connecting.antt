@@ -35,7 +35,8 @@ use Rattle.ua_c.specs.declared.shared.SharedNodes.{SharedNodes}
 
 -- what `Connection::new` ensures of the connection that it makes
 pub record IsNewConnection (limits : Limits) (channel : ℕ) (connection : Connection) : Type 0 where
-  pub among : (channels : ℕ → ℕ) (k : ℕ) (es : List SharedEvent) (first now : State) → channels k ≡ channel → told_by k es ≡ [] → (shared_over channels (opened first) es).state ≡ now
+  pub among : (channels : ℕ → ℕ) (k : ℕ) (es : List SharedEvent) (first now : State) → channels k ≡ channel → told_by k es ≡ []
+      → (shared_over channels (opened first) es).state ≡ now
       → StandsAmong channels k (channel_at connection) (session_at connection) [] es first now
   pub history : (first : State) → StandsOver (channel_at connection) [] [] first first
   pub holds : Holds (channel_at connection) [] [] []
@@ -45,15 +46,21 @@ pub record IsNewConnection (limits : Limits) (channel : ℕ) (connection : Conne
 
 -- what `Connection::step_telling` ensures of its outcome for a fragment at a time, of what was
 -- stored, and of the connection and the services that it leaves
-pub record StepsConnectionAs (connection : Connection) (services : State) (piece : List ℕ) (moment : DateTime) (answer : Result Step StepFault) (written : List WriteValue) (new : Connection) (left : State) : Type 0 where
-  pub among : (channels : ℕ → ℕ) (k : ℕ) (octets : List ℕ) (es : List SharedEvent) (first : State) → StandsAmong channels k (channel_at connection) (session_at connection) octets es first services
+pub record StepsConnectionAs (connection : Connection) (services : State) (piece : List ℕ) (moment : DateTime) (answer : Result Step StepFault)
+    (written : List WriteValue) (new : Connection) (left : State) : Type 0 where
+  pub among : (channels : ℕ → ℕ) (k : ℕ) (octets : List ℕ) (es : List SharedEvent) (first : State)
+      → StandsAmong channels k (channel_at connection) (session_at connection) octets es first services
       → StepAmong (limits_of (channel_at connection)) channels k moment piece answer (channel_at new) (session_at new) octets es first services left
   pub now : (octets : List ℕ) (told : List Told) → Goes (channel_at connection) octets told
-      → StepNow (limits_of (channel_at connection)) (channel_of (channel_at connection)) (next_of (channel_at connection)) moment piece answer (channel_at new) octets told (with_own_session connection services) (with_own_session new left)
-  pub history : (octets : List ℕ) (hs : List ConnectionEvent) (first : State) → StandsOver (channel_at connection) octets hs first (with_own_session connection services)
-      → StepOver (limits_of (channel_at connection)) (channel_of (channel_at connection)) moment piece answer (channel_at new) octets hs first (with_own_session connection services) (with_own_session new left)
+      → StepNow (limits_of (channel_at connection)) (channel_of (channel_at connection)) (next_of (channel_at connection)) moment piece answer
+      (channel_at new) octets told (with_own_session connection services) (with_own_session new left)
+  pub history : (octets : List ℕ) (hs : List ConnectionEvent) (first : State)
+      → StandsOver (channel_at connection) octets hs first (with_own_session connection services)
+      → StepOver (limits_of (channel_at connection)) (channel_of (channel_at connection)) moment piece answer (channel_at new) octets hs first
+      (with_own_session connection services) (with_own_session new left)
   pub stands : (octets : List ℕ) (told : List Told) → Goes (channel_at connection) octets told → StepStands piece answer (channel_at new) octets told
-  pub stores : (octets : List ℕ) (told : List Told) → Goes (channel_at connection) octets told → StepStores piece answer written (channel_at new) octets told (with_own_session connection services)
+  pub stores : (octets : List ℕ) (told : List Told) → Goes (channel_at connection) octets told
+      → StepStores piece answer written (channel_at new) octets told (with_own_session connection services)
   pub failed : OnErr answer (written ≡ [])
   pub apart : left.session ≡ services.session
   pub endpoint : left.endpoint ≡ services.endpoint
@@ -93,7 +100,8 @@ stored_after (Err f) written before = before
 
 -- one step of a connection over shared nodes: the outcome is one of `Connection::step_telling`, and
 -- C is told exactly that
-pub record StepsConnection (old : ServedConnection) (shared : SharedNodes) (new before after : Holding) (piece : List ℕ) (moment : DateTime) (report : Report) : Type 0 where
+pub record StepsConnection (old : ServedConnection) (shared : SharedNodes) (new before after : Holding) (piece : List ℕ) (moment : DateTime)
+    (report : Report) : Type 0 where
   pub answer : Result Step StepFault
   pub written : List WriteValue
   pub served : ServedConnection

@@ -16,30 +16,38 @@ use Rattle.ua_c.specs.declared.holding.Machine.TheVariants as machine
 -- hold no bytes
 abbrev pub Holds : Machine → ℕ → Type 0
 Holds (machine.Server station) count =
-    ((octets : List ℕ) (frames : List Frame) (rest : List ℕ) → ChannelStands (channel_in station.server) octets frames rest → count ≡ held_after (received frames) rest)
-    × ((octets : List ℕ) (frames : List Frame) (rest : List ℕ) → ChannelStands (channel_in station.server) octets frames rest → count ≤ bound_after (limits_of (channel_in station.server)) (received frames))
+    ((octets : List ℕ) (frames : List Frame) (rest : List ℕ) → ChannelStands (channel_in station.server) octets frames rest
+    → count ≡ held_after (received frames) rest)
+    × ((octets : List ℕ) (frames : List Frame) (rest : List ℕ) → ChannelStands (channel_in station.server) octets frames rest
+    → count ≤ bound_after (limits_of (channel_in station.server)) (received frames))
     × (IsDone (channel_in station.server) → count ≡ 0)
 Holds (machine.Client client) count =
-    ((asks : List Placed) (octets : List ℕ) (frames : List Frame) (rest : List ℕ) → ClientStands client asks octets frames rest → count ≡ held_octets frames rest)
+    ((asks : List Placed) (octets : List ℕ) (frames : List Frame) (rest : List ℕ) → ClientStands client asks octets frames rest
+    → count ≡ held_octets frames rest)
     × ((asks : List Placed) (octets : List ℕ) (frames : List Frame) (rest : List ℕ) → ClientStands client asks octets frames rest → count ≤ client_bound client)
     × (IsClientDone client → count ≡ 0)
 Holds (machine.Nodes shared) count = count ≡ 0
 Holds (machine.Connection served) count =
-    ((octets : List ℕ) (frames : List Frame) (rest : List ℕ) → ChannelStands (channel_at served.connection) octets frames rest → count ≡ held_after (received frames) rest)
-    × ((octets : List ℕ) (frames : List Frame) (rest : List ℕ) → ChannelStands (channel_at served.connection) octets frames rest → count ≤ bound_after (limits_of (channel_at served.connection)) (received frames))
+    ((octets : List ℕ) (frames : List Frame) (rest : List ℕ) → ChannelStands (channel_at served.connection) octets frames rest
+    → count ≡ held_after (received frames) rest)
+    × ((octets : List ℕ) (frames : List Frame) (rest : List ℕ) → ChannelStands (channel_at served.connection) octets frames rest
+    → count ≤ bound_after (limits_of (channel_at served.connection)) (received frames))
     × (IsDone (channel_at served.connection) → count ≡ 0)
 
 -- what `Server::bound`, `ClientChannel::bound` and `Connection::bound` ensure of this count
 abbrev pub Bounds : Machine → ℕ → Type 0
 Bounds (machine.Server station) count =
-    ((octets : List ℕ) (frames : List Frame) (rest : List ℕ) → ChannelStands (channel_in station.server) octets frames rest → count ≡ bound_after (limits_of (channel_in station.server)) (received frames))
+    ((octets : List ℕ) (frames : List Frame) (rest : List ℕ) → ChannelStands (channel_in station.server) octets frames rest
+    → count ≡ bound_after (limits_of (channel_in station.server)) (received frames))
     × (count ≡ bound_of (channel_in station.server))
 Bounds (machine.Client client) count =
-    ((asks : List Placed) (octets : List ℕ) (frames : List Frame) (rest : List ℕ) → ClientStands client asks octets frames rest → count ≡ client_bound_behind (client_limits client) (received frames).ack)
+    ((asks : List Placed) (octets : List ℕ) (frames : List Frame) (rest : List ℕ) → ClientStands client asks octets frames rest
+    → count ≡ client_bound_behind (client_limits client) (received frames).ack)
     × (count ≡ client_bound client)
 Bounds (machine.Nodes shared) count = count ≡ 0
 Bounds (machine.Connection served) count =
-    ((octets : List ℕ) (frames : List Frame) (rest : List ℕ) → ChannelStands (channel_at served.connection) octets frames rest → count ≡ bound_after (limits_of (channel_at served.connection)) (received frames))
+    ((octets : List ℕ) (frames : List Frame) (rest : List ℕ) → ChannelStands (channel_at served.connection) octets frames rest
+    → count ≡ bound_after (limits_of (channel_at served.connection)) (received frames))
     × (count ≡ bound_of (channel_at served.connection))
 
 -- a count of what is held, which is 0 if nothing is

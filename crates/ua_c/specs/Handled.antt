@@ -46,7 +46,8 @@ OfShared (machine.Nodes shared) nodes refused P = refused
 OfShared (machine.Connection served) nodes refused P = OfNodes nodes refused (P served)
 
 -- what a call does with two handles: if either is empty, both are left unchanged
-abbrev pub OfHandles : Option Holding → Option Holding → Option Holding → Option Holding → (ℕ → Type 0) → (Holding → Holding → Holding → Holding → Type 0) → Type 0
+abbrev pub OfHandles : Option Holding → Option Holding → Option Holding → Option Holding → (ℕ → Type 0) → (Holding → Holding → Holding → Holding → Type 0)
+    → Type 0
 OfHandles None new second left says P = says no_handle × (new ≡ None) × (left ≡ second)
 OfHandles (Some old) new None left says P = says no_handle × (new ≡ Some old) × (left ≡ None)
 OfHandles (Some old) None (Some before) left says P = ⊥

@@ -62,7 +62,8 @@ pub record IsMadeClient (limits : UaLimits) (url : List ℕ) (old new : Option H
 
 -- a client was made, or the handle is unchanged
 abbrev pub MakesClient : UaLimits → List ℕ → Option Holding → Option Holding → ℕ → Type 0
-MakesClient limits url old new status = IsMadeClient limits url old new status ⊎ ((new ≡ old) × (((status ≡ bad_limits) × ¬ (AreEnough limits)) ⊎ IsNoString url status))
+MakesClient limits url old new status = IsMadeClient limits url old new status
+    ⊎ ((new ≡ old) × (((status ≡ bad_limits) × ¬ (AreEnough limits)) ⊎ IsNoString url status))
 
 -- a server over the nodes of a file waits for a client
 pub record IsStation (nodes : List ℕ) (limits : Limits) (url : List ℕ) (channel : ℕ) (station : Station) : Type 0 where
@@ -95,4 +96,5 @@ pub record IsMadeServer (nodes : List ℕ) (limits : UaLimits) (url : List ℕ) 
 -- a server was made, or the handle is unchanged
 abbrev pub MakesServer : List ℕ → UaLimits → List ℕ → ℕ → Option Holding → Option Holding → ℕ → ℕ → Type 0
 MakesServer nodes limits url channel old new line status =
-    IsMadeServer nodes limits url channel old new line status ⊎ ((new ≡ old) × (((status ≡ bad_limits) × (line ≡ 0) × ¬ (AreEnough limits)) ⊎ IsNoStation nodes url line status))
+    IsMadeServer nodes limits url channel old new line status
+    ⊎ ((new ≡ old) × (((status ≡ bad_limits) × (line ≡ 0) × ¬ (AreEnough limits)) ⊎ IsNoStation nodes url line status))

@@ -127,7 +127,8 @@ pub record IsMissing (shared : SharedNodes) (text : List ℕ) : Type 0 where
   pub none : index_of_id shared.services.nodes id ≡ None
 
 abbrev pub FindsIn : SharedNodes → List ℕ → ℕ → ℕ → Type 0
-FindsIn shared text index status = ((status ≡ ok) × IsFound shared text index) ⊎ ((index ≡ 0) × (((status ≡ unknown) × IsMissing shared text) ⊎ IsNoNode text status))
+FindsIn shared text index status = ((status ≡ ok) × IsFound shared text index)
+    ⊎ ((index ≡ 0) × (((status ≡ unknown) × IsMissing shared text) ⊎ IsNoNode text status))
 
 -- what finding a node does with the content of a handle: nothing
 abbrev pub FindsNode : Holding → List ℕ → ℕ → ℕ → Type 0
@@ -167,7 +168,8 @@ pub record SetsHeld (shared : SharedNodes) (old new : Holding) (index : ℕ) (oc
   pub sets : SetsAt (id_at shared.services.nodes index) shared left octets given status
 
 abbrev pub SetsNode : Holding → Holding → ℕ → List ℕ → UaReading → ℕ → Type 0
-SetsNode old new index octets given status = OfNodes old.machine ((status ≡ other_handle) × (new ≡ old)) (λ shared. SetsHeld shared old new index octets given status)
+SetsNode old new index octets given status = OfNodes old.machine ((status ≡ other_handle) × (new ≡ old))
+    (λ shared. SetsHeld shared old new index octets given status)
 
 -- ---- getting
 
@@ -191,9 +193,11 @@ GetsNone before after needed reading = IsKept before after needed × (reading �
 -- what is told of the node at an index, if there is one
 abbrev pub GetsAt : Option Variable → List ℕ → List ℕ → ℕ → UaReading → ℕ → Type 0
 GetsAt None before after needed reading status = (status ≡ unknown) × GetsNone before after needed reading
-GetsAt (Some node) before after needed reading status = GetsValue node before after needed reading status ⊎ ((status ≡ no_memory) × GetsNone before after needed reading)
+GetsAt (Some node) before after needed reading status = GetsValue node before after needed reading status
+    ⊎ ((status ≡ no_memory) × GetsNone before after needed reading)
 
 -- what getting a node does with the content of a handle: nothing
 abbrev pub GetsNode : Holding → ℕ → List ℕ → List ℕ → ℕ → UaReading → ℕ → Type 0
 GetsNode held index before after needed reading status =
-    OfNodes held.machine ((status ≡ other_handle) × GetsNone before after needed reading) (λ shared. GetsAt (node_at_index shared index) before after needed reading status)
+    OfNodes held.machine ((status ≡ other_handle) × GetsNone before after needed reading)
+    (λ shared. GetsAt (node_at_index shared index) before after needed reading status)

@@ -152,7 +152,8 @@ pub record IsWriteOf (token : List ℕ) (moment : DateTime) (handle : ℕ) (node
 -- the same, or why there is none, and which text is bad
 abbrev pub MakesWrite : List ℕ → DateTime → ℕ → List ℕ → List ℕ → List ℕ → Result Request BadText → Type 0
 MakesWrite token moment handle node kind text (Ok r) = IsWriteOf token moment handle node kind text r
-MakesWrite token moment handle node kind text (Err bad) = IsBad text_token (IsNoNode token) bad ⊎ IsBad text_node (IsNoNode node) bad ⊎ HasNoValueBy false kind text bad
+MakesWrite token moment handle node kind text (Err bad) = IsBad text_token (IsNoNode token) bad ⊎ IsBad text_node (IsNoNode node) bad
+    ⊎ HasNoValueBy false kind text bad
 
 -- ---- bodies
 

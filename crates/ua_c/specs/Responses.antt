@@ -136,7 +136,8 @@ HasNoNodes nodes status = (bad : BadText) × AreNoNodes nodes bad × (bad.status
 -- there are none
 abbrev pub LinesBy : List ℕ → List ℕ → ℕ → Result (List ℕ) ℕ → Type 0
 LinesBy nodes body code (Ok text) = (code ≡ 0) × OfResponse body (λ r. AreLinesFor nodes r text)
-LinesBy nodes body code (Err status) = ((HasNoNodes nodes status ⊎ IsNoResponse body status) × (code ≡ 0)) ⊎ OfResponse body (λ r. TellsNone (HasNoLinesFor nodes) r code status)
+LinesBy nodes body code (Err status) = ((HasNoNodes nodes status ⊎ IsNoResponse body status) × (code ≡ 0))
+    ⊎ OfResponse body (λ r. TellsNone (HasNoLinesFor nodes) r code status)
 
 -- ---- buffers
 

@@ -35,11 +35,15 @@ pub record IsFresh (limits : Limits) (channel : ℕ) (server : Server) : Type 0 
 
 -- what `Server::step` ensures of its outcome for a fragment at a time, and of the server and the
 -- services that it leaves
-pub record StepsAs (server : Server) (services : State) (piece : List ℕ) (moment : DateTime) (answer : Result Step StepFault) (new : Server) (left : State) : Type 0 where
-  pub answers : (octets : List ℕ) (told : List Told) (first : State) (moments : List DateTime) → ServerStands (channel_in server) octets told first moments services
-      → StepAnswers (limits_of (channel_in server)) (channel_of (channel_in server)) moment piece answer (channel_in new) octets told first moments services left
+pub record StepsAs (server : Server) (services : State) (piece : List ℕ) (moment : DateTime) (answer : Result Step StepFault) (new : Server)
+    (left : State) : Type 0 where
+  pub answers : (octets : List ℕ) (told : List Told) (first : State) (moments : List DateTime)
+      → ServerStands (channel_in server) octets told first moments services
+      → StepAnswers (limits_of (channel_in server)) (channel_of (channel_in server)) moment piece answer (channel_in new) octets told first moments services
+      left
   pub now : (octets : List ℕ) (told : List Told) → Goes (channel_in server) octets told
-      → StepNow (limits_of (channel_in server)) (channel_of (channel_in server)) (next_of (channel_in server)) moment piece answer (channel_in new) octets told services left
+      → StepNow (limits_of (channel_in server)) (channel_of (channel_in server)) (next_of (channel_in server)) moment piece answer (channel_in new) octets told
+      services left
   pub history : (octets : List ℕ) (hs : List ConnectionEvent) (first : State) → StandsOver (channel_in server) octets hs first services
       → StepOver (limits_of (channel_in server)) (channel_of (channel_in server)) moment piece answer (channel_in new) octets hs first services left
   pub stands : (octets : List ℕ) (told : List Told) → Goes (channel_in server) octets told → StepStands piece answer (channel_in new) octets told
@@ -77,7 +81,8 @@ nothing status = record { status = status; taken = 0; code = 0 }
 
 -- what C is told of an outcome, and which bytes then wait
 abbrev pub Shows : Result Step StepFault → Report → List ℕ → List ℕ → Type 0
-Shows (Ok step) report before waiting = (report ≡ record { status = status_of step.end; taken = step.taken; code = code_of step.end }) × (waiting ≡ step.out.items)
+Shows (Ok step) report before waiting = (report ≡ record { status = status_of step.end; taken = step.taken; code = code_of step.end })
+    × (waiting ≡ step.out.items)
 Shows (Err step_fault.Closed) report before waiting = (report ≡ nothing closed) × (waiting ≡ before)
 Shows (Err step_fault.OutOfMemory) report before waiting = (report ≡ nothing no_memory) × (waiting ≡ before)
 
@@ -103,9 +108,11 @@ pub record StepsServer (old : Station) (new : Holding) (piece : List ℕ) (momen
 
 -- what a step does with the content of a handle
 abbrev pub StepsMachine : Holding → Holding → List ℕ → DateTime → Report → Type 0
-StepsMachine old new piece moment report = OfServer old.machine old new (λ why. report ≡ nothing why) (λ station. WhereNone old new (λ why. report ≡ nothing why) (StepsServer station new piece moment report))
+StepsMachine old new piece moment report = OfServer old.machine old new (λ why. report ≡ nothing why)
+    (λ station. WhereNone old new (λ why. report ≡ nothing why) (StepsServer station new piece moment report))
 
 -- the next connection begins over the same services, without a session; what still waited is
 -- dropped
 abbrev pub NextMachine : Holding → Holding → ℕ → ℕ → Type 0
-NextMachine old new channel status = OfServer old.machine old new (λ why. status ≡ why) (λ station. (status ≡ ok) × HoldsFresh station.limits channel (begun station.services) new)
+NextMachine old new channel status = OfServer old.machine old new (λ why. status ≡ why)
+    (λ station. (status ≡ ok) × HoldsFresh station.limits channel (begun station.services) new)

@@ -22,7 +22,8 @@ pub record IsAbout (url application_uri name : List ℕ) (most : ℕ) (e : Endpo
 -- one of the three is no String, or an allocation failed; which of them is told by its number
 abbrev pub IsNoAbout : List ℕ → List ℕ → List ℕ → ℕ → ℕ → Type 0
 IsNoAbout url application_uri name reason status =
-    ((reason ≡ text_url) × IsNoString url status) ⊎ ((reason ≡ text_application_uri) × IsNoString application_uri status) ⊎ ((reason ≡ text_name) × IsNoString name status)
+    ((reason ≡ text_url) × IsNoString url status) ⊎ ((reason ≡ text_application_uri) × IsNoString application_uri status)
+    ⊎ ((reason ≡ text_name) × IsNoString name status)
 
 -- the nodes that the lines of a file define, before any session, with the description of a server
 -- of them
@@ -36,7 +37,8 @@ pub record IsShared (file url application_uri name : List ℕ) (most : ℕ) (sha
 
 -- why there are none: a text is none, or the file is rejected
 abbrev pub IsNoShared : List ℕ → List ℕ → List ℕ → List ℕ → ℕ → ℕ → ℕ → Type 0
-IsNoShared file url application_uri name line reason status = ((line ≡ 0) × IsNoAbout url application_uri name reason status) ⊎ RefusesFile file line reason status
+IsNoShared file url application_uri name line reason status = ((line ≡ 0) × IsNoAbout url application_uri name reason status)
+    ⊎ RefusesFile file line reason status
 
 abbrev pub MakesShared : List ℕ → List ℕ → List ℕ → List ℕ → ℕ → ℕ → ℕ → Result SharedNodes ℕ → Type 0
 MakesShared file url application_uri name most line reason (Ok shared) = (line ≡ 0) × (reason ≡ 0) × IsShared file url application_uri name most shared

@@ -79,7 +79,8 @@ IsUntellable shared item why = ((why ≡ unknown) × (index_of_id shared.service
 
 -- it is told, or not
 abbrev pub Tells : SharedNodes → WriteValue → List ℕ → List ℕ → ToldItem → Type 0
-Tells shared item before after told = TellsItem shared item before after told ⊎ (SaysNoItem before after told told.status × IsUntellable shared item told.status)
+Tells shared item before after told = TellsItem shared item before after told
+    ⊎ (SaysNoItem before after told told.status × IsUntellable shared item told.status)
 
 -- the first of what is to be told is told, and is then no more to be told if its bytes did fit;
 -- otherwise it still is
@@ -104,4 +105,5 @@ pub record TellsHeld (served : ServedConnection) (shared : SharedNodes) (old new
 -- what telling the next item does with the contents of two handles; nodes stay
 abbrev pub TellsWritten : Holding → Holding → Holding → List ℕ → List ℕ → ToldItem → Type 0
 TellsWritten old new nodes before after told =
-    OfShared old.machine nodes.machine (SaysNoItem before after told other_handle × (new ≡ old)) (λ served shared. TellsHeld served shared old new before after told)
+    OfShared old.machine nodes.machine (SaysNoItem before after told other_handle × (new ≡ old))
+    (λ served shared. TellsHeld served shared old new before after told)

@@ -125,7 +125,8 @@ SeesBy read Are old new (Err OutOfMemory) = Unit {0}
 
 -- the bytes of the fields of a DataValue except its value
 abbrev pub fields_size : DataValue → ℕ
-fields_size d = if_there d.status 4 + if_there d.source_timestamp 8 + if_there d.source_picoseconds 2 + if_there d.server_timestamp 8 + if_there d.server_picoseconds 2
+fields_size d = if_there d.status 4 + if_there d.source_timestamp 8 + if_there d.source_picoseconds 2 + if_there d.server_timestamp 8
+    + if_there d.server_picoseconds 2
 
 -- what is told of a fault
 abbrev pub status_of : ReadFault → ℕ

@@ -119,8 +119,15 @@ pub extern "C" fn ua_client_take(
     id: &mut u32,
     code: &mut u32,
 ) -> u32
-    ensures { let told : ToldOf = record { status = result; taken = taken.new; event = event.new; id = id.new; code = code.new } in
-        OfHandle h.old.value h.new.value (λ why. told ≡ only why) (λ old new. TakesMachine old new piece.now (record { ticks = moment }) told) }
+    ensures { let told : ToldOf = record {
+      status = result;
+      taken = taken.new;
+      event = event.new;
+      id = id.new;
+      code = code.new;
+    } in
+        OfHandle h.old.value h.new.value (λ why. told ≡ only why)
+        (λ old new. TakesMachine old new piece.now (record { ticks = moment }) told) }
 {
     let told = match h.take(alloc) {
         Some(mut held) => {
@@ -140,7 +147,8 @@ pub extern "C" fn ua_client_take(
 /// The chunks of a call with this body, which wait to be fetched, and its RequestId.
 #[unsafe(no_mangle)]
 pub extern "C" fn ua_client_ask(alloc: Global, h: &mut UaHandle, body: &[u8], id: &mut u32) -> u32
-    ensures { OfHandle h.old.value h.new.value (λ why. (result ≡ why) × (id.new ≡ 0)) (λ old new. AsksMachine old new body.now result id.new) }
+    ensures { OfHandle h.old.value h.new.value (λ why. (result ≡ why) × (id.new ≡ 0))
+        (λ old new. AsksMachine old new body.now result id.new) }
 {
     let Some(mut held) = h.take(alloc) else {
         *id = 0;
@@ -155,7 +163,8 @@ pub extern "C" fn ua_client_ask(alloc: Global, h: &mut UaHandle, body: &[u8], id
 /// The OPN that asks for a further token, which waits to be fetched, and its RequestId.
 #[unsafe(no_mangle)]
 pub extern "C" fn ua_client_renew(alloc: Global, h: &mut UaHandle, moment: i64, id: &mut u32) -> u32
-    ensures { OfHandle h.old.value h.new.value (λ why. (result ≡ why) × (id.new ≡ 0)) (λ old new. RenewsMachine old new (record { ticks = moment }) result id.new) }
+    ensures { OfHandle h.old.value h.new.value (λ why. (result ≡ why) × (id.new ≡ 0))
+        (λ old new. RenewsMachine old new (record { ticks = moment }) result id.new) }
 {
     let Some(mut held) = h.take(alloc) else {
         *id = 0;
@@ -170,7 +179,8 @@ pub extern "C" fn ua_client_renew(alloc: Global, h: &mut UaHandle, moment: i64, 
 /// The CLO, which waits to be fetched. The channel is then closed.
 #[unsafe(no_mangle)]
 pub extern "C" fn ua_client_close(alloc: Global, h: &mut UaHandle, moment: i64) -> u32
-    ensures { OfHandle h.old.value h.new.value (λ why. result ≡ why) (λ old new. ClosesMachine old new (record { ticks = moment }) result) }
+    ensures { OfHandle h.old.value h.new.value (λ why. result ≡ why)
+        (λ old new. ClosesMachine old new (record { ticks = moment }) result) }
 {
     let Some(mut held) = h.take(alloc) else {
         return NO_HANDLE;

@@ -45,7 +45,8 @@ impl Holding {
         piece: &[u8],
         moment: DateTime,
     ) -> Report
-        ensures { StepsShared (record { machine = machine.Connection served.old; waiting = waiting.old }) (record { machine = machine.Connection served.new; waiting = waiting.new })
+        ensures { StepsShared (record { machine = machine.Connection served.old; waiting = waiting.old })
+            (record { machine = machine.Connection served.new; waiting = waiting.new })
             self.old self.new piece.now moment result }
     {
         let Machine::Nodes(shared) = &mut self.machine else {
@@ -65,8 +66,11 @@ impl SharedNodes {
         piece: &[u8],
         moment: DateTime,
     ) -> Report
-        ensures { (others : List ℕ) → StepsShared (record { machine = machine.Connection served.old; waiting = waiting.old }) (record { machine = machine.Connection served.new; waiting = waiting.new })
-            (record { machine = machine.Nodes self.old; waiting = others }) (record { machine = machine.Nodes self.new; waiting = others }) piece.now moment result }
+        ensures { (others : List ℕ)
+            → StepsShared (record { machine = machine.Connection served.old; waiting = waiting.old })
+            (record { machine = machine.Connection served.new; waiting = waiting.new })
+            (record { machine = machine.Nodes self.old; waiting = others })
+            (record { machine = machine.Nodes self.new; waiting = others }) piece.now moment result }
     {
         if waiting.len() > 0 {
             return Report::only(FETCH_FIRST);
@@ -118,8 +122,10 @@ pub extern "C" fn ua_connection_step(
     code: &mut u32,
 ) -> u32
     ensures { let report : Reported = record { status = result; taken = taken.new; code = code.new } in
-        OfHandles connection.old.value connection.new.value nodes.old.value nodes.new.value (λ why. TellsOnly why report waiting.new)
-        (λ old new before after. StepsShared old new before after piece.now (record { ticks = moment }) report × (waiting.new ≡ length new.waiting)) }
+        OfHandles connection.old.value connection.new.value nodes.old.value nodes.new.value
+        (λ why. TellsOnly why report waiting.new)
+        (λ old new before after. StepsShared old new before after piece.now (record { ticks = moment }) report
+        × (waiting.new ≡ length new.waiting)) }
 {
     *taken = 0;
     *waiting = 0;

@@ -5,7 +5,9 @@ ghost use Rattle.std.specs.Option.{option_copied};
 ghost use Rattle.ua_nodes.specs.Sound.{IsSound};
 ghost use Rattle.ua_nodes.specs.Table.{id_at, index_of_id};
 ghost use Rattle.ua_c.specs.Handled.{OfHandle};
-ghost use Rattle.ua_c.specs.Readings.{FindsIn, FindsNode, GetsAt, GetsNode, GetsNone, HasPart, IsNoReading, IsReadingOf, SetsAt, SetsNode, given_if, no_reading, node_at_index, part_of, reading_held, status_of_set};
+ghost use Rattle.ua_c.specs.Readings.{FindsIn, FindsNode, GetsAt, GetsNode, GetsNone, HasPart};
+ghost use Rattle.ua_c.specs.Readings.{IsNoReading, IsReadingOf, SetsAt, SetsNode, given_if};
+ghost use Rattle.ua_c.specs.Readings.{no_reading, node_at_index, part_of, reading_held, status_of_set};
 ghost use Rattle.ua_c.specs.Status.{ok};
 
 use crate::handle::{UaHandle, UaNodes};
@@ -284,7 +286,8 @@ pub extern "C" fn ua_node_find(
     node: &[u8],
     index: &mut usize,
 ) -> u32
-    ensures { OfHandle nodes.old.value nodes.new.value (λ why. (result ≡ why) × (index.new ≡ 0)) (λ old new. FindsNode old node.now index.new result × (new ≡ old)) }
+    ensures { OfHandle nodes.old.value nodes.new.value (λ why. (result ≡ why) × (index.new ≡ 0))
+        (λ old new. FindsNode old node.now index.new result × (new ≡ old)) }
 {
     *index = 0;
     let Some(held) = nodes.take(alloc) else {
@@ -304,7 +307,8 @@ pub extern "C" fn ua_node_set(
     octets: &[u8],
     reading: &UaReading,
 ) -> u32
-    ensures { OfHandle nodes.old.value nodes.new.value (λ why. result ≡ why) (λ old new. SetsNode old new index octets.now reading.now result) }
+    ensures { OfHandle nodes.old.value nodes.new.value (λ why. result ≡ why)
+        (λ old new. SetsNode old new index octets.now reading.now result) }
 {
     let Some(mut held) = nodes.take(alloc) else {
         return NO_HANDLE;
@@ -324,7 +328,8 @@ pub extern "C" fn ua_node_get(
     needed: &mut usize,
     reading: &mut UaReading,
 ) -> u32
-    ensures { OfHandle nodes.old.value nodes.new.value (λ why. (result ≡ why) × GetsNone buffer.old buffer.new needed.new reading.new)
+    ensures { OfHandle nodes.old.value nodes.new.value
+        (λ why. (result ≡ why) × GetsNone buffer.old buffer.new needed.new reading.new)
         (λ old new. GetsNode old index buffer.old buffer.new needed.new reading.new result × (new ≡ old)) }
 {
     *needed = 0;

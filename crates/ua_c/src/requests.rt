@@ -2,7 +2,9 @@
 
 ghost use Rattle.std.specs.Prelude.{◌≡◌, IfOk, IfErr};
 ghost use Rattle.ua_services.specs.SessionRequests.{activate_session, close_session, create_session, get_endpoints};
-ghost use Rattle.ua_c.specs.Requests.{AreNamed, AreNoNodes, AreNodeTexts, AreUnnamed, IsNoNode, IsNoText, IsNodeText, IsRangeText, IsUnnamed, Makes, MakesActivation, MakesOfUrl, MakesRead, MakesUnder, MakesWrite, Names, PutsBody, PutsMade, PutsTold, Tells, items_of};
+ghost use Rattle.ua_c.specs.Requests.{AreNamed, AreNoNodes, AreNodeTexts, AreUnnamed, IsNoNode, IsNoText, IsNodeText};
+ghost use Rattle.ua_c.specs.Requests.{IsRangeText, IsUnnamed, Makes, MakesActivation, MakesOfUrl, MakesRead};
+ghost use Rattle.ua_c.specs.Requests.{MakesUnder, MakesWrite, Names, PutsBody, PutsMade, PutsTold, Tells, items_of};
 ghost use Rattle.ua_c.specs.BadText.{index_in};
 ghost use Rattle.ua_c.specs.Status.{text_node};
 
@@ -297,7 +299,8 @@ pub extern "C" fn ua_get_endpoints_request(
     buffer: &mut [u8],
     needed: &mut usize,
 ) -> u32
-    ensures { Makes (λ made. MakesOfUrl (λ u. get_endpoints u (record { ticks = moment }) handle) url.now made) buffer.old buffer.new needed.new result }
+    ensures { Makes (λ made. MakesOfUrl (λ u. get_endpoints u (record { ticks = moment }) handle) url.now made)
+        buffer.old buffer.new needed.new result }
 {
     let made = match string_of(alloc, url) {
         Ok(url) => Ok(get_endpoints_request(url, DateTime { ticks: moment }, handle)),
@@ -316,7 +319,8 @@ pub extern "C" fn ua_create_session_request(
     buffer: &mut [u8],
     needed: &mut usize,
 ) -> u32
-    ensures { Makes (λ made. MakesOfUrl (λ u. create_session u (record { ticks = moment }) handle) url.now made) buffer.old buffer.new needed.new result }
+    ensures { Makes (λ made. MakesOfUrl (λ u. create_session u (record { ticks = moment }) handle) url.now made)
+        buffer.old buffer.new needed.new result }
 {
     let made = creating(alloc, url, DateTime { ticks: moment }, handle);
     put_made(alloc, made, buffer, needed)
@@ -332,7 +336,8 @@ pub extern "C" fn ua_activate_session_request(
     buffer: &mut [u8],
     needed: &mut usize,
 ) -> u32
-    ensures { Makes (λ made. MakesUnder (λ id. activate_session id (record { ticks = moment }) handle) token.now made) buffer.old buffer.new needed.new result }
+    ensures { Makes (λ made. MakesUnder (λ id. activate_session id (record { ticks = moment }) handle) token.now made)
+        buffer.old buffer.new needed.new result }
 {
     let made = activating(alloc, token, DateTime { ticks: moment }, handle);
     put_made(alloc, made, buffer, needed)
@@ -351,7 +356,8 @@ pub extern "C" fn ua_activate_session_request_as(
     needed: &mut usize,
     reason: &mut u32,
 ) -> u32
-    ensures { Tells (λ made. MakesActivation token.now policy.now (record { ticks = moment }) handle made) buffer.old buffer.new needed.new reason.new result }
+    ensures { Tells (λ made. MakesActivation token.now policy.now (record { ticks = moment }) handle made) buffer.old
+        buffer.new needed.new reason.new result }
 {
     let made = activating_as(alloc, token, policy, DateTime { ticks: moment }, handle);
     put_told(alloc, made, buffer, needed, reason)
@@ -367,7 +373,8 @@ pub extern "C" fn ua_close_session_request(
     buffer: &mut [u8],
     needed: &mut usize,
 ) -> u32
-    ensures { Makes (λ made. MakesUnder (λ id. close_session id (record { ticks = moment }) handle) token.now made) buffer.old buffer.new needed.new result }
+    ensures { Makes (λ made. MakesUnder (λ id. close_session id (record { ticks = moment }) handle) token.now made)
+        buffer.old buffer.new needed.new result }
 {
     let made = match node_of(alloc, token) {
         Ok(token) => Ok(close_session_request(token, DateTime { ticks: moment }, handle)),
@@ -391,7 +398,8 @@ pub extern "C" fn ua_read_request(
     reason: &mut u32,
     index: &mut usize,
 ) -> u32
-    ensures { Tells (λ made. MakesRead token.now (record { ticks = moment }) handle nodes.now range.now made × (index.new ≡ index_in made)) buffer.old buffer.new needed.new reason.new result }
+    ensures { Tells (λ made. MakesRead token.now (record { ticks = moment }) handle nodes.now range.now made
+        × (index.new ≡ index_in made)) buffer.old buffer.new needed.new reason.new result }
 {
     let made = reading(
         alloc,
@@ -419,7 +427,8 @@ pub extern "C" fn ua_write_request(
     needed: &mut usize,
     reason: &mut u32,
 ) -> u32
-    ensures { Tells (λ made. MakesWrite token.now (record { ticks = moment }) handle node.now kind.now text.now made) buffer.old buffer.new needed.new reason.new result }
+    ensures { Tells (λ made. MakesWrite token.now (record { ticks = moment }) handle node.now kind.now text.now made)
+        buffer.old buffer.new needed.new reason.new result }
 {
     let made = writing(
         alloc,

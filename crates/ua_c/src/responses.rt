@@ -1,7 +1,9 @@
 //! Responses as texts.
 
 ghost use Rattle.std.specs.Prelude.{◌≡◌, [], length, string_bytes, IfOk, IfErr, OnOk};
-ghost use Rattle.ua_c.specs.Responses.{AddsFor, HasNoLines, HasNoToken, IsKindOf, IsNoResponse, IsRefusedFor, IsResponse, IsToken, IsTold, KindBy, LinesBy, PutsReply, Replies, TellsNone, TokenBy, octets_in};
+ghost use Rattle.ua_c.specs.Responses.{AddsFor, HasNoLines, HasNoToken, IsKindOf, IsNoResponse};
+ghost use Rattle.ua_c.specs.Responses.{IsRefusedFor, IsResponse, IsToken, IsTold, KindBy, LinesBy};
+ghost use Rattle.ua_c.specs.Responses.{PutsReply, Replies, TellsNone, TokenBy, octets_in};
 
 use crate::requests::nodes_of;
 use crate::status::{BAD_OCTETS, NO_MEMORY, OK, SERVICE, UNKNOWN};

@@ -25,7 +25,8 @@ pub extern "C" fn ua_server_step(
 ) -> u32
     ensures { let report : Reported = record { status = result; taken = taken.new; code = code.new } in
         OfHandle h.old.value h.new.value (λ why. (report ≡ nothing why) × (waiting.new ≡ 0))
-        (λ old new. StepsMachine old new piece.now (record { ticks = moment }) report × (waiting.new ≡ length new.waiting)) }
+        (λ old new. StepsMachine old new piece.now (record { ticks = moment }) report
+        × (waiting.new ≡ length new.waiting)) }
 {
     let Some(mut held) = h.take(alloc) else {
         *taken = 0;

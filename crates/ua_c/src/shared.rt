@@ -121,7 +121,8 @@ pub extern "C" fn ua_nodes_new(
     line: &mut usize,
     reason: &mut u32,
 ) -> u32
-    ensures { MakesNodes file.now url.now application_uri.now name.now max_message_size out.old.value out.new.value line.new reason.new result }
+    ensures { MakesNodes file.now url.now application_uri.now name.now max_message_size out.old.value out.new.value
+        line.new reason.new result }
 {
     match shared(
         alloc,

@@ -2,7 +2,8 @@
 
 ghost use Rattle.std.specs.Prelude.{◌≡◌, ◌⊎◌, ◌++◌, ◌∷◌, IfErr, IfOk, MatchOption, Ok, false, true, string_bytes};
 ghost use Rattle.ua_variant.specs.View.{variant_of};
-ghost use Rattle.ua_c.specs.Spelled.{EncodesBy, HasNoSpace, IsBack, IsNotBack, IsSpelled, IsSpelling, IsSpellingOf, LacksSpelling, SpellsTo, is_plain};
+ghost use Rattle.ua_c.specs.Spelled.{EncodesBy, HasNoSpace, IsBack, IsNotBack, IsSpelled};
+ghost use Rattle.ua_c.specs.Spelled.{IsSpelling, IsSpellingOf, LacksSpelling, SpellsTo, is_plain};
 ghost use Rattle.ua_c.specs.Status.{no_memory, no_text};
 
 use crate::status::{BAD_OCTETS, NO_MEMORY, NO_TEXT, TEXT_VALUE};
@@ -61,7 +62,8 @@ fn is_back(
 
 /// What comes before the first space, and what after it.
 fn part(text: &str) -> Option<(&str, &str)>
-    ensures { MatchOption result (HasNoSpace text.now) (λ x. (text.now ≡ x.0.now ++ 32 ∷ x.1.now) × HasNoSpace x.0.now) }
+    ensures { MatchOption result (HasNoSpace text.now) (λ x. (text.now ≡ x.0.now ++ 32 ∷ x.1.now)
+        × HasNoSpace x.0.now) }
 {
     text.split_once(' ')
 }
@@ -76,7 +78,8 @@ fn spell_back(
 ) -> Result<Spelling, u32>
     ensures spelling { IfOk result (λ made. IsSpellingOf plain canonical.now (string_bytes made.text) made.kind) }
     ensures printed { IfOk result (λ made. IsSpelled plain (variant_of value.now) (string_bytes made.text)) }
-    ensures fault { IfErr result (λ status. (status ≡ no_memory) ⊎ ((status ≡ no_text) × IsNotBack plain (variant_of value.now) canonical.now)) }
+    ensures fault { IfErr result (λ status. (status ≡ no_memory)
+        ⊎ ((status ≡ no_text) × IsNotBack plain (variant_of value.now) canonical.now)) }
 {
     let Ok(text) = spell(alloc, value, plain) else {
         return Err(NO_MEMORY);

@@ -43,7 +43,8 @@ impl Station {
 
     /// What [`Server::step`] does.
     pub(crate) fn step(&mut self, piece: &[u8], moment: DateTime) -> Result<Step, StepFault>
-        ensures steps { StepsAs self.old.server self.old.services piece.now moment result self.new.server self.new.services }
+        ensures steps { StepsAs self.old.server self.old.services piece.now moment result self.new.server
+            self.new.services }
         ensures limits { self.new.limits ≡ self.old.limits }
     {
         self.server.step(&mut self.services, piece, moment)

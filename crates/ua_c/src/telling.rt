@@ -92,7 +92,9 @@ impl Holding {
         served: &mut ServedConnection,
         buffer: &mut [u8],
     ) -> ToldItem
-        ensures { (waiting : List ℕ) → TellsWritten (record { machine = machine.Connection served.old; waiting = waiting }) (record { machine = machine.Connection served.new; waiting = waiting })
+        ensures { (waiting : List ℕ)
+            → TellsWritten (record { machine = machine.Connection served.old; waiting = waiting })
+            (record { machine = machine.Connection served.new; waiting = waiting })
             self.now buffer.old buffer.new result }
     {
         let Machine::Nodes(shared) = &self.machine else {
@@ -114,8 +116,14 @@ pub extern "C" fn ua_next_written(
     needed: &mut usize,
     reading: &mut UaReading,
 ) -> u32
-    ensures { let told : ToldItemOf = record { status = result; index = index.new; needed = needed.new; reading = reading.new } in
-        OfHandles connection.old.value connection.new.value nodes.old.value nodes.new.value (λ why. SaysNoItem buffer.old buffer.new told why)
+    ensures { let told : ToldItemOf = record {
+      status = result;
+      index = index.new;
+      needed = needed.new;
+      reading = reading.new;
+    } in
+        OfHandles connection.old.value connection.new.value nodes.old.value nodes.new.value
+        (λ why. SaysNoItem buffer.old buffer.new told why)
         (λ old new before after. TellsWritten old new before buffer.old buffer.new told × (after ≡ before)) }
 {
     *index = 0;

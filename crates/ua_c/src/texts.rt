@@ -5,7 +5,9 @@ ghost use Rattle.ua_nodes.specs.declared.fault.ValueFault.TheVariants.{NotValue}
 ghost use Rattle.ua_pair.specs.Dissected.{AreLines, plain};
 ghost use Rattle.ua_variant.specs.View.{variant_of};
 ghost use Rattle.ua_c.specs.Status.{no_memory};
-ghost use Rattle.ua_c.specs.Texts.{DecodesTo, DissectsTo, EncodesTo, HasNoValue, HasNoValueBy, IsEncodingOf, IsNoEncoding, IsNoSide, IsNoString, IsNoValueEncoded, IsSide, IsStringOf, IsTextOf, IsValueBy, IsValueOf, Puts, denoted_by};
+ghost use Rattle.ua_c.specs.Texts.{DecodesTo, DissectsTo, EncodesTo, HasNoValue, HasNoValueBy};
+ghost use Rattle.ua_c.specs.Texts.{IsEncodingOf, IsNoEncoding, IsNoSide, IsNoString, IsNoValueEncoded};
+ghost use Rattle.ua_c.specs.Texts.{IsSide, IsStringOf, IsTextOf, IsValueBy, IsValueOf, Puts, denoted_by};
 
 use crate::bad_text::BadText;
 use crate::status::{

@@ -10,7 +10,8 @@ ghost use Rattle.ua_services.specs.declared.response.ResponseKind.TheVariants.{R
 ghost use Rattle.ua_structures.specs.Attribute.{read_response};
 ghost use Rattle.ua_variant.specs.Formats.{data_value_format};
 ghost use Rattle.ua_c.specs.Responses.{IsNoResponse, OfResponse, TellsNone};
-ghost use Rattle.ua_c.specs.Views.{AnnouncesOther, AreResults, AreViews, AreViewsOf, HasNoResults, IsView, PutsReadings, SeesBy, Views, fields_size, if_there, reading_of, status_of};
+ghost use Rattle.ua_c.specs.Views.{AnnouncesOther, AreResults, AreViews, AreViewsOf, HasNoResults, IsView};
+ghost use Rattle.ua_c.specs.Views.{PutsReadings, SeesBy, Views, fields_size, if_there, reading_of, status_of};
 
 use crate::readings::UaReading;
 use crate::responses::response_of;
@@ -95,7 +96,8 @@ fn fields_size(value: &DataValue) -> usize
 #[tactic(auto, using(crate::proofs::Seen::value_takes, crate::proofs::Seen::value_seen))]
 fn view_value(alloc: Global, body: &[u8], source: &mut Octets<'_>) -> Result<UaReading, ReadFault>
     requires stands { Behind body.now source.old }
-    ensures sees { SeesBy (data_value_format.decode most_levels) (λ reading d. IsView body.now d reading) source.old source.new result }
+    ensures sees { SeesBy (data_value_format.decode most_levels) (λ reading d. IsView body.now d reading) source.old
+        source.new result }
     ensures behind { OnOk result (Behind body.now source.new) }
 {
     let before = source.left();
@@ -113,7 +115,8 @@ fn view_each(
     count: u32,
 ) -> Result<Vec<UaReading>, ReadFault>
     requires stands { Behind body.now source.old }
-    ensures sees { SeesBy (items_at (data_value_format.decode most_levels) count) (λ readings ds. AreViews body.now ds readings.items) source.old source.new result }
+    ensures sees { SeesBy (items_at (data_value_format.decode most_levels) count)
+        (λ readings ds. AreViews body.now ds readings.items) source.old source.new result }
     ensures behind { OnOk result (Behind body.now source.new) }
 {
     let mut readings = Vec::new(alloc);
@@ -131,7 +134,8 @@ fn view_array(
     source: &mut Octets<'_>,
 ) -> Result<Vec<UaReading>, ReadFault>
     requires stands { Behind body.now source.old }
-    ensures sees { SeesBy ((array data_value_format).decode most_levels) (λ readings ds. AreViewsOf body.now ds readings.items) source.old source.new result }
+    ensures sees { SeesBy ((array data_value_format).decode most_levels)
+        (λ readings ds. AreViewsOf body.now ds readings.items) source.old source.new result }
     ensures behind { OnOk result (Behind body.now source.new) }
 {
     let count = u32::read_value(alloc, source, MOST_LEVELS)?;
@@ -151,7 +155,8 @@ fn view_response(
     source: &mut Octets<'_>,
 ) -> Result<Vec<UaReading>, ReadFault>
     requires stands { Behind body.now source.old }
-    ensures sees { SeesBy (read_response.decode most_levels) (λ readings m. AreViewsOf body.now m.results readings.items) source.old source.new result }
+    ensures sees { SeesBy (read_response.decode most_levels)
+        (λ readings m. AreViewsOf body.now m.results readings.items) source.old source.new result }
 {
     let header = ResponseHeader::read_value(alloc, source, MOST_LEVELS)?;
     drop(header);
@@ -215,7 +220,9 @@ fn last_readings(
 /// The readings in a body that is the response to a Read, or a status; none where its NodeId
 /// announces another message.
 fn readings_in(alloc: Global, body: &[u8]) -> Result<Option<Vec<UaReading>>, u32>
-    ensures readings { IfOk result (λ found. MatchOption found (AnnouncesOther body.now) (λ readings. OfResponse body.now (AreResults body.now readings.items))) }
+    ensures readings { IfOk result
+        (λ found. MatchOption found (AnnouncesOther body.now)
+        (λ readings. OfResponse body.now (AreResults body.now readings.items))) }
     ensures fault { IfErr result (λ status. IsNoResponse body.now status) }
 {
     let mut source = Octets::new(body);
@@ -252,8 +259,10 @@ fn without(response: &Response, code: &mut u32) -> u32
 
 /// The readings in the response to a Read that bytes are the body of, or a status.
 fn readings_of(alloc: Global, body: &[u8], code: &mut u32) -> Result<Vec<UaReading>, u32>
-    ensures readings { IfOk result (λ readings. (code.new ≡ 0) × OfResponse body.now (AreResults body.now readings.items)) }
-    ensures fault { IfErr result (λ status. (IsNoResponse body.now status × (code.new ≡ 0)) ⊎ OfResponse body.now (λ r. TellsNone HasNoResults r code.new status)) }
+    ensures readings { IfOk result
+        (λ readings. (code.new ≡ 0) × OfResponse body.now (AreResults body.now readings.items)) }
+    ensures fault { IfErr result (λ status. (IsNoResponse body.now status × (code.new ≡ 0))
+        ⊎ OfResponse body.now (λ r. TellsNone HasNoResults r code.new status)) }
 {
     *code = 0;
     match readings_in(alloc, body) {

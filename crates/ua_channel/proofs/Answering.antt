@@ -25,7 +25,8 @@ use Rattle.ua_channel.specs.declared.numbers.Numbers.{Numbers}
 use Rattle.ua_channel.proofs.Servers.{starved_behind}
 
 -- a channel goes on telling where the number of its next chunk moves on
-pub telling_counted : (x : ServerChannel) (numbers : Numbers) (octets : List ℕ) (before : List Told) (e : Told) → GoesTelling x octets before e → GoesTelling (record x { end = record x.end { numbers = numbers } }) octets before e
+pub telling_counted : (x : ServerChannel) (numbers : Numbers) (octets : List ℕ) (before : List Told) (e : Told) → GoesTelling x octets before e
+    → GoesTelling (record x { end = record x.end { numbers = numbers } }) octets before e
 telling_counted x numbers octets before e g = record {
   frames = g.frames;
   frame = g.frame;
@@ -35,8 +36,11 @@ telling_counted x numbers octets before e g = record {
 }
 
 -- what is sent where a token was issued
-pub opened_sends : (x : ServerChannel) (numbers : Numbers) (moment : DateTime) (octets sent : List ℕ) (before : List Told) (e : Event) (id handle token lifetime number : ℕ) → e ≡ inner.Opened id handle token lifetime → StandsWith e x octets before → number ≡ next_of x → numbers.next ≡ next_number (next_of x)
-    → sent ≡ frame_octets (opened_frame (channel_of x) number id handle token lifetime moment) → SendsOctets (channel_of x) (next_of x) moment sent (record x { end = record x.end { numbers = numbers } }) octets before
+pub opened_sends : (x : ServerChannel) (numbers : Numbers) (moment : DateTime) (octets sent : List ℕ) (before : List Told) (e : Event)
+    (id handle token lifetime number : ℕ) → e ≡ inner.Opened id handle token lifetime → StandsWith e x octets before → number ≡ next_of x
+    → numbers.next ≡ next_number (next_of x)
+    → sent ≡ frame_octets (opened_frame (channel_of x) number id handle token lifetime moment)
+    → SendsOctets (channel_of x) (next_of x) moment sent (record x { end = record x.end { numbers = numbers } }) octets before
 opened_sends x numbers moment octets sent before e id handle token lifetime number is tells number_is next sent_is = record {
   said = told.Opened id handle token lifetime;
   are_sent = sent_is ∙ ap (λ (n : ℕ). frame_octets (opened_frame (channel_of x) n id handle token lifetime moment)) number_is;
@@ -46,7 +50,9 @@ opened_sends x numbers moment octets sent before e id handle token lifetime numb
 
 -- ---- whole pieces
 
-counts_of : (channel number : ℕ) (moment : DateTime) (piece : List ℕ) (n : ℕ) (answer : Result ServerEvent ChannelFault) (new : ServerChannel) (octets : List ℕ) (before : List Told) → 0 < n → n ≤ length piece → AnswersTo channel number moment answer new (octets ++ take n piece) before → AnswersAt channel number moment piece n answer new octets before
+counts_of : (channel number : ℕ) (moment : DateTime) (piece : List ℕ) (n : ℕ) (answer : Result ServerEvent ChannelFault) (new : ServerChannel) (octets : List ℕ)
+    (before : List Told) → 0 < n → n ≤ length piece → AnswersTo channel number moment answer new (octets ++ take n piece) before
+    → AnswersAt channel number moment piece n answer new octets before
 counts_of channel number moment piece n (Ok NeedMore) new octets before some within h = absurd h
 counts_of channel number moment piece n (Ok (Send sent)) new octets before some within h = ((some, within), h)
 counts_of channel number moment piece n (Ok (Asked id message)) new octets before some within h = ((some, within), h)
@@ -57,50 +63,70 @@ counts_of channel number moment piece n (Err fault.OutOfMemory) new octets befor
 counts_of channel number moment piece n (Err fault.Closed) new octets before some within h = h
 
 -- an event
-pub answers_event : (channel channel' number number' : ℕ) (moment : DateTime) (piece : List ℕ) (n : ℕ) (e : Event) (answer : Result ServerEvent ChannelFault) (mid new : ServerChannel) (octets : List ℕ) (before : List Told) → channel' ≡ channel → number' ≡ number → EndNexts server_side piece n (Ok (Some e)) mid.end tt octets before
-    → (StandsWith e mid (octets ++ take n piece) before → AnswersTo channel' number' moment answer new (octets ++ take n piece) before) → AnswersAt channel number moment piece n answer new octets before
+pub answers_event : (channel channel' number number' : ℕ) (moment : DateTime) (piece : List ℕ) (n : ℕ) (e : Event) (answer : Result ServerEvent ChannelFault)
+    (mid new : ServerChannel) (octets : List ℕ) (before : List Told) → channel' ≡ channel → number' ≡ number
+    → EndNexts server_side piece n (Ok (Some e)) mid.end tt octets before
+    → (StandsWith e mid (octets ++ take n piece) before → AnswersTo channel' number' moment answer new (octets ++ take n piece) before)
+    → AnswersAt channel number moment piece n answer new octets before
 answers_event channel channel' number number' moment piece n e answer mid new octets before same again h by =
     counts_of channel number moment piece n answer new octets before h.0 h.1
     (subst (λ (k : ℕ). AnswersTo channel k moment answer new (octets ++ take n piece) before) again
     (subst (λ (k : ℕ). AnswersTo k number' moment answer new (octets ++ take n piece) before) same (by h.2)))
 
 -- no event
-pub answers_nothing : (channel number : ℕ) (moment : DateTime) (piece : List ℕ) (n : ℕ) (new : ServerChannel) (octets : List ℕ) (before : List Told) → EndNexts server_side piece n (Ok None) new.end tt octets before → next_of new ≡ number → AnswersAt channel number moment piece n (Ok NeedMore) new octets before
+pub answers_nothing : (channel number : ℕ) (moment : DateTime) (piece : List ℕ) (n : ℕ) (new : ServerChannel) (octets : List ℕ) (before : List Told)
+    → EndNexts server_side piece n (Ok None) new.end tt octets before → next_of new ≡ number
+    → AnswersAt channel number moment piece n (Ok NeedMore) new octets before
 answers_nothing channel number moment piece n new octets before h same =
     (h.0, (subst (λ (z : List ℕ). Goes new (octets ++ z) before) (sym (ap (λ (k : ℕ). take k piece) h.0 ∙ take-length piece)) h.1, same))
 
-answers_step : (channel number : ℕ) (moment : DateTime) (piece : List ℕ) (n : ℕ) (s : StepFault) (new : ServerChannel) (octets : List ℕ) (before : List Told) → EndNexts server_side piece n (Err s) new.end tt octets before → AnswersAt channel number moment piece n (Err (of_step s)) new octets before
+answers_step : (channel number : ℕ) (moment : DateTime) (piece : List ℕ) (n : ℕ) (s : StepFault) (new : ServerChannel) (octets : List ℕ) (before : List Told)
+    → EndNexts server_side piece n (Err s) new.end tt octets before → AnswersAt channel number moment piece n (Err (of_step s)) new octets before
 answers_step channel number moment piece n (step.Refused code) new octets before h = (h.0, h.1, refl)
 answers_step channel number moment piece n (step.Peer code) new octets before h = absurd h.1
 answers_step channel number moment piece n step.OutOfMemory new octets before h = (h.0, h.1.done)
 answers_step channel number moment piece n step.Closed new octets before h = absurd h.1
 
 -- a fault
-pub answers_fault : (channel number : ℕ) (moment : DateTime) (piece : List ℕ) (n : ℕ) (s : StepFault) (f : ChannelFault) (new : ServerChannel) (octets : List ℕ) (before : List Told) → EndNexts server_side piece n (Err s) new.end tt octets before → f ≡ of_step s → AnswersAt channel number moment piece n (Err f) new octets before
-answers_fault channel number moment piece n s f new octets before h is = subst (λ (x : ChannelFault). AnswersAt channel number moment piece n (Err x) new octets before) (sym is) (answers_step channel number moment piece n s new octets before h)
+pub answers_fault : (channel number : ℕ) (moment : DateTime) (piece : List ℕ) (n : ℕ) (s : StepFault) (f : ChannelFault) (new : ServerChannel) (octets : List ℕ)
+    (before : List Told) → EndNexts server_side piece n (Err s) new.end tt octets before → f ≡ of_step s
+    → AnswersAt channel number moment piece n (Err f) new octets before
+answers_fault channel number moment piece n s f new octets before h is =
+    subst (λ (x : ChannelFault). AnswersAt channel number moment piece n (Err x) new octets before) (sym is)
+    (answers_step channel number moment piece n s new octets before h)
 
 -- ---- after want of memory
 
 -- a channel that ended for want of memory is as it was but for its bound
-pub starved_with : (channel number : ℕ) (moment : DateTime) (piece : List ℕ) (n bound : ℕ) (f : ChannelFault) (x new : ServerChannel) (octets : List ℕ) (before : List Told) → f ≡ fault.OutOfMemory → new ≡ record x { end = record x.end { bound = bound } } → AnswersAt channel number moment piece n (Err f) x octets before
+pub starved_with : (channel number : ℕ) (moment : DateTime) (piece : List ℕ) (n bound : ℕ) (f : ChannelFault) (x new : ServerChannel) (octets : List ℕ)
+    (before : List Told) → f ≡ fault.OutOfMemory → new ≡ record x { end = record x.end { bound = bound } }
+    → AnswersAt channel number moment piece n (Err f) x octets before
     → AnswersAt channel number moment piece n (Err f) new octets before
 starved_with channel number moment piece n bound f x new octets before is new_is h =
-    let starved : AnswersAt channel number moment piece n (Err fault.OutOfMemory) x octets before = subst (λ (g : ChannelFault). AnswersAt channel number moment piece n (Err g) x octets before) is h in
-    let done : AnswersAt channel number moment piece n (Err fault.OutOfMemory) (record x { end = record x.end { bound = bound } }) octets before = (starved.0, record { phase = starved.1.phase; empty = starved.1.empty }) in
+    let starved : AnswersAt channel number moment piece n (Err fault.OutOfMemory) x octets before =
+    subst (λ (g : ChannelFault). AnswersAt channel number moment piece n (Err g) x octets before) is h in
+    let done : AnswersAt channel number moment piece n (Err fault.OutOfMemory) (record x { end = record x.end { bound = bound } }) octets before =
+    (starved.0, record { phase = starved.1.phase; empty = starved.1.empty }) in
     subst (λ (y : ServerChannel). AnswersAt channel number moment piece n (Err f) y octets before) (sym new_is)
-    (subst (λ (g : ChannelFault). AnswersAt channel number moment piece n (Err g) (record x { end = record x.end { bound = bound } }) octets before) (sym is) done)
+    (subst (λ (g : ChannelFault). AnswersAt channel number moment piece n (Err g) (record x { end = record x.end { bound = bound } }) octets before)
+    (sym is) done)
 
 -- where it stands behind the frame of an event for whose answer memory was refused
-pub starved_event : (mid d : ServerChannel) (octets : List ℕ) (told : List Told) (e : Event) (answer : Result ServerEvent ChannelFault) → limits_of d ≡ limits_of mid → channel_of d ≡ channel_of mid → IsDone d → StandsWith e mid octets told → (e ≡ inner.Closed → answer ≡ Ok event.Closed) → answer ≡ Err fault.OutOfMemory
+pub starved_event : (mid d : ServerChannel) (octets : List ℕ) (told : List Told) (e : Event) (answer : Result ServerEvent ChannelFault)
+    → limits_of d ≡ limits_of mid → channel_of d ≡ channel_of mid → IsDone d → StandsWith e mid octets told → (e ≡ inner.Closed → answer ≡ Ok event.Closed)
+    → answer ≡ Err fault.OutOfMemory
     → StarvedAt d octets told
 starved_event mid d octets told (inner.Agreed a) answer limits channel done h closes is = starved_behind mid d octets told _ limits channel done h.0
-starved_event mid d octets told (inner.Opened id handle token lifetime) answer limits channel done h closes is = starved_behind mid d octets told _ limits channel done h.0
-starved_event mid d octets told (inner.Asked id token message) answer limits channel done h closes is = starved_behind mid d octets told _ limits channel done h.0
+starved_event mid d octets told (inner.Opened id handle token lifetime) answer limits channel done h closes is =
+    starved_behind mid d octets told _ limits channel done h.0
+starved_event mid d octets told (inner.Asked id token message) answer limits channel done h closes is =
+    starved_behind mid d octets told _ limits channel done h.0
 starved_event mid d octets told (inner.Aborted id) answer limits channel done h closes is = starved_behind mid d octets told _ limits channel done h.0
 starved_event mid d octets told inner.Closed answer limits channel done h closes is = let no = sym (closes refl) ∙ is in absurd cc
 
 -- where it stands with a fault
-starved_step : (piece : List ℕ) (n : ℕ) (s : StepFault) (new : ServerChannel) (octets : List ℕ) (told : List Told) → EndNexts server_side piece n (Err s) new.end tt octets told → of_step s ≡ fault.OutOfMemory → StarvedAt new (octets ++ take n piece) told
+starved_step : (piece : List ℕ) (n : ℕ) (s : StepFault) (new : ServerChannel) (octets : List ℕ) (told : List Told)
+    → EndNexts server_side piece n (Err s) new.end tt octets told → of_step s ≡ fault.OutOfMemory → StarvedAt new (octets ++ take n piece) told
 starved_step piece n (step.Refused code) new octets told h is = absurd cc
 starved_step piece n (step.Peer code) new octets told h is = absurd h.1
 starved_step piece n step.OutOfMemory new octets told h is = h.1
@@ -109,14 +135,28 @@ starved_step piece n step.Closed new octets told h is = absurd h.1
 err_is : (f g : ChannelFault) → ◌≡◌ {A = Result ServerEvent ChannelFault} (Err f) (Err g) → f ≡ g
 err_is f g e = cc
 
-pub starved_fault : (piece : List ℕ) (n : ℕ) (s : StepFault) (f : ChannelFault) (new : ServerChannel) (octets : List ℕ) (told : List Told) → EndNexts server_side piece n (Err s) new.end tt octets told → f ≡ of_step s → ◌≡◌ {A = Result ServerEvent ChannelFault} (Err f) (Err fault.OutOfMemory)
+pub starved_fault : (piece : List ℕ) (n : ℕ) (s : StepFault) (f : ChannelFault) (new : ServerChannel) (octets : List ℕ) (told : List Told)
+    → EndNexts server_side piece n (Err s) new.end tt octets told → f ≡ of_step s → ◌≡◌ {A = Result ServerEvent ChannelFault} (Err f) (Err fault.OutOfMemory)
     → StarvedAt new (octets ++ take n piece) told
 starved_fault piece n s f new octets told h is failed = starved_step piece n s new octets told h (sym is ∙ err_is f fault.OutOfMemory failed)
 
-pub done_by : (channel number : ℕ) (moment : DateTime) (answer : Result ServerEvent ChannelFault) (d : ServerChannel) (octets : List ℕ) (told : List Told) → answer ≡ Err fault.OutOfMemory → AnswersTo channel number moment answer d octets told → IsDone d
+pub done_by : (channel number : ℕ) (moment : DateTime) (answer : Result ServerEvent ChannelFault) (d : ServerChannel) (octets : List ℕ) (told : List Told)
+    → answer ≡ Err fault.OutOfMemory → AnswersTo channel number moment answer d octets told → IsDone d
 done_by channel number moment answer d octets told is h = subst (λ (a : Result ServerEvent ChannelFault). AnswersTo channel number moment a d octets told) is h
 
 -- with another bound
-pub starved_bound : (x new : ServerChannel) (bound : ℕ) (octets : List ℕ) (told : List Told) → new ≡ record x { end = record x.end { bound = bound } } → StarvedAt x octets told → StarvedAt new octets told
+pub starved_bound : (x new : ServerChannel) (bound : ℕ) (octets : List ℕ) (told : List Told) → new ≡ record x { end = record x.end { bound = bound } }
+    → StarvedAt x octets told → StarvedAt new octets told
 starved_bound x new bound octets told is s =
-    subst (λ (z : ServerChannel). StarvedAt z octets told) (sym is) (record { done = record { phase = s.done.phase; empty = s.done.empty }; frames = s.frames; rest = s.rest; whole = s.whole; good = s.good; told_is = s.told_is; header = s.header; sound = s.sound; within = s.within })
+    subst (λ (z : ServerChannel). StarvedAt z octets told) (sym is)
+    (record {
+      done = record { phase = s.done.phase; empty = s.done.empty };
+      frames = s.frames;
+      rest = s.rest;
+      whole = s.whole;
+      good = s.good;
+      told_is = s.told_is;
+      header = s.header;
+      sound = s.sound;
+      within = s.within;
+    })

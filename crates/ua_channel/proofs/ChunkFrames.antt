@@ -12,7 +12,8 @@ use Rattle.ua_chunk.specs.declared.lane.Lane.{Lane}
 use Rattle.ua_chunk.proofs.Pieces.{full_pieces}
 use Rattle.ua_channel.specs.ClientSends.{AreFramesOf, AreSized}
 
-pub header_sizes : (channel token sequence request : ℕ) (body : List ℕ) → length (token_header.canonical (channel, token) ++ (sequence_header.canonical (sequence, request) ++ body)) ≡ 16 + length body
+pub header_sizes : (channel token sequence request : ℕ) (body : List ℕ)
+    → length (token_header.canonical (channel, token) ++ (sequence_header.canonical (sequence, request) ++ body)) ≡ 16 + length body
 header_sizes channel token sequence request body =
     omega (
       arith,
@@ -36,7 +37,8 @@ sized_chunks lane s id (p ∷ []) full = omega (arith, chunk_size (chunk_of lane
 sized_chunks lane s id (p ∷ (q ∷ ps)) full = (omega (arith, chunk_size (chunk_of lane C s id p), full.0), sized_chunks lane (next_number s) id (q ∷ ps) full.1)
 
 -- the chunks of a body are whole frames, each but the last as long as there is room for
-pub chunks_framed : (lane : Lane) (body : List ℕ) (s id : ℕ) → 0 < lane.room → 0 < length body → AreFramesOf (24 + lane.room) (chunks_octets (chunks_of lane body s id))
+pub chunks_framed : (lane : Lane) (body : List ℕ) (s id : ℕ) → 0 < lane.room → 0 < length body
+    → AreFramesOf (24 + lane.room) (chunks_octets (chunks_of lane body s id))
 chunks_framed lane body s id pos some = record {
   frames = map frame_of (chunks_of lane body s id);
   whole = refl;

@@ -1,5 +1,6 @@
 -- What a client's channel that is open answers when it is asked, and where it then stands.
-use Rattle.std.proofs.Common.{◌≡◌, ℕ, ◌<◌, ◌+◌, List, [], ◌∷◌, ◌++◌, Bool, true, false, Option, Some, None, length, refl, sym, ◌∙◌, ap, subst, arith, leb, length-append}
+use Rattle.std.proofs.Common.{◌≡◌, ℕ, ◌<◌, ◌+◌, List, [], ◌∷◌, ◌++◌, Bool, true, false, Option, Some}
+use Rattle.std.proofs.Common.{None, length, refl, sym, ◌∙◌, ap, subst, arith, leb, length-append}
 use Rattle.std.specs.List.{AllByRecursion}
 use Rattle.ua_chunk.specs.declared.chunk.Chunk.{Chunk}
 use Rattle.ua_frame.specs.declared.limits.Limits.{Limits}
@@ -13,7 +14,8 @@ use Rattle.ua_channel.specs.declared.client.fault.AskFault.TheVariants.{TooManyP
 use Rattle.ua_channel.specs.ClientTokens.{opened_ids}
 use Rattle.ua_channel.specs.Received.{Received, listed}
 use Rattle.ua_channel.specs.declared.client.talking.Talking.{Talking}
-use Rattle.ua_channel.proofs.Askings.{counted_more, pending_calls-call, pending_calls-renewal, pending_renewals-call, pending_renewals-renewal, all-push, all-weaken}
+use Rattle.ua_channel.proofs.Askings.{counted_more, pending_calls-call, pending_calls-renewal}
+use Rattle.ua_channel.proofs.Askings.{pending_renewals-call, pending_renewals-renewal, all-push, all-weaken}
 
 -- ---- one call more
 
@@ -23,7 +25,8 @@ next_more asked a n is = omega (arith, is, length-append asked (a ∷ []))
 below_more : {X : Type 0} (id : X → ℕ) (n : ℕ) (xs : List X) → AllByRecursion (λ (x : X). id x < n) xs → AllByRecursion (λ (x : X). id x < n + 1) xs
 below_more {X = X} id n xs all = all-weaken (λ (x : X). id x < n) (λ (x : X). id x < n + 1) xs (λ x less. omega (arith, less)) all
 
-pub talks_call : (limits : Limits) (t new : Talking) (before : Received) (asked : List Asking) → Talks limits t before asked → new ≡ record t { pending = new.pending; next = t.next + 1 }
+pub talks_call : (limits : Limits) (t new : Talking) (before : Received) (asked : List Asking) → Talks limits t before asked
+    → new ≡ record t { pending = new.pending; next = t.next + 1 }
     → new.pending.items ≡ t.pending.items ++ t.next ∷ [] → length t.pending.items < 64 → Talks limits new before (asked ++ Call t.next ∷ [])
 talks_call limits t new before asked h is pending few =
     subst (λ (u : Talking). Talks limits u before (asked ++ Call t.next ∷ [])) (sym is) (record {
@@ -45,7 +48,8 @@ talks_call limits t new before asked h is pending few =
       chunks = h.chunks;
     })
 
-pub talks_renewal : (limits : Limits) (t new : Talking) (before : Received) (asked : List Asking) → Talks limits t before asked → new ≡ record t { renewal = Some t.next; next = t.next + 1 } → t.renewal ≡ None
+pub talks_renewal : (limits : Limits) (t new : Talking) (before : Received) (asked : List Asking) → Talks limits t before asked
+    → new ≡ record t { renewal = Some t.next; next = t.next + 1 } → t.renewal ≡ None
     → Talks limits new before (asked ++ Renewal t.next ∷ [])
 talks_renewal limits t new before asked h is none =
     subst (λ (u : Talking). Talks limits u before (asked ++ Renewal t.next ∷ [])) (sym is) (record {
@@ -70,7 +74,8 @@ talks_renewal limits t new before asked h is none =
     })
 
 -- nothing but the room of the list of pending calls changed
-pub talks_as_before : (limits : Limits) (t new : Talking) (before : Received) (asked : List Asking) → Talks limits t before asked → AsBefore t new → Talks limits new before asked
+pub talks_as_before : (limits : Limits) (t new : Talking) (before : Received) (asked : List Asking) → Talks limits t before asked → AsBefore t new
+    → Talks limits new before asked
 talks_as_before limits t new before asked h same =
     subst (λ (u : Talking). Talks limits u before asked) (sym same.rest) (record {
       ack_is = h.ack_is;
@@ -99,7 +104,8 @@ first_unset a false rs e = refl
 
 pub few_calls : (t : Talking) → first_reason (more_reasons t 0) ≡ None → length t.pending.items < 64
 few_calls t e =
-    let few : leb 64 (length t.pending.items + 0) ≡ false = first_unset TooManyPending (leb 64 (length t.pending.items + 0)) ((Exhausted, leb 4294967295 (t.next + 0)) ∷ []) e in
+    let few : leb 64 (length t.pending.items + 0) ≡ false = first_unset TooManyPending (leb 64 (length t.pending.items + 0))
+    ((Exhausted, leb 4294967295 (t.next + 0)) ∷ []) e in
     grind (few, arith)
 
 none_by : {A : Type 0} (o : Option A) → is_some o ≡ false → o ≡ None
@@ -107,4 +113,6 @@ none_by None e = refl
 none_by (Some a) e = absurd cc
 
 pub no_renewal : (t : Talking) → first_reason (renew_reasons t) ≡ None → t.renewal ≡ None
-no_renewal t e = none_by t.renewal (first_unset RenewPending (is_some t.renewal) ((TooManyTokens, leb 16 (length t.tokens.items)) ∷ (Exhausted, leb 4294967295 t.next) ∷ []) e)
+no_renewal t e =
+    none_by t.renewal (first_unset RenewPending (is_some t.renewal) ((TooManyTokens, leb 16 (length t.tokens.items)) ∷ (Exhausted, leb 4294967295 t.next) ∷ [])
+    e)

@@ -11,7 +11,8 @@ use Rattle.ua_chunk.specs.declared.delivered.Delivered.{Delivered}
 use Rattle.ua_chunk.specs.declared.fault.AssembleFault.{AssembleFault}
 use Rattle.ua_chunk.specs.declared.fault.AssembleFault.TheVariants.{Sequence, Unreadable, TooManyOpen, MessageTooLarge, TooManyChunks, OutOfMemory, Closed}
 use Rattle.ua_channel.proofs.MessageParts.{ends_in}
-use Rattle.ua_channel.specs.inside.ClientParts.{IsStopFor, Judged, why_of, refused_reasons, unasked_reasons, known_reasons, IsAccepted, IsDeliveredWith, IsTakenWith, left_behind}
+use Rattle.ua_channel.specs.inside.ClientParts.{IsStopFor, Judged, why_of, refused_reasons, unasked_reasons}
+use Rattle.ua_channel.specs.inside.ClientParts.{known_reasons, IsAccepted, IsDeliveredWith, IsTakenWith, left_behind}
 use Rattle.ua_channel.specs.inside.ClientEvents.{event_parts}
 use Rattle.ua_channel.specs.inside.StepFaults.{of_chunk_fault}
 use Rattle.ua_channel.specs.ClientTokens.{from_last}
@@ -30,7 +31,8 @@ stops_among rs ss (stop.Peer code) h = first_among rs ss (record { code = code.c
 stops_among rs ss stop.OutOfMemory h = tt
 stops_among rs ss stop.Closed h = h
 
-pub judged_behind : {A : Type 0} (rs ss : List (Why × Bool)) (P Q : A → Type 0) (r : Result A StepFault) → first_reason rs ≡ None → ((a : A) → P a → Q a) → Judged ss P r → Judged (rs ++ ss) Q r
+pub judged_behind : {A : Type 0} (rs ss : List (Why × Bool)) (P Q : A → Type 0) (r : Result A StepFault) → first_reason rs ≡ None → ((a : A) → P a → Q a)
+    → Judged ss P r → Judged (rs ++ ss) Q r
 judged_behind rs ss P Q r none more h = judged_same ss (rs ++ ss) P Q r (first_behind rs ss none) (λ a first p. more a p) h
 
 -- ---- the assembler
@@ -38,7 +40,8 @@ judged_behind rs ss P Q r none more h = judged_same ss (rs ++ ss) P Q r (first_b
 pub accepts : (rs : List (AssembleFault × Bool)) → first_reason rs ≡ None → first_reason (map (renamed_reason why_of) rs) ≡ None
 accepts rs none = first_reason-map why_of rs ∙ ap (option_map why_of) none
 
-pub refuses : (rs : List (AssembleFault × Bool)) (fault : AssembleFault) → IsFor (first_reason rs) fault → IsStopFor (map (renamed_reason why_of) rs) (of_chunk_fault 0x80B9_0000 fault)
+pub refuses : (rs : List (AssembleFault × Bool)) (fault : AssembleFault) → IsFor (first_reason rs) fault
+    → IsStopFor (map (renamed_reason why_of) rs) (of_chunk_fault 0x80B9_0000 fault)
 refuses rs Sequence h = first_reason-map why_of rs ∙ ap (option_map why_of) h
 refuses rs Unreadable h = first_reason-map why_of rs ∙ ap (option_map why_of) h
 refuses rs TooManyOpen h = first_reason-map why_of rs ∙ ap (option_map why_of) h
@@ -69,8 +72,10 @@ module _ (old mid new : Talking) (cs : List Chunk) (c : Chunk) (d : Option Deliv
       parts = ends_in cs c d (event_parts e) h.event_is.parts acc.parts_are;
     }
 
-  pub known_judged : (r : Result (Option Event) StepFault) → first_reason (refused_reasons old cs c) ≡ None → Judged (unasked_reasons mid c.request) (IsDeliveredWith mid c.request c.token (ends c) d new) r
+  pub known_judged : (r : Result (Option Event) StepFault) → first_reason (refused_reasons old cs c) ≡ None
+      → Judged (unasked_reasons mid c.request) (IsDeliveredWith mid c.request c.token (ends c) d new) r
       → Judged (known_reasons old cs c) (IsTakenWith old cs c new) r
   known_judged r none j =
-      judged_behind (refused_reasons old cs c) (unasked_reasons old c.request) (IsDeliveredWith mid c.request c.token (ends c) d new) (IsTakenWith old cs c new) r none both_taken
+      judged_behind (refused_reasons old cs c) (unasked_reasons old c.request) (IsDeliveredWith mid c.request c.token (ends c) d new) (IsTakenWith old cs c new)
+      r none both_taken
       (subst (λ (t : Talking). Judged (unasked_reasons t c.request) (IsDeliveredWith mid c.request c.token (ends c) d new) r) acc.new_is j)

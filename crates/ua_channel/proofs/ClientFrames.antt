@@ -1,5 +1,6 @@
 -- The frames that a client sends, as what stands in front of them and what is in them.
-use Rattle.std.proofs.Common.{◌≡◌, ℕ, ◌<◌, ◌+◌, ◌^◌, Bool, true, false, ◌&&◌, List, ◌∷◌, ◌++◌, Option, Some, None, IsTrue, length, sym, ◌∙◌, ap, arith, ltb, append_assoc, length-append}
+use Rattle.std.proofs.Common.{◌≡◌, ℕ, ◌<◌, ◌+◌, ◌^◌, Bool, true, false, ◌&&◌, List, ◌∷◌, ◌++◌, Option, Some}
+use Rattle.std.proofs.Common.{None, IsTrue, length, sym, ◌∙◌, ap, arith, ltb, append_assoc, length-append}
 use Rattle.std.specs.Str.{is_utf8}
 use Rattle.ua_wire.specs.Counted.{counted, text, null_count}
 use Rattle.ua_wire.specs.Number.{number_octets}
@@ -42,9 +43,15 @@ unfolding hello
 hello_length limits url =
     omega (
       arith,
-      length-append (number_octets 4 0) (number_octets 4 limits.receive_buffer_size ++ (number_octets 4 limits.send_buffer_size ++ (number_octets 4 limits.max_message_size ++ (number_octets 4 limits.max_chunk_count ++ text.canonical url)))),
-      length-append (number_octets 4 limits.receive_buffer_size) (number_octets 4 limits.send_buffer_size ++ (number_octets 4 limits.max_message_size ++ (number_octets 4 limits.max_chunk_count ++ text.canonical url))),
-      length-append (number_octets 4 limits.send_buffer_size) (number_octets 4 limits.max_message_size ++ (number_octets 4 limits.max_chunk_count ++ text.canonical url)),
+      length-append (number_octets 4 0)
+          (number_octets 4 limits.receive_buffer_size
+          ++ (number_octets 4 limits.send_buffer_size
+          ++ (number_octets 4 limits.max_message_size ++ (number_octets 4 limits.max_chunk_count ++ text.canonical url)))),
+      length-append (number_octets 4 limits.receive_buffer_size)
+          (number_octets 4 limits.send_buffer_size
+          ++ (number_octets 4 limits.max_message_size ++ (number_octets 4 limits.max_chunk_count ++ text.canonical url))),
+      length-append (number_octets 4 limits.send_buffer_size)
+          (number_octets 4 limits.max_message_size ++ (number_octets 4 limits.max_chunk_count ++ text.canonical url)),
       length-append (number_octets 4 limits.max_message_size) (number_octets 4 limits.max_chunk_count ++ text.canonical url),
       length-append (number_octets 4 limits.max_chunk_count) (text.canonical url),
       length-number_octets 4 0,
@@ -55,7 +62,8 @@ hello_length limits url =
       text_length url,
     )
 
-pub hello_framed : (limits : Limits) (url : Option (List ℕ)) (size : ℕ) → size ≡ 32 + url_length url → (kind_octets Hel ++ 70 ∷ number_octets 4 size) ++ hello.canonical (hello_to limits url) ≡ frame_octets (hello_frame (hello_to limits url))
+pub hello_framed : (limits : Limits) (url : Option (List ℕ)) (size : ℕ) → size ≡ 32 + url_length url
+    → (kind_octets Hel ++ 70 ∷ number_octets 4 size) ++ hello.canonical (hello_to limits url) ≡ frame_octets (hello_frame (hello_to limits url))
 unfolding frame_octets
 hello_framed limits url size is =
     let same : size ≡ 8 + length (hello.canonical (hello_to limits url)) = omega (arith, is, hello_length limits url) in
@@ -67,7 +75,8 @@ numbers_length n m = omega (arith, length-append (number_octets 4 n) (number_oct
 -- ---- CLO
 
 pub closing_framed : (channel token number id : ℕ) (moment : DateTime) → length ((message 452 close_request).canonical (close_request_of moment 0)) ≡ 33
-    → closing_front channel token number id ++ (message 452 close_request).canonical (close_request_of moment 0) ≡ frame_octets (close_frame channel token number id moment)
+    → closing_front channel token number id ++ (message 452 close_request).canonical (close_request_of moment 0)
+    ≡ frame_octets (close_frame channel token number id moment)
 unfolding frame_octets
 closing_framed channel token number id moment e =
     let tokens = token_header.canonical (channel, token) in

@@ -41,8 +41,15 @@ use Rattle.ua_channel.proofs.ClientTalks.{no_responses}
 
 -- ---- an opening
 
-pub opening_takes : (limits : Limits) (g : Agreed) (c : Content) (t : Talking) (bound : ℕ) → bound ≡ client_bound_behind limits (Some g.ack) → IsOpenedBy limits g c t → TookFrame limits (greeted g) [] c (Open t) bound (Some (event.Opened t.channel t.newest))
-opening_takes limits g c t bound bound_is h = record { tells = h.tells; parts = tt; phase_is = h.talks; bound_is = bound_is ∙ sym (ap (client_bound_behind limits) h.ack_is) }
+pub opening_takes : (limits : Limits) (g : Agreed) (c : Content) (t : Talking) (bound : ℕ) → bound ≡ client_bound_behind limits (Some g.ack)
+    → IsOpenedBy limits g c t → TookFrame limits (greeted g) [] c (Open t) bound (Some (event.Opened t.channel t.newest))
+opening_takes limits g c t bound bound_is h = record {
+  tells = h.tells;
+  parts = tt;
+  phase_is = h.talks;
+  bound_is = bound_is
+      ∙ sym (ap (client_bound_behind limits) h.ack_is);
+}
 
 -- ---- any frame
 
@@ -53,11 +60,15 @@ gate_in limits (AgreedTo g) before asked h = sym (ap client_gate h.0 ∙ ap (gat
 gate_in limits (Open t) before asked h = sym (gate_talking limits t before asked h)
 gate_in limits Done before asked h = absurd h
 
-let_in_phase : (limits : Limits) (p : Phase) (before : Received) (asked : List Asking) (f : Frame) → InPhase limits p before asked → LetsIn (client_gate before) f → LetsIn (client_phase_gate p) f
+let_in_phase : (limits : Limits) (p : Phase) (before : Received) (asked : List Asking) (f : Frame) → InPhase limits p before asked
+    → LetsIn (client_gate before) f → LetsIn (client_phase_gate p) f
 let_in_phase limits p before asked f h l = subst (λ (g : Gate). LetsIn g f) (sym (gate_in limits p before asked h)) l
 
-module _ (limits : Limits) (p : Phase) (before : Received) (asked : List Asking) (f : Frame) (q : Phase) (bound : ℕ) (r : Result (Option Event) StepFault) (in_phase : InPhase limits p before asked) (let_in : LetsIn (client_gate before) f) where
-  pub agreed_judged : (g : Agreed) → p ≡ AgreedTo g → (client_bound_behind limits before.ack ≡ client_bound_behind limits (Some g.ack) → LetsIn (answer_gate g.ack.send_buffer_size) f → Judged (client_reasons limits (greeted g) [] (content f)) (TookFrame limits (greeted g) [] (content f) q bound) r)
+module _ (limits : Limits) (p : Phase) (before : Received) (asked : List Asking) (f : Frame) (q : Phase) (bound : ℕ) (r : Result (Option Event) StepFault)
+    (in_phase : InPhase limits p before asked) (let_in : LetsIn (client_gate before) f) where
+  pub agreed_judged : (g : Agreed) → p ≡ AgreedTo g
+      → (client_bound_behind limits before.ack ≡ client_bound_behind limits (Some g.ack) → LetsIn (answer_gate g.ack.send_buffer_size) f
+      → Judged (client_reasons limits (greeted g) [] (content f)) (TookFrame limits (greeted g) [] (content f) q bound) r)
       → Judged (client_reasons limits before asked (content f)) (TookFrame limits before asked (content f) q bound) r
   agreed_judged g is h =
       let here : InPhase limits (AgreedTo g) before asked = subst (λ (w : Phase). InPhase limits w before asked) is in_phase in
@@ -66,12 +77,20 @@ module _ (limits : Limits) (p : Phase) (before : Received) (asked : List Asking)
       (h (ap (λ (b : Received). client_bound_behind limits b.ack) here.0) (let_in_phase limits (AgreedTo g) before asked f here let_in)))
 
   pub open_judged : (t u : Talking) → p ≡ Open t → q ≡ Open u → bound ≡ client_bound_behind limits before.ack
-      → (Talks limits t before asked → LetsIn (reply_gate t.agreed.ack.send_buffer_size) f → Judged (client_reasons limits before asked (content f)) (TakesFrame limits before asked (content f) u) r)
+      → (Talks limits t before asked → LetsIn (reply_gate t.agreed.ack.send_buffer_size) f
+      → Judged (client_reasons limits before asked (content f)) (TakesFrame limits before asked (content f) u) r)
       → Judged (client_reasons limits before asked (content f)) (TookFrame limits before asked (content f) q bound) r
   open_judged t u is now bound_is h =
       let here : InPhase limits (Open t) before asked = subst (λ (w : Phase). InPhase limits w before asked) is in_phase in
-      judged_same (client_reasons limits before asked (content f)) (client_reasons limits before asked (content f)) (TakesFrame limits before asked (content f) u) (TookFrame limits before asked (content f) q bound) r refl
-      (λ e none w. record { tells = w.tells; parts = w.parts; phase_is = subst (λ (v : Phase). InPhase limits v (after before (content f)) asked) (sym now) w.talks; bound_is = bound_is ∙ sym (ap (client_bound_behind limits) w.ack_is) })
+      judged_same (client_reasons limits before asked (content f)) (client_reasons limits before asked (content f))
+      (TakesFrame limits before asked (content f) u) (TookFrame limits before asked (content f) q bound) r refl
+      (λ e none w.
+      record {
+        tells = w.tells;
+        parts = w.parts;
+        phase_is = subst (λ (v : Phase). InPhase limits v (after before (content f)) asked) (sym now) w.talks;
+        bound_is = bound_is ∙ sym (ap (client_bound_behind limits) w.ack_is);
+      })
       (h here (let_in_phase limits (Open t) before asked f here let_in))
 
 -- ---- as at any end
@@ -93,12 +112,15 @@ never_last None = refl
 never_last (Some e) = refl
 
 module _ (r : ClientRules) (asks : List Placed) (frames : List Frame) (f : Frame) (p : Phase) (bound : ℕ) where
-  behind_is : (e : Option Event) → InPhase r.limits p (received (frames ++ f ∷ [])) (asked_in asks) → IsBehind client_side (closes_by client_side e) r asks p (frames ++ f ∷ [])
+  behind_is : (e : Option Event) → InPhase r.limits p (received (frames ++ f ∷ [])) (asked_in asks)
+      → IsBehind client_side (closes_by client_side e) r asks p (frames ++ f ∷ [])
   behind_is None h = h
   behind_is (Some e) h = h
 
-  judged_so : (answer : Result (Option Event) StepFault) → refusal (client_rules r.limits asks) frames f ≡ first_reason (client_reasons r.limits (received frames) (asked_in asks) (content f))
-      → Judged (client_reasons r.limits (received frames) (asked_in asks) (content f)) (TookFrame r.limits (received frames) (asked_in asks) (content f) p bound) answer → JudgesNext client_side r asks frames f p bound answer
+  judged_so : (answer : Result (Option Event) StepFault)
+      → refusal (client_rules r.limits asks) frames f ≡ first_reason (client_reasons r.limits (received frames) (asked_in asks) (content f))
+      → Judged (client_reasons r.limits (received frames) (asked_in asks) (content f))
+      (TookFrame r.limits (received frames) (asked_in asks) (content f) p bound) answer → JudgesNext client_side r asks frames f p bound answer
   judged_so (Ok e) so j = record {
     accepted = so ∙ j.0;
     tells = j.1.tells ∙ list_is e;
@@ -114,10 +136,12 @@ module _ (r : ClientRules) (asks : List Placed) (frames : List Frame) (f : Frame
 
 -- what is made of a frame that comes next
 pub judged : (r : ClientRules) (old p : Phase) (was bound : ℕ) (f : Frame) (answer : Result (Option Event) StepFault)
-    → ((before : Received) (asked : List Asking) → InPhase r.limits old before asked → was ≡ client_bound_behind r.limits before.ack → LetsIn (client_gate before) f
+    → ((before : Received) (asked : List Asking) → InPhase r.limits old before asked → was ≡ client_bound_behind r.limits before.ack
+    → LetsIn (client_gate before) f
     → Judged (client_reasons r.limits before asked (content f)) (TookFrame r.limits before asked (content f) p bound) answer)
     → (asks : List Placed) (frames : List Frame) → ComesNext client_side r asks old was frames f → JudgesNext client_side r asks frames f p bound answer
 judged r old p was bound f answer judges asks frames next =
     judged_so r asks frames f p bound answer
-    (ap (λ (asked : List Asking). first_reason (client_reasons r.limits (received frames) asked (content f))) (asked_before-all (end_of frames f) next.came asks next.later next.placed))
+    (ap (λ (asked : List Asking). first_reason (client_reasons r.limits (received frames) asked (content f)))
+    (asked_before-all (end_of frames f) next.came asks next.later next.placed))
     (judges (received frames) (asked_in asks) next.holds next.bound_is next.let_in)

@@ -11,8 +11,10 @@ use Rattle.ua_frame.specs.Frames.{frame_octets}
 use Rattle.ua_chunk.specs.declared.chunk.Chunk.{Chunk}
 use Rattle.ua_opening.specs.declared.secure_channel.OpenResponse.{OpenResponse}
 use Rattle.ua_channel.specs.Asks.{Asking, Placed, asked_in, next_id, pending_calls, pending_renewals}
-use Rattle.ua_channel.specs.Client.{InPhase, IsCall, IsClosing, IsNotOpen, IsRenewal, ClientStands, ask_refusal, close_refusal, client_limits, phase_of, refusal_in, renew_refusal, talking_in}
-use Rattle.ua_channel.specs.ClientAsks.{Calls, IsCalled, IsClosed, IsRenewed, JudgesBy, Renews, Talks, ask_reasons, call_reasons, closing_octets, closing_reasons, has_no_channel, is_too_large, reasons_of_call, reasons_of_renewal, renew_reasons, renewing_reasons}
+use Rattle.ua_channel.specs.Client.{InPhase, IsCall, IsClosing, IsNotOpen, IsRenewal, ClientStands, ask_refusal}
+use Rattle.ua_channel.specs.Client.{close_refusal, client_limits, phase_of, refusal_in, renew_refusal, talking_in}
+use Rattle.ua_channel.specs.ClientAsks.{Calls, IsCalled, IsClosed, IsRenewed, JudgesBy, Renews, Talks, ask_reasons, call_reasons, closing_octets}
+use Rattle.ua_channel.specs.ClientAsks.{closing_reasons, has_no_channel, is_too_large, reasons_of_call, reasons_of_renewal, renew_reasons, renewing_reasons}
 use Rattle.ua_channel.specs.ClientSends.{close_frame}
 use Rattle.ua_channel.specs.ClientTable.{of_ack}
 use Rattle.ua_channel.specs.ClientTokens.{channel_in, held_tokens, opened_ids, responses}
@@ -44,13 +46,15 @@ some_listed (Some n) = refl
 
 module _ (limits : Limits) (before : Received) (asked : List Asking) where
   -- what an open channel sends
-  open_sends : (p : Phase) (P : Talking → Type 0) → InPhase limits p before asked → MatchOption (talking_in p) ⊥ P → (t : Talking) × Talks limits t before asked × P t
+  open_sends : (p : Phase) (P : Talking → Type 0) → InPhase limits p before asked → MatchOption (talking_in p) ⊥ P → (t : Talking) × Talks limits t before asked
+      × P t
   open_sends Waiting P h c = absurd c
   open_sends (Agreed a) P h c = absurd c
   open_sends (Open t) P h c = (t, h, c)
   open_sends Done P h c = absurd c
 
-  pub call_sent : (p : Phase) (number : ℕ) (body : List ℕ) (id : ℕ) (out : List ℕ) (next : ℕ) → InPhase limits p before asked → IsCall p number body id out next → IsCalled before asked number body id out next
+  pub call_sent : (p : Phase) (number : ℕ) (body : List ℕ) (id : ℕ) (out : List ℕ) (next : ℕ) → InPhase limits p before asked → IsCall p number body id out next
+      → IsCalled before asked number body id out next
   call_sent p number body id out next h c =
       let o = open_sends p (λ (t : Talking). Calls t number body id out next) h c in
       record {
@@ -63,13 +67,15 @@ module _ (limits : Limits) (before : Received) (asked : List Asking) where
         next_is = o.2.next_is;
       }
 
-  pub renewal_sent : (p : Phase) (number : ℕ) (moment : DateTime) (id : ℕ) (out : List ℕ) (next : ℕ) → InPhase limits p before asked → IsRenewal p number moment id out next
+  pub renewal_sent : (p : Phase) (number : ℕ) (moment : DateTime) (id : ℕ) (out : List ℕ) (next : ℕ) → InPhase limits p before asked
+      → IsRenewal p number moment id out next
       → IsRenewed before asked number moment id out next
   renewal_sent p number moment id out next h c =
       let o = open_sends p (λ (t : Talking). Renews t number moment id out next) h c in
       record { channel = o.0.channel; channel_is = o.1.channel_is; id_is = o.2.id_is ∙ o.1.next_is; out_is = o.2.out_is; next_is = o.2.next_is }
 
-  pub close_sent : (p : Phase) (number : ℕ) (moment : DateTime) (out : List ℕ) → InPhase limits p before asked → IsClosing p number moment out → IsClosed before asked number moment out
+  pub close_sent : (p : Phase) (number : ℕ) (moment : DateTime) (out : List ℕ) → InPhase limits p before asked → IsClosing p number moment out
+      → IsClosed before asked number moment out
   close_sent p number moment out h c =
       let o = open_sends p (λ (t : Talking). out ≡ closing_octets t number moment) h c in
       record {
@@ -85,27 +91,34 @@ module _ (limits : Limits) (before : Received) (asked : List Asking) where
   shut_there reasons none = sym (first_set NotOpen (has_no_channel before) reasons (ap (λ (rs : List OpenResponse). is_none (channel_in rs)) none))
 
   judged_by : (p : Phase) (kept : Talking → List (AskFault × Bool)) (reasons : List (AskFault × Bool)) → InPhase limits p before asked
-      → ((t : Talking) → Talks limits t before asked → first_reason (kept t) ≡ first_reason reasons) → refusal_in (talking_in p) kept ≡ first_reason ((NotOpen, has_no_channel before) ∷ reasons)
+      → ((t : Talking) → Talks limits t before asked → first_reason (kept t) ≡ first_reason reasons)
+      → refusal_in (talking_in p) kept ≡ first_reason ((NotOpen, has_no_channel before) ∷ reasons)
   judged_by Waiting kept reasons h same = shut_there reasons (ap (λ (b : Received). responses b.openings) h.0 ∙ no_responses)
   judged_by (Agreed a) kept reasons h same = shut_there reasons (ap (λ (b : Received). responses b.openings) h.0 ∙ no_responses)
   judged_by (Open t) kept reasons h same = same t h ∙ sym (first_skip NotOpen (has_no_channel before) reasons (ap is_none h.channel_is))
   judged_by Done kept reasons h same = absurd h
 
-  pub call_judged : (p : Phase) (more : ℕ) (body : List ℕ) → InPhase limits p before asked → ask_refusal p more body ≡ first_reason (call_reasons before asked more body)
+  pub call_judged : (p : Phase) (more : ℕ) (body : List ℕ) → InPhase limits p before asked
+      → ask_refusal p more body ≡ first_reason (call_reasons before asked more body)
   call_judged p more body h =
-      judged_by p (λ (t : Talking). ask_reasons t more body) (reasons_of_call (length (pending_calls before.messages asked) + more) (next_id asked + more) (of_ack (λ (a : Ack). is_too_large a body) before.ack)) h
+      judged_by p (λ (t : Talking). ask_reasons t more body) (reasons_of_call (length (pending_calls before.messages asked) + more) (next_id asked + more)
+      (of_ack (λ (a : Ack). is_too_large a body) before.ack)) h
       (λ t k.
       ap (λ (n : ℕ). first_reason (reasons_of_call (n + more) (t.next + more) (is_too_large t.agreed.ack body))) (ap length k.pending_are)
-      ∙ (ap (λ (n : ℕ). first_reason (reasons_of_call (length (pending_calls before.messages asked) + more) (n + more) (is_too_large t.agreed.ack body))) k.next_is
-      ∙ ap (λ (b : Bool). first_reason (reasons_of_call (length (pending_calls before.messages asked) + more) (next_id asked + more) b)) (sym (ap (of_ack (λ (a : Ack). is_too_large a body)) k.ack_is))))
+      ∙ (ap (λ (n : ℕ). first_reason (reasons_of_call (length (pending_calls before.messages asked) + more) (n + more) (is_too_large t.agreed.ack body)))
+      k.next_is
+      ∙ ap (λ (b : Bool). first_reason (reasons_of_call (length (pending_calls before.messages asked) + more) (next_id asked + more) b))
+      (sym (ap (of_ack (λ (a : Ack). is_too_large a body)) k.ack_is))))
 
   pub renewal_judged : (p : Phase) → InPhase limits p before asked → renew_refusal p ≡ first_reason (renewing_reasons before asked)
   renewal_judged p h =
-      judged_by p renew_reasons (reasons_of_renewal (has_some (pending_renewals (opened_ids before.openings) asked)) (length (held_tokens before)) (next_id asked)) h
+      judged_by p renew_reasons (reasons_of_renewal (has_some (pending_renewals (opened_ids before.openings) asked)) (length (held_tokens before))
+      (next_id asked)) h
       (λ t k.
       ap (λ (b : Bool). first_reason (reasons_of_renewal b (length t.tokens.items) t.next)) (some_listed t.renewal ∙ ap has_some k.renewal_is)
       ∙ (ap (λ (n : ℕ). first_reason (reasons_of_renewal (has_some (pending_renewals (opened_ids before.openings) asked)) n t.next)) (ap length k.tokens_are)
-      ∙ ap (λ (n : ℕ). first_reason (reasons_of_renewal (has_some (pending_renewals (opened_ids before.openings) asked)) (length (held_tokens before)) n)) k.next_is))
+      ∙ ap (λ (n : ℕ). first_reason (reasons_of_renewal (has_some (pending_renewals (opened_ids before.openings) asked)) (length (held_tokens before)) n))
+      k.next_is))
 
   pub close_judged : (p : Phase) → InPhase limits p before asked → close_refusal p ≡ first_reason (closing_reasons before)
   close_judged p h = judged_by p (λ (t : Talking). []) [] h (λ t k. refl)
@@ -152,13 +165,16 @@ module _ (x : ClientChannel) (asks : List Placed) (octets : List ℕ) (frames : 
   -- where no channel is open
   module _ (shut : (t : Talking) → phase_of x ≡ Open t → ⊥) where
     pub call_closed : (more : ℕ) (body : List ℕ) → first_reason (call_reasons (received frames) (asked_in asks) more body) ≡ Some NotOpen
-    call_closed more body = sym (call_judged (client_limits x) (received frames) (asked_in asks) (phase_of x) more body s.phase_is) ∙ asks_nothing (phase_of x) more body (none_open (phase_of x) shut)
+    call_closed more body = sym (call_judged (client_limits x) (received frames) (asked_in asks) (phase_of x) more body s.phase_is)
+        ∙ asks_nothing (phase_of x) more body (none_open (phase_of x) shut)
 
     pub renewal_closed : first_reason (renewing_reasons (received frames) (asked_in asks)) ≡ Some NotOpen
-    renewal_closed = sym (renewal_judged (client_limits x) (received frames) (asked_in asks) (phase_of x) s.phase_is) ∙ renews_nothing (phase_of x) (none_open (phase_of x) shut)
+    renewal_closed = sym (renewal_judged (client_limits x) (received frames) (asked_in asks) (phase_of x) s.phase_is)
+        ∙ renews_nothing (phase_of x) (none_open (phase_of x) shut)
 
     pub close_closed : first_reason (closing_reasons (received frames)) ≡ Some NotOpen
-    close_closed = sym (close_judged (client_limits x) (received frames) (asked_in asks) (phase_of x) s.phase_is) ∙ (closes_nothing (phase_of x)).0 (none_open (phase_of x) shut)
+    close_closed = sym (close_judged (client_limits x) (received frames) (asked_in asks) (phase_of x) s.phase_is)
+        ∙ (closes_nothing (phase_of x)).0 (none_open (phase_of x) shut)
 
   -- where one is
   module _ (t : Talking) (is : phase_of x ≡ Open t) where
@@ -168,16 +184,19 @@ module _ (x : ClientChannel) (asks : List Placed) (octets : List ℕ) (frames : 
     pub call_at : (more : ℕ) (body : List ℕ) → first_reason (ask_reasons t more body) ≡ first_reason (call_reasons (received frames) (asked_in asks) more body)
     call_at more body = call_judged (client_limits x) (received frames) (asked_in asks) (Open t) more body at_open
 
-    pub called_at : (number : ℕ) (body : List ℕ) (id : ℕ) (out : List ℕ) (next : ℕ) → Calls t number body id out next → IsCalled (received frames) (asked_in asks) number body id out next
+    pub called_at : (number : ℕ) (body : List ℕ) (id : ℕ) (out : List ℕ) (next : ℕ) → Calls t number body id out next
+        → IsCalled (received frames) (asked_in asks) number body id out next
     called_at number body id out next c = call_sent (client_limits x) (received frames) (asked_in asks) (Open t) number body id out next at_open c
 
     pub renewal_at : first_reason (renew_reasons t) ≡ first_reason (renewing_reasons (received frames) (asked_in asks))
     renewal_at = renewal_judged (client_limits x) (received frames) (asked_in asks) (Open t) at_open
 
-    pub renewed_at : (number : ℕ) (moment : DateTime) (id : ℕ) (out : List ℕ) (next : ℕ) → Renews t number moment id out next → IsRenewed (received frames) (asked_in asks) number moment id out next
+    pub renewed_at : (number : ℕ) (moment : DateTime) (id : ℕ) (out : List ℕ) (next : ℕ) → Renews t number moment id out next
+        → IsRenewed (received frames) (asked_in asks) number moment id out next
     renewed_at number moment id out next c = renewal_sent (client_limits x) (received frames) (asked_in asks) (Open t) number moment id out next at_open c
 
 -- what is judged of a length, for another reason that is the same
-pub judges_as : (f g : List ℕ → Option AskFault) (len : ℕ) (r : Result (Unit {0}) AskFault) → ((body : List ℕ) → f body ≡ g body) → JudgesBy f len r → JudgesBy g len r
+pub judges_as : (f g : List ℕ → Option AskFault) (len : ℕ) (r : Result (Unit {0}) AskFault) → ((body : List ℕ) → f body ≡ g body) → JudgesBy f len r
+    → JudgesBy g len r
 judges_as f g len (Ok found) same j = λ body is. sym (same body) ∙ j body is
 judges_as f g len (Err fault) same j = λ body is. sym (same body) ∙ j body is

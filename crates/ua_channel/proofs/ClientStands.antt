@@ -28,7 +28,8 @@ use Rattle.ua_channel.proofs.OneFrameMore.{received-nil}
 
 -- ---- a channel that is made
 
-pub stands_first : (x : EndCore ClientRules Phase) (gate : Gate) → x.reader ≡ open_reader gate [] → gate ≡ ack_gate → x.phase ≡ Waiting → x.bound ≡ 8192 → EndStands client_side x [] [] [] []
+pub stands_first : (x : EndCore ClientRules Phase) (gate : Gate) → x.reader ≡ open_reader gate [] → gate ≡ ack_gate → x.phase ≡ Waiting → x.bound ≡ 8192
+    → EndStands client_side x [] [] [] []
 stands_first x gate reader is phase bound = record {
   run = run_nil (client_rules x.rules.limits []) refl;
   placed = tt;
@@ -39,12 +40,14 @@ stands_first x gate reader is phase bound = record {
 
 -- ---- an open channel that is asked
 
-module _ (x y : ClientChannel) (t u : Talking) (asks : List Placed) (octets : List ℕ) (frames : List Frame) (rest : List ℕ) (was : phase_of x ≡ Open t) (h : ClientStands x asks octets frames rest) where
+module _ (x y : ClientChannel) (t u : Talking) (asks : List Placed) (octets : List ℕ) (frames : List Frame) (rest : List ℕ) (was : phase_of x ≡ Open t)
+    (h : ClientStands x asks octets frames rest) where
   pub talks_at : Talks (client_limits x) t (received frames) (asked_in asks)
   talks_at = subst (λ (p : Phase). InPhase (client_limits x) p (received frames) (asked_in asks)) was h.phase_is
 
   -- with one ask more at this place
-  pub stands_asked : (a : Asking) → y ≡ record x { end = record x.end { phase = Open u; numbers = y.end.numbers } } → Talks (client_limits x) u (received frames) (asked_in asks ++ a ∷ []) → ClientStands y (asks ++ (length octets, a) ∷ []) octets frames rest
+  pub stands_asked : (a : Asking) → y ≡ record x { end = record x.end { phase = Open u; numbers = y.end.numbers } }
+      → Talks (client_limits x) u (received frames) (asked_in asks ++ a ∷ []) → ClientStands y (asks ++ (length octets, a) ∷ []) octets frames rest
   stands_asked a is talks =
       subst (λ (z : ClientChannel). ClientStands z (asks ++ (length octets, a) ∷ []) octets frames rest) (sym is) (record {
         run = asked_later (client_limits x) asks (length octets, a) octets frames rest (omega arith) h.run;
@@ -71,6 +74,8 @@ pub gate_some : (size n : ℕ) (rs : List OpenResponse) → channel_in rs ≡ So
 gate_some size n [] e = absurd cc
 gate_some size n (r ∷ rs) e = refl
 
-pub gate_talking : (limits : Limits) (t : Talking) (before : Received) (asked : List Asking) → Talks limits t before asked → client_gate before ≡ reply_gate t.agreed.ack.send_buffer_size
+pub gate_talking : (limits : Limits) (t : Talking) (before : Received) (asked : List Asking) → Talks limits t before asked
+    → client_gate before ≡ reply_gate t.agreed.ack.send_buffer_size
 gate_talking limits t before asked h =
-    ap (λ (o : Option Ack). client_gate_behind o (responses before.openings)) h.ack_is ∙ gate_some t.agreed.ack.send_buffer_size t.channel (responses before.openings) h.channel_is
+    ap (λ (o : Option Ack). client_gate_behind o (responses before.openings)) h.ack_is
+    ∙ gate_some t.agreed.ack.send_buffer_size t.channel (responses before.openings) h.channel_is

@@ -28,12 +28,16 @@ with_end x new = record x { end = new }
 
 -- ---- what is answered
 
-pub starved_event : (moment : DateTime) (mid d : ClientChannel) (asks : List Placed) (octets : List ℕ) (told : List ClientTold) (e : ClientTold) (answer : Result ClientEvent ClientTakeFault) → client_limits d ≡ client_limits mid → ClientGoesTelling mid asks octets told e → AnswersEvent moment answer d asks octets told
+pub starved_event : (moment : DateTime) (mid d : ClientChannel) (asks : List Placed) (octets : List ℕ) (told : List ClientTold) (e : ClientTold)
+    (answer : Result ClientEvent ClientTakeFault) → client_limits d ≡ client_limits mid → ClientGoesTelling mid asks octets told e
+    → AnswersEvent moment answer d asks octets told
     → answer ≡ Err take_fault.OutOfMemory → ClientStarvedAt d asks octets told
-starved_event moment mid d asks octets told e answer limits g h is = starved_behind client_side mid.end d.end asks octets told e (ap rules_with limits) (subst (λ (a : Result ClientEvent ClientTakeFault). AnswersEvent moment a d asks octets told) is h) g
+starved_event moment mid d asks octets told e answer limits g h is = starved_behind client_side mid.end d.end asks octets told e (ap rules_with limits)
+    (subst (λ (a : Result ClientEvent ClientTakeFault). AnswersEvent moment a d asks octets told) is h) g
 
 -- an event
-pub answers_event : (moment : DateTime) (piece : List ℕ) (n : ℕ) (answer : Result ClientEvent ClientTakeFault) (new : ClientChannel) (asks : List Placed) (octets : List ℕ) (told : List ClientTold) → AnswersEvent moment answer new asks (octets ++ take n piece) told
+pub answers_event : (moment : DateTime) (piece : List ℕ) (n : ℕ) (answer : Result ClientEvent ClientTakeFault) (new : ClientChannel) (asks : List Placed)
+    (octets : List ℕ) (told : List ClientTold) → AnswersEvent moment answer new asks (octets ++ take n piece) told
     → ClientAnswers moment piece (counted n answer) new asks octets told
 answers_event moment piece n (Ok client_event.NeedMore) new asks octets told h = absurd h
 answers_event moment piece n (Ok (client_event.Send sent)) new asks octets told h = h
@@ -46,24 +50,41 @@ answers_event moment piece n (Err take_fault.OutOfMemory) new asks octets told h
 answers_event moment piece n (Err take_fault.Closed) new asks octets told h = h
 
 -- a fault
-pub answers_fault : (moment : DateTime) (piece : List ℕ) (n : ℕ) (fault : StepFault) (new : ClientChannel) (asks : List Placed) (octets : List ℕ) (told : List ClientTold) → EndNexts client_side piece n (Err fault) new.end asks octets told
+pub answers_fault : (moment : DateTime) (piece : List ℕ) (n : ℕ) (fault : StepFault) (new : ClientChannel) (asks : List Placed) (octets : List ℕ)
+    (told : List ClientTold) → EndNexts client_side piece n (Err fault) new.end asks octets told
     → ClientAnswers moment piece (counted n (failure_of fault)) new asks octets told
 answers_fault moment piece n (Refused code) new asks octets told h = h.1
 answers_fault moment piece n (Peer code) new asks octets told h = h.1
 answers_fault moment piece n OutOfMemory new asks octets told h = h.1.done
 answers_fault moment piece n Closed new asks octets told h = absurd h.1
 
-pub starved_fault : (piece : List ℕ) (n : ℕ) (fault : StepFault) (new : ClientChannel) (asks : List Placed) (octets : List ℕ) (told : List ClientTold) → EndNexts client_side piece n (Err fault) new.end asks octets told → failure_of fault ≡ Err take_fault.OutOfMemory → ClientStarvedAt new asks (octets ++ take n piece) told
+pub starved_fault : (piece : List ℕ) (n : ℕ) (fault : StepFault) (new : ClientChannel) (asks : List Placed) (octets : List ℕ) (told : List ClientTold)
+    → EndNexts client_side piece n (Err fault) new.end asks octets told → failure_of fault ≡ Err take_fault.OutOfMemory
+    → ClientStarvedAt new asks (octets ++ take n piece) told
 starved_fault piece n (Refused code) new asks octets told h is = absurd cc
 starved_fault piece n (Peer code) new asks octets told h is = absurd cc
 starved_fault piece n OutOfMemory new asks octets told h is = h.1
 starved_fault piece n Closed new asks octets told h is = absurd h.1
 
 -- with another bound
-pub answers_bound : (moment : DateTime) (piece : List ℕ) (x new : ClientChannel) (bound : ℕ) (asks : List Placed) (octets : List ℕ) (told : List ClientTold) (f : ClientTakeFault) → new ≡ record x { end = record x.end { bound = bound } } → ClientAnswers moment piece (Err f) x asks octets told → ClientAnswers moment piece (Err f) new asks octets told
+pub answers_bound : (moment : DateTime) (piece : List ℕ) (x new : ClientChannel) (bound : ℕ) (asks : List Placed) (octets : List ℕ) (told : List ClientTold)
+    (f : ClientTakeFault) → new ≡ record x { end = record x.end { bound = bound } } → ClientAnswers moment piece (Err f) x asks octets told
+    → ClientAnswers moment piece (Err f) new asks octets told
 answers_bound moment piece x new bound asks octets told take_fault.OutOfMemory is h = subst IsClientDone (sym is) (record { phase = h.phase; empty = h.empty })
 answers_bound moment piece x new bound asks octets told take_fault.Closed is h = absurd h
 
-pub starved_bound : (x new : ClientChannel) (bound : ℕ) (asks : List Placed) (octets : List ℕ) (told : List ClientTold) → new ≡ record x { end = record x.end { bound = bound } } → ClientStarvedAt x asks octets told → ClientStarvedAt new asks octets told
+pub starved_bound : (x new : ClientChannel) (bound : ℕ) (asks : List Placed) (octets : List ℕ) (told : List ClientTold)
+    → new ≡ record x { end = record x.end { bound = bound } } → ClientStarvedAt x asks octets told → ClientStarvedAt new asks octets told
 starved_bound x new bound asks octets told is s =
-    subst (λ (z : ClientChannel). ClientStarvedAt z asks octets told) (sym is) (record { done = record { phase = s.done.phase; empty = s.done.empty }; frames = s.frames; rest = s.rest; whole = s.whole; good = s.good; told_is = s.told_is; header = s.header; sound = s.sound; within = s.within })
+    subst (λ (z : ClientChannel). ClientStarvedAt z asks octets told) (sym is)
+    (record {
+      done = record { phase = s.done.phase; empty = s.done.empty };
+      frames = s.frames;
+      rest = s.rest;
+      whole = s.whole;
+      good = s.good;
+      told_is = s.told_is;
+      header = s.header;
+      sound = s.sound;
+      within = s.within;
+    })

@@ -1,5 +1,6 @@
 -- Where an open channel of a client stands with one frame more.
-use Rattle.std.proofs.Common.{◌≡◌, ℕ, suc, ◌<◌, ◌≤◌, Bool, true, false, not, ◌||◌, eqb, List, [], ◌∷◌, ◌++◌, Option, Some, None, Result, length, map, refl, sym, ◌∙◌, ap, subst, arith}
+use Rattle.std.proofs.Common.{◌≡◌, ℕ, suc, ◌<◌, ◌≤◌, Bool, true, false, not, ◌||◌, eqb, List, [], ◌∷◌, ◌++◌}
+use Rattle.std.proofs.Common.{Option, Some, None, Result, length, map, refl, sym, ◌∙◌, ap, subst, arith}
 use Rattle.std.specs.Prelude.{if◌then◌else◌}
 use Rattle.std.specs.List.{AllByRecursion, filter, flat_map}
 use Rattle.std.proofs.lemmas.Bool.{eqb-true, not-false}
@@ -21,7 +22,9 @@ use Rattle.ua_opening.specs.declared.secure_channel.OpenResponse.{OpenResponse}
 use Rattle.ua_channel.specs.Asks.{Asking, is_in, calls, renewals, pending_calls, pending_renewals}
 use Rattle.ua_channel.specs.ClientAsks.{Talks}
 use Rattle.ua_channel.specs.inside.Parts.{MayEndIn}
-use Rattle.ua_channel.specs.inside.ClientParts.{why_of, IsStopFor, Judged, IsOpenedBy, TellsRenewal, TakesFrame, told_by_frame, IsAnswerOf, IsOpenedWith, IsRenewedWith, IsTakenWith, answer_reasons, first_reasons, renewal_reasons, chunk_reasons, greeted, left_pending}
+use Rattle.ua_channel.specs.inside.ClientParts.{why_of, IsStopFor, Judged, IsOpenedBy, TellsRenewal, TakesFrame, told_by_frame}
+use Rattle.ua_channel.specs.inside.ClientParts.{IsAnswerOf, IsOpenedWith, IsRenewedWith, IsTakenWith, answer_reasons}
+use Rattle.ua_channel.specs.inside.ClientParts.{first_reasons, renewal_reasons, chunk_reasons, greeted, left_pending}
 use Rattle.ua_channel.specs.inside.ClientEvents.{event_parts}
 use Rattle.ua_channel.specs.ClientTable.{client_reasons, is_awaited}
 use Rattle.ua_channel.specs.ClientTokens.{answer_in, response_listed, id_listed, responses, opened_ids, channel_in, tokens_of, from_last, held_by, held_tokens}
@@ -44,11 +47,13 @@ use Rattle.ua_channel.proofs.HeldTokens.{held_by-used, held_by-push, latest-push
 
 pub responses-push : (os : List Opening) (o : Opening) (r : OpenResponse) → answer_in o ≡ Some (Open r) → responses (os ++ o ∷ []) ≡ responses os ++ r ∷ []
 unfolding responses
-responses-push os o r is = flat_map-append (λ (p : Opening). response_listed (answer_in p)) os (o ∷ []) ∙ ap (λ (a : Option OpenAnswer). flat_map (λ (p : Opening). response_listed (answer_in p)) os ++ (response_listed a ++ [])) is
+responses-push os o r is = flat_map-append (λ (p : Opening). response_listed (answer_in p)) os (o ∷ [])
+    ∙ ap (λ (a : Option OpenAnswer). flat_map (λ (p : Opening). response_listed (answer_in p)) os ++ (response_listed a ++ [])) is
 
 pub opened_ids-push : (os : List Opening) (o : Opening) (n : ℕ × ℕ) → o.numbers ≡ Some n → opened_ids (os ++ o ∷ []) ≡ opened_ids os ++ n.1 ∷ []
 unfolding opened_ids
-opened_ids-push os o n is = flat_map-append (λ (p : Opening). id_listed p.numbers) os (o ∷ []) ∙ ap (λ (a : Option (ℕ × ℕ)). flat_map (λ (p : Opening). id_listed p.numbers) os ++ (id_listed a ++ [])) is
+opened_ids-push os o n is = flat_map-append (λ (p : Opening). id_listed p.numbers) os (o ∷ [])
+    ∙ ap (λ (a : Option (ℕ × ℕ)). flat_map (λ (p : Opening). id_listed p.numbers) os ++ (id_listed a ++ [])) is
 
 pub tokens_of-push : (rs : List OpenResponse) (r : OpenResponse) → tokens_of (rs ++ r ∷ []) ≡ tokens_of rs ++ r.token_id ∷ []
 unfolding tokens_of
@@ -97,10 +102,12 @@ module _ (limits : Limits) (g : Agreed) (a : Answer) (t : Talking) (o : Opening)
 
   one_token : held_tokens (after (greeted g) (Opens o)) ≡ a.token ∷ []
   unfolding held_tokens
-  one_token = ap tokens_of one_response ∙ (tokens_of-push [] ans.response ∙ (ap (λ (ts : List ℕ). ts ++ ans.response.token_id ∷ []) no_tokens ∙ ap (λ (n : ℕ). n ∷ []) ans.token_is))
+  one_token = ap tokens_of one_response
+      ∙ (tokens_of-push [] ans.response ∙ (ap (λ (ts : List ℕ). ts ++ ans.response.token_id ∷ []) no_tokens ∙ ap (λ (n : ℕ). n ∷ []) ans.token_is))
 
   pub opened_tells : client_tells (greeted g) (Opens o) ≡ told.Opened t.channel t.newest ∷ []
-  opened_tells = rw (no_responses, ans.answer_is) (ap (λ (n : ℕ). told.Opened n ans.response.token_id ∷ []) (ans.channel_is ∙ sym h.channel_is) ∙ ap (λ (n : ℕ). told.Opened t.channel n ∷ []) (ans.token_is ∙ sym h.newest_is))
+  opened_tells = rw (no_responses, ans.answer_is) (ap (λ (n : ℕ). told.Opened n ans.response.token_id ∷ []) (ans.channel_is ∙ sym h.channel_is)
+      ∙ ap (λ (n : ℕ). told.Opened t.channel n ∷ []) (ans.token_is ∙ sym h.newest_is))
 
   pub opened_talks : first_reason (first_reasons a) ≡ None → Talks limits t (after (greeted g) (Opens o)) []
   opened_talks none = record {
@@ -115,7 +122,8 @@ module _ (limits : Limits) (g : Agreed) (a : Answer) (t : Talking) (o : Opening)
     asked_below = tt;
     counted = refl;
     sent_below = tt;
-    opened_below = subst (λ (ids : List ℕ). AllByRecursion (λ (id : ℕ). id < t.next) ids) (sym one_id) (omega (arith, is_first (eqb a.request 1) a.request refl none, h.next_is), tt);
+    opened_below = subst (λ (ids : List ℕ). AllByRecursion (λ (id : ℕ). id < t.next) ids) (sym one_id)
+        (omega (arith, is_first (eqb a.request 1) a.request refl none, h.next_is), tt);
     last_is = ap (number_or None) ans.numbers_are ∙ sym h.last_is;
     assembles = h.stands;
     octets = h.octets;
@@ -133,7 +141,8 @@ one_of None n e = absurd cc
 one_of (Some m) n e = same_one m n (eqb m n) refl e
 
 -- an opening that comes after another is awaited where it answers the renewal
-pub awaited_later : (rs : List OpenResponse) (opened : List ℕ) (asked : List Asking) (id n : ℕ) → channel_in rs ≡ Some n → is_awaited rs opened asked id ≡ is_in id (pending_renewals opened asked)
+pub awaited_later : (rs : List OpenResponse) (opened : List ℕ) (asked : List Asking) (id n : ℕ) → channel_in rs ≡ Some n
+    → is_awaited rs opened asked id ≡ is_in id (pending_renewals opened asked)
 awaited_later [] opened asked id n e = absurd cc
 awaited_later (r ∷ rs) opened asked id n e = refl
 
@@ -144,11 +153,19 @@ later_tells (q ∷ rs) r n e = refl
 module _ (limits : Limits) (t : Talking) (before : Received) (asked : List Asking) (a : Answer) (h : Talks limits t before asked) where
   pub later_remain : first_reason (answer_reasons before asked a) ≡ first_reason (renewal_reasons t a)
   later_remain =
-      rw (h.channel_is, awaited_later (responses before.openings) (opened_ids before.openings) asked a.request t.channel h.channel_is, sym h.tokens_are, h.last_is, sym h.renewal_is) refl
+      rw (
+        h.channel_is,
+        awaited_later (responses before.openings) (opened_ids before.openings) asked a.request t.channel h.channel_is,
+        sym h.tokens_are,
+        h.last_is,
+        sym h.renewal_is,
+      ) refl
 
   module _ (new : Talking) (o : Opening) (n : IsRenewedWith t a before.messages new) (ans : IsAnswerOf o a) where
     pub renewed_tells : client_tells before (Opens o) ≡ told.Renewed a.token ∷ []
-    renewed_tells = rw ans.answer_is (ap (λ (e : ClientTold). e ∷ []) (later_tells (responses before.openings) ans.response t.channel h.channel_is ∙ ap (λ (k : ℕ). told.Renewed k) ans.token_is))
+    renewed_tells =
+        rw ans.answer_is (ap (λ (e : ClientTold). e ∷ []) (later_tells (responses before.openings) ans.response t.channel h.channel_is
+        ∙ ap (λ (k : ℕ). told.Renewed k) ans.token_is))
 
     more_responses : responses (before.openings ++ o ∷ []) ≡ responses before.openings ++ ans.response ∷ []
     more_responses = responses-push before.openings o ans.response ans.answer_is
@@ -168,14 +185,17 @@ module _ (limits : Limits) (t : Talking) (before : Received) (asked : List Askin
     more_tokens fresh =
         unfold_more
         ∙ (ap (λ (rs : List OpenResponse). held_by before.used (tokens_of rs)) more_responses
-        ∙ (ap (held_by before.used) (tokens_of-push (responses before.openings) ans.response ∙ ap (λ (k : ℕ). tokens_of (responses before.openings) ++ k ∷ []) ans.token_is)
-        ∙ (held_by-push before.used a.token t.newest (tokens_of (responses before.openings)) (ap latest (sym unfold_held) ∙ h.newest_is) (ap (is_in a.token) (sym (h.tokens_are ∙ unfold_held)) ∙ fresh)
+        ∙ (ap (held_by before.used) (tokens_of-push (responses before.openings) ans.response
+        ∙ ap (λ (k : ℕ). tokens_of (responses before.openings) ++ k ∷ []) ans.token_is)
+        ∙ (held_by-push before.used a.token t.newest (tokens_of (responses before.openings)) (ap latest (sym unfold_held) ∙ h.newest_is)
+        (ap (is_in a.token) (sym (h.tokens_are ∙ unfold_held)) ∙ fresh)
         ∙ ap (λ (ts : List ℕ). ts ++ a.token ∷ []) (sym unfold_held))))
 
     pub renewed_talks : is_in a.token t.tokens.items ≡ false → is_in a.request (listed t.renewal) ≡ true → Talks limits new (after before (Opens o)) asked
     renewed_talks fresh awaited =
         let one : pending_renewals (opened_ids before.openings) asked ≡ a.request ∷ [] = sym h.renewal_is ∙ one_of t.renewal a.request awaited in
-        let below : a.request < t.next = renewal_below t.next a.request (opened_ids before.openings) asked h.asked_below (ap (is_in a.request) (sym h.renewal_is) ∙ awaited) in
+        let below : a.request < t.next = renewal_below t.next a.request (opened_ids before.openings) asked h.asked_below
+        (ap (is_in a.request) (sym h.renewal_is) ∙ awaited) in
         subst (λ (u : Talking). Talks limits u (after before (Opens o)) asked) (sym n.new_is) (record {
           ack_is = h.ack_is;
           channel_is = ap channel_in more_responses ∙ channel_in-push (responses before.openings) ans.response t.channel h.channel_is;
@@ -183,12 +203,14 @@ module _ (limits : Limits) (t : Talking) (before : Received) (asked : List Askin
           newest_is = ap latest (more_tokens fresh) ∙ latest-push (held_tokens before) a.token;
           pending_are = h.pending_are;
           few_pending = h.few_pending;
-          renewal_is = sym (ap (λ (ids : List ℕ). pending_renewals ids asked) more_ids ∙ pending_renewals-more (opened_ids before.openings) a.request asked one);
+          renewal_is =
+              sym (ap (λ (ids : List ℕ). pending_renewals ids asked) more_ids ∙ pending_renewals-more (opened_ids before.openings) a.request asked one);
           next_is = h.next_is;
           asked_below = h.asked_below;
           counted = h.counted;
           sent_below = h.sent_below;
-          opened_below = subst (λ (ids : List ℕ). AllByRecursion (λ (id : ℕ). id < t.next) ids) (sym more_ids) (all-push (λ (id : ℕ). id < t.next) (opened_ids before.openings) a.request h.opened_below below);
+          opened_below = subst (λ (ids : List ℕ). AllByRecursion (λ (id : ℕ). id < t.next) ids) (sym more_ids)
+              (all-push (λ (id : ℕ). id < t.next) (opened_ids before.openings) a.request h.opened_below below);
           last_is = ap (number_or before.last) ans.numbers_are ∙ sym n.last_is;
           assembles = n.stands;
           octets = sym n.limits.octets ∙ h.octets;
@@ -197,7 +219,8 @@ module _ (limits : Limits) (t : Talking) (before : Received) (asked : List Askin
 
 -- ---- a chunk
 
-length-by : (b : Bool) (p : ℕ → Bool) (id : ℕ) (ids : List ℕ) → length (filter p ids) ≤ length ids → length (if b then id ∷ filter p ids else filter p ids) ≤ suc (length ids)
+length-by : (b : Bool) (p : ℕ → Bool) (id : ℕ) (ids : List ℕ) → length (filter p ids) ≤ length ids → length (if b then id ∷ filter p ids else filter p ids)
+    ≤ suc (length ids)
 length-by true p id ids le = omega (arith, le)
 length-by false p id ids le = omega (arith, le)
 
@@ -225,11 +248,13 @@ module _ (limits : Limits) (t : Talking) (before : Received) (asked : List Askin
     used_tokens : is_in c.token t.tokens.items ≡ true → held_tokens (after before (Sends c)) ≡ from_last c.token (held_tokens before)
     used_tokens has =
         unfold_used
-        ∙ (held_by-used before.used c.token (tokens_of (responses before.openings)) (ap (is_in c.token) (sym (h.tokens_are ∙ unfold_was)) ∙ has) ∙ ap (from_last c.token) (sym unfold_was))
+        ∙ (held_by-used before.used c.token (tokens_of (responses before.openings)) (ap (is_in c.token) (sym (h.tokens_are ∙ unfold_was)) ∙ has)
+        ∙ ap (from_last c.token) (sym unfold_was))
 
     pub taken_talks : is_in c.token t.tokens.items ≡ true → is_in c.request t.pending.items ≡ true → Talks limits new (after before (Sends c)) asked
     taken_talks has awaited =
-        let below : c.request < t.next = pending_below t.next c.request before.messages asked h.asked_below (ap (is_in c.request) (sym h.pending_are) ∙ awaited) in
+        let below : c.request < t.next = pending_below t.next c.request before.messages asked h.asked_below (ap (is_in c.request) (sym h.pending_are) ∙ awaited)
+        in
         let left : length (left_pending c t.pending.items) ≤ length t.pending.items = fewer (ends c) (λ (id : ℕ). not (eqb id c.request)) t.pending.items in
         subst (λ (u : Talking). Talks limits u (after before (Sends c)) asked) (sym n.new_is) (record {
           ack_is = h.ack_is;
@@ -260,59 +285,85 @@ last_unset : {A : Type 0} (a : A) (b : Bool) (rs : List (A × Bool)) → first_r
 last_unset a b [] e = first_unset a b [] e
 last_unset a b (r ∷ rs) e = last_unset a b rs (first_tail r.0 r.1 (rs ++ (a, b) ∷ []) e)
 
-pub first_judged : (limits : Limits) (g : Agreed) (f : Frame) (a : Answer) (r : Result Talking StepFault) → f.kind ≡ Opn → IsAnswerOf (opening_of f.body) a → Judged (first_reasons a) (IsOpenedWith limits g a) r
+pub first_judged : (limits : Limits) (g : Agreed) (f : Frame) (a : Answer) (r : Result Talking StepFault) → f.kind ≡ Opn → IsAnswerOf (opening_of f.body) a
+    → Judged (first_reasons a) (IsOpenedWith limits g a) r
     → Judged (client_reasons limits (greeted g) [] (content f)) (IsOpenedBy limits g (content f)) r
 first_judged limits g f a r is ans h =
     subst (λ (c : Content). Judged (client_reasons limits (greeted g) [] c) (IsOpenedBy limits g c) r) (sym (content_opn f is))
-    (judged_same (first_reasons a) (client_reasons limits (greeted g) [] (Opens (opening_of f.body))) (IsOpenedWith limits g a) (IsOpenedBy limits g (Opens (opening_of f.body))) r
+    (judged_same (first_reasons a) (client_reasons limits (greeted g) [] (Opens (opening_of f.body))) (IsOpenedWith limits g a)
+    (IsOpenedBy limits g (Opens (opening_of f.body))) r
     (ans.remain limits (greeted g) [] ∙ first_remain g a)
-    (λ t none w. record { tells = opened_tells limits g a t (opening_of f.body) w ans; talks = opened_talks limits g a t (opening_of f.body) w ans none; ack_is = refl }) h)
+    (λ t none w. record {
+      tells = opened_tells limits g a t (opening_of f.body) w ans;
+      talks = opened_talks limits g a t (opening_of f.body) w ans none;
+      ack_is = refl;
+    }) h)
 
 pub stopped_opn : (limits : Limits) (before : Received) (asked : List Asking) (f : Frame) (stop : StepFault) → f.kind ≡ Opn
-    → ((l : Limits) (b : Received) (k : List Asking) → IsStopFor (client_reasons l b k (Opens (opening_of f.body))) stop) → IsStopFor (client_reasons limits before asked (content f)) stop
-stopped_opn limits before asked f stop is h = subst (λ (c : Content). IsStopFor (client_reasons limits before asked c) stop) (sym (content_opn f is)) (h limits before asked)
+    → ((l : Limits) (b : Received) (k : List Asking) → IsStopFor (client_reasons l b k (Opens (opening_of f.body))) stop)
+    → IsStopFor (client_reasons limits before asked (content f)) stop
+stopped_opn limits before asked f stop is h = subst (λ (c : Content). IsStopFor (client_reasons limits before asked c) stop) (sym (content_opn f is))
+    (h limits before asked)
 
 module _ (limits : Limits) (t : Talking) (before : Received) (asked : List Asking) (new : Talking) (h : Talks limits t before asked) where
-  renewal_taken : (a : Answer) (o : Opening) (e : Option Event) → IsAnswerOf o a → first_reason (renewal_reasons t a) ≡ None → TellsRenewal t a before.messages new e → TakesFrame limits before asked (Opens o) new e
+  renewal_taken : (a : Answer) (o : Opening) (e : Option Event) → IsAnswerOf o a → first_reason (renewal_reasons t a) ≡ None
+      → TellsRenewal t a before.messages new e → TakesFrame limits before asked (Opens o) new e
   renewal_taken a o e ans none w =
-      let second = first_tail (ours 0x807F_0000) (not (eqb a.channel t.channel)) ((ours 0x8087_0000, is_in a.token t.tokens.items) ∷ (ours 0x8088_0000, not (may_follow (last_number t.assembler) a.sequence)) ∷ (ours 0x8009_0000, not (is_in a.request (listed t.renewal))) ∷ []) none in
-      let third = first_tail (ours 0x8087_0000) (is_in a.token t.tokens.items) ((ours 0x8088_0000, not (may_follow (last_number t.assembler) a.sequence)) ∷ (ours 0x8009_0000, not (is_in a.request (listed t.renewal))) ∷ []) second in
-      let fourth = first_tail (ours 0x8088_0000) (not (may_follow (last_number t.assembler) a.sequence)) ((ours 0x8009_0000, not (is_in a.request (listed t.renewal))) ∷ []) third in
+      let second = first_tail (ours 0x807F_0000) (not (eqb a.channel t.channel))
+      ((ours 0x8087_0000, is_in a.token t.tokens.items) ∷ (ours 0x8088_0000, not (may_follow (last_number t.assembler) a.sequence))
+      ∷ (ours 0x8009_0000, not (is_in a.request (listed t.renewal))) ∷ []) none in
+      let third = first_tail (ours 0x8087_0000) (is_in a.token t.tokens.items)
+      ((ours 0x8088_0000, not (may_follow (last_number t.assembler) a.sequence)) ∷ (ours 0x8009_0000, not (is_in a.request (listed t.renewal))) ∷ []) second
+      in
+      let fourth = first_tail (ours 0x8088_0000) (not (may_follow (last_number t.assembler) a.sequence))
+      ((ours 0x8009_0000, not (is_in a.request (listed t.renewal))) ∷ []) third in
       record {
         tells = renewed_tells limits t before asked a h new o w.1 ans ∙ sym (ap told_by_frame w.0);
         parts = subst (λ (d : Option Event). MayEndIn before.messages (Opens o) (event_parts d)) (sym w.0) tt;
         talks =
             renewed_talks limits t before asked a h new o w.1 ans
-            (first_unset (ours 0x8087_0000) (is_in a.token t.tokens.items) ((ours 0x8088_0000, not (may_follow (last_number t.assembler) a.sequence)) ∷ (ours 0x8009_0000, not (is_in a.request (listed t.renewal))) ∷ []) second)
+            (first_unset (ours 0x8087_0000) (is_in a.token t.tokens.items)
+            ((ours 0x8088_0000, not (may_follow (last_number t.assembler) a.sequence)) ∷ (ours 0x8009_0000, not (is_in a.request (listed t.renewal))) ∷ [])
+            second)
             (not-false (is_in a.request (listed t.renewal)) (first_unset (ours 0x8009_0000) (not (is_in a.request (listed t.renewal))) [] fourth));
         ack_is = refl;
       }
 
-  pub renewal_judged : (f : Frame) (a : Answer) (r : Result (Option Event) StepFault) → f.kind ≡ Opn → IsAnswerOf (opening_of f.body) a → Judged (renewal_reasons t a) (TellsRenewal t a before.messages new) r
+  pub renewal_judged : (f : Frame) (a : Answer) (r : Result (Option Event) StepFault) → f.kind ≡ Opn → IsAnswerOf (opening_of f.body) a
+      → Judged (renewal_reasons t a) (TellsRenewal t a before.messages new) r
       → Judged (client_reasons limits before asked (content f)) (TakesFrame limits before asked (content f) new) r
   renewal_judged f a r is ans j =
       subst (λ (c : Content). Judged (client_reasons limits before asked c) (TakesFrame limits before asked c new) r) (sym (content_opn f is))
-      (judged_same (renewal_reasons t a) (client_reasons limits before asked (Opens (opening_of f.body))) (TellsRenewal t a before.messages new) (TakesFrame limits before asked (Opens (opening_of f.body)) new) r
+      (judged_same (renewal_reasons t a) (client_reasons limits before asked (Opens (opening_of f.body))) (TellsRenewal t a before.messages new)
+      (TakesFrame limits before asked (Opens (opening_of f.body)) new) r
       (ans.remain limits before asked ∙ later_remain limits t before asked a h)
       (λ e none w. renewal_taken a (opening_of f.body) e ans none w) j)
 
-  chunk_taken : (c : Chunk) (e : Option Event) → first_reason (chunk_reasons t before.messages c) ≡ None → IsTakenWith t before.messages c new e → TakesFrame limits before asked (Sends c) new e
+  chunk_taken : (c : Chunk) (e : Option Event) → first_reason (chunk_reasons t before.messages c) ≡ None → IsTakenWith t before.messages c new e
+      → TakesFrame limits before asked (Sends c) new e
   chunk_taken c e none w =
       let refused = map (renamed_reason why_of) (reasons (octet_limit t.assembler) (chunk_limit t.assembler) (last_number t.assembler) before.messages c) in
-      let second = first_tail (ours 0x807F_0000) (not (eqb c.channel t.channel)) ((ours 0x8087_0000, not (is_in c.token t.tokens.items)) ∷ (refused ++ (ours 0x8009_0000, not (is_in c.request t.pending.items)) ∷ [])) none in
-      let third = first_tail (ours 0x8087_0000) (not (is_in c.token t.tokens.items)) (refused ++ (ours 0x8009_0000, not (is_in c.request t.pending.items)) ∷ []) second in
+      let second = first_tail (ours 0x807F_0000) (not (eqb c.channel t.channel))
+      ((ours 0x8087_0000, not (is_in c.token t.tokens.items)) ∷ (refused ++ (ours 0x8009_0000, not (is_in c.request t.pending.items)) ∷ [])) none in
+      let third = first_tail (ours 0x8087_0000) (not (is_in c.token t.tokens.items)) (refused ++ (ours 0x8009_0000, not (is_in c.request t.pending.items)) ∷ [])
+      second in
       record {
         tells = w.tells;
         parts = w.parts;
-        talks = taken_talks limits t before asked c h new e w (not-false (is_in c.token t.tokens.items) (first_unset (ours 0x8087_0000) (not (is_in c.token t.tokens.items)) (refused ++ (ours 0x8009_0000, not (is_in c.request t.pending.items)) ∷ []) second))
+        talks = taken_talks limits t before asked c h new e w
+            (not-false (is_in c.token t.tokens.items)
+            (first_unset (ours 0x8087_0000) (not (is_in c.token t.tokens.items)) (refused ++ (ours 0x8009_0000, not (is_in c.request t.pending.items)) ∷ [])
+            second))
             (not-false (is_in c.request t.pending.items) (last_unset (ours 0x8009_0000) (not (is_in c.request t.pending.items)) refused third));
         ack_is = refl;
       }
 
-  pub chunk_judged : (f : Frame) (c : Chunk) (r : Result (Option Event) StepFault) → f.kind ≡ Msg → chunk_in f ≡ Some c → Judged (chunk_reasons t before.messages c) (IsTakenWith t before.messages c new) r
+  pub chunk_judged : (f : Frame) (c : Chunk) (r : Result (Option Event) StepFault) → f.kind ≡ Msg → chunk_in f ≡ Some c
+      → Judged (chunk_reasons t before.messages c) (IsTakenWith t before.messages c new) r
       → Judged (client_reasons limits before asked (content f)) (TakesFrame limits before asked (content f) new) r
   chunk_judged f c r is found j =
       subst (λ (d : Content). Judged (client_reasons limits before asked d) (TakesFrame limits before asked d new) r) (sym (content_msg f c is found))
-      (judged_same (chunk_reasons t before.messages c) (client_reasons limits before asked (Sends c)) (IsTakenWith t before.messages c new) (TakesFrame limits before asked (Sends c) new) r
+      (judged_same (chunk_reasons t before.messages c) (client_reasons limits before asked (Sends c)) (IsTakenWith t before.messages c new)
+      (TakesFrame limits before asked (Sends c) new) r
       (chunk_remain limits t before asked c h)
       (λ e none w. chunk_taken c e none w) j)

@@ -67,10 +67,12 @@ place p q k is h = subst (λ (r : Phase). IsTrue (lets_in (phase_gate r) k)) is 
 
 module _ (limits : Limits) (channel : ℕ) (before : Received) where
   -- what is against what a frame carries is against the frame
-  pub refuses : (f : Frame) (c : Content) (e : StepFault) → content f ≡ c → IsRefusalFor (IsRefused limits channel before c) e → IsRefusalFor (IsRefused limits channel before (content f)) e
+  pub refuses : (f : Frame) (c : Content) (e : StepFault) → content f ≡ c → IsRefusalFor (IsRefused limits channel before c) e
+      → IsRefusalFor (IsRefused limits channel before (content f)) e
   refuses f c e is h = subst (λ (d : Content). IsRefusalFor (IsRefused limits channel before d) e) (sym is) h
 
-  pub refuses_hello : (body : List ℕ) (e : StepFault) → JudgesHello limits body (Err e) → IsRefusalFor (IsRefused limits channel before (Greets (hello_in body))) e
+  pub refuses_hello : (body : List ℕ) (e : StepFault) → JudgesHello limits body (Err e)
+      → IsRefusalFor (IsRefused limits channel before (Greets (hello_in body))) e
   refuses_hello body (Refused code) h = h channel before
   refuses_hello body (Peer code) h = h
   refuses_hello body OutOfMemory h = tt
@@ -80,7 +82,8 @@ module _ (limits : Limits) (channel : ℕ) (before : Received) where
 
 module _ (r : ServerRules) (before : Received) (f : Frame) (bound : ℕ) (bound_is : bound ≡ bound_after r.limits before) where
   -- on an open channel, or by which it opens
-  pub running_judged : (run : Running) (c : Content) (answer : Result (Option Event) StepFault) → content f ≡ c → (after before c).hello ≡ before.hello → Judges r.limits r.channel before c answer run → JudgesFrame r before (content f) (Open run) bound answer
+  pub running_judged : (run : Running) (c : Content) (answer : Result (Option Event) StepFault) → content f ≡ c → (after before c).hello ≡ before.hello
+      → Judges r.limits r.channel before c answer run → JudgesFrame r before (content f) (Open run) bound answer
   running_judged run c (Ok e) is hello j = subst (λ (d : Content). JudgesFrame r before d (Open run) bound (Ok e)) (sym is) (record {
     takes = j.0;
     goes = subst (λ (b : Bool). PhaseBehindFrame b r.limits (Open run) (after before c)) (sym j.1.goes_on) j.1;
@@ -88,26 +91,33 @@ module _ (r : ServerRules) (before : Received) (f : Frame) (bound : ℕ) (bound_
   })
   running_judged run c (Err fault) is hello j = refuses r.limits r.channel before f c fault is j
 
-  pub clo_taken : (chunk : Chunk) → f.kind ≡ Clo → chunk_in f ≡ Some chunk → JudgesClose r.limits r.channel before (Closes chunk) (Ok tt) → JudgesFrame r before (content f) Done bound (Ok (Some event.Closed))
-  clo_taken chunk is found j = subst (λ (c : Content). JudgesFrame r before c Done bound (Ok (Some event.Closed))) (sym (content_clo f chunk is found)) (record { takes = record { accepted = j; tells = refl; parts = tt }; goes = refl; bound_is = bound_is })
+  pub clo_taken : (chunk : Chunk) → f.kind ≡ Clo → chunk_in f ≡ Some chunk → JudgesClose r.limits r.channel before (Closes chunk) (Ok tt)
+      → JudgesFrame r before (content f) Done bound (Ok (Some event.Closed))
+  clo_taken chunk is found j = subst (λ (c : Content). JudgesFrame r before c Done bound (Ok (Some event.Closed))) (sym (content_clo f chunk is found))
+      (record { takes = record { accepted = j; tells = refl; parts = tt }; goes = refl; bound_is = bound_is })
 
 abbrev with_hello : Option Hello → Received
 with_hello hello = record nothing_received { hello = hello }
 
 -- the HEL
-pub hel_taken : (r : ServerRules) (before : Received) (f : Frame) (bound : ℕ) (a : Agreement) → f.kind ≡ Hel → before ≡ nothing_received → bound ≡ a.ack.receive_buffer_size + 4 * r.limits.max_message_size → AgreesTo r.limits f.body a
+pub hel_taken : (r : ServerRules) (before : Received) (f : Frame) (bound : ℕ) (a : Agreement) → f.kind ≡ Hel → before ≡ nothing_received
+    → bound ≡ a.ack.receive_buffer_size + 4 * r.limits.max_message_size → AgreesTo r.limits f.body a
     → JudgesFrame r before (content f) (Greeted a) bound (Ok (Some (event.Agreed a)))
 hel_taken r before f bound a is none bound_is agrees =
-    let received : after before (Greets (hello_in f.body)) ≡ with_hello (Some agrees.hello) = ap (λ (b : Received). after b (Greets (hello_in f.body))) none ∙ ap with_hello (ap (or_before None) agrees.reads) in
-    let greeted : HasGreeted r.limits a (with_hello (Some agrees.hello)) = record { hello = agrees.hello; before_is = refl; agreement_is = agrees.agreement_is; large = agrees.large } in
+    let received : after before (Greets (hello_in f.body)) ≡ with_hello (Some agrees.hello) = ap (λ (b : Received). after b (Greets (hello_in f.body))) none
+    ∙ ap with_hello (ap (or_before None) agrees.reads) in
+    let greeted : HasGreeted r.limits a (with_hello (Some agrees.hello)) =
+    record { hello = agrees.hello; before_is = refl; agreement_is = agrees.agreement_is; large = agrees.large } in
     subst (λ (c : Content). JudgesFrame r before c (Greeted a) bound (Ok (Some (event.Agreed a)))) (sym (content_hel f is)) (record {
       takes = record {
         accepted = agrees.accepted r.channel before;
-        tells = ap (λ (o : Option Hello). server_tells r.limits before (Greets o)) agrees.reads ∙ ap (λ (x : Agreement). told.Agreed x ∷ []) (sym agrees.agreement_is);
+        tells = ap (λ (o : Option Hello). server_tells r.limits before (Greets o)) agrees.reads
+            ∙ ap (λ (x : Agreement). told.Agreed x ∷ []) (sym agrees.agreement_is);
         parts = tt;
       };
       goes = subst (λ (b : Received). PhaseBehindFrame b.closed r.limits (Greeted a) b) (sym received) greeted;
-      bound_is = bound_is ∙ (ap (λ (x : Agreement). x.ack.receive_buffer_size + 4 * r.limits.max_message_size) agrees.agreement_is ∙ ap (bound_after r.limits) (sym received));
+      bound_is = bound_is ∙ (ap (λ (x : Agreement). x.ack.receive_buffer_size + 4 * r.limits.max_message_size) agrees.agreement_is
+          ∙ ap (bound_after r.limits) (sym received));
     })
 
 -- ---- any frame
@@ -119,11 +129,14 @@ open_before limits (Open r) before h = h.goes_on
 open_before limits Done before h = absurd h
 
 -- it is the last if it is a CLO
-last_is : (limits : Limits) (before : Received) (c : Content) (e : Option Event) → server_tells limits before c ≡ told_list e → before.closed ≡ false → (after before c).closed ≡ closes_by server_side e
+last_is : (limits : Limits) (before : Received) (c : Content) (e : Option Event) → server_tells limits before c ≡ told_list e → before.closed ≡ false
+    → (after before c).closed ≡ closes_by server_side e
 last_is limits before c None tells goes = silent_open limits before c tells goes
 last_is limits before c (Some (event.Agreed a)) tells goes = telling_open limits before c (told_of (event.Agreed a)) tells (λ z. absurd cc) goes
-last_is limits before c (Some (event.Opened id handle token lifetime)) tells goes = telling_open limits before c (told_of (event.Opened id handle token lifetime)) tells (λ z. absurd cc) goes
-last_is limits before c (Some (event.Asked id token message)) tells goes = telling_open limits before c (told_of (event.Asked id token message)) tells (λ z. absurd cc) goes
+last_is limits before c (Some (event.Opened id handle token lifetime)) tells goes =
+    telling_open limits before c (told_of (event.Opened id handle token lifetime)) tells (λ z. absurd cc) goes
+last_is limits before c (Some (event.Asked id token message)) tells goes = telling_open limits before c (told_of (event.Asked id token message)) tells
+    (λ z. absurd cc) goes
 last_is limits before c (Some (event.Aborted id)) tells goes = telling_open limits before c (told_of (event.Aborted id)) tells (λ z. absurd cc) goes
 last_is limits before c (Some event.Closed) tells goes = closing limits before c tells
 
@@ -140,7 +153,8 @@ module _ (r : ServerRules) (frames : List Frame) (f : Frame) (p : Phase) (bound 
   behind_is false h = subst (InServerPhase r.limits p) (sym (received-push frames f)) h
   behind_is true h = h
 
-  taken_so : (e : Option Event) → (received frames).closed ≡ false → ServerTakesFrame r (received frames) (content f) p bound e → TakenBy server_side r tt frames f p bound e
+  taken_so : (e : Option Event) → (received frames).closed ≡ false → ServerTakesFrame r (received frames) (content f) p bound e
+      → TakenBy server_side r tt frames f p bound e
   taken_so e goes t =
       let last = last_is r.limits (received frames) (content f) e t.takes.tells goes in
       record {
@@ -152,7 +166,8 @@ module _ (r : ServerRules) (frames : List Frame) (f : Frame) (p : Phase) (bound 
         bound_is = t.bound_is ∙ ap (bound_after r.limits) (sym (received-push frames f));
       }
 
-  judged_so : (answer : Result (Option Event) StepFault) → (received frames).closed ≡ false → JudgesFrame r (received frames) (content f) p bound answer → JudgesNext server_side r tt frames f p bound answer
+  judged_so : (answer : Result (Option Event) StepFault) → (received frames).closed ≡ false → JudgesFrame r (received frames) (content f) p bound answer
+      → JudgesNext server_side r tt frames f p bound answer
   judged_so (Ok e) goes j = taken_so e goes j
   judged_so (Err (Refused code)) goes j = j
   judged_so (Err (Peer code)) goes j = j
@@ -161,8 +176,10 @@ module _ (r : ServerRules) (frames : List Frame) (f : Frame) (p : Phase) (bound 
 
 -- what is made of one that comes next
 pub judged : (r : ServerRules) (old p : Phase) (was bound : ℕ) (f : Frame) (answer : Result (Option Event) StepFault)
-    → ((before : Received) → InServerPhase r.limits old before → was ≡ bound_after r.limits before → IsTrue (lets_in (phase_gate old) f.kind) → JudgesFrame r before (content f) p bound answer)
+    → ((before : Received) → InServerPhase r.limits old before → was ≡ bound_after r.limits before → IsTrue (lets_in (phase_gate old) f.kind)
+    → JudgesFrame r before (content f) p bound answer)
     → (k : Unit {0}) (frames : List Frame) → ComesNext server_side r k old was frames f → JudgesNext server_side r k frames f p bound answer
 judged r old p was bound f answer judges k frames next =
-    let here : IsTrue (lets_in (phase_gate old) f.kind) = subst (λ (g : Gate). IsTrue (lets_in g f.kind)) (sym (gate_is r.limits old (received frames) next.holds)) next.let_in.kind in
+    let here : IsTrue (lets_in (phase_gate old) f.kind) =
+    subst (λ (g : Gate). IsTrue (lets_in g f.kind)) (sym (gate_is r.limits old (received frames) next.holds)) next.let_in.kind in
     judged_so r frames f p bound answer (open_before r.limits old (received frames) next.holds) (judges (received frames) next.holds next.bound_is here)

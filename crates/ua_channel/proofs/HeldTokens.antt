@@ -10,7 +10,8 @@ use Rattle.ua_channel.proofs.OneFrameMore.{behind_push}
 
 -- ---- using one that is held
 
-in_by : (stays found : Bool) (k m : ℕ) (ms from : List ℕ) → eqb m k ≡ found → (is_in k from ≡ true → is_in k ms ≡ true) → is_in k (if stays then m ∷ ms else from) ≡ true → (found || is_in k ms) ≡ true
+in_by : (stays found : Bool) (k m : ℕ) (ms from : List ℕ) → eqb m k ≡ found → (is_in k from ≡ true → is_in k ms ≡ true)
+    → is_in k (if stays then m ∷ ms else from) ≡ true → (found || is_in k ms) ≡ true
 in_by stays true k m ms from is more e = refl
 in_by true false k m ms from is more e = ap (λ (b : Bool). b || is_in k ms) (sym is) ∙ e
 in_by false false k m ms from is more e = more e
@@ -59,7 +60,8 @@ push_by : (stays : Bool) (n m k : ℕ) (ms : List ℕ) → eqb m n ≡ false →
     → ((from_last n ms ≡ [] → ⊥) → from_last n (ms ++ m ∷ []) ≡ from_last n ms ++ m ∷ []) → ((if stays then k ∷ ms else from_last n ms) ≡ [] → ⊥)
     → from_last n (k ∷ (ms ++ m ∷ [])) ≡ (if stays then k ∷ ms else from_last n ms) ++ m ∷ []
 push_by stays n m k ms other is more some =
-    ap (λ (t : Bool). if eqb k n && not t then k ∷ (ms ++ m ∷ []) else from_last n (ms ++ m ∷ [])) (is_in-push n m ms ∙ (ap (λ (t : Bool). is_in n ms || t) other ∙ or_false (is_in n ms)))
+    ap (λ (t : Bool). if eqb k n && not t then k ∷ (ms ++ m ∷ []) else from_last n (ms ++ m ∷ [])) (is_in-push n m ms
+    ∙ (ap (λ (t : Bool). is_in n ms || t) other ∙ or_false (is_in n ms)))
     ∙ (ap (λ (t : Bool). if t then k ∷ (ms ++ m ∷ []) else from_last n (ms ++ m ∷ [])) is ∙ last_by stays n m k ms more some)
 
 from_last-push : (n m : ℕ) (ms : List ℕ) → eqb m n ≡ false → (from_last n ms ≡ [] → ⊥) → from_last n (ms ++ m ∷ []) ≡ from_last n ms ++ m ∷ []
@@ -82,10 +84,12 @@ is_none_latest {n = n} none some =
     cc
 
 other_than : (n m : ℕ) (ms : List ℕ) → is_in n ms ≡ true → is_in m ms ≡ false → eqb m n ≡ false
-other_than n m ms has lacks = elim (cases_Bool (eqb m n)) [ inl same ↦ absurd (both_ways (is_in m ms) lacks (ap (λ (k : ℕ). is_in k ms) (eqb-true m n same) ∙ has)) | inr other ↦ other ]
+other_than n m ms has lacks =
+    elim (cases_Bool (eqb m n)) [ inl same ↦ absurd (both_ways (is_in m ms) lacks (ap (λ (k : ℕ). is_in k ms) (eqb-true m n same) ∙ has)) | inr other ↦ other ]
 
 -- a further token is held behind the others, where it is none of them and there are some
-pub held_by-push : (used : Option ℕ) (m newest : ℕ) (ms : List ℕ) → latest (held_by used ms) ≡ Some newest → is_in m (held_by used ms) ≡ false → held_by used (ms ++ m ∷ []) ≡ held_by used ms ++ m ∷ []
+pub held_by-push : (used : Option ℕ) (m newest : ℕ) (ms : List ℕ) → latest (held_by used ms) ≡ Some newest → is_in m (held_by used ms) ≡ false
+    → held_by used (ms ++ m ∷ []) ≡ held_by used ms ++ m ∷ []
 held_by-push None m newest ms some fresh = refl
 held_by-push (Some n) m newest ms some fresh =
     let filled : from_last n ms ≡ [] → ⊥ = λ (none : from_last n ms ≡ []). is_none_latest none some in
@@ -100,7 +104,8 @@ lists_none : (k : ℕ) (xs : List ℕ) → is_in k xs ≡ true → (a b : Option
 lists_none k [] e a b = absurd cc
 lists_none k (x ∷ xs) e a b = refl
 
-stays_by : (same more : Bool) (k m : ℕ) (ms : List ℕ) → eqb m k ≡ same → (more ≡ true → is_in k (from_last k ms) ≡ true) → (same || more) ≡ true → is_in k (if same && not more then m ∷ ms else from_last k ms) ≡ true
+stays_by : (same more : Bool) (k m : ℕ) (ms : List ℕ) → eqb m k ≡ same → (more ≡ true → is_in k (from_last k ms) ≡ true) → (same || more) ≡ true
+    → is_in k (if same && not more then m ∷ ms else from_last k ms) ≡ true
 stays_by true true k m ms is rec e = rec refl
 stays_by true false k m ms is rec e = ap (λ (b : Bool). b || is_in k ms) is
 stays_by false true k m ms is rec e = rec refl
@@ -110,7 +115,8 @@ pub stays_in : (k : ℕ) (ms : List ℕ) → is_in k ms ≡ true → is_in k (fr
 stays_in k [] e = e
 stays_in k (m ∷ ms) e = stays_by (eqb m k) (is_in k ms) k m ms refl (stays_in k ms) e
 
-latest_by : (same more : Bool) (k m : ℕ) (ms : List ℕ) → is_in k ms ≡ more → ((a : Option ℕ) → more ≡ true → latest_behind a (from_last k ms) ≡ latest_behind a ms) → (same || more) ≡ true → (a : Option ℕ)
+latest_by : (same more : Bool) (k m : ℕ) (ms : List ℕ) → is_in k ms ≡ more
+    → ((a : Option ℕ) → more ≡ true → latest_behind a (from_last k ms) ≡ latest_behind a ms) → (same || more) ≡ true → (a : Option ℕ)
     → latest_behind a (if same && not more then m ∷ ms else from_last k ms) ≡ latest_behind (Some m) ms
 latest_by true true k m ms is rec e a = lists_none k (from_last k ms) (stays_in k ms is) a (Some m) ∙ rec (Some m) refl
 latest_by true false k m ms is rec e a = refl

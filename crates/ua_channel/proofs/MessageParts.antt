@@ -13,5 +13,6 @@ delivered_in before c None h = tt
 delivered_in before c (Some (Whole id message)) h = record { chunk = c; carries = refl; parts_are = h }
 delivered_in before c (Some (Aborted id code reason)) h = tt
 
-pub ends_in : (before : List Chunk) (c : Chunk) (d : Option Delivered) (parts : Option (List (List ℕ))) → parts ≡ parts_in d → HasParts d (bodies (gathered before c)) → MayEndIn before (Sends c) parts
+pub ends_in : (before : List Chunk) (c : Chunk) (d : Option Delivered) (parts : Option (List (List ℕ))) → parts ≡ parts_in d
+    → HasParts d (bodies (gathered before c)) → MayEndIn before (Sends c) parts
 ends_in before c d parts is h = subst (MayEndIn before (Sends c)) (sym is) (delivered_in before c d h)

@@ -37,7 +37,8 @@ moves-then r s r' s' a b c m n = (
   n.1 ∙ (ap (λ (x : List ℕ). x ++ s') m.1 ∙ append_assoc a.written s s'),
 )
 
-pub told-then : (r s r' s' : List ℕ) (a b c : Option Traffic) → IfTrafficKnown (MovesTraffic r s) a b → IfTrafficKnown (MovesTraffic r' s') b c → IfTrafficKnown (MovesTraffic (r ++ r') (s ++ s')) a c
+pub told-then : (r s r' s' : List ℕ) (a b c : Option Traffic) → IfTrafficKnown (MovesTraffic r s) a b → IfTrafficKnown (MovesTraffic r' s') b c
+    → IfTrafficKnown (MovesTraffic (r ++ r') (s ++ s')) a c
 told-then r s r' s' (Some a) (Some b) (Some c) m n = moves-then r s r' s' a b c m n
 told-then r s r' s' (Some a) (Some b) None m n = n
 told-then r s r' s' (Some a) None c m n = absurd m
@@ -49,27 +50,35 @@ told-nothing None = refl
 
 -- ---- one call of a line
 
-pub took : (n : ℕ) (octets : List ℕ) (a b : Option Traffic) → IfTrafficKnown (WriteTakes (Ok n) octets) a b → IfTrafficKnown (MovesTraffic [] (take n octets)) a b
+pub took : (n : ℕ) (octets : List ℕ) (a b : Option Traffic) → IfTrafficKnown (WriteTakes (Ok n) octets) a b
+    → IfTrafficKnown (MovesTraffic [] (take n octets)) a b
 took n octets (Some a) (Some b) t = (λ rest. sym (t.1 rest), t.0)
 took n octets (Some a) None t = t
 took n octets None b t = t
 
-pub not-took : (f : LineFault) (octets : List ℕ) (a b : Option Traffic) → IfTrafficKnown (WriteTakes (Err f) octets) a b → IfTrafficKnown (MovesTraffic [] []) a b
+pub not-took : (f : LineFault) (octets : List ℕ) (a b : Option Traffic) → IfTrafficKnown (WriteTakes (Err f) octets) a b
+    → IfTrafficKnown (MovesTraffic [] []) a b
 not-took f octets (Some a) (Some b) t = (λ rest. ap (λ (x : Traffic). x.coming rest) (sym t), ap (λ (x : Traffic). x.written) t ∙ sym (append-nil a.written))
 not-took f octets (Some a) None t = t
 not-took f octets None b t = t
 
 -- more octets are written
-pub wrote-more : (octets : List ℕ) (m n : ℕ) (a b c : Option Traffic) → IfTrafficKnown (MovesTraffic [] (take m octets)) a b → IfTrafficKnown (WriteTakes (Ok n) (rest_of octets m)) b c → IfTrafficKnown (MovesTraffic [] (take (m + n) octets)) a c
+pub wrote-more : (octets : List ℕ) (m n : ℕ) (a b c : Option Traffic) → IfTrafficKnown (MovesTraffic [] (take m octets)) a b
+    → IfTrafficKnown (WriteTakes (Ok n) (rest_of octets m)) b c → IfTrafficKnown (MovesTraffic [] (take (m + n) octets)) a c
 wrote-more octets m n a b c w t =
-    subst (λ (x : List ℕ). IfTrafficKnown (MovesTraffic [] x) a c) (joined [] octets m n) (told-then [] (take m octets) [] (take n (rest_of octets m)) a b c w (took n (rest_of octets m) b c t))
+    subst (λ (x : List ℕ). IfTrafficKnown (MovesTraffic [] x) a c) (joined [] octets m n)
+    (told-then [] (take m octets) [] (take n (rest_of octets m)) a b c w (took n (rest_of octets m) b c t))
 
-pub wrote-no-more : (octets : List ℕ) (m : ℕ) (f : LineFault) (rest : List ℕ) (a b c : Option Traffic) → IfTrafficKnown (MovesTraffic [] (take m octets)) a b → IfTrafficKnown (WriteTakes (Err f) rest) b c → IfTrafficKnown (MovesTraffic [] (take m octets)) a c
+pub wrote-no-more : (octets : List ℕ) (m : ℕ) (f : LineFault) (rest : List ℕ) (a b c : Option Traffic) → IfTrafficKnown (MovesTraffic [] (take m octets)) a b
+    → IfTrafficKnown (WriteTakes (Err f) rest) b c → IfTrafficKnown (MovesTraffic [] (take m octets)) a c
 wrote-no-more octets m f rest a b c w t =
-    subst (λ (x : List ℕ). IfTrafficKnown (MovesTraffic [] x) a c) (append-nil (take m octets)) (told-then [] (take m octets) [] [] a b c w (not-took f rest b c t))
+    subst (λ (x : List ℕ). IfTrafficKnown (MovesTraffic [] x) a c) (append-nil (take m octets))
+    (told-then [] (take m octets) [] [] a b c w (not-took f rest b c t))
 
 whole-taken : (l m : ℕ) → m ≤ l → l ≤ m → m ≡ l
 whole-taken l m h k = omega (arith, h, k)
 
-pub wrote-all : (octets : List ℕ) (m : ℕ) (a b : Option Traffic) → m ≤ length octets → length octets ≤ m → IfTrafficKnown (MovesTraffic [] (take m octets)) a b → IfTrafficKnown (MovesTraffic [] octets) a b
-wrote-all octets m a b h k w = subst (λ (x : List ℕ). IfTrafficKnown (MovesTraffic [] x) a b) (ap (λ (n : ℕ). take n octets) (whole-taken (length octets) m h k) ∙ take-length octets) w
+pub wrote-all : (octets : List ℕ) (m : ℕ) (a b : Option Traffic) → m ≤ length octets → length octets ≤ m → IfTrafficKnown (MovesTraffic [] (take m octets)) a b
+    → IfTrafficKnown (MovesTraffic [] octets) a b
+wrote-all octets m a b h k w = subst (λ (x : List ℕ). IfTrafficKnown (MovesTraffic [] x) a b) (ap (λ (n : ℕ). take n octets) (whole-taken (length octets) m h k)
+    ∙ take-length octets) w

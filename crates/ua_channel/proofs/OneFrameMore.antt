@@ -12,7 +12,9 @@ use Rattle.ua_chunk.specs.Item.{Item}
 use Rattle.ua_chunk.proofs.OneMore.{delivered_push}
 use Rattle.ua_channel.specs.Content.{Opening, Content, content}
 use Rattle.ua_channel.specs.Content.Content.{Greets, Acks, Fails, Opens, Sends, Closes, Nothing}
-use Rattle.ua_channel.specs.Received.{Received, latest_behind, latest, has_some, listed, number_listed, hellos_in, acks_in, openings_in, chunks_in, closings_in, numbers_in, tokens_in, hellos, acks, openings, messages, closings, numbers, used_tokens, received_of, received, nothing_received, or_before, number_or, after}
+use Rattle.ua_channel.specs.Received.{Received, latest_behind, latest, has_some, listed, number_listed, hellos_in, acks_in, openings_in}
+use Rattle.ua_channel.specs.Received.{chunks_in, closings_in, numbers_in, tokens_in, hellos, acks, openings, messages, closings}
+use Rattle.ua_channel.specs.Received.{numbers, used_tokens, received_of, received, nothing_received, or_before, number_or, after}
 
 -- ---- the last of a list behind another, and with one element more
 
@@ -36,19 +38,29 @@ some_push [] y = refl
 some_push (x ∷ xs) y = refl
 
 -- what each frame has of something, with one frame more
-more : {A : Type 0} (of : Content → List A) (fs : List Frame) (f : Frame) → flat_map (λ (g : Frame). of (content g)) (fs ++ f ∷ []) ≡ flat_map (λ (g : Frame). of (content g)) fs ++ of (content f)
+more : {A : Type 0} (of : Content → List A) (fs : List Frame) (f : Frame) → flat_map (λ (g : Frame). of (content g)) (fs ++ f ∷ [])
+    ≡ flat_map (λ (g : Frame). of (content g)) fs ++ of (content f)
 more of fs f = sym (flat_map_more (λ (g : Frame). of (content g)) [] fs f)
 
 -- ---- what they come to
 
 module _ (hs : List Hello) (ks : List Ack) (os : List Opening) (ts ns : List ℕ) (cs ds : List Chunk) where
-  by_content : (c : Content) → received_of (hs ++ hellos_in c) (ks ++ acks_in c) (os ++ openings_in c) (ts ++ tokens_in c) (ns ++ numbers_in c) (cs ++ chunks_in c) (ds ++ closings_in c) ≡ after (received_of hs ks os ts ns cs ds) c
+  by_content : (c : Content) → received_of (hs ++ hellos_in c) (ks ++ acks_in c) (os ++ openings_in c) (ts ++ tokens_in c) (ns ++ numbers_in c)
+      (cs ++ chunks_in c) (ds ++ closings_in c) ≡ after (received_of hs ks os ts ns cs ds) c
   by_content (Greets hello) = rw (append-nil ks, append-nil os, append-nil ts, append-nil ns, append-nil cs, append-nil ds, latest_listed hs hello) refl
   by_content (Acks ack) = rw (append-nil hs, append-nil os, append-nil ts, append-nil ns, append-nil cs, append-nil ds, latest_listed ks ack) refl
   by_content (Fails error) = rw (append-nil hs, append-nil ks, append-nil os, append-nil ts, append-nil ns, append-nil cs, append-nil ds) refl
   by_content (Opens o) = rw (append-nil hs, append-nil ks, append-nil ts, append-nil cs, append-nil ds, latest_number ns o.numbers) refl
   by_content (Sends c) = rw (append-nil hs, append-nil ks, append-nil os, append-nil ds, behind_push None ts c.token, behind_push None ns c.sequence) refl
-  by_content (Closes c) = rw (append-nil hs, append-nil ks, append-nil os, append-nil cs, behind_push None ts c.token, behind_push None ns c.sequence, some_push ds c) refl
+  by_content (Closes c) = rw (
+    append-nil hs,
+    append-nil ks,
+    append-nil os,
+    append-nil cs,
+    behind_push None ts c.token,
+    behind_push None ns c.sequence,
+    some_push ds c,
+  ) refl
   by_content Nothing = rw (append-nil hs, append-nil ks, append-nil os, append-nil ts, append-nil ns, append-nil cs, append-nil ds) refl
 
 -- what was received with one frame more is what that frame makes of what was received before
@@ -84,7 +96,8 @@ delivered_then b (Closes c) = sym (append-nil (delivered b.messages))
 delivered_then b Nothing = sym (append-nil (delivered b.messages))
 
 -- where in what each frame tells is found what its chunk delivers, under a name
-module _ {E B : Type 0} (found : List E → List B) (name : Item → B) (tells : Received → Content → List E) (nothing : found [] ≡ []) (apart : (ts us : List E) → found (ts ++ us) ≡ found ts ++ found us)
+module _ {E B : Type 0} (found : List E → List B) (name : Item → B) (tells : Received → Content → List E) (nothing : found [] ≡ []) (apart : (ts us : List E)
+    → found (ts ++ us) ≡ found ts ++ found us)
     (one : (b : Received) (c : Content) → found (tells b c) ≡ map name (given_in b c)) where
   abbrev named : List Frame → List B
   named frames = map name (delivered (received frames).messages)
@@ -104,4 +117,5 @@ module _ {E B : Type 0} (found : List E → List B) (name : Item → B) (tells :
 
   -- in what all tell is found what all chunks deliver
   pub found_all : (frames : List Frame) → found (each_from (λ us f. tells (received us) (content f)) [] frames) ≡ named frames
-  found_all frames = ap (λ (items : List Item). map name items ++ found (each_from (λ us f. tells (received us) (content f)) [] frames)) (sym none_delivered) ∙ found_from [] frames
+  found_all frames = ap (λ (items : List Item). map name items ++ found (each_from (λ us f. tells (received us) (content f)) [] frames)) (sym none_delivered)
+      ∙ found_from [] frames

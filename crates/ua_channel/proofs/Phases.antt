@@ -39,7 +39,8 @@ gate_is limits Done before h = absurd h
 -- ---- whether a frame was the last
 
 -- a frame that tells nothing isn't the last
-pub silent_open : (limits : Limits) (before : Received) (c : Content) → server_tells limits before c ≡ [] → before.closed ≡ false → (after before c).closed ≡ false
+pub silent_open : (limits : Limits) (before : Received) (c : Content) → server_tells limits before c ≡ [] → before.closed ≡ false
+    → (after before c).closed ≡ false
 silent_open limits before (Greets hello) e h = h
 silent_open limits before (Acks ack) e h = h
 silent_open limits before (Fails error) e h = h
@@ -52,7 +53,8 @@ one_told : (s t : Told) → s ∷ [] ≡ t ∷ [] → s ≡ t
 one_told s t e = cc
 
 -- nor is one that tells something else than a close
-pub telling_open : (limits : Limits) (before : Received) (c : Content) (t : Told) → server_tells limits before c ≡ t ∷ [] → (Closed ≡ t → ⊥) → before.closed ≡ false → (after before c).closed ≡ false
+pub telling_open : (limits : Limits) (before : Received) (c : Content) (t : Told) → server_tells limits before c ≡ t ∷ [] → (Closed ≡ t → ⊥)
+    → before.closed ≡ false → (after before c).closed ≡ false
 telling_open limits before (Greets hello) t e other h = h
 telling_open limits before (Acks ack) t e other h = h
 telling_open limits before (Fails error) t e other h = h

@@ -17,7 +17,8 @@ use Rattle.ua_channel.specs.inside.ServerFrames.{LaneIs}
 one_hello : (a b : Hello) → ◌≡◌ {A = Option Hello} (Some a) (Some b) → a ≡ b
 one_hello a b e = cc
 
-in_phase : (limits : Limits) (channel : ℕ) (p : Phase) (before : Received) (mine lane : Lane) → InServerPhase limits p before → LaneIs channel p mine → RepliesGo limits channel before lane → mine ≡ lane
+in_phase : (limits : Limits) (channel : ℕ) (p : Phase) (before : Received) (mine lane : Lane) → InServerPhase limits p before → LaneIs channel p mine
+    → RepliesGo limits channel before lane → mine ≡ lane
 in_phase limits channel Waiting before mine lane s is goes = absurd is
 in_phase limits channel (Greeted a) before mine lane s is goes = absurd is
 in_phase limits channel (Open r) before mine lane s is (h, hello_is, lane_is) =
@@ -29,5 +30,6 @@ in_phase limits channel (Open r) before mine lane s is (h, hello_is, lane_is) =
 in_phase limits channel Done before mine lane s is goes = absurd is
 
 -- replies go in one lane
-pub lane_there : (x : ServerChannel) (octets : List ℕ) (frames : List Frame) (rest : List ℕ) (mine lane : Lane) → LaneIs (channel_of x) x.end.phase mine → ChannelStands x octets frames rest → RepliesGo (limits_of x) (channel_of x) (received frames) lane → mine ≡ lane
+pub lane_there : (x : ServerChannel) (octets : List ℕ) (frames : List Frame) (rest : List ℕ) (mine lane : Lane) → LaneIs (channel_of x) x.end.phase mine
+    → ChannelStands x octets frames rest → RepliesGo (limits_of x) (channel_of x) (received frames) lane → mine ≡ lane
 lane_there x octets frames rest mine lane is s goes = in_phase (limits_of x) (channel_of x) x.end.phase (received frames) mine lane s.phase_is is goes

@@ -16,6 +16,8 @@ abbrev rules_with : Limits → ℕ → ServerRules
 rules_with limits channel = record { limits = limits; channel = channel }
 
 -- behind the frame of an event
-pub starved_behind : (mid d : ServerChannel) (octets : List ℕ) (told : List Told) (e : Told) → limits_of d ≡ limits_of mid → channel_of d ≡ channel_of mid → IsDone d → GoesTelling mid octets told e → StarvedAt d octets told
+pub starved_behind : (mid d : ServerChannel) (octets : List ℕ) (told : List Told) (e : Told) → limits_of d ≡ limits_of mid → channel_of d ≡ channel_of mid
+    → IsDone d → GoesTelling mid octets told e → StarvedAt d octets told
 starved_behind mid d octets told e limits channel done g =
-    ends.starved_behind server_side mid.end d.end tt octets told e (ap (λ (l : Limits). rules_with l (channel_of d)) limits ∙ ap (rules_with (limits_of mid)) channel) done g
+    ends.starved_behind server_side mid.end d.end tt octets told e (ap (λ (l : Limits). rules_with l (channel_of d)) limits
+    ∙ ap (rules_with (limits_of mid)) channel) done g

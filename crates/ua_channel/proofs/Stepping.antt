@@ -1,5 +1,6 @@
 -- What one call of a frame reader comes to, by any rules.
-use Rattle.std.proofs.Common.{◌≡◌, ◌⊎◌, inl, inr, true, false, ℕ, ◌+◌, ◌-◌, ◌<◌, ◌≤◌, min, List, [], ◌∷◌, ◌++◌, Option, Some, None, Err, length, take, drop, sym, refl, ◌∙◌, ap, subst, arith, append-nil, append_assoc, length-append, take-append-drop}
+use Rattle.std.proofs.Common.{◌≡◌, ◌⊎◌, inl, inr, true, false, ℕ, ◌+◌, ◌-◌, ◌<◌, ◌≤◌, min, List, [], ◌∷◌, ◌++◌, Option, Some, None, Err}
+use Rattle.std.proofs.Common.{length, take, drop, sym, refl, ◌∙◌, ap, subst, arith, append-nil, append_assoc, length-append, take-append-drop}
 use Rattle.std.proofs.Math.Seq.{take-length}
 use Rattle.std.proofs.lemmas.Bool.{cases_lt}
 use Rattle.std.proofs.lemmas.List.{length-take-le}
@@ -31,16 +32,19 @@ pub record Breaks {E X : Type 0} (R : Rules E X) (octets : List ℕ) (frames : L
   pub sound : header_fault (R.gate frames) rest ≡ None
   pub within : (length rest ≡ 8) ⊎ (length rest ≤ size_of rest)
 
-module _ (E X : Type 0) (R : Rules E X) (octets rest piece : List ℕ) (frames : List Frame) (reader new : Reader) (run : Run R octets frames rest Going) (reader_is : reader ≡ open_reader (R.gate frames) rest) where
+module _ (E X : Type 0) (R : Rules E X) (octets rest piece : List ℕ) (frames : List Frame) (reader new : Reader) (run : Run R octets frames rest Going)
+    (reader_is : reader ≡ open_reader (R.gate frames) rest) where
   longer : (more : List ℕ) → octets ++ more ≡ frames_octets frames ++ (rest ++ more)
   longer more = ap (λ (z : List ℕ). z ++ more) run.whole ∙ append_assoc (frames_octets frames) rest more
 
   -- ---- a piece without the end of a frame
 
-  pub part : (n : ℕ) → TakesAll reader piece n new → Run R (octets ++ take n piece) frames (rest ++ take n piece) Going × (new ≡ open_reader (R.gate frames) (rest ++ take n piece))
+  pub part : (n : ℕ) → TakesAll reader piece n new → Run R (octets ++ take n piece) frames (rest ++ take n piece) Going
+      × (new ≡ open_reader (R.gate frames) (rest ++ take n piece))
   part n t =
       let at : TakesAll (open_reader (R.gate frames) rest) piece n new = subst (λ (o : Reader). TakesAll o piece n new) reader_is t in
-      subst (λ (p : List ℕ). Run R (octets ++ p) frames (rest ++ p) Going × (new ≡ open_reader (R.gate frames) (rest ++ p))) (sym (ap (λ (k : ℕ). take k piece) at.all ∙ take-length piece))
+      subst (λ (p : List ℕ). Run R (octets ++ p) frames (rest ++ p) Going × (new ≡ open_reader (R.gate frames) (rest ++ p)))
+      (sym (ap (λ (k : ℕ). take k piece) at.all ∙ take-length piece))
       (run_part R octets rest piece frames run at.partial, at.new_is)
 
   -- ---- a frame
@@ -54,7 +58,14 @@ module _ (E X : Type 0) (R : Rules E X) (octets rest piece : List ℕ) (frames :
 
     pub frame_halts : (why : X) → refusal R frames f ≡ Some why → Halts R (octets ++ take n piece) frames (rest ++ take n piece) why
     frame_halts why refused =
-        let wrong : WrongFrame R frames (rest ++ take n piece) why = record { frame = f; more = []; parts = frame_at.octets ∙ sym (append-nil (frame_octets f)); sized = frame_at.sized; let_in = frame_at.let_in; refused = refused } in
+        let wrong : WrongFrame R frames (rest ++ take n piece) why = record {
+          frame = f;
+          more = [];
+          parts = frame_at.octets ∙ sym (append-nil (frame_octets f));
+          sized = frame_at.sized;
+          let_in = frame_at.let_in;
+          refused = refused;
+        } in
         record { run = record { whole = longer (take n piece); good = run.good; ends = (run.ends.0, inr wrong) }; stops = inr (wrong, refl) }
 
     pub frame_breaks : Breaks R (octets ++ take n piece) frames (rest ++ take n piece)
@@ -68,7 +79,8 @@ module _ (E X : Type 0) (R : Rules E X) (octets rest piece : List ℕ) (frames :
 
   -- ---- a header that is refused, or behind which no memory is found
 
-  module _ (n : ℕ) (fits : n ≤ length piece) (few_is : length reader.held < 8 → n ≡ min (8 - length reader.held) (length piece)) (past_is : 8 ≤ length reader.held → n ≤ 1) where
+  module _ (n : ℕ) (fits : n ≤ length piece) (few_is : length reader.held < 8 → n ≡ min (8 - length reader.held) (length piece))
+      (past_is : 8 ≤ length reader.held → n ≤ 1) where
     held : length reader.held ≡ length rest
     held = ap (λ (o : Reader). length o.held) reader_is
 
@@ -81,28 +93,48 @@ module _ (E X : Type 0) (R : Rules E X) (octets rest piece : List ℕ) (frames :
     same_fault : 8 ≤ length (rest ++ take n piece) → header_fault (R.gate frames) (rest ++ take n piece) ≡ header_fault (R.gate frames) (rest ++ piece)
     same_fault eight = sym (fault_front (R.gate frames) (rest ++ take n piece) (drop n piece) eight) ∙ ap (header_fault (R.gate frames)) parts
 
-    few_by : (fault : FrameFault) → header_fault (R.gate frames) (rest ++ piece) ≡ Some fault → header_fault (R.gate frames) rest ≡ None → (length rest < 8) ⊎ (8 ≤ length rest) → length rest < 8
+    few_by : (fault : FrameFault) → header_fault (R.gate frames) (rest ++ piece) ≡ Some fault → header_fault (R.gate frames) rest ≡ None
+        → (length rest < 8) ⊎ (8 ≤ length rest) → length rest < 8
     few_by fault wrong good (inl few) = few
-    few_by fault wrong good (inr whole) = let none : ◌≡◌ {A = Option FrameFault} None (Some fault) = sym good ∙ (sym (fault_front (R.gate frames) rest piece whole) ∙ wrong) in absurd cc
+    few_by fault wrong good (inr whole) = let none : ◌≡◌ {A = Option FrameFault} None (Some fault) = sym good
+        ∙ (sym (fault_front (R.gate frames) rest piece whole) ∙ wrong) in absurd cc
 
     few_held : (fault : FrameFault) → header_fault (R.gate frames) (rest ++ piece) ≡ Some fault → length rest < 8
     few_held fault wrong = elim run.ends.1 [ inl few ↦ few | inr part ↦ few_by fault wrong part.0 (cases_lt (length rest) 8) ]
 
-    header_halts : (fault : FrameFault) (code : ℕ) → Refuses reader piece fault new → header_code fault ≡ Some code → Halts R (octets ++ take n piece) frames (rest ++ take n piece) (R.of_header code)
+    header_halts : (fault : FrameFault) (code : ℕ) → Refuses reader piece fault new → header_code fault ≡ Some code
+        → Halts R (octets ++ take n piece) frames (rest ++ take n piece) (R.of_header code)
     header_halts fault code refuses code_is =
         let at : Refuses (open_reader (R.gate frames) rest) piece fault new = subst (λ (o : Reader). Refuses o piece fault new) reader_is refuses in
         let whole : 8 ≤ length rest + length piece = omega (arith, at.header, length-append rest piece) in
         let few : length rest < 8 = few_held fault at.fault_is in
-        let eight : length (rest ++ take n piece) ≡ 8 = omega (arith, length-append rest (take n piece), taken, few_is (omega (arith, held, few)), held, whole, few) in
+        let eight : length (rest ++ take n piece) ≡ 8 = omega (
+          arith,
+          length-append rest (take n piece),
+          taken,
+          few_is (omega (arith, held, few)),
+          held,
+          whole,
+          few,
+        ) in
         let wrong : header_fault (R.gate frames) (rest ++ take n piece) ≡ Some fault = same_fault (omega (arith, eight)) ∙ at.fault_is in
         record {
           run = run_header R octets rest (take n piece) frames fault code (R.of_header code) run (omega (arith, eight)) wrong code_is refl;
           stops = inl (record { fault = fault; code = code; whole = omega (arith, eight); fault_is = wrong; code_is = code_is; why_is = refl }, eight);
         }
 
-    behind : (length rest < 8) ⊎ (8 ≤ length rest) → 8 ≤ length rest + length piece → (8 ≤ length (rest ++ take n piece)) × ((length (rest ++ take n piece) ≡ 8) ⊎ (length (rest ++ take n piece) ≤ size_of (rest ++ take n piece)))
+    behind : (length rest < 8) ⊎ (8 ≤ length rest) → 8 ≤ length rest + length piece → (8 ≤ length (rest ++ take n piece))
+        × ((length (rest ++ take n piece) ≡ 8) ⊎ (length (rest ++ take n piece) ≤ size_of (rest ++ take n piece)))
     behind (inl few) whole =
-        let eight : length (rest ++ take n piece) ≡ 8 = omega (arith, length-append rest (take n piece), taken, few_is (omega (arith, held, few)), held, whole, few) in
+        let eight : length (rest ++ take n piece) ≡ 8 = omega (
+          arith,
+          length-append rest (take n piece),
+          taken,
+          few_is (omega (arith, held, few)),
+          held,
+          whole,
+          few,
+        ) in
         (omega (arith, eight), inl eight)
     behind (inr past) whole = (
       omega (arith, length-append rest (take n piece), past),
@@ -122,8 +154,10 @@ module _ (E X : Type 0) (R : Rules E X) (octets rest piece : List ℕ) (frames :
     goes_on h = let goes : true ≡ false = sym h.0 ∙ ap (λ (o : Reader). o.failed) reader_is in cc
 
     -- what a fault of the reader comes to
-    pub fault_comes : (Ends : StepFault → Type 0) → ((code : ℕ) → Halts R (octets ++ take n piece) frames (rest ++ take n piece) (R.of_header code) → Ends (Refused (of_code code)))
-        → (Breaks R (octets ++ take n piece) frames (rest ++ take n piece) → Ends OutOfMemory) → (fault : FrameFault) → Takes reader piece (Err fault) new → Ends (of_frame_fault fault)
+    pub fault_comes : (Ends : StepFault → Type 0) → ((code : ℕ) → Halts R (octets ++ take n piece) frames (rest ++ take n piece) (R.of_header code)
+        → Ends (Refused (of_code code)))
+        → (Breaks R (octets ++ take n piece) frames (rest ++ take n piece) → Ends OutOfMemory) → (fault : FrameFault) → Takes reader piece (Err fault) new
+        → Ends (of_frame_fault fault)
     fault_comes Ends halts breaks frame_fault.UnknownType t = halts 0x807E_0000 (header_halts frame_fault.UnknownType 0x807E_0000 t refl)
     fault_comes Ends halts breaks frame_fault.OutOfPlace t = halts 0x807E_0000 (header_halts frame_fault.OutOfPlace 0x807E_0000 t refl)
     fault_comes Ends halts breaks frame_fault.TooLarge t = halts 0x8080_0000 (header_halts frame_fault.TooLarge 0x8080_0000 t refl)
@@ -150,7 +184,8 @@ unfolding AllAfter
 front_of P xs y h = front_from P [] xs y h
 
 -- octets that end with a frame end within it
-pub frame_broken : {E X : Type 0} (R : Rules E X) (octets : List ℕ) (frames : List Frame) (f : Frame) → Run R octets (frames ++ f ∷ []) [] Going → Breaks R octets frames (frame_octets f)
+pub frame_broken : {E X : Type 0} (R : Rules E X) (octets : List ℕ) (frames : List Frame) (f : Frame) → Run R octets (frames ++ f ∷ []) [] Going
+    → Breaks R octets frames (frame_octets f)
 frame_broken R octets frames f run =
     let last : Fits R frames f = last_of (Fits R) frames f run.good in
     record {

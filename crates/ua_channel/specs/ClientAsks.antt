@@ -19,7 +19,8 @@ use Rattle.ua_channel.specs.ClientTable.{of_ack}
 use Rattle.ua_channel.specs.ClientTokens.{responses, opened_ids, channel_in, held_tokens}
 use Rattle.ua_channel.specs.Received.{Received, has_some, latest, listed}
 use Rattle.ua_channel.specs.declared.client.fault.AskFault.{AskFault}
-use Rattle.ua_channel.specs.declared.client.fault.AskFault.TheVariants.{NotOpen, TooManyPending, RenewPending, TooManyTokens, Exhausted, RequestTooLarge, OutOfMemory}
+use Rattle.ua_channel.specs.declared.client.fault.AskFault.TheVariants.{NotOpen, TooManyPending, RenewPending, TooManyTokens}
+use Rattle.ua_channel.specs.declared.client.fault.AskFault.TheVariants.{Exhausted, RequestTooLarge, OutOfMemory}
 use Rattle.ua_channel.specs.declared.client.talking.Talking.{Talking}
 
 -- ---- calls
@@ -118,7 +119,8 @@ call_reasons before asked more body =
 -- why a renewal is refused, in the order in which it is judged
 abbrev pub renewing_reasons : Received → List Asking → List (AskFault × Bool)
 renewing_reasons before asked =
-    (NotOpen, has_no_channel before) ∷ reasons_of_renewal (has_some (pending_renewals (opened_ids before.openings) asked)) (length (held_tokens before)) (next_id asked)
+    (NotOpen, has_no_channel before) ∷ reasons_of_renewal (has_some (pending_renewals (opened_ids before.openings) asked)) (length (held_tokens before))
+    (next_id asked)
 
 -- why a channel refuses to be closed
 abbrev pub closing_reasons : Received → List (AskFault × Bool)

@@ -52,7 +52,8 @@ abbrev pub close_frame : ℕ → ℕ → ℕ → ℕ → DateTime → Frame
 close_frame channel token number id moment = record {
   kind = Clo;
   flag = 70;
-  body = token_header.canonical (channel, token) ++ (sequence_header.canonical (number, id) ++ (message 452 close_request).canonical (close_request_of moment 0));
+  body = token_header.canonical (channel, token)
+      ++ (sequence_header.canonical (number, id) ++ (message 452 close_request).canonical (close_request_of moment 0));
 }
 
 -- ---- where the frames of what is sent end

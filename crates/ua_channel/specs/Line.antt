@@ -29,13 +29,15 @@ failures_after before (Err fault) = one_more before
 -- what a read did: it returned the next bytes, whatever more is written, and none into a buffer
 -- that is not empty only if none are to come before more is written; a failure moved nothing
 abbrev pub HandsOut : Result ℕ LineFault → List ℕ → Traffic → Traffic → Type 0
-HandsOut (Ok n) buffer before after = ((more : List ℕ) → before.coming more ≡ take n buffer ++ after.coming more) × (after.written ≡ before.written) × (n ≡ 0 → 0 < length buffer → before.coming [] ≡ [])
+HandsOut (Ok n) buffer before after = ((more : List ℕ) → before.coming more ≡ take n buffer ++ after.coming more) × (after.written ≡ before.written)
+    × (n ≡ 0 → 0 < length buffer → before.coming [] ≡ [])
 HandsOut (Err fault) buffer before after = after ≡ before
 
 -- what a write did: it took the first of the bytes offered, and what is still to be read is what
 -- was to be read once they are written; a failure moved nothing
 abbrev pub WriteTakes : Result ℕ LineFault → List ℕ → Traffic → Traffic → Type 0
-WriteTakes (Ok n) octets before after = (after.written ≡ before.written ++ take n octets) × ((more : List ℕ) → after.coming more ≡ before.coming (take n octets ++ more))
+WriteTakes (Ok n) octets before after = (after.written ≡ before.written ++ take n octets)
+    × ((more : List ℕ) → after.coming more ≡ before.coming (take n octets ++ more))
 WriteTakes (Err fault) octets before after = after ≡ before
 
 -- a transport that told its bytes goes on telling them, and this is what became of them; nothing
@@ -48,7 +50,8 @@ IfTrafficKnown P None after = after ≡ None
 -- a transport moved bytes: those read were to come before those that still are, once those written
 -- are, and these follow those written before
 abbrev pub MovesTraffic : List ℕ → List ℕ → Traffic → Traffic → Type 0
-MovesTraffic read written before after = ((more : List ℕ) → before.coming (written ++ more) ≡ read ++ after.coming more) × (after.written ≡ before.written ++ written)
+MovesTraffic read written before after = ((more : List ℕ) → before.coming (written ++ more) ≡ read ++ after.coming more)
+    × (after.written ≡ before.written ++ written)
 
 -- ---- bytes that are to be written whole
 

@@ -60,7 +60,8 @@ Counts piece n other = (0 < n) × (n ≤ length piece)
 -- rejected header
 abbrev pub AnswersAt : ℕ → ℕ → DateTime → List ℕ → ℕ → Result ServerEvent ChannelFault → ServerChannel → List ℕ → List Told → Type 0
 AnswersAt channel number moment piece n (Ok e) new octets before = Counts piece n e × EventHandedOut channel number moment e new (octets ++ take n piece) before
-AnswersAt channel number moment piece n (Err (Refused code err)) new octets before = (n ≤ length piece) × RefusedAt new (octets ++ take n piece) before code.code × (err ≡ frame_octets (err_frame code))
+AnswersAt channel number moment piece n (Err (Refused code err)) new octets before = (n ≤ length piece)
+    × RefusedAt new (octets ++ take n piece) before code.code × (err ≡ frame_octets (err_frame code))
 AnswersAt channel number moment piece n (Err OutOfMemory) new octets before = (n ≤ length piece) × IsDone new
 AnswersAt channel number moment piece n (Err Closed) new octets before = ⊥
 

@@ -11,7 +11,8 @@ use Rattle.ua_channel.specs.Content.{Content}
 use Rattle.ua_channel.specs.Content.Content.{Greets, Opens, Sends, Closes}
 use Rattle.ua_channel.specs.Received.{Received}
 use Rattle.ua_channel.specs.ServerTold.{request_of, issued}
-pub use Rattle.ua_channel.specs.Refusals.{of_header, of_number, aborts_unreadably, breaks_order, has_other_policy, has_too_many_chunks, has_too_many_octets, opens_too_many}
+pub use Rattle.ua_channel.specs.Refusals.{of_header, of_number, aborts_unreadably, breaks_order, has_other_policy}
+pub use Rattle.ua_channel.specs.Refusals.{has_too_many_chunks, has_too_many_octets, opens_too_many}
 
 -- ---- a test of what a frame carries, false where it carries no such thing
 

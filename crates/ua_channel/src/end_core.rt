@@ -30,7 +30,8 @@ pub trait EndRules<P> {
 
     /// The filter for the next frame.
     fn gate(&self, phase: &P) -> Gate
-        ensures { (k : side.Key) (frames : List Frame) → side.holds self.now k phase.now frames → result ≡ (side.rules self.now k).gate frames };
+        ensures { (k : side.Key) (frames : List Frame) → side.holds self.now k phase.now frames
+            → result ≡ (side.rules self.now k).gate frames };
 
     /// Takes a frame, and returns how much may be held after it.
     fn on_frame(
@@ -41,15 +42,18 @@ pub trait EndRules<P> {
         frame: Frame,
     ) -> Result<Option<Self::Event>, StepFault>
         requires shape { HasShape frame }
-        ensures judges { (k : side.Key) (frames : List Frame) → ComesNext side self.now k phase.old bound.old frames frame
+        ensures judges { (k : side.Key) (frames : List Frame)
+            → ComesNext side self.now k phase.old bound.old frames frame
             → JudgesNext side self.now k frames frame phase.new bound.new result }
         ensures failed { OnErr result (bound.new ≡ bound.old) };
 
     /// The number of bytes held of unfinished messages.
     fn messages_held(&self, phase: &P) -> usize
-        ensures held { (k : side.Key) (frames : List Frame) → side.holds self.now k phase.now frames → result ≡ open_octets (received frames).messages }
+        ensures held { (k : side.Key) (frames : List Frame) → side.holds self.now k phase.now frames
+            → result ≡ open_octets (received frames).messages }
         ensures within { (k : side.Key) (frames : List Frame) → side.holds self.now k phase.now frames
-            → (8 ≤ ((side.rules self.now k).gate frames).largest) × (result + ((side.rules self.now k).gate frames).largest ≤ side.bound self.now frames) }
+            → (8 ≤ ((side.rules self.now k).gate frames).largest)
+            × (result + ((side.rules self.now k).gate frames).largest ≤ side.bound self.now frames) }
         ensures done { side.done phase.now → result ≡ 0 };
 
     /// The phase of a connection that ended.
@@ -87,9 +91,15 @@ impl<R: EndRules<P>, P: Drop> EndCore<R, P> {
     fn on_whole(&mut self, frame: Frame) -> Result<Option<R::Event>, StepFault>
         requires shape { HasShape frame }
         requires empty { self.old.reader.held ≡ [] }
-        ensures judges { (k : R.side.Key) (frames : List Frame) → ComesNext R.side self.old.rules k self.old.phase self.old.bound frames frame
-            → self.old.reader ≡ open_reader ((R.side.rules self.old.rules k).gate frames) [] → JudgesWhole R.side self.new k frames frame result }
-        ensures kept { self.new ≡ record self.old { reader = self.new.reader; bound = self.new.bound; phase = self.new.phase } }
+        ensures judges { (k : R.side.Key) (frames : List Frame)
+            → ComesNext R.side self.old.rules k self.old.phase self.old.bound frames frame
+            → self.old.reader ≡ open_reader ((R.side.rules self.old.rules k).gate frames) []
+            → JudgesWhole R.side self.new k frames frame result }
+        ensures kept { self.new ≡ record self.old {
+          reader = self.new.reader;
+          bound = self.new.bound;
+          phase = self.new.phase;
+        } }
     {
         match self
             .rules
@@ -110,10 +120,15 @@ impl<R: EndRules<P>, P: Drop> EndCore<R, P> {
     /// One call of the reader, and the event of its frame, with the number of bytes that were
     /// taken.
     fn step(&mut self, piece: &[u8]) -> (usize, Result<Option<R::Event>, StepFault>)
-        ensures steps { (k : R.side.Key) (octets : List ℕ) (told : List R.side.Told) → EndGoes R.side self.old k octets told
+        ensures steps { (k : R.side.Key) (octets : List ℕ) (told : List R.side.Told)
+            → EndGoes R.side self.old k octets told
             → EndSteps R.side piece.now result.0 result.1 self.new k octets told }
         ensures moves { MovesBy piece.now result.0 result.1 }
-        ensures kept { self.new ≡ record self.old { reader = self.new.reader; bound = self.new.bound; phase = self.new.phase } }
+        ensures kept { self.new ≡ record self.old {
+          reader = self.new.reader;
+          bound = self.new.bound;
+          phase = self.new.phase;
+        } }
     {
         R::lawful();
         let held = self.reader.held();
@@ -132,10 +147,15 @@ impl<R: EndRules<P>, P: Drop> EndCore<R, P> {
     /// Takes bytes up to the end of the first frame that has an event, or else the whole fragment, and
     /// returns how many it took.
     pub fn next_event(&mut self, piece: &[u8]) -> (usize, Result<Option<R::Event>, StepFault>)
-        ensures nexts { (k : R.side.Key) (octets : List ℕ) (told : List R.side.Told) → EndGoes R.side self.old k octets told
+        ensures nexts { (k : R.side.Key) (octets : List ℕ) (told : List R.side.Told)
+            → EndGoes R.side self.old k octets told
             → EndNexts R.side piece.now result.0 result.1 self.new k octets told }
         ensures moves { MovesBy piece.now result.0 result.1 }
-        ensures kept { self.new ≡ record self.old { reader = self.new.reader; bound = self.new.bound; phase = self.new.phase } }
+        ensures kept { self.new ≡ record self.old {
+          reader = self.new.reader;
+          bound = self.new.bound;
+          phase = self.new.phase;
+        } }
     {
         let mut taken = 0;
         while taken < piece.len() {
@@ -152,9 +172,11 @@ impl<R: EndRules<P>, P: Drop> EndCore<R, P> {
 
     /// The number of bytes held: those of an incomplete frame, and those of unfinished messages.
     pub fn held(&self) -> usize
-        ensures held { (k : R.side.Key) (octets : List ℕ) (frames : List Frame) (rest : List ℕ) → EndStands R.side self.now k octets frames rest
+        ensures held { (k : R.side.Key) (octets : List ℕ) (frames : List Frame) (rest : List ℕ)
+            → EndStands R.side self.now k octets frames rest
             → result ≡ length rest + open_octets (received frames).messages }
-        ensures bound { (k : R.side.Key) (octets : List ℕ) (frames : List Frame) (rest : List ℕ) → EndStands R.side self.now k octets frames rest
+        ensures bound { (k : R.side.Key) (octets : List ℕ) (frames : List Frame) (rest : List ℕ)
+            → EndStands R.side self.now k octets frames rest
             → result ≤ self.now.bound }
         ensures done { EndDone R.side self.now → result ≡ 0 }
     {

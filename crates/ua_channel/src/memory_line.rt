@@ -61,7 +61,12 @@ pub struct MemoryLine {
 impl Model for MemoryLine {
     ghost Value = { Memory };
 
-    ghost view = { λ l. record { traffic = record { coming = drop l.read l.octets.items; written = l.written.items }; failures = l.failures; reads = l.reads; writes = l.writes } };
+    ghost view = { λ l. record {
+      traffic = record { coming = drop l.read l.octets.items; written = l.written.items };
+      failures = l.failures;
+      reads = l.reads;
+      writes = l.writes;
+    } };
 
     ghost invariant = { λ l. l.read ≤ length l.octets.items };
 }

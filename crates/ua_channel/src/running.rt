@@ -83,15 +83,18 @@ impl Running {
 
     /// The number of bytes held of unfinished messages.
     pub(crate) fn held(&self) -> usize
-        ensures held { (limits : Limits) (before : Received) → Stays limits self.now before → result ≡ open_octets before.messages }
-        ensures bound { (limits : Limits) (before : Received) → 0 < limits.max_message_size → Stays limits self.now before → result ≤ 4 * limits.max_message_size }
+        ensures held { (limits : Limits) (before : Received) → Stays limits self.now before
+            → result ≡ open_octets before.messages }
+        ensures bound { (limits : Limits) (before : Received) → 0 < limits.max_message_size
+            → Stays limits self.now before → result ≤ 4 * limits.max_message_size }
     {
         self.assembler.held()
     }
 
     /// The number of unfinished messages.
     pub(crate) fn open_count(&self) -> usize
-        ensures { (limits : Limits) (before : Received) → Stays limits self.now before → result ≡ length (open_ids before.messages) }
+        ensures { (limits : Limits) (before : Received) → Stays limits self.now before
+            → result ≡ length (open_ids before.messages) }
     {
         self.assembler.open_count()
     }
@@ -99,7 +102,8 @@ impl Running {
     /// Why the SecureChannelId and the TokenId of a chunk are refused.
     #[inline(always)]
     fn judge_ids(&self, channel: u32, chunk: &Chunk) -> Option<StatusCode>
-        ensures { option_map (λ status. status.code) result ≡ first_reason (ids_reasons chunk.now channel self.now.used self.now.issued) }
+        ensures { option_map (λ status. status.code) result
+            ≡ first_reason (ids_reasons chunk.now channel self.now.used self.now.issued) }
     {
         if chunk.channel != channel {
             return Some(StatusCode::BAD_TCP_SECURE_CHANNEL_UNKNOWN);

@@ -43,7 +43,8 @@ pub fn append_opening(
 ) -> Result<(), AllocError>
     requires { len + 79 < 2 ^ 32 }
     ensures { (body : List ℕ) → length body ≡ len
-        → OnOk result (out.new.items ++ body ≡ out.old.items ++ frame_octets (opening_frame channel sequence request body)) }
+        → OnOk result
+        (out.new.items ++ body ≡ out.old.items ++ frame_octets (opening_frame channel sequence request body)) }
 {
     let size = (OPENING_HEADERS + len) as u32;
     out.extend_from_slice(&header_octets(Kind::Opn, b'F', size))?;
@@ -74,7 +75,11 @@ pub fn opened_octets(
     sequence: u32,
     moment: DateTime,
 ) -> Result<Vec<u8>, AllocError>
-    ensures { IfOk result (λ out. out.items ≡ frame_octets (opened_frame opening.now.channel sequence opening.now.request opening.now.handle opening.now.token opening.now.lifetime moment)) }
+    ensures { IfOk result
+        (λ out. out.items
+        ≡ frame_octets
+        (opened_frame opening.now.channel sequence opening.now.request opening.now.handle opening.now.token
+        opening.now.lifetime moment)) }
 {
     let Opening {
         channel,
@@ -107,7 +112,8 @@ pub fn reply_octets(
     requires room { 0 < lane.now.room }
     requires size { lane.now.room + 24 < 2 ^ 32 }
     requires body { 0 < length body.now }
-    ensures octets { IfOk result (λ sent. IsReply lane.now body.now numbers.old.next request sent.octets.items numbers.new.next) }
+    ensures octets { IfOk result
+        (λ sent. IsReply lane.now body.now numbers.old.next request sent.octets.items numbers.new.next) }
     ensures abort { IfOk result (λ sent. sent.is_abort ≡ is_some (cut_refusal lane.now body.now)) }
 {
     let number = numbers.number();

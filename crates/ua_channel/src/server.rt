@@ -43,7 +43,9 @@ pub struct ServerChannel {
 }
 
 impl ServerChannel {
-    ghost use Rattle.std.specs.Prelude.{◌≡◌, ◌<◌, ◌≤◌, ◌+◌, ◌++◌, ◌^◌, ◌↔◌, [], ℕ, List, length, take, None, Some, Ok, Err, IfOk, IfSome, MatchOption, MatchResult, OnOk, OnErr, IsErrOf, IsTrue, is_some};
+    ghost use Rattle.std.specs.Prelude.{◌≡◌, ◌<◌, ◌≤◌, ◌+◌, ◌++◌, ◌^◌, ◌↔◌, [], ℕ, List, length};
+    ghost use Rattle.std.specs.Prelude.{take, None, Some, Ok, Err, IfOk, IfSome, MatchOption};
+    ghost use Rattle.std.specs.Prelude.{MatchResult, OnOk, OnErr, IsErrOf, IsTrue, is_some};
     ghost use Rattle.ua_frame.specs.declared.frame.Frame.{Frame};
     ghost use Rattle.ua_chunk.specs.Cutting.{cut_refusal, most_octets};
     ghost use Rattle.ua_chunk.specs.declared.lane.Lane.{Lane};
@@ -51,7 +53,9 @@ impl ServerChannel {
     ghost use Rattle.ua_channel.specs.Received.{received};
     ghost use Rattle.ua_channel.specs.ServerAnswers.{Progress, AnswersAt, ServerAnswers, AsksInParts, parts_asked};
     ghost use Rattle.ua_channel.specs.inside.ServerSteps.{AnswersTo, StandsWith};
-    ghost use Rattle.ua_channel.specs.ServerStands.{StarvedAt, limits_of, channel_of, next_of, bound_of, HasNoToken, IsWithoutToken, ChannelStands, Goes, IsDone, bound_after, held_after};
+    ghost use Rattle.ua_channel.specs.ServerStands.{StarvedAt, limits_of, channel_of, next_of, bound_of};
+    ghost use Rattle.ua_channel.specs.ServerStands.{HasNoToken, IsWithoutToken, ChannelStands, Goes};
+    ghost use Rattle.ua_channel.specs.ServerStands.{IsDone, bound_after, held_after};
     ghost use Rattle.ua_channel.specs.inside.ServerFrames.{LaneIs};
     ghost use Rattle.ua_channel.specs.ServerSends.{IsReply, RepliesGo};
     ghost use Rattle.ua_channel.specs.ServerTold.{Told};
@@ -114,7 +118,8 @@ impl ServerChannel {
         ensures closes { event ≡ inner.Closed → result ≡ Ok handed.Closed }
         ensures answers { (octets : List ℕ) (told : List Told) → StandsWith event self.old octets told
             → AnswersTo (channel_of self.old) (next_of self.old) moment result self.new octets told }
-        ensures parts { (octets : List ℕ) (told : List Told) → StandsWith event self.old octets told → IfOk result (λ e. AsksInParts (parts_asked e) self.new octets) }
+        ensures parts { (octets : List ℕ) (told : List Told) → StandsWith event self.old octets told
+            → IfOk result (λ e. AsksInParts (parts_asked e) self.new octets) }
         ensures limits { limits_of self.new ≡ limits_of self.old }
         ensures channel { channel_of self.new ≡ channel_of self.old }
     {
@@ -162,11 +167,13 @@ impl ServerChannel {
         moment: DateTime,
     ) -> (usize, Result<ServerEvent, ChannelFault>)
         ensures answers { (octets : List ℕ) (told : List Told) → Goes self.old octets told
-            → AnswersAt (channel_of self.old) (next_of self.old) moment piece.now result.0 result.1 self.new octets told }
+            → AnswersAt (channel_of self.old) (next_of self.old) moment piece.now result.0 result.1 self.new octets
+            told }
         ensures parts { (octets : List ℕ) (told : List Told) → Goes self.old octets told
             → IfOk result.1 (λ e. AsksInParts (parts_asked e) self.new (octets ++ take result.0 piece.now)) }
         ensures progress { Progress piece.now result.0 result.1 }
-        ensures starves { (octets : List ℕ) (told : List Told) → Goes self.old octets told → IsErrOf result.1 fault.OutOfMemory
+        ensures starves { (octets : List ℕ) (told : List Told) → Goes self.old octets told
+            → IsErrOf result.1 fault.OutOfMemory
             → StarvedAt self.new (octets ++ take result.0 piece.now) told }
         ensures limits { limits_of self.new ≡ limits_of self.old }
         ensures channel { channel_of self.new ≡ channel_of self.old }
@@ -187,7 +194,8 @@ impl ServerChannel {
         moment: DateTime,
     ) -> (usize, Result<ServerEvent, ChannelFault>)
         ensures answers { (octets : List ℕ) (told : List Told) → Goes self.old octets told
-            → AnswersAt (channel_of self.old) (next_of self.old) moment piece.now result.0 result.1 self.new octets told }
+            → AnswersAt (channel_of self.old) (next_of self.old) moment piece.now result.0 result.1 self.new octets
+            told }
         // A message that is returned is the bodies of its chunks, which are not joined.
         ensures parts { (octets : List ℕ) (told : List Told) → Goes self.old octets told
             → IfOk result.1 (λ e. AsksInParts (parts_asked e) self.new (octets ++ take result.0 piece.now)) }
@@ -195,7 +203,8 @@ impl ServerChannel {
         ensures closed { IsDone self.old → (result.0 ≡ 0) × (result.1 ≡ Err fault.Closed) × (self.new ≡ self.old) }
         // Where an allocation fails, the bytes taken end at the eighth byte of a valid header, or
         // within its frame.
-        ensures starves { (octets : List ℕ) (told : List Told) → Goes self.old octets told → IsErrOf result.1 fault.OutOfMemory
+        ensures starves { (octets : List ℕ) (told : List Told) → Goes self.old octets told
+            → IsErrOf result.1 fault.OutOfMemory
             → StarvedAt self.new (octets ++ take result.0 piece.now) told }
         // After `OutOfMemory` the bound is what it was before the call.
         ensures starved { IsErrOf result.1 fault.OutOfMemory → bound_of self.new ≡ bound_of self.old }
@@ -234,7 +243,8 @@ impl ServerChannel {
             → IfOk result (λ r. AsksInParts (parts_asked r.1) self.new (octets ++ take r.0 piece.now)) }
         ensures closed { IsDone self.old → (result ≡ Err fault.Closed) × (self.new ≡ self.old) }
         // Where an allocation fails, it is within a frame whose header is complete and valid.
-        ensures starves { (octets : List ℕ) (told : List Told) → Goes self.old octets told → IsErrOf result fault.OutOfMemory
+        ensures starves { (octets : List ℕ) (told : List Told) → Goes self.old octets told
+            → IsErrOf result fault.OutOfMemory
             → (n : ℕ) × (n ≤ length piece.now) × StarvedAt self.new (octets ++ take n piece.now) told }
         // After `OutOfMemory` the bound is what it was before the call.
         ensures starved { IsErrOf result fault.OutOfMemory → bound_of self.new ≡ bound_of self.old }
@@ -250,7 +260,8 @@ impl ServerChannel {
 
     /// Where replies go, if the channel is open.
     fn lane(&self) -> Option<Lane>
-        ensures lane { MatchOption result (HasNoToken self.now.end.phase) (LaneIs self.now.end.rules.channel self.now.end.phase) }
+        ensures lane { MatchOption result (HasNoToken self.now.end.phase)
+            (LaneIs self.now.end.rules.channel self.now.end.phase) }
         ensures room { IfSome result (λ lane. 0 < lane.room) }
         ensures size { IfSome result (λ lane. lane.room + 24 < 2 ^ 32) }
     {
@@ -263,8 +274,10 @@ impl ServerChannel {
     /// The maximum size, in bytes, of a body that can be sent as a reply; `None` where the client
     /// sets no such limit, and where no channel is open. A larger body becomes an abort.
     pub fn most_octets(&self) -> Option<usize>
-        ensures most { (octets : List ℕ) (frames : List Frame) (rest : List ℕ) → ChannelStands self.now octets frames rest → (IsWithoutToken self.now → ⊥)
-            → (lane : Lane) → RepliesGo (limits_of self.now) (channel_of self.now) (received frames) lane → (0 < lane.room) × (result ≡ most_octets lane) }
+        ensures most { (octets : List ℕ) (frames : List Frame) (rest : List ℕ)
+            → ChannelStands self.now octets frames rest → (IsWithoutToken self.now → ⊥)
+            → (lane : Lane) → RepliesGo (limits_of self.now) (channel_of self.now) (received frames) lane
+            → (0 < lane.room) × (result ≡ most_octets lane) }
         ensures not_open { IsWithoutToken self.now → result ≡ None }
     {
         match self.lane() {
@@ -278,15 +291,20 @@ impl ServerChannel {
     /// an allocation fails, the channel fails.
     pub fn respond(&mut self, id: u32, body: &[u8]) -> Result<SentReply, ReplyFault>
         requires { 0 < length body.now }
-        ensures stands { (octets : List ℕ) (frames : List Frame) (rest : List ℕ) → ChannelStands self.old octets frames rest
+        ensures stands { (octets : List ℕ) (frames : List Frame) (rest : List ℕ)
+            → ChannelStands self.old octets frames rest
             → OnOk result (ChannelStands self.new octets frames rest) }
-        ensures sent { (octets : List ℕ) (frames : List Frame) (rest : List ℕ) → ChannelStands self.old octets frames rest
-            → IfOk result (λ sent. (lane : Lane) × RepliesGo (limits_of self.old) (channel_of self.old) (received frames) lane
-            × IsReply lane body.now (next_of self.old) id sent.octets.items (next_of self.new) × (sent.is_abort ≡ is_some (cut_refusal lane body.now))) }
+        ensures sent { (octets : List ℕ) (frames : List Frame) (rest : List ℕ)
+            → ChannelStands self.old octets frames rest
+            → IfOk result (λ sent. (lane : Lane) × RepliesGo (limits_of self.old) (channel_of self.old)
+            (received frames) lane
+            × IsReply lane body.now (next_of self.old) id sent.octets.items (next_of self.new)
+            × (sent.is_abort ≡ is_some (cut_refusal lane body.now))) }
         // No channel is open before the first OPN or after the channel ended, and in no other case.
         ensures not_open { IsErrOf result NotOpen ↔ IsWithoutToken self.old }
         ensures unchanged { IsErrOf result NotOpen → self.new ≡ self.old }
-        ensures before { (octets : List ℕ) (frames : List Frame) (rest : List ℕ) → ChannelStands self.old octets frames rest
+        ensures before { (octets : List ℕ) (frames : List Frame) (rest : List ℕ)
+            → ChannelStands self.old octets frames rest
             → IsErrOf result NotOpen ↔ ((received frames).openings ≡ []) }
         ensures failed { IsErrOf result OutOfMemory → IsDone self.new }
         ensures bound { bound_of self.new ≡ bound_of self.old }
@@ -309,15 +327,19 @@ impl ServerChannel {
     /// place.
     pub fn reply(&mut self, id: u32, body: &[u8]) -> Result<Vec<u8>, ReplyFault>
         requires { 0 < length body.now }
-        ensures stands { (octets : List ℕ) (frames : List Frame) (rest : List ℕ) → ChannelStands self.old octets frames rest
+        ensures stands { (octets : List ℕ) (frames : List Frame) (rest : List ℕ)
+            → ChannelStands self.old octets frames rest
             → OnOk result (ChannelStands self.new octets frames rest) }
-        ensures sent { (octets : List ℕ) (frames : List Frame) (rest : List ℕ) → ChannelStands self.old octets frames rest
-            → IfOk result (λ out. (lane : Lane) × RepliesGo (limits_of self.old) (channel_of self.old) (received frames) lane
+        ensures sent { (octets : List ℕ) (frames : List Frame) (rest : List ℕ)
+            → ChannelStands self.old octets frames rest
+            → IfOk result (λ out. (lane : Lane) × RepliesGo (limits_of self.old) (channel_of self.old)
+            (received frames) lane
             × IsReply lane body.now (next_of self.old) id out.items (next_of self.new)) }
         // No channel is open before the first OPN or after the channel ended, and in no other case.
         ensures not_open { IsErrOf result NotOpen ↔ IsWithoutToken self.old }
         ensures unchanged { IsErrOf result NotOpen → self.new ≡ self.old }
-        ensures before { (octets : List ℕ) (frames : List Frame) (rest : List ℕ) → ChannelStands self.old octets frames rest
+        ensures before { (octets : List ℕ) (frames : List Frame) (rest : List ℕ)
+            → ChannelStands self.old octets frames rest
             → IsErrOf result NotOpen ↔ ((received frames).openings ≡ []) }
         ensures failed { IsErrOf result OutOfMemory → IsDone self.new }
         ensures bound { bound_of self.new ≡ bound_of self.old }
@@ -343,9 +365,11 @@ impl ServerChannel {
     /// The number of bytes held: those of an incomplete frame, and those of unfinished messages. It
     /// is never more than [`bound`](ServerChannel::bound).
     pub fn held(&self) -> usize
-        ensures held { (octets : List ℕ) (frames : List Frame) (rest : List ℕ) → ChannelStands self.now octets frames rest
+        ensures held { (octets : List ℕ) (frames : List Frame) (rest : List ℕ)
+            → ChannelStands self.now octets frames rest
             → result ≡ held_after (received frames) rest }
-        ensures bound { (octets : List ℕ) (frames : List Frame) (rest : List ℕ) → ChannelStands self.now octets frames rest
+        ensures bound { (octets : List ℕ) (frames : List Frame) (rest : List ℕ)
+            → ChannelStands self.now octets frames rest
             → result ≤ bound_after (limits_of self.now) (received frames) }
         ensures done { IsDone self.now → result ≡ 0 }
     {
@@ -355,7 +379,8 @@ impl ServerChannel {
     /// The maximum number of bytes that may be held: 8192 before the ACK; after it those of a frame
     /// of the agreed size and of 4 messages of the maximum size.
     pub fn bound(&self) -> usize
-        ensures stands { (octets : List ℕ) (frames : List Frame) (rest : List ℕ) → ChannelStands self.now octets frames rest
+        ensures stands { (octets : List ℕ) (frames : List Frame) (rest : List ℕ)
+            → ChannelStands self.now octets frames rest
             → result ≡ bound_after (limits_of self.now) (received frames) }
         ensures is { result ≡ bound_of self.now }
     {
@@ -364,7 +389,8 @@ impl ServerChannel {
 
     /// The number of unfinished messages.
     pub fn open_count(&self) -> usize
-        ensures count { (octets : List ℕ) (frames : List Frame) (rest : List ℕ) → ChannelStands self.now octets frames rest
+        ensures count { (octets : List ℕ) (frames : List Frame) (rest : List ℕ)
+            → ChannelStands self.now octets frames rest
             → result ≡ length (open_ids (received frames).messages) }
         ensures done { IsDone self.now → result ≡ 0 }
     {

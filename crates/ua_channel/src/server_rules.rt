@@ -52,8 +52,10 @@ impl ServerRules {
     ) -> Result<Option<Event>, StepFault>
         requires shape { HasShape frame }
         requires goes_on { frame.kind ≢ Clo }
-        ensures { (before : Received) (bound : ℕ) → Stays self.now.limits running.old before → bound ≡ bound_after self.now.limits before
-            → IsTrue (lets_in (running_gate running.old.agreement.ack.receive_buffer_size) frame.kind) → JudgesFrame self.now before (content frame) (Open running.new) bound result }
+        ensures { (before : Received) (bound : ℕ) → Stays self.now.limits running.old before
+            → bound ≡ bound_after self.now.limits before
+            → IsTrue (lets_in (running_gate running.old.agreement.ack.receive_buffer_size) frame.kind)
+            → JudgesFrame self.now before (content frame) (Open running.new) bound result }
     {
         match frame.kind {
             Kind::Msg => running.on_message(self.channel, read_chunk(frame)),
@@ -72,8 +74,10 @@ impl ServerRules {
         frame: Frame,
     ) -> Result<Option<Event>, StepFault>
         requires shape { HasShape frame }
-        ensures judges { (before : Received) → InServerPhase self.now.limits phase.old before → bound.old ≡ bound_after self.now.limits before
-            → IsTrue (lets_in (phase_gate phase.old) frame.kind) → JudgesFrame self.now before (content frame) phase.new bound.new result }
+        ensures judges { (before : Received) → InServerPhase self.now.limits phase.old before
+            → bound.old ≡ bound_after self.now.limits before
+            → IsTrue (lets_in (phase_gate phase.old) frame.kind)
+            → JudgesFrame self.now before (content frame) phase.new bound.new result }
         ensures failed { OnErr result (bound.new ≡ bound.old) }
     {
         match phase {

@@ -33,7 +33,8 @@ use Rattle.ua_channel_laws.proofs.Conversing.{none_named}
 
 -- ---- what a frame of a kind tells
 
-greeted : (limits : Limits) (before : Received) (hello : Option Hello) (e : Told) → server_tells limits before (Greets hello) ≡ e ∷ [] → (a : Agreement) × (e ≡ Agreed a)
+greeted : (limits : Limits) (before : Received) (hello : Option Hello) (e : Told) → server_tells limits before (Greets hello) ≡ e ∷ []
+    → (a : Agreement) × (e ≡ Agreed a)
 greeted limits before None e t = absurd cc
 greeted limits before (Some h) e t = (agreement_of limits h, sym (told_is (Agreed (agreement_of limits h)) e [] t))
 
@@ -55,7 +56,8 @@ closed_not : (limits : Limits) (before : Received) (chunk : Option Chunk) (a : A
 closed_not limits before None a e = absurd cc
 closed_not limits before (Some c) a e = let x = told_is Closed (Agreed a) [] e in cc
 
-agreeing_kind : (limits : Limits) (before : Received) (k : Kind) (f : Frame) (a : Agreement) → server_tells limits before (content_by k f) ≡ Agreed a ∷ [] → k ≡ Hel
+agreeing_kind : (limits : Limits) (before : Received) (k : Kind) (f : Frame) (a : Agreement) → server_tells limits before (content_by k f) ≡ Agreed a ∷ []
+    → k ≡ Hel
 agreeing_kind limits before Hel f a e = refl
 agreeing_kind limits before kind.Ack f a e = absurd cc
 agreeing_kind limits before kind.Err f a e = absurd cc
@@ -69,13 +71,15 @@ no_hello : (size : ℕ) (b : Bool) → IsTrue (lets_in (if b then opening_gate s
 no_hello size true t = absurd cc
 no_hello size false t = absurd cc
 
-first_frame : (limits : Limits) (before : Received) (f : Frame) (e : Told) → before.hello ≡ None → IsTrue (lets_in (server_gate limits before) f.kind) → server_tells limits before (content f) ≡ e ∷ [] → (a : Agreement) × (e ≡ Agreed a)
+first_frame : (limits : Limits) (before : Received) (f : Frame) (e : Told) → before.hello ≡ None → IsTrue (lets_in (server_gate limits before) f.kind)
+    → server_tells limits before (content f) ≡ e ∷ [] → (a : Agreement) × (e ≡ Agreed a)
 unfolding content
 first_frame limits before f e none place tells =
     let hel : f.kind ≡ Hel = hel_only f.kind (subst (λ (h : Option Hello). IsTrue (lets_in (server_gate_behind limits h (issued before)) f.kind)) none place) in
     greeted limits before (hello_in f.body) e (ap (λ (k : Kind). server_tells limits before (content_by k f)) (sym hel) ∙ tells)
 
-later_frame : (limits : Limits) (before : Received) (f : Frame) (h : Hello) (a : Agreement) → before.hello ≡ Some h → IsTrue (lets_in (server_gate limits before) f.kind) → server_tells limits before (content f) ≡ Agreed a ∷ [] → ⊥
+later_frame : (limits : Limits) (before : Received) (f : Frame) (h : Hello) (a : Agreement) → before.hello ≡ Some h
+    → IsTrue (lets_in (server_gate limits before) f.kind) → server_tells limits before (content f) ≡ Agreed a ∷ [] → ⊥
 unfolding content
 later_frame limits before f h a some place tells =
     let hel : f.kind ≡ Hel = agreeing_kind limits before f.kind f a tells in
@@ -98,7 +102,8 @@ module _ (x : ServerChannel) (octets : List ℕ) (before : List Told) (e : Told)
 
   -- what is told first is an agreement
   pub agrees_first : agreed_by before ≡ None → (a : Agreement) × (e ≡ Agreed a)
-  agrees_first none = first_frame (limits_of x) (received g.frames) g.frame e (none_named (agreement_of (limits_of x)) (received g.frames).hello (agreement_is ∙ none)) place g.tells
+  agrees_first none = first_frame (limits_of x) (received g.frames) g.frame e
+      (none_named (agreement_of (limits_of x)) (received g.frames).hello (agreement_is ∙ none)) place g.tells
 
   -- there is one
   pub agrees_once : (a b : Agreement) → agreed_by before ≡ Some a → e ≡ Agreed b → ⊥

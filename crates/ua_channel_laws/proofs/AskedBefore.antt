@@ -1,5 +1,6 @@
 -- That a client whose asks are made earlier reads what it read.
-use Rattle.std.proofs.Common.{◌≡◌, ℕ, ◌<◌, ◌≤◌, Bool, true, false, cond, not, ◌||◌, eqb, ltb, List, [], ◌∷◌, ◌++◌, length, map, refl, sym, ◌∙◌, ap, subst, arith}
+use Rattle.std.proofs.Common.{◌≡◌, ℕ, ◌<◌, ◌≤◌, Bool, true, false, cond, not, ◌||◌, eqb, ltb}
+use Rattle.std.proofs.Common.{List, [], ◌∷◌, ◌++◌, length, map, refl, sym, ◌∙◌, ap, subst, arith}
 use Rattle.std.specs.List.{AllByRecursion, filter}
 use Rattle.std.proofs.lemmas.Bool.{lt-ltb, ltb-true, or_right}
 use Rattle.std.proofs.lemmas.List.Folds.{list_any-append}
@@ -10,7 +11,8 @@ use Rattle.ua_frame.specs.Run.{Going, Run}
 use Rattle.ua_opening.specs.declared.secure_channel.OpenResponse.{OpenResponse}
 use Rattle.ua_chunk.specs.declared.chunk.Chunk.{Chunk}
 use Rattle.ua_channel_laws.specs.AskedEarlier.{AreEarlier}
-use Rattle.ua_channel.specs.Asks.{Asking, Placed, asked_before, asked_in, call_in, calls, end_of, id_of, is_finished, is_in, next_id, pending_calls, pending_renewals, renewal_in, renewals}
+use Rattle.ua_channel.specs.Asks.{Asking, Placed, asked_before, asked_in, call_in, calls, end_of, id_of, is_finished}
+use Rattle.ua_channel.specs.Asks.{is_in, next_id, pending_calls, pending_renewals, renewal_in, renewals}
 use Rattle.ua_channel_laws.specs.ClientConversation.{ClientConversation, MayCarryBack}
 use Rattle.ua_channel_laws.specs.ClientReads.{AtClient, ClientReads}
 use Rattle.ua_channel.specs.ClientTable.{client_rules, is_awaited}
@@ -25,14 +27,17 @@ use Rattle.ua_channel_laws.proofs.ClientConversing.{continues, response_as}
 -- ---- what a test keeps
 
 -- one that a test keeps of some it keeps of more
-keeps_more : (test : ℕ → Bool) (id : ℕ) (xs ys : List ℕ) → (is_in id xs ≡ true → is_in id ys ≡ true) → is_in id (filter test xs) ≡ true → is_in id (filter test ys) ≡ true
+keeps_more : (test : ℕ → Bool) (id : ℕ) (xs ys : List ℕ) → (is_in id xs ≡ true → is_in id ys ≡ true) → is_in id (filter test xs) ≡ true
+    → is_in id (filter test ys) ≡ true
 keeps_more test id xs ys more e = in_filter test id ys (passes_filter test id xs e) (more (within_filter test id xs e))
 
 -- ---- what was asked before a place
 
 -- the ids of this kind of ask among those before a place
-module _ (ids : List Asking → List ℕ) (one : Asking → List ℕ) (step : (a : Asking) (asked : List Asking) (id : ℕ) → is_in id (ids (a ∷ asked)) ≡ (is_in id (one a) || is_in id (ids asked))) where
-  still_in : (id : ℕ) (a : Asking) (xs ys : List Asking) (early late : Bool) → (late ≡ true → early ≡ true) → (is_in id (ids xs) ≡ true → is_in id (ids ys) ≡ true)
+module _ (ids : List Asking → List ℕ) (one : Asking → List ℕ) (step : (a : Asking) (asked : List Asking) (id : ℕ)
+    → is_in id (ids (a ∷ asked)) ≡ (is_in id (one a) || is_in id (ids asked))) where
+  still_in : (id : ℕ) (a : Asking) (xs ys : List Asking) (early late : Bool) → (late ≡ true → early ≡ true)
+      → (is_in id (ids xs) ≡ true → is_in id (ids ys) ≡ true)
       → is_in id (ids (cond late (a ∷ xs) xs)) ≡ true
       → is_in id (ids (cond early (a ∷ ys) ys)) ≡ true
   still_in id a xs ys true true le more e = step a ys id ∙ by_first (is_in id (one a)) (sym (step a xs id) ∙ e)
@@ -52,16 +57,26 @@ module _ (ids : List Asking → List ℕ) (one : Asking → List ℕ) (step : (a
   in_earlier id place (a ∷ earlier) [] are e = absurd are
   in_earlier id place (a ∷ earlier) (b ∷ asks) are e =
       moved (ltb a.0 place)
-      (still_in id b.1 (map (λ (p : Placed). p.1) (filter (λ (p : Placed). ltb p.0 place) asks)) (map (λ (p : Placed). p.1) (filter (λ (p : Placed). ltb p.0 place) earlier)) (ltb a.0 place) (ltb b.0 place)
+      (still_in id b.1 (map (λ (p : Placed). p.1) (filter (λ (p : Placed). ltb p.0 place) asks))
+      (map (λ (p : Placed). p.1) (filter (λ (p : Placed). ltb p.0 place) earlier)) (ltb a.0 place) (ltb b.0 place)
       (λ late. lt-ltb a.0 place (omega (arith, are.0, ltb-true b.0 place late))) (in_earlier id place earlier asks are.2) (kept (ltb b.0 place) e))
     where
-      kept : (t : Bool) → is_in id (ids (map (λ (p : Placed). p.1) (cond t (b ∷ filter (λ (p : Placed). ltb p.0 place) asks) (filter (λ (p : Placed). ltb p.0 place) asks)))) ≡ true
-          → is_in id (ids (cond t (b.1 ∷ map (λ (p : Placed). p.1) (filter (λ (p : Placed). ltb p.0 place) asks)) (map (λ (p : Placed). p.1) (filter (λ (p : Placed). ltb p.0 place) asks)))) ≡ true
+      kept : (t : Bool)
+          → is_in id (ids (map (λ (p : Placed). p.1) (cond t (b ∷ filter (λ (p : Placed). ltb p.0 place) asks) (filter (λ (p : Placed). ltb p.0 place) asks))))
+          ≡ true
+          → is_in id
+          (ids (cond t (b.1 ∷ map (λ (p : Placed). p.1) (filter (λ (p : Placed). ltb p.0 place) asks))
+          (map (λ (p : Placed). p.1) (filter (λ (p : Placed). ltb p.0 place) asks)))) ≡ true
       kept true f = f
       kept false f = f
 
-      moved : (t : Bool) → is_in id (ids (cond t (b.1 ∷ map (λ (p : Placed). p.1) (filter (λ (p : Placed). ltb p.0 place) earlier)) (map (λ (p : Placed). p.1) (filter (λ (p : Placed). ltb p.0 place) earlier)))) ≡ true
-          → is_in id (ids (map (λ (p : Placed). p.1) (cond t (a ∷ filter (λ (p : Placed). ltb p.0 place) earlier) (filter (λ (p : Placed). ltb p.0 place) earlier)))) ≡ true
+      moved : (t : Bool)
+          → is_in id
+          (ids (cond t (b.1 ∷ map (λ (p : Placed). p.1) (filter (λ (p : Placed). ltb p.0 place) earlier))
+          (map (λ (p : Placed). p.1) (filter (λ (p : Placed). ltb p.0 place) earlier)))) ≡ true
+          → is_in id
+          (ids (map (λ (p : Placed). p.1) (cond t (a ∷ filter (λ (p : Placed). ltb p.0 place) earlier) (filter (λ (p : Placed). ltb p.0 place) earlier))))
+          ≡ true
       moved true f = ap (λ (k : Asking). is_in id (ids (k ∷ map (λ (p : Placed). p.1) (filter (λ (p : Placed). ltb p.0 place) earlier)))) are.1 ∙ f
       moved false f = f
 
@@ -73,29 +88,36 @@ renewals_step : (a : Asking) (asked : List Asking) (id : ℕ) → is_in id (rene
 unfolding renewals
 renewals_step a asked id = list_any-append (λ (n : ℕ). eqb n id) (renewal_in a) (renewals asked)
 
-calls_earlier : (id place : ℕ) (earlier asks : List Placed) → AreEarlier earlier asks → is_in id (calls (asked_before place asks)) ≡ true → is_in id (calls (asked_before place earlier)) ≡ true
+calls_earlier : (id place : ℕ) (earlier asks : List Placed) → AreEarlier earlier asks → is_in id (calls (asked_before place asks)) ≡ true
+    → is_in id (calls (asked_before place earlier)) ≡ true
 unfolding asked_before
 calls_earlier id place earlier asks are e = in_earlier calls call_in calls_step id place earlier asks are e
 
-renewals_earlier : (id place : ℕ) (earlier asks : List Placed) → AreEarlier earlier asks → is_in id (renewals (asked_before place asks)) ≡ true → is_in id (renewals (asked_before place earlier)) ≡ true
+renewals_earlier : (id place : ℕ) (earlier asks : List Placed) → AreEarlier earlier asks → is_in id (renewals (asked_before place asks)) ≡ true
+    → is_in id (renewals (asked_before place earlier)) ≡ true
 unfolding asked_before
 renewals_earlier id place earlier asks are e = in_earlier renewals renewal_in renewals_step id place earlier asks are e
 
 -- a call that is unanswered where asks were made later is so where they were made earlier
-pending_earlier : (cs : List Chunk) (id place : ℕ) (earlier asks : List Placed) → AreEarlier earlier asks → is_in id (pending_calls cs (asked_before place asks)) ≡ true
+pending_earlier : (cs : List Chunk) (id place : ℕ) (earlier asks : List Placed) → AreEarlier earlier asks
+    → is_in id (pending_calls cs (asked_before place asks)) ≡ true
     → is_in id (pending_calls cs (asked_before place earlier)) ≡ true
 unfolding pending_calls
 pending_earlier cs id place earlier asks are e =
-    keeps_more (λ (j : ℕ). not (is_finished cs j)) id (calls (asked_before place asks)) (calls (asked_before place earlier)) (calls_earlier id place earlier asks are) e
+    keeps_more (λ (j : ℕ). not (is_finished cs j)) id (calls (asked_before place asks)) (calls (asked_before place earlier))
+    (calls_earlier id place earlier asks are) e
 
 -- and so is a renewal
-waiting_earlier : (opened : List ℕ) (id place : ℕ) (earlier asks : List Placed) → AreEarlier earlier asks → is_in id (pending_renewals opened (asked_before place asks)) ≡ true
+waiting_earlier : (opened : List ℕ) (id place : ℕ) (earlier asks : List Placed) → AreEarlier earlier asks
+    → is_in id (pending_renewals opened (asked_before place asks)) ≡ true
     → is_in id (pending_renewals opened (asked_before place earlier)) ≡ true
 unfolding pending_renewals
 waiting_earlier opened id place earlier asks are e =
-    keeps_more (λ (j : ℕ). not (is_in j opened)) id (renewals (asked_before place asks)) (renewals (asked_before place earlier)) (renewals_earlier id place earlier asks are) e
+    keeps_more (λ (j : ℕ). not (is_in j opened)) id (renewals (asked_before place asks)) (renewals (asked_before place earlier))
+    (renewals_earlier id place earlier asks are) e
 
-awaited_earlier : (rs : List OpenResponse) (opened : List ℕ) (id place : ℕ) (earlier asks : List Placed) → AreEarlier earlier asks → is_awaited rs opened (asked_before place asks) id ≡ true
+awaited_earlier : (rs : List OpenResponse) (opened : List ℕ) (id place : ℕ) (earlier asks : List Placed) → AreEarlier earlier asks
+    → is_awaited rs opened (asked_before place asks) id ≡ true
     → is_awaited rs opened (asked_before place earlier) id ≡ true
 awaited_earlier [] opened id place earlier asks are e = e
 awaited_earlier (r ∷ rs) opened id place earlier asks are e = waiting_earlier opened id place earlier asks are e
@@ -103,13 +125,16 @@ awaited_earlier (r ∷ rs) opened id place earlier asks are e = waiting_earlier 
 -- ---- frames
 
 module _ (limits : Limits) (earlier asks : List Placed) (are : AreEarlier earlier asks) where
-  may_earlier : (b : Received) (place : ℕ) (k : Content) → MayCarryBack limits b (asked_before place asks) k → MayCarryBack limits b (asked_before place earlier) k
+  may_earlier : (b : Received) (place : ℕ) (k : Content) → MayCarryBack limits b (asked_before place asks) k
+      → MayCarryBack limits b (asked_before place earlier) k
   may_earlier b place (Greets hello) h = h
   may_earlier b place (Acks ack) h = h
   may_earlier b place (Fails error) h = h
   may_earlier b place (Opens o) h =
-      response_as (channel_in (responses b.openings)) (channel_in (responses b.openings)) (held_tokens b) (held_tokens b) (is_awaited (responses b.openings) (opened_ids b.openings) (asked_before place asks))
-      (is_awaited (responses b.openings) (opened_ids b.openings) (asked_before place earlier)) o refl refl (λ id e. awaited_earlier (responses b.openings) (opened_ids b.openings) id place earlier asks are e) h
+      response_as (channel_in (responses b.openings)) (channel_in (responses b.openings)) (held_tokens b) (held_tokens b)
+      (is_awaited (responses b.openings) (opened_ids b.openings) (asked_before place asks))
+      (is_awaited (responses b.openings) (opened_ids b.openings) (asked_before place earlier)) o refl refl
+      (λ id e. awaited_earlier (responses b.openings) (opened_ids b.openings) id place earlier asks are e) h
   may_earlier b place (Sends c) h = record { on = h.on; held = h.held; awaited = pending_earlier b.messages c.request place earlier asks are h.awaited }
   may_earlier b place (Closes c) h = h
   may_earlier b place Nothing h = h
@@ -130,7 +155,8 @@ module _ (limits : Limits) (earlier asks : List Placed) (are : AreEarlier earlie
     messages_fit = c.messages_fit;
   }
 
-  run_earlier : (octets : List ℕ) (frames : List Frame) (rest : List ℕ) → Run (client_rules limits asks) octets frames rest Going → Run (client_rules limits earlier) octets frames rest Going
+  run_earlier : (octets : List ℕ) (frames : List Frame) (rest : List ℕ) → Run (client_rules limits asks) octets frames rest Going
+      → Run (client_rules limits earlier) octets frames rest Going
   run_earlier octets frames rest run =
       let c = (continues limits asks octets frames rest).0 run in
       (continues limits earlier octets frames rest).1 (record { whole = c.whole; converses = converses_earlier frames c.converses; partial = c.partial })
@@ -140,16 +166,19 @@ unfolding asked_in
 in_same [] [] are = refl
 in_same [] (b ∷ asks) are = absurd are
 in_same (a ∷ earlier) [] are = absurd are
-in_same (a ∷ earlier) (b ∷ asks) are = ap (λ (k : Asking). k ∷ map (λ (p : Placed). p.1) earlier) are.1 ∙ ap (λ (t : List Asking). b.1 ∷ t) (in_same earlier asks are.2)
+in_same (a ∷ earlier) (b ∷ asks) are = ap (λ (k : Asking). k ∷ map (λ (p : Placed). p.1) earlier) are.1
+    ∙ ap (λ (t : List Asking). b.1 ∷ t) (in_same earlier asks are.2)
 
-placed_earlier : (n : ℕ) (earlier asks : List Placed) → AreEarlier earlier asks → AllByRecursion (λ (a : Placed). a.0 ≤ n) asks → AllByRecursion (λ (a : Placed). a.0 ≤ n) earlier
+placed_earlier : (n : ℕ) (earlier asks : List Placed) → AreEarlier earlier asks → AllByRecursion (λ (a : Placed). a.0 ≤ n) asks
+    → AllByRecursion (λ (a : Placed). a.0 ≤ n) earlier
 placed_earlier n [] [] are all = tt
 placed_earlier n [] (b ∷ asks) are all = absurd are
 placed_earlier n (a ∷ earlier) [] are all = absurd are
 placed_earlier n (a ∷ earlier) (b ∷ asks) are all = (omega (arith, are.0, all.0), placed_earlier n earlier asks are.2 all.1)
 
 -- a client that asked earlier reads the same, and is at the same place
-pub reads_earlier : (limits : Limits) (earlier asks : List Placed) (octets : List ℕ) (told : List ClientTold) (at : AtClient) → AreEarlier earlier asks → ClientReads limits asks octets told at
+pub reads_earlier : (limits : Limits) (earlier asks : List Placed) (octets : List ℕ) (told : List ClientTold) (at : AtClient) → AreEarlier earlier asks
+    → ClientReads limits asks octets told at
     → ClientReads limits earlier octets told at
 reads_earlier limits earlier asks octets told at are r =
     let same : asked_in earlier ≡ asked_in asks = in_same earlier asks are in
@@ -168,7 +197,8 @@ reads_earlier limits earlier asks octets told at are r =
       renewals_are = ap (pending_renewals (opened_ids (received r.frames).openings)) same ∙ r.renewals_are;
       asked_below = subst (λ (ss : List Asking). AllByRecursion (λ (a : Asking). id_of a < next_id ss) ss) (sym same) r.asked_below;
       sent_below = subst (λ (ss : List Asking). AllByRecursion (λ (c : Chunk). c.request < next_id ss) (received r.frames).messages) (sym same) r.sent_below;
-      opened_below = subst (λ (ss : List Asking). AllByRecursion (λ (id : ℕ). id < next_id ss) (opened_ids (received r.frames).openings)) (sym same) r.opened_below;
+      opened_below = subst (λ (ss : List Asking). AllByRecursion (λ (id : ℕ). id < next_id ss) (opened_ids (received r.frames).openings))
+          (sym same) r.opened_below;
       follows = r.follows;
       next_small = r.next_small;
       none_open = r.none_open;

@@ -19,7 +19,8 @@ use Rattle.ua_channel.proofs.AskedLater.{asked_before-later, going_on}
 use Rattle.ua_channel.proofs.Askings.{all-weaken}
 use Rattle.ua_channel_laws.proofs.ReadOn.{begins, never_refused}
 
-module _ (limits : Limits) (asks later : List Placed) (octets : List ℕ) (frames : List Frame) (rest : List ℕ) (why : Why) (behind : AllByRecursion (λ (a : Placed). length octets ≤ a.0) later)
+module _ (limits : Limits) (asks later : List Placed) (octets : List ℕ) (frames : List Frame) (rest : List ℕ) (why : Why)
+    (behind : AllByRecursion (λ (a : Placed). length octets ≤ a.0) later)
     (run : Run (client_rules limits asks) octets frames rest (Stopped why)) where
   behind_frames : AllByRecursion (λ (a : Placed). length (frames_octets frames) ≤ a.0) later
   behind_frames =
@@ -43,7 +44,8 @@ module _ (limits : Limits) (asks later : List Placed) (octets : List ℕ) (frame
         length-append (frames_octets frames) (frame_octets f),
       )
 
-  asked_here : (f : Frame) (more : List ℕ) → rest ≡ frame_octets f ++ more → asked_before (end_of frames f) (asks ++ later) ≡ asked_before (end_of frames f) asks
+  asked_here : (f : Frame) (more : List ℕ) → rest ≡ frame_octets f ++ more
+      → asked_before (end_of frames f) (asks ++ later) ≡ asked_before (end_of frames f) asks
   asked_here f more parts =
       asked_before-later (end_of frames f) asks later
       (all-weaken (λ (a : Placed). length octets ≤ a.0) (λ (a : Placed). end_of frames f ≤ a.0) later (λ a le. omega (arith, le, within f more parts)) behind)
@@ -58,7 +60,8 @@ module _ (limits : Limits) (asks later : List Placed) (octets : List ℕ) (frame
         parts = w.parts;
         sized = w.sized;
         let_in = w.let_in;
-        refused = ap (λ (asked : List Asking). first_reason (client_reasons limits (received frames) asked (content w.frame))) (asked_here w.frame w.more w.parts) ∙ w.refused;
+        refused = ap (λ (asked : List Asking). first_reason (client_reasons limits (received frames) asked (content w.frame)))
+            (asked_here w.frame w.more w.parts) ∙ w.refused;
       })
 
   -- and so are octets that are refused
@@ -68,11 +71,15 @@ module _ (limits : Limits) (asks later : List Placed) (octets : List ℕ) (frame
 -- ---- a channel whose client asks on
 
 module _ (x : ClientChannel) (asks later : List Placed) (octets more : List ℕ) (told all : List ClientTold) (at : AtClient) where
-  pub begins_asking : ClientGoes x asks octets told → AllByRecursion (λ (a : Placed). length octets ≤ a.0) later → ClientReads (client_limits x) (asks ++ later) (octets ++ more) all at
+  pub begins_asking : ClientGoes x asks octets told → AllByRecursion (λ (a : Placed). length octets ≤ a.0) later
+      → ClientReads (client_limits x) (asks ++ later) (octets ++ more) all at
       → (rest : List ClientTold) × (all ≡ told ++ rest)
   begins_asking g behind r =
-      begins (client_rules (client_limits x) (asks ++ later)) octets more g.frames r.frames g.rest told all Going (going_on (client_limits x) asks later octets g.frames g.rest behind g.stands.run) g.told_is r.run r.told_is
+      begins (client_rules (client_limits x) (asks ++ later)) octets more g.frames r.frames g.rest told all Going
+      (going_on (client_limits x) asks later octets g.frames g.rest behind g.stands.run) g.told_is r.run r.told_is
 
-  pub not_failed_asking : (why : Why) → ClientEnded x asks octets told why → AllByRecursion (λ (a : Placed). length octets ≤ a.0) later → ClientReads (client_limits x) (asks ++ later) (octets ++ more) all at → ⊥
+  pub not_failed_asking : (why : Why) → ClientEnded x asks octets told why → AllByRecursion (λ (a : Placed). length octets ≤ a.0) later
+      → ClientReads (client_limits x) (asks ++ later) (octets ++ more) all at → ⊥
   not_failed_asking why e behind r =
-      never_refused (client_rules (client_limits x) (asks ++ later)) octets more e.frames r.frames e.rest why Going (λ s. cc) (stopped_on (client_limits x) asks later octets e.frames e.rest why behind e.run) r.run
+      never_refused (client_rules (client_limits x) (asks ++ later)) octets more e.frames r.frames e.rest why Going (λ s. cc)
+      (stopped_on (client_limits x) asks later octets e.frames e.rest why behind e.run) r.run

@@ -31,7 +31,8 @@ use Rattle.ua_chunk.specs.Refusal.{message_refusal, reasons, refusal, TakesMessa
 use Rattle.ua_chunk.specs.Sequence.{may_follow}
 use Rattle.ua_chunk.proofs.Numbers.{apart}
 use Rattle.ua_channel.specs.Asks.{Asking, Placed, asked_before, end_of, is_in, pending_calls}
-use Rattle.ua_channel_laws.specs.ClientConversation.{ClientConversation, ClientContinues, IsClientConversation, IsClientOrder, IsGoodReply, IsGoodResponse, IsOrderAgreed, IsClientOrderOpen, MayCarryBack, largest_taken}
+use Rattle.ua_channel_laws.specs.ClientConversation.{ClientConversation, ClientContinues, IsClientConversation, IsClientOrder, IsGoodReply}
+use Rattle.ua_channel_laws.specs.ClientConversation.{IsGoodResponse, IsOrderAgreed, IsClientOrderOpen, MayCarryBack, largest_taken}
 use Rattle.ua_channel.specs.inside.ClientParts.{why_of}
 use Rattle.ua_channel.specs.ClientTable.{client_gate, client_reasons, client_rules, client_gate_behind, is_awaited, is_bad, is_other, of_numbers, of_response}
 use Rattle.ua_channel.specs.ClientTokens.{answer_behind, answer_in, channel_in, held_tokens, opened_ids, responses}
@@ -44,7 +45,8 @@ use Rattle.ua_channel.proofs.ClientChunks.{accepts}
 use Rattle.ua_channel_laws.proofs.ClientTakes.{judged_reply}
 use Rattle.ua_channel.proofs.ClientTalks.{no_responses, responses-push}
 use Rattle.ua_channel.specs.Refusals.{of_header}
-use Rattle.ua_channel_laws.proofs.Conversing.{Converses, InOrder, IsGoodFrame, MessageFits, content_kind, converse, fit_first, follow_numbers, in_order, none_first, none_named, none_then, numbers_follow, ordered_first, out_of_order, some_there, taken, before_none}
+use Rattle.ua_channel_laws.proofs.Conversing.{Converses, InOrder, IsGoodFrame, MessageFits, content_kind, converse, fit_first, follow_numbers, in_order}
+use Rattle.ua_channel_laws.proofs.Conversing.{none_first, none_named, none_then, numbers_follow, ordered_first, out_of_order, some_there, taken, before_none}
 use Rattle.ua_channel.proofs.OneFrameMore.{received-nil, received-push}
 use Rattle.ua_channel_laws.proofs.PairedCalls.{none_holds}
 
@@ -63,7 +65,8 @@ unfolding answer_in
 numbers_there o a e = numbers_by o.numbers o.body a e
 
 -- for a channel and tokens that are the same, and where more is waited for
-pub response_as : (n m : Option ℕ) (ts us : List ℕ) (awaits more : ℕ → Bool) (o : Opening) → n ≡ m → ts ≡ us → ((id : ℕ) → awaits id ≡ true → more id ≡ true) → IsGoodResponse n ts awaits o → IsGoodResponse m us more o
+pub response_as : (n m : Option ℕ) (ts us : List ℕ) (awaits more : ℕ → Bool) (o : Opening) → n ≡ m → ts ≡ us → ((id : ℕ) → awaits id ≡ true → more id ≡ true)
+    → IsGoodResponse n ts awaits o → IsGoodResponse m us more o
 response_as n m ts us awaits more o p q wait g = record {
   header = g.header;
   security_is = g.security_is;
@@ -116,7 +119,8 @@ module _ (limits : Limits) (asked : List Asking) (b : Received) where
   unfolding answer_in
   response_taken o g follow =
       let waited : of_numbers (λ n. not (is_awaited (responses b.openings) (opened_ids b.openings) asked n.1)) o.numbers ≡ false =
-      ap (of_numbers (λ n. not (is_awaited (responses b.openings) (opened_ids b.openings) asked n.1))) g.numbers_are ∙ not_from_true (is_awaited (responses b.openings) (opened_ids b.openings) asked g.numbered.1) g.awaited in
+      ap (of_numbers (λ n. not (is_awaited (responses b.openings) (opened_ids b.openings) asked n.1))) g.numbers_are
+      ∙ not_from_true (is_awaited (responses b.openings) (opened_ids b.openings) asked g.numbered.1) g.awaited in
       rw (g.security_is, g.policy, g.answer_is, g.good, g.on, g.fresh, follow_numbers b.last o.numbers follow, waited) refl
 
   -- ---- a chunk
@@ -135,9 +139,14 @@ module _ (limits : Limits) (asked : List Asking) (b : Received) where
       let all = sym (judged_reply limits asked b c) ∙ e in
       let ids = none_holds (ids_of c) (none_first (ids_of c) (rows_of c ++ unasked_of c) all) in
       let last = none_holds (unasked_of c) (none_then (rows_of c) (unasked_of c) (none_then (ids_of c) (rows_of c ++ unasked_of c) all)) in
-      record { on = ids.0; held = not-false (is_in c.token (held_tokens b)) ids.1.0; awaited = not-false (is_in c.request (pending_calls b.messages asked)) last.0 }
+      record {
+        on = ids.0;
+        held = not-false (is_in c.token (held_tokens b)) ids.1.0;
+        awaited = not-false (is_in c.request (pending_calls b.messages asked)) last.0;
+      }
 
-  reply_apart : (c : Chunk) → first_reason (client_reasons limits b asked (Sends c)) ≡ None → (may_follow b.last c.sequence ≡ true) × (message_refusal limits.max_message_size limits.max_chunk_count b.messages c ≡ None)
+  reply_apart : (c : Chunk) → first_reason (client_reasons limits b asked (Sends c)) ≡ None → (may_follow b.last c.sequence ≡ true)
+      × (message_refusal limits.max_message_size limits.max_chunk_count b.messages c ≡ None)
   reply_apart c e =
       let all = sym (judged_reply limits asked b c) ∙ e in
       (apart limits.max_message_size limits.max_chunk_count b.last b.messages c).0
@@ -145,31 +154,46 @@ module _ (limits : Limits) (asked : List Asking) (b : Received) where
       (sym (first_reason-map why_of (reasons limits.max_message_size limits.max_chunk_count b.last b.messages c))
       ∙ none_first (rows_of c) (unasked_of c) (none_then (ids_of c) (rows_of c ++ unasked_of c) all)))
 
-  reply_taken : (c : Chunk) → IsReply c → may_follow b.last c.sequence ≡ true → message_refusal limits.max_message_size limits.max_chunk_count b.messages c ≡ None → first_reason (client_reasons limits b asked (Sends c)) ≡ None
+  reply_taken : (c : Chunk) → IsReply c → may_follow b.last c.sequence ≡ true → message_refusal limits.max_message_size limits.max_chunk_count b.messages c
+      ≡ None → first_reason (client_reasons limits b asked (Sends c)) ≡ None
   reply_taken c g follows good =
       let ids : first_reason (ids_of c) ≡ None = rw (g.on, g.held) refl in
       let asks : first_reason (unasked_of c) ≡ None = rw g.awaited refl in
       judged_reply limits asked b c
       ∙ (first_behind (ids_of c) (rows_of c ++ unasked_of c) ids
-      ∙ (first_behind (rows_of c) (unasked_of c) (accepts (reasons limits.max_message_size limits.max_chunk_count b.last b.messages c) ((apart limits.max_message_size limits.max_chunk_count b.last b.messages c).1 (follows, good))) ∙ asks))
+      ∙ (first_behind (rows_of c) (unasked_of c)
+      (accepts (reasons limits.max_message_size limits.max_chunk_count b.last b.messages c)
+      ((apart limits.max_message_size limits.max_chunk_count b.last b.messages c).1 (follows, good))) ∙ asks))
 
 -- ---- one frame
 
-good : (limits : Limits) (asked : List Asking) (b : Received) (c : Content) → first_reason (client_reasons limits b asked c) ≡ None → IsGoodFrame (MayCarryBack limits b asked c) limits b c
+good : (limits : Limits) (asked : List Asking) (b : Received) (c : Content) → first_reason (client_reasons limits b asked c) ≡ None
+    → IsGoodFrame (MayCarryBack limits b asked c) limits b c
 unfolding MessageFits
 good limits asked b (Greets hello) e = record { carries = tt; ordered = tt; message = tt }
 good limits asked b (Acks None) e = absurd cc
-good limits asked b (Acks (Some a)) e = record { carries = record { said = a; reads = refl; within = (none_holds (client_reasons limits b asked (Acks (Some a))) e).1.0 }; ordered = tt; message = tt }
+good limits asked b (Acks (Some a)) e =
+    record {
+      carries = record { said = a; reads = refl; within = (none_holds (client_reasons limits b asked (Acks (Some a))) e).1.0 };
+      ordered = tt;
+      message = tt;
+    }
 good limits asked b (Fails None) e = absurd cc
 good limits asked b (Fails (Some error)) e = absurd cc
 good limits asked b (Opens o) e = record { carries = response_good limits asked b o e; ordered = response_follows limits asked b o e; message = tt }
 good limits asked b (Sends c) e =
     let both = reply_apart limits asked b c e in
     record { carries = reply_good limits asked b c e; ordered = (both.0, tt); message = both.1 }
-good limits asked b (Closes c) e = record { carries = tt; ordered = (not-false (may_follow b.last c.sequence) (none_holds (client_reasons limits b asked (Closes c)) e).1.1.1.1.1.1.1.0, tt); message = tt }
+good limits asked b (Closes c) e =
+    record {
+      carries = tt;
+      ordered = (not-false (may_follow b.last c.sequence) (none_holds (client_reasons limits b asked (Closes c)) e).1.1.1.1.1.1.1.0, tt);
+      message = tt;
+    }
 good limits asked b Nothing e = record { carries = tt; ordered = tt; message = tt }
 
-accepted : (limits : Limits) (asked : List Asking) (b : Received) (c : Content) → IsGoodFrame (MayCarryBack limits b asked c) limits b c → first_reason (client_reasons limits b asked c) ≡ None
+accepted : (limits : Limits) (asked : List Asking) (b : Received) (c : Content) → IsGoodFrame (MayCarryBack limits b asked c) limits b c
+    → first_reason (client_reasons limits b asked c) ≡ None
 unfolding MessageFits
 accepted limits asked b (Greets hello) g = refl
 accepted limits asked b (Acks ack) g = rw (g.carries.reads, g.carries.within) refl
@@ -195,7 +219,8 @@ abbrev pub IsPlaced : Received → Type 0
 IsPlaced b = b.ack ≡ None → responses b.openings ≡ []
 
 order_is : (b : Received) (ks : List Kind) (o : Option Ack) (rs : List OpenResponse) → b.ack ≡ o → responses b.openings ≡ rs → Order b ks ↔ order_by o rs ks
-order_is b ks o rs q r = subst (λ (t : Option Ack). Order b ks ↔ order_by t rs ks) q (subst (λ (t : List OpenResponse). Order b ks ↔ order_by b.ack t ks) r (λ h. h, λ h. h))
+order_is b ks o rs q r = subst (λ (t : Option Ack). Order b ks ↔ order_by t rs ks) q
+    (subst (λ (t : List OpenResponse). Order b ks ↔ order_by b.ack t ks) r (λ h. h, λ h. h))
 
 nil_by : (o : Option Ack) (rs : List OpenResponse) → order_by o rs []
 nil_by None rs = tt
@@ -207,17 +232,21 @@ some_open a [] n ks e order = absurd cc
 some_open a (r ∷ rs) n ks e order = order
 
 module _ (limits : Limits) (asked : List Asking) (b : Received) (f : Frame) (ks : List Kind) where
-  more_responses : (rs : List OpenResponse) (g : IsResponse limits asked b (opening_of f.body)) → responses b.openings ≡ rs → responses (b.openings ++ opening_of f.body ∷ []) ≡ rs ++ g.response ∷ []
+  more_responses : (rs : List OpenResponse) (g : IsResponse limits asked b (opening_of f.body)) → responses b.openings ≡ rs
+      → responses (b.openings ++ opening_of f.body ∷ []) ≡ rs ++ g.response ∷ []
   more_responses rs g r = responses-push b.openings (opening_of f.body) g.response g.answer_is ∙ ap (λ (t : List OpenResponse). t ++ g.response ∷ []) r
 
-  msg_order : (found : Option Chunk) (o : Option Ack) (rs : List OpenResponse) → b.ack ≡ o → responses b.openings ≡ rs → Order (after b (sends found)) ks ↔ order_by o rs ks
+  msg_order : (found : Option Chunk) (o : Option Ack) (rs : List OpenResponse) → b.ack ≡ o → responses b.openings ≡ rs
+      → Order (after b (sends found)) ks ↔ order_by o rs ks
   msg_order None o rs q r = order_is b ks o rs q r
   msg_order (Some c) o rs q r = order_is (after b (Sends c)) ks o rs q r
 
   -- a frame comes in order exactly where it is let in
-  order_here : (o : Option Ack) (rs : List OpenResponse) (k : Kind) → b.ack ≡ o → responses b.openings ≡ rs → IsPlaced b → MayCarryBack limits b asked (content_by k f) → InOrder (client_gate_behind o rs) k (Order (after b (content_by k f)) ks) (order_by o rs (k ∷ ks))
+  order_here : (o : Option Ack) (rs : List OpenResponse) (k : Kind) → b.ack ≡ o → responses b.openings ≡ rs → IsPlaced b
+      → MayCarryBack limits b asked (content_by k f) → InOrder (client_gate_behind o rs) k (Order (after b (content_by k f)) ks) (order_by o rs (k ∷ ks))
   order_here None rs Hel q r placed may = out_of_order (λ e. cc) (λ e. e)
-  order_here None rs kind.Ack q r placed may = in_order refl (order_is (after b (Acks (whole_of ack f.body))) ks (Some may.said) [] (ap (or_before b.ack) may.reads) (placed q))
+  order_here None rs kind.Ack q r placed may =
+      in_order refl (order_is (after b (Acks (whole_of ack f.body))) ks (Some may.said) [] (ap (or_before b.ack) may.reads) (placed q))
   order_here None rs kind.Err q r placed may = absurd may
   order_here None rs Msg q r placed may = out_of_order (λ e. cc) (λ e. e)
   order_here None rs Opn q r placed may = out_of_order (λ e. cc) (λ e. e)
@@ -226,13 +255,15 @@ module _ (limits : Limits) (asked : List Asking) (b : Received) (f : Frame) (ks 
   order_here (Some a) [] kind.Ack q r placed may = out_of_order (λ e. cc) (λ e. e)
   order_here (Some a) [] kind.Err q r placed may = absurd may
   order_here (Some a) [] Msg q r placed may = out_of_order (λ e. cc) (λ e. e)
-  order_here (Some a) [] Opn q r placed may = in_order refl (order_is (after b (Opens (opening_of f.body))) ks (Some a) (may.response ∷ []) q (more_responses [] may r))
+  order_here (Some a) [] Opn q r placed may =
+      in_order refl (order_is (after b (Opens (opening_of f.body))) ks (Some a) (may.response ∷ []) q (more_responses [] may r))
   order_here (Some a) [] Clo q r placed may = out_of_order (λ e. cc) (λ e. e)
   order_here (Some a) (p ∷ ps) Hel q r placed may = out_of_order (λ e. cc) (λ e. e)
   order_here (Some a) (p ∷ ps) kind.Ack q r placed may = out_of_order (λ e. cc) (λ e. e)
   order_here (Some a) (p ∷ ps) kind.Err q r placed may = absurd may
   order_here (Some a) (p ∷ ps) Msg q r placed may = in_order refl (msg_order (chunk_in f) (Some a) (p ∷ ps) q r)
-  order_here (Some a) (p ∷ ps) Opn q r placed may = in_order refl (order_is (after b (Opens (opening_of f.body))) ks (Some a) (p ∷ (ps ++ may.response ∷ [])) q (more_responses (p ∷ ps) may r))
+  order_here (Some a) (p ∷ ps) Opn q r placed may =
+      in_order refl (order_is (after b (Opens (opening_of f.body))) ks (Some a) (p ∷ (ps ++ may.response ∷ [])) q (more_responses (p ∷ ps) may r))
   order_here (Some a) (p ∷ ps) Clo q r placed may = out_of_order (λ e. cc) (λ e. e)
 
 -- no CLO is let in
@@ -249,7 +280,8 @@ gate_largest (Some a) [] = refl
 gate_largest (Some a) (r ∷ rs) = refl
 
 -- where responses come behind an Acknowledge, they do so with a frame more
-chunk_placed : (b : Received) (found : Option Chunk) → (b.ack ≡ None → responses b.openings ≡ []) → (after b (sends found)).ack ≡ None → responses (after b (sends found)).openings ≡ []
+chunk_placed : (b : Received) (found : Option Chunk) → (b.ack ≡ None → responses b.openings ≡ []) → (after b (sends found)).ack ≡ None
+    → responses (after b (sends found)).openings ≡ []
 chunk_placed b None placed none = placed none
 chunk_placed b (Some c) placed none = placed none
 
@@ -266,14 +298,19 @@ placed_more b f Opn placed kind none = absurd (opn_some b.ack (responses b.openi
 placed_more b f Clo placed kind none = absurd (no_close b.ack (responses b.openings) kind)
 
 module _ (limits : Limits) (asks : List Placed) where
-  pub placed_next : (start : List Frame) (f : Frame) → IsPlaced (received start) → IsTrue (lets_in (client_gate (received start)) f.kind) → IsPlaced (received (start ++ f ∷ []))
-  placed_next start f placed kind = subst IsPlaced (sym (received-push start f ∙ ap (after (received start)) (content_kind f))) (placed_more (received start) f f.kind placed kind)
+  pub placed_next : (start : List Frame) (f : Frame) → IsPlaced (received start) → IsTrue (lets_in (client_gate (received start)) f.kind)
+      → IsPlaced (received (start ++ f ∷ []))
+  placed_next start f placed kind = subst IsPlaced (sym (received-push start f ∙ ap (after (received start)) (content_kind f)))
+      (placed_more (received start) f f.kind placed kind)
 
-  order_frame : (asked : List Asking) (b : Received) (f : Frame) (ks : List Kind) → IsPlaced b → MayCarryBack limits b asked (content f) → InOrder (client_gate b) f.kind (Order (after b (content f)) ks) (Order b (f.kind ∷ ks))
+  order_frame : (asked : List Asking) (b : Received) (f : Frame) (ks : List Kind) → IsPlaced b → MayCarryBack limits b asked (content f)
+      → InOrder (client_gate b) f.kind (Order (after b (content f)) ks) (Order b (f.kind ∷ ks))
   order_frame asked b f ks placed =
-      subst (λ (c : Content). MayCarryBack limits b asked c → InOrder (client_gate b) f.kind (Order (after b c) ks) (Order b (f.kind ∷ ks))) (sym (content_kind f)) (order_here limits asked b f ks b.ack (responses b.openings) f.kind refl refl placed)
+      subst (λ (c : Content). MayCarryBack limits b asked c → InOrder (client_gate b) f.kind (Order (after b c) ks) (Order b (f.kind ∷ ks)))
+      (sym (content_kind f)) (order_here limits asked b f ks b.ack (responses b.openings) f.kind refl refl placed)
 
-  rules_converse : Converses (client_rules limits asks) limits (λ (f : Frame). f.kind) Order IsPlaced (λ b. largest_taken b.ack) (λ before f. MayCarryBack limits (received before) (asked_before (end_of before f) asks) (content f))
+  rules_converse : Converses (client_rules limits asks) limits (λ (f : Frame). f.kind) Order IsPlaced (λ b. largest_taken b.ack)
+      (λ before f. MayCarryBack limits (received before) (asked_before (end_of before f) asks) (content f))
   rules_converse = record {
     order_nil = λ b. nil_by b.ack (responses b.openings);
     goes_on = λ start f later order. refl;
@@ -285,13 +322,16 @@ module _ (limits : Limits) (asks : List Placed) where
   }
 
   -- frames that come in order behind others where a channel is open, as they may come there, are taken
-  pub taken_open : (a : Ack) (n : ℕ) (start fs : List Frame) → (received start).ack ≡ Some a → channel_in (responses (received start).openings) ≡ Some n → IsClientOrderOpen (map (λ (f : Frame). f.kind) fs)
+  pub taken_open : (a : Ack) (n : ℕ) (start fs : List Frame) → (received start).ack ≡ Some a → channel_in (responses (received start).openings) ≡ Some n
+      → IsClientOrderOpen (map (λ (f : Frame). f.kind) fs)
       → AllByRecursion IsFramed fs → AllFrom (λ us f. frame_size f ≤ largest_taken (received us).ack) start fs
-      → AllFrom (λ us f. MayCarryBack limits (received us) (asked_before (end_of us f) asks) (content f)) start fs → AreOrdered (received start).last (numbers fs)
+      → AllFrom (λ us f. MayCarryBack limits (received us) (asked_before (end_of us f) asks) (content f)) start fs
+      → AreOrdered (received start).last (numbers fs)
       → TakesMessages limits.max_message_size limits.max_chunk_count (received start).messages (messages fs)
       → AllFrom (Fits (client_rules limits asks)) start fs
   taken_open a n start fs said there order framed fits carries ordered fit =
-      taken (client_rules limits asks) limits (λ (f : Frame). f.kind) Order IsPlaced (λ b. largest_taken b.ack) (λ before f. MayCarryBack limits (received before) (asked_before (end_of before f) asks) (content f)) rules_converse start fs
+      taken (client_rules limits asks) limits (λ (f : Frame). f.kind) Order IsPlaced (λ b. largest_taken b.ack)
+      (λ before f. MayCarryBack limits (received before) (asked_before (end_of before f) asks) (content f)) rules_converse start fs
       (λ none. let never : Some a ≡ None = sym said ∙ none in absurd cc)
       (record {
         order =
@@ -318,22 +358,41 @@ module _ (limits : Limits) (asks : List Placed) where
   unfolding AllAfter
   converses frames = (
     λ fits.
-        let c = converse (client_rules limits asks) limits (λ (f : Frame). f.kind) Order IsPlaced (λ b. largest_taken b.ack) (λ before f. MayCarryBack limits (received before) (asked_before (end_of before f) asks) (content f)) rules_converse [] frames nothing_placed fits in
-        record { order = (nothing_order frames).0 c.order; framed = c.framed; fits = c.fits; carries = c.carries; ordered = (ordered_first (numbers frames)).0 c.ordered; messages_fit = (fit_first limits (messages frames)).0 c.messages_fit },
+        let c = converse (client_rules limits asks) limits (λ (f : Frame). f.kind) Order IsPlaced (λ b. largest_taken b.ack)
+        (λ before f. MayCarryBack limits (received before) (asked_before (end_of before f) asks) (content f)) rules_converse [] frames nothing_placed fits
+        in
+        record {
+          order = (nothing_order frames).0 c.order;
+          framed = c.framed;
+          fits = c.fits;
+          carries = c.carries;
+          ordered = (ordered_first (numbers frames)).0 c.ordered;
+          messages_fit = (fit_first limits (messages frames)).0 c.messages_fit;
+        },
     λ h.
-        taken (client_rules limits asks) limits (λ (f : Frame). f.kind) Order IsPlaced (λ b. largest_taken b.ack) (λ before f. MayCarryBack limits (received before) (asked_before (end_of before f) asks) (content f)) rules_converse [] frames nothing_placed
-        (record { order = (nothing_order frames).1 h.order; framed = h.framed; fits = h.fits; carries = h.carries; ordered = (ordered_first (numbers frames)).1 h.ordered; messages_fit = (fit_first limits (messages frames)).1 h.messages_fit }),
+        taken (client_rules limits asks) limits (λ (f : Frame). f.kind) Order IsPlaced (λ b. largest_taken b.ack)
+        (λ before f. MayCarryBack limits (received before) (asked_before (end_of before f) asks) (content f)) rules_converse [] frames nothing_placed
+        (record {
+          order = (nothing_order frames).1 h.order;
+          framed = h.framed;
+          fits = h.fits;
+          carries = h.carries;
+          ordered = (ordered_first (numbers frames)).1 h.ordered;
+          messages_fit = (fit_first limits (messages frames)).1 h.messages_fit;
+        }),
   )
 
 -- ---- octets without a wrong frame
 
-pub continues : (limits : Limits) (asks : List Placed) (octets : List ℕ) (frames : List Frame) (rest : List ℕ) → Run (client_rules limits asks) octets frames rest Going ↔ ClientContinues limits asks octets frames rest
+pub continues : (limits : Limits) (asks : List Placed) (octets : List ℕ) (frames : List Frame) (rest : List ℕ)
+    → Run (client_rules limits asks) octets frames rest Going ↔ ClientContinues limits asks octets frames rest
 continues limits asks octets frames rest = (
   λ r. record { whole = r.whole; converses = (converses limits asks frames).0 r.good; partial = r.ends.1 },
   λ c. record { whole = c.whole; good = (converses limits asks frames).1 c.converses; ends = (refl, c.partial) },
 )
 
-converses_by : (limits : Limits) (asks : List Placed) (octets : List ℕ) (frames : List Frame) (rest : List ℕ) (end : End Why) → Run (client_rules limits asks) octets frames rest end → ((why : Why) → end ≡ Stopped why → ⊥) → IsClientConversation limits asks octets
+converses_by : (limits : Limits) (asks : List Placed) (octets : List ℕ) (frames : List Frame) (rest : List ℕ) (end : End Why)
+    → Run (client_rules limits asks) octets frames rest end → ((why : Why) → end ≡ Stopped why → ⊥) → IsClientConversation limits asks octets
 converses_by limits asks octets frames rest Going run never = record { frames = frames; rest = rest; is = (continues limits asks octets frames rest).0 run }
 converses_by limits asks octets frames rest (Stopped why) run never = absurd (never why refl)
 converses_by limits asks octets frames rest Over run never =
@@ -341,15 +400,20 @@ converses_by limits asks octets frames rest Over run never =
     absurd cc
 
 -- there is no wrong frame exactly where the octets are a conversation
-pub none_wrong : (limits : Limits) (asks : List Placed) (octets : List ℕ) (raws : List (List ℕ)) (rest : List ℕ) → Frames octets raws rest → ((why : Why) → FirstWrong (client_rules limits asks) raws rest why → ⊥) ↔ IsClientConversation limits asks octets
+pub none_wrong : (limits : Limits) (asks : List Placed) (octets : List ℕ) (raws : List (List ℕ)) (rest : List ℕ) → Frames octets raws rest
+    → ((why : Why) → FirstWrong (client_rules limits asks) raws rest why → ⊥) ↔ IsClientConversation limits asks octets
 none_wrong limits asks octets raws rest framed = (
   λ never.
       let r = reading (client_rules limits asks) octets in
       converses_by limits asks octets r.frames r.rest r.end r.run
       (λ why e.
-      never why (first_of_stop (client_rules limits asks) octets raws rest why framed (record { frames = r.frames; rest = r.rest; run = subst (λ (d : End Why). Run (client_rules limits asks) octets r.frames r.rest d) e r.run }))),
+      never why
+      (first_of_stop (client_rules limits asks) octets raws rest why framed
+      (record { frames = r.frames; rest = r.rest; run = subst (λ (d : End Why). Run (client_rules limits asks) octets r.frames r.rest d) e r.run }))),
   λ c why wrong.
       let s = stop_of_first (client_rules limits asks) octets raws rest why framed wrong in
-      let ends : Stopped why ≡ Going = (unique (client_rules limits asks) octets s.frames c.frames s.rest c.rest (Stopped why) Going s.run ((continues limits asks octets c.frames c.rest).1 c.is)).ends in
+      let ends : Stopped why ≡ Going =
+      (unique (client_rules limits asks) octets s.frames c.frames s.rest c.rest (Stopped why) Going s.run
+      ((continues limits asks octets c.frames c.rest).1 c.is)).ends in
       cc,
 )

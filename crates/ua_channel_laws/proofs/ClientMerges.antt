@@ -1,6 +1,7 @@
 -- That a client reads merged replies from where it stands, with what it asks on in the middle of them, what they tell it, and where it stands behind
 -- them.
-use Rattle.std.proofs.Common.{◌≡◌, ℕ, zero, suc, ◌+◌, ◌<◌, ◌≤◌, Bool, true, false, cond, not, ◌&&◌, eqb, ltb, List, [], ◌∷◌, ◌++◌, Option, Some, None, length, map, refl, sym, ◌∙◌, ap, subst, arith, append-nil, append_assoc, length-append}
+use Rattle.std.proofs.Common.{◌≡◌, ℕ, zero, suc, ◌+◌, ◌<◌, ◌≤◌, Bool, true, false, cond, not, ◌&&◌, eqb, ltb, List, [], ◌∷◌, ◌++◌}
+use Rattle.std.proofs.Common.{Option, Some, None, length, map, refl, sym, ◌∙◌, ap, subst, arith, append-nil, append_assoc, length-append}
 use Rattle.std.specs.List.{AllByRecursion, filter, range_with_len}
 use Rattle.std.proofs.lemmas.List.{length-map, map-append}
 use Rattle.std.proofs.lemmas.List.Concat.{flat_map-append}
@@ -29,7 +30,8 @@ use Rattle.ua_chunk.specs.Merge.{Sent, is_item_of, outcome_under, outcomes, sent
 use Rattle.ua_chunk.specs.Open.{open_ids}
 use Rattle.ua_chunk.specs.Refusal.{TakesMessages}
 use Rattle.ua_chunk.specs.Sequence.{may_follow}
-use Rattle.ua_channel.specs.Asks.{Asking, Placed, asked_before, asked_in, calls, end_of, id_of, is_finished, is_in, next_id, pending_calls, pending_renewals, renewals}
+use Rattle.ua_channel.specs.Asks.{Asking, Placed, asked_before, asked_in, calls, end_of, id_of}
+use Rattle.ua_channel.specs.Asks.{is_finished, is_in, next_id, pending_calls, pending_renewals, renewals}
 use Rattle.ua_channel_laws.specs.ClientConversation.{IsClientOrderOpen, IsGoodReply, IsGoodResponse, MayCarryBack, largest_taken}
 use Rattle.ua_channel_laws.specs.ClientReads.{AtClient, ClientReads}
 use Rattle.ua_channel.specs.ClientTable.{client_rules, is_awaited, is_other}
@@ -38,17 +40,20 @@ use Rattle.ua_channel.specs.ClientTold.{ClientTold, client_tells, told_item, tol
 use Rattle.ua_channel.specs.ClientTold.ClientTold.{Agreed, Opened, Answered, GaveUp, Renewed}
 use Rattle.ua_channel.specs.Content.{Content, Opening, closes, content, content_by}
 use Rattle.ua_channel.specs.Content.Content.{Opens, Sends}
-use Rattle.ua_channel_laws.specs.Merges.{CarriesEither, ClientMerge, MayComeNext, ended_by, is_told_under, latest_or, placed_later, renewed_in, tokens_renewed, told_back, told_merged_back, told_renewed, with_merged_back}
+use Rattle.ua_channel_laws.specs.Merges.{CarriesEither, ClientMerge, MayComeNext, ended_by, is_told_under, latest_or, placed_later}
+use Rattle.ua_channel_laws.specs.Merges.{renewed_in, tokens_renewed, told_back, told_merged_back, told_renewed, with_merged_back}
 use Rattle.ua_channel_laws.specs.Paired.{is_of_call, told_of_calls}
 use Rattle.ua_channel.specs.Received.{Received, after, chunks_in, latest, messages, numbers, openings, openings_in, received, tokens_in, used_tokens}
 use Rattle.ua_channel.proofs.AskedLater.{frames_octets-append, going_on}
-use Rattle.ua_channel.proofs.Askings.{all-weaken, all_append, all_filter, all_in, asked_before-all, asked_in-append, calls-append, calls_all, in_filter, next-append, not_in, renewals-append, renewals_all, unfinished_at, within_filter, filter_behind}
+use Rattle.ua_channel.proofs.Askings.{all-weaken, all_append, all_filter, all_in, asked_before-all, asked_in-append, calls-append, calls_all}
+use Rattle.ua_channel.proofs.Askings.{in_filter, next-append, not_in, renewals-append, renewals_all, unfinished_at, within_filter, filter_behind}
 use Rattle.ua_channel_laws.proofs.ClientConversing.{response_as, taken_open}
 use Rattle.ua_channel_laws.proofs.ClientTakes.{tokens_used}
 use Rattle.ua_channel.proofs.ClientTalks.{awaited_later, channel_in-push, no_ids, no_responses, no_tokens, opened_ids-push, responses-push, tokens_of-push}
 use Rattle.ua_channel.proofs.HeldTokens.{held_by-push, held_by-used, latest-from_last, latest-push}
 use Rattle.ua_channel_laws.proofs.MergedChunks.{Comes, EachEnds, closed_fresh, comes, given_fresh, outcomes_once, takes_fresh, told_new, names_kept}
-use Rattle.ua_channel_laws.proofs.MergedFrames.{all_told, at_end, each_along, each_chunk, goes_follows, goes_ordered, goes_small, latest_or-append, of_either, sized, next_follows}
+use Rattle.ua_channel_laws.proofs.MergedFrames.{all_told, at_end, each_along, each_chunk, goes_follows, goes_ordered}
+use Rattle.ua_channel_laws.proofs.MergedFrames.{goes_small, latest_or-append, of_either, sized, next_follows}
 use Rattle.ua_channel_laws.proofs.PairedCalls.{tells_delivered}
 use Rattle.ua_channel_laws.proofs.ReadOn.{events_on, run_on}
 
@@ -58,7 +63,8 @@ no_close : (opens : Opening → Type 0) (sends : Chunk → Type 0) (o : Option C
 no_close opens sends None is = is
 no_close opens sends (Some c) is = is
 
-order_kind : (opens : Opening → Type 0) (sends : Chunk → Type 0) (k : Kind) (f : Frame) (ks : List Kind) → CarriesEither opens sends (content_by k f) → IsClientOrderOpen ks → IsClientOrderOpen (k ∷ ks)
+order_kind : (opens : Opening → Type 0) (sends : Chunk → Type 0) (k : Kind) (f : Frame) (ks : List Kind) → CarriesEither opens sends (content_by k f)
+    → IsClientOrderOpen ks → IsClientOrderOpen (k ∷ ks)
 order_kind opens sends Hel f ks is h = absurd is
 order_kind opens sends kind.Ack f ks is h = absurd is
 order_kind opens sends kind.Err f ks is h = absurd is
@@ -66,7 +72,8 @@ order_kind opens sends Msg f ks is h = h
 order_kind opens sends Opn f ks is h = h
 order_kind opens sends Clo f ks is h = absurd (no_close opens sends (chunk_in f) is)
 
-order_frame : (opens : Opening → Type 0) (sends : Chunk → Type 0) (f : Frame) (ks : List Kind) → CarriesEither opens sends (content f) → IsClientOrderOpen ks → IsClientOrderOpen (f.kind ∷ ks)
+order_frame : (opens : Opening → Type 0) (sends : Chunk → Type 0) (f : Frame) (ks : List Kind) → CarriesEither opens sends (content f) → IsClientOrderOpen ks
+    → IsClientOrderOpen (f.kind ∷ ks)
 unfolding content
 order_frame opens sends f ks is h = order_kind opens sends f.kind f ks is h
 
@@ -108,7 +115,9 @@ tokens_of-one : (o : Opening) → tokens_of (responses (o ∷ [])) ≡ tokens_of
 unfolding responses
 tokens_of-one o = ap tokens_of (append-nil (response_listed (answer_in o)))
 
-tokens_from : (ms : List Sent) (May : List Frame → Frame → Type 0) → ((us : List Frame) (f : Frame) → May us f → tokens_renewed (told_back ms (content f)) ≡ tokens_of (responses (openings_in (content f)))) → (us fs : List Frame)
+tokens_from : (ms : List Sent) (May : List Frame → Frame → Type 0)
+    → ((us : List Frame) (f : Frame) → May us f → tokens_renewed (told_back ms (content f)) ≡ tokens_of (responses (openings_in (content f))))
+    → (us fs : List Frame)
     → AllFrom May us fs → tokens_renewed (told_merged_back ms fs) ≡ tokens_of (responses (openings fs))
 unfolding openings
 tokens_from ms May one us [] may = sym nothing_opened
@@ -134,8 +143,10 @@ calls_under : (id : ℕ) (told : List ClientTold) → filter (is_told_under id) 
 calls_under id [] = refl
 calls_under id (Agreed ack ∷ told) = calls_under id told
 calls_under id (Opened channel token ∷ told) = calls_under id told
-calls_under id (Answered i octets ∷ told) = same_step (eqb i id) (Answered i octets) (filter (is_told_under id) told) (filter (is_told_under id) (told_of_calls told)) (calls_under id told)
-calls_under id (GaveUp i code ∷ told) = same_step (eqb i id) (GaveUp i code) (filter (is_told_under id) told) (filter (is_told_under id) (told_of_calls told)) (calls_under id told)
+calls_under id (Answered i octets ∷ told) = same_step (eqb i id) (Answered i octets) (filter (is_told_under id) told)
+    (filter (is_told_under id) (told_of_calls told)) (calls_under id told)
+calls_under id (GaveUp i code ∷ told) = same_step (eqb i id) (GaveUp i code) (filter (is_told_under id) told) (filter (is_told_under id) (told_of_calls told))
+    (calls_under id told)
 calls_under id (Renewed token ∷ told) = calls_under id told
 
 -- ---- tokens that are held
@@ -145,7 +156,8 @@ record Holds (at : AtClient) (b : Received) (ts : List ℕ) (rs : List OpenRespo
   tokens_are : held_tokens b ≡ held_by (latest ts) (at.tokens ++ tokens_of rs)
   newest_is : latest (held_by (latest ts) (at.tokens ++ tokens_of rs)) ≡ Some (latest_or at.newest (tokens_of rs))
 
-holds_used : (at : AtClient) (b : Received) (c : Chunk) (ts : List ℕ) (rs : List OpenResponse) → Holds at b ts rs → is_in c.token (held_by (latest ts) (at.tokens ++ tokens_of rs)) ≡ true
+holds_used : (at : AtClient) (b : Received) (c : Chunk) (ts : List ℕ) (rs : List OpenResponse) → Holds at b ts rs
+    → is_in c.token (held_by (latest ts) (at.tokens ++ tokens_of rs)) ≡ true
     → Holds at (after b (Sends c)) (ts ++ c.token ∷ []) rs
 holds_used at b c ts rs h held =
     let same : held_by (latest (ts ++ c.token ∷ [])) (at.tokens ++ tokens_of rs) ≡ from_last c.token (held_by (latest ts) (at.tokens ++ tokens_of rs)) =
@@ -156,14 +168,16 @@ holds_used at b c ts rs h held =
     }
 
 -- a token more is held
-pub held_renewed : (b : Received) (o : Opening) (r : OpenResponse) (newest : ℕ) → answer_in o ≡ Some (Open r) → latest (held_tokens b) ≡ Some newest → is_in r.token_id (held_tokens b) ≡ false
+pub held_renewed : (b : Received) (o : Opening) (r : OpenResponse) (newest : ℕ) → answer_in o ≡ Some (Open r) → latest (held_tokens b) ≡ Some newest
+    → is_in r.token_id (held_tokens b) ≡ false
     → held_tokens (after b (Opens o)) ≡ held_tokens b ++ r.token_id ∷ []
 unfolding held_tokens
 held_renewed b o r newest answers is fresh =
     ap (λ (rs : List OpenResponse). held_by b.used (tokens_of rs)) (responses-push b.openings o r answers)
     ∙ (ap (held_by b.used) (tokens_of-push (responses b.openings) r) ∙ held_by-push b.used r.token_id newest (tokens_of (responses b.openings)) is fresh)
 
-holds_renewed : (at : AtClient) (b : Received) (o : Opening) (r : OpenResponse) (ts : List ℕ) (rs : List OpenResponse) → answer_in o ≡ Some (Open r) → Holds at b ts rs
+holds_renewed : (at : AtClient) (b : Received) (o : Opening) (r : OpenResponse) (ts : List ℕ) (rs : List OpenResponse) → answer_in o ≡ Some (Open r)
+    → Holds at b ts rs
     → is_in r.token_id (held_by (latest ts) (at.tokens ++ tokens_of rs)) ≡ false
     → Holds at (after b (Opens o)) ts (rs ++ r ∷ [])
 holds_renewed at b o r ts rs answers h fresh =
@@ -191,23 +205,28 @@ record Place (at : AtClient) (base : List Chunk) (opened : List ℕ) (b : Receiv
   messages_are : b.messages ≡ base ++ cs
   opened_are : opened_ids b.openings ≡ opened ++ opened_ids os
 
-module _ (at : AtClient) (base : List Chunk) (opened : List ℕ) (b : Received) (ts : List ℕ) (os : List Opening) (cs : List Chunk) (p : Place at base opened b ts os cs) where
+module _ (at : AtClient) (base : List Chunk) (opened : List ℕ) (b : Received) (ts : List ℕ) (os : List Opening) (cs : List Chunk)
+    (p : Place at base opened b ts os cs) where
   then_opened : (awaits : ℕ → Bool) (o : Opening) → IsGoodResponse (Some at.channel) (held_by (latest ts) (at.tokens ++ tokens_of (responses os))) awaits o
       → Place at base opened (after b (Opens o)) (ts ++ []) (os ++ o ∷ []) (cs ++ [])
   then_opened awaits o g =
       rw (append-nil ts, append-nil cs)
       (record {
         ack_is = p.ack_is;
-        channel_is = ap channel_in (responses-push b.openings o g.response g.answer_is) ∙ channel_in-push (responses b.openings) g.response at.channel p.channel_is;
-        holds = subst (Holds at (after b (Opens o)) ts) (sym (responses-push os o g.response g.answer_is)) (holds_renewed at b o g.response ts (responses os) g.answer_is p.holds g.fresh);
+        channel_is = ap channel_in (responses-push b.openings o g.response g.answer_is)
+            ∙ channel_in-push (responses b.openings) g.response at.channel p.channel_is;
+        holds = subst (Holds at (after b (Opens o)) ts) (sym (responses-push os o g.response g.answer_is))
+            (holds_renewed at b o g.response ts (responses os) g.answer_is p.holds g.fresh);
         messages_are = p.messages_are;
         opened_are =
             opened_ids-push b.openings o g.numbered g.numbers_are
             ∙ (ap (λ (t : List ℕ). t ++ g.numbered.1 ∷ []) p.opened_are
-            ∙ (append_assoc opened (opened_ids os) (g.numbered.1 ∷ []) ∙ ap (λ (t : List ℕ). opened ++ t) (sym (opened_ids-push os o g.numbered g.numbers_are))));
+            ∙ (append_assoc opened (opened_ids os) (g.numbered.1 ∷ [])
+            ∙ ap (λ (t : List ℕ). opened ++ t) (sym (opened_ids-push os o g.numbered g.numbers_are))));
       })
 
-  then_sent : (c : Chunk) → is_in c.token (held_by (latest ts) (at.tokens ++ tokens_of (responses os))) ≡ true → Place at base opened (after b (Sends c)) (ts ++ c.token ∷ []) (os ++ []) (cs ++ c ∷ [])
+  then_sent : (c : Chunk) → is_in c.token (held_by (latest ts) (at.tokens ++ tokens_of (responses os))) ≡ true
+      → Place at base opened (after b (Sends c)) (ts ++ c.token ∷ []) (os ++ []) (cs ++ c ∷ [])
   then_sent c held =
       rw (append-nil os)
       (record {
@@ -226,7 +245,8 @@ pending_behind : (base us : List Chunk) (asked new : List Asking) → AllByRecur
 unfolding pending_calls
 pending_behind base us asked new none =
     ap (filter (λ (id : ℕ). not (is_finished (base ++ us) id))) (calls-append asked new)
-    ∙ filter_behind (is_finished base) (is_finished us) (is_finished (base ++ us)) (λ id. list_any-append (λ (c : Chunk). is_of id c && ends c) base us) (calls asked) (calls new) none
+    ∙ filter_behind (is_finished base) (is_finished us) (is_finished (base ++ us)) (λ id. list_any-append (λ (c : Chunk). is_of id c && ends c) base us)
+    (calls asked) (calls new) none
 
 -- the renewals likewise
 renewals_behind : (opened ids : List ℕ) (asked new : List Asking) → AllByRecursion (λ (id : ℕ). is_in id opened ≡ false) (renewals new)
@@ -234,7 +254,8 @@ renewals_behind : (opened ids : List ℕ) (asked new : List Asking) → AllByRec
 unfolding pending_renewals
 renewals_behind opened ids asked new none =
     ap (filter (λ (id : ℕ). not (is_in id (opened ++ ids)))) (renewals-append asked new)
-    ∙ filter_behind (λ (id : ℕ). is_in id opened) (λ (id : ℕ). is_in id ids) (λ (id : ℕ). is_in id (opened ++ ids)) (λ id. list_any-append (λ (n : ℕ). eqb n id) opened ids) (renewals asked) (renewals new) none
+    ∙ filter_behind (λ (id : ℕ). is_in id opened) (λ (id : ℕ). is_in id ids) (λ (id : ℕ). is_in id (opened ++ ids))
+    (λ id. list_any-append (λ (n : ℕ). eqb n id) opened ids) (renewals asked) (renewals new) none
 
 -- a request id of those that are given next
 abbrev IsNew : ℕ → ℕ → ℕ → Type 0
@@ -242,7 +263,11 @@ IsNew n k id = (n ≤ id) × (id < n + k)
 
 ranged : (n k : ℕ) → AllByRecursion (IsNew n k) (range_with_len n k)
 ranged n zero = tt
-ranged n (suc k) = ((omega arith, omega arith), all-weaken (IsNew (n + 1) k) (IsNew n (suc k)) (range_with_len (n + 1) k) (λ id is. (omega (arith, is.0), omega (arith, is.1))) (ranged (n + 1) k))
+ranged n (suc k) = (
+  (omega arith, omega arith),
+  all-weaken (IsNew (n + 1) k) (IsNew n (suc k)) (range_with_len (n + 1) k) (λ id is. (omega (arith, is.0), omega (arith, is.1)))
+      (ranged (n + 1) k),
+)
 
 of_map : {X Y : Type 0} (P : Y → Type 0) (f : X → Y) (xs : List X) → AllByRecursion P (map f xs) → AllByRecursion (λ (x : X). P (f x)) xs
 of_map P f [] all = tt
@@ -285,7 +310,8 @@ in_later : (n : ℕ) (later : List Placed) → asked_in (placed_later n later) �
 unfolding asked_in
 in_later n later = moved n later
 
-later_placed : (n k : ℕ) (later : List Placed) → AllByRecursion (λ (a : Placed). a.0 ≤ k) later → AllByRecursion (λ (a : Placed). a.0 ≤ n + k) (placed_later n later)
+later_placed : (n k : ℕ) (later : List Placed) → AllByRecursion (λ (a : Placed). a.0 ≤ k) later
+    → AllByRecursion (λ (a : Placed). a.0 ≤ n + k) (placed_later n later)
 later_placed n k [] all = tt
 later_placed n k (a ∷ later) all = (omega (arith, all.0), later_placed n k later all.1)
 
@@ -303,20 +329,24 @@ some_end : (us : List Frame) (f : Frame) → 0 < end_of us f
 some_end us f = omega (arith, ap length (frames_octets-push us f), length-append (frames_octets us) (frame_octets f), length-frame_octets f)
 
 -- what was asked before a frame ends, behind octets by whose end these were asked
-asked_at : (n : ℕ) (asks later : List Placed) (before us : List Frame) (f : Frame) → n ≡ length (frames_octets before) → AllByRecursion (λ (a : Placed). a.0 ≤ n) asks
+asked_at : (n : ℕ) (asks later : List Placed) (before us : List Frame) (f : Frame) → n ≡ length (frames_octets before)
+    → AllByRecursion (λ (a : Placed). a.0 ≤ n) asks
     → asked_before (end_of (before ++ us) f) (asks ++ placed_later n later) ≡ asked_in asks ++ asked_before (end_of us f) later
 asked_at n asks later before us f same placed =
     let place : end_of (before ++ us) f ≡ n + end_of us f = end_behind before us f ∙ ap (λ (k : ℕ). k + end_of us f) (sym same) in
     ap (λ (p : ℕ). asked_before p (asks ++ placed_later n later)) place
     ∙ (before-append (n + end_of us f) asks (placed_later n later)
-    ∙ (ap (λ (t : List Asking). t ++ asked_before (n + end_of us f) (placed_later n later)) (asked_before-all (n + end_of us f) n asks (omega (arith, some_end us f)) placed)
+    ∙ (ap (λ (t : List Asking). t ++ asked_before (n + end_of us f) (placed_later n later))
+    (asked_before-all (n + end_of us f) n asks (omega (arith, some_end us f)) placed)
     ∙ ap (λ (t : List Asking). asked_in asks ++ t) (before_later n (end_of us f) later)))
 
-below_pending : (P : ℕ → Type 0) (base : List Chunk) (asked : List Asking) → AllByRecursion (λ (a : Asking). P (id_of a)) asked → AllByRecursion P (pending_calls base asked)
+below_pending : (P : ℕ → Type 0) (base : List Chunk) (asked : List Asking) → AllByRecursion (λ (a : Asking). P (id_of a)) asked
+    → AllByRecursion P (pending_calls base asked)
 unfolding pending_calls
 below_pending P base asked all = all_filter P (λ (id : ℕ). not (is_finished base id)) (calls asked) (calls_all P asked all)
 
-below_renewals : (P : ℕ → Type 0) (opened : List ℕ) (asked : List Asking) → AllByRecursion (λ (a : Asking). P (id_of a)) asked → AllByRecursion P (pending_renewals opened asked)
+below_renewals : (P : ℕ → Type 0) (opened : List ℕ) (asked : List Asking) → AllByRecursion (λ (a : Asking). P (id_of a)) asked
+    → AllByRecursion P (pending_renewals opened asked)
 unfolding pending_renewals
 below_renewals P opened asked all = all_filter P (λ (id : ℕ). not (is_in id opened)) (renewals asked) (renewals_all P asked all)
 
@@ -326,8 +356,10 @@ ids-append : (os more : List Opening) → opened_ids (os ++ more) ≡ opened_ids
 unfolding opened_ids
 ids-append os more = flat_map-append (λ (o : Opening). id_listed o.numbers) os more
 
-module _ (limits : Limits) (asks later : List Placed) (octets : List ℕ) (told : List ClientTold) (stood : AtClient) (start : ℕ) (ms : List Sent) (more : List Frame) (next : ℕ)
-    (r : ClientReads limits asks octets told stood) (n : MayComeNext (client_rules limits asks) octets start) (m : ClientMerge limits (record stood { next = start }) (asked_in asks) later ms more next) where
+module _ (limits : Limits) (asks later : List Placed) (octets : List ℕ) (told : List ClientTold) (stood : AtClient) (start : ℕ) (ms : List Sent)
+    (more : List Frame) (next : ℕ)
+    (r : ClientReads limits asks octets told stood) (n : MayComeNext (client_rules limits asks) octets start)
+    (m : ClientMerge limits (record stood { next = start }) (asked_in asks) later ms more next) where
   abbrev at : AtClient
   at = record stood { next = start }
 
@@ -373,24 +405,28 @@ module _ (limits : Limits) (asks later : List Placed) (octets : List ℕ) (told 
     left_calls us =
         pending_behind base us asked new
         (calls_all (λ (id : ℕ). is_finished base id ≡ false) new
-        (all-weaken (λ (a : Asking). IsNext a) (λ (a : Asking). is_finished base (id_of a) ≡ false) new (λ a is. unfinished_at (next_id asked) (id_of a) base is.0 r.sent_below) are))
+        (all-weaken (λ (a : Asking). IsNext a) (λ (a : Asking). is_finished base (id_of a) ≡ false) new
+        (λ a is. unfinished_at (next_id asked) (id_of a) base is.0 r.sent_below) are))
         ∙ ap (λ (ids : List ℕ). filter (λ (id : ℕ). not (is_finished us id)) (ids ++ calls new)) r.pending_are
 
     left_renewals : (ids : List ℕ) → pending_renewals (opened ++ ids) (asked ++ new) ≡ filter (λ (id : ℕ). not (is_in id ids)) (at.renewals ++ renewals new)
     left_renewals ids =
         renewals_behind opened ids asked new
         (renewals_all (λ (id : ℕ). is_in id opened ≡ false) new
-        (all-weaken (λ (a : Asking). IsNext a) (λ (a : Asking). is_in (id_of a) opened ≡ false) new (λ a is. not_in (next_id asked) (id_of a) opened is.0 r.opened_below) are))
+        (all-weaken (λ (a : Asking). IsNext a) (λ (a : Asking). is_in (id_of a) opened ≡ false) new
+        (λ a is. not_in (next_id asked) (id_of a) opened is.0 r.opened_below) are))
         ∙ ap (λ (js : List ℕ). filter (λ (id : ℕ). not (is_in id ids)) (js ++ renewals new)) r.renewals_are
 
     calls_below : AllByRecursion (λ (id : ℕ). id < end) (at.pending ++ calls new)
     calls_below =
-        all_append (λ (id : ℕ). id < end) at.pending (calls new) (subst (AllByRecursion (λ (id : ℕ). id < end)) r.pending_are (below_pending (λ (id : ℕ). id < end) base asked old_below))
+        all_append (λ (id : ℕ). id < end) at.pending (calls new)
+        (subst (AllByRecursion (λ (id : ℕ). id < end)) r.pending_are (below_pending (λ (id : ℕ). id < end) base asked old_below))
         (calls_all (λ (id : ℕ). id < end) new new_below)
 
     waiting_below : AllByRecursion (λ (id : ℕ). id < end) (at.renewals ++ renewals new)
     waiting_below =
-        all_append (λ (id : ℕ). id < end) at.renewals (renewals new) (subst (AllByRecursion (λ (id : ℕ). id < end)) r.renewals_are (below_renewals (λ (id : ℕ). id < end) opened asked old_below))
+        all_append (λ (id : ℕ). id < end) at.renewals (renewals new)
+        (subst (AllByRecursion (λ (id : ℕ). id < end)) r.renewals_are (below_renewals (λ (id : ℕ). id < end) opened asked old_below))
         (renewals_all (λ (id : ℕ). id < end) new new_below)
 
   -- ---- frame by frame
@@ -416,7 +452,8 @@ module _ (limits : Limits) (asks later : List Placed) (octets : List ℕ) (told 
   abbrev Here : Received → List ℕ → List Opening → List Chunk → Type 0
   Here b ts os cs = Place at base opened b ts os cs
 
-  by_either : (us : List Frame) (f : Frame) (P : Content → Type 0) → ((o : Opening) → Answers us f o → P (Opens o)) → ((c : Chunk) → Replies us f c → P (Sends c)) → May us f → P (content f)
+  by_either : (us : List Frame) (f : Frame) (P : Content → Type 0) → ((o : Opening) → Answers us f o → P (Opens o))
+      → ((c : Chunk) → Replies us f c → P (Sends c)) → May us f → P (content f)
   by_either us f P h g may = of_either (λ (o : Opening). Answers us f o) (λ (c : Chunk). Replies us f c) P h g (content f) may.1
 
   step : (b : Received) (us : List Frame) (f : Frame) → May us f → Here b (used_tokens us) (openings us) (messages us)
@@ -429,12 +466,15 @@ module _ (limits : Limits) (asks later : List Placed) (octets : List ℕ) (told 
   order_from : (us fs : List Frame) → AllFrom (λ vs f. May vs f) us fs → IsClientOrderOpen (map (λ (f : Frame). f.kind) fs)
   order_from us [] may = tt
   order_from us (f ∷ fs) may =
-      order_frame (λ (o : Opening). Answers us f o) (λ (c : Chunk). Replies us f c) f (map (λ (g : Frame). g.kind) fs) may.0.1 (order_from (us ++ f ∷ []) fs may.1)
+      order_frame (λ (o : Opening). Answers us f o) (λ (c : Chunk). Replies us f c) f (map (λ (g : Frame). g.kind) fs) may.0.1
+      (order_from (us ++ f ∷ []) fs may.1)
 
   carried : (us : List Frame) (f : Frame) (b : Received) (rest : List Chunk) → May us f → Here b (used_tokens us) (openings us) (messages us)
-      → AllFrom (λ vs c. is_finished vs c.request ≡ false) (messages us) (chunks_in (content f) ++ rest) → MayCarryBack limits b (asked ++ new_at us f) (content f)
+      → AllFrom (λ vs c. is_finished vs c.request ≡ false) (messages us) (chunks_in (content f) ++ rest)
+      → MayCarryBack limits b (asked ++ new_at us f) (content f)
   carried us f b rest may p =
-      by_either us f (λ (k : Content). AllFrom (λ vs c. is_finished vs c.request ≡ false) (messages us) (chunks_in k ++ rest) → MayCarryBack limits b (asked ++ new_at us f) k)
+      by_either us f (λ (k : Content). AllFrom (λ vs c. is_finished vs c.request ≡ false) (messages us) (chunks_in k ++ rest)
+      → MayCarryBack limits b (asked ++ new_at us f) k)
       (λ o g unended.
       response_as (Some at.channel) (channel_in (responses b.openings)) (At us f).tokens (held_tokens b) (λ (id : ℕ). is_in id (At us f).renewals)
       (is_awaited (responses b.openings) (opened_ids b.openings) (asked ++ new_at us f)) o (sym p.channel_is) (sym p.holds.tokens_are)
@@ -452,7 +492,8 @@ module _ (limits : Limits) (asks later : List Placed) (octets : List ℕ) (told 
             ∙ in_filter (λ (id : ℕ). not (is_finished (messages us) id)) c.request (at.pending ++ calls (new_at us f)) (ap not unended.0) g.awaited);
       }) may
 
-  tells : (us : List Frame) (f : Frame) (b : Received) (rest : List Chunk) → May us f → Here b (used_tokens us) (openings us) (messages us) → EachEnds ms (messages us) (chunks_in (content f) ++ rest)
+  tells : (us : List Frame) (f : Frame) (b : Received) (rest : List Chunk) → May us f → Here b (used_tokens us) (openings us) (messages us)
+      → EachEnds ms (messages us) (chunks_in (content f) ++ rest)
       → client_tells b (content f) ≡ told_back ms (content f)
   tells us f b rest may p =
       by_either us f (λ (k : Content). EachEnds ms (messages us) (chunks_in k ++ rest) → client_tells b k ≡ told_back ms k)
@@ -461,7 +502,8 @@ module _ (limits : Limits) (asks later : List Placed) (octets : List ℕ) (told 
 
   token_told : (us : List Frame) (f : Frame) → May us f → tokens_renewed (told_back ms (content f)) ≡ tokens_of (responses (openings_in (content f)))
   token_told us f may =
-      by_either us f (λ (k : Content). tokens_renewed (told_back ms k) ≡ tokens_of (responses (openings_in k))) (λ o g. tokens_listed (response_listed (answer_in o)) ∙ sym (tokens_of-one o))
+      by_either us f (λ (k : Content). tokens_renewed (told_back ms k) ≡ tokens_of (responses (openings_in k)))
+      (λ o g. tokens_listed (response_listed (answer_in o)) ∙ sym (tokens_of-one o))
       (λ c g. no_token (ended_by ms c) ∙ sym nothing_opened) may
 
   chunk_below : (us : List Frame) (f : Frame) → May us f → AllByRecursion (λ (c : Chunk). c.request < end) (chunks_in (content f))
@@ -473,9 +515,11 @@ module _ (limits : Limits) (asks later : List Placed) (octets : List ℕ) (told 
   opening_below us f may =
       by_either us f (λ (k : Content). AllByRecursion (λ (id : ℕ). id < end) (opened_ids (openings_in k)))
       (λ o g.
-      subst (AllByRecursion (λ (id : ℕ). id < end)) (sym (opened_ids-push [] o g.numbered g.numbers_are ∙ ap (λ (ids : List ℕ). ids ++ g.numbered.1 ∷ []) no_ids)) (
+      subst (AllByRecursion (λ (id : ℕ). id < end))
+      (sym (opened_ids-push [] o g.numbered g.numbers_are ∙ ap (λ (ids : List ℕ). ids ++ g.numbered.1 ∷ []) no_ids)) (
         all_in (λ (id : ℕ). id < end) g.numbered.1 (at.renewals ++ renewals (new_at us f))
-            (within_filter (λ (id : ℕ). not (is_in id (opened_ids (openings us)))) g.numbered.1 (at.renewals ++ renewals (new_at us f)) g.awaited) (waiting_below (new_at us f) (news us f)),
+            (within_filter (λ (id : ℕ). not (is_in id (opened_ids (openings us)))) g.numbered.1 (at.renewals ++ renewals (new_at us f)) g.awaited)
+            (waiting_below (new_at us f) (news us f)),
         tt,
       ))
       (λ c g. subst (AllByRecursion (λ (id : ℕ). id < end)) (sym no_ids) tt) may
@@ -485,12 +529,14 @@ module _ (limits : Limits) (asks later : List Placed) (octets : List ℕ) (told 
   openings_below us [] may = subst (AllByRecursion (λ (id : ℕ). id < end)) (sym no_ids) tt
   openings_below us (f ∷ fs) may =
       subst (AllByRecursion (λ (id : ℕ). id < end)) (sym (ids-append (openings_in (content f)) (openings fs)))
-      (all_append (λ (id : ℕ). id < end) (opened_ids (openings_in (content f))) (opened_ids (openings fs)) (opening_below us f may.0) (openings_below (us ++ f ∷ []) fs may.1))
+      (all_append (λ (id : ℕ). id < end) (opened_ids (openings_in (content f))) (opened_ids (openings fs)) (opening_below us f may.0)
+      (openings_below (us ++ f ∷ []) fs may.1))
 
   -- ---- all of them
 
   may : AllFrom (λ us f. May us f) [] more
-  may = sized at.ack.send_buffer_size (λ us f. CarriesEither (λ (o : Opening). Answers us f o) (λ (c : Chunk). Replies us f c) (content f)) [] more m.fits m.carries
+  may = sized at.ack.send_buffer_size (λ us f. CarriesEither (λ (o : Opening). Answers us f o) (λ (c : Chunk). Replies us f c) (content f)) [] more m.fits
+      m.carries
 
   first : Place at base opened (received r.frames) [] [] []
   first = record {
@@ -499,7 +545,8 @@ module _ (limits : Limits) (asks later : List Placed) (octets : List ℕ) (told 
     holds = record {
       tokens_are = r.tokens_are ∙ (sym (append-nil at.tokens) ∙ ap (λ (t : List ℕ). at.tokens ++ t) (sym nothing_opened));
       newest_is =
-          ap latest (ap (λ (t : List ℕ). at.tokens ++ t) nothing_opened ∙ append-nil at.tokens) ∙ (r.newest_is ∙ ap (λ (t : List ℕ). Some (latest_or at.newest t)) (sym nothing_opened));
+          ap latest (ap (λ (t : List ℕ). at.tokens ++ t) nothing_opened ∙ append-nil at.tokens)
+          ∙ (r.newest_is ∙ ap (λ (t : List ℕ). Some (latest_or at.newest t)) (sym nothing_opened));
     };
     messages_are = sym (append-nil base);
     opened_are = sym (append-nil opened) ∙ ap (λ (t : List ℕ). opened ++ t) (sym no_ids);
@@ -514,12 +561,14 @@ module _ (limits : Limits) (asks later : List Placed) (octets : List ℕ) (told 
   fit : AllFrom (Fits (client_rules limits all)) r.frames more
   fit =
       taken_open limits all at.ack at.channel r.frames more r.ack_is r.channel_is (order_from [] more may) m.framed
-      (each_along r.frames (Place at base opened) (λ us f. May us f) step more first may (λ us c. is_finished us c.request ≡ false) merge.unended (λ us f. frame_size f ≤ largest_taken (received us).ack)
+      (each_along r.frames (Place at base opened) (λ us f. May us f) step more first may (λ us c. is_finished us c.request ≡ false) merge.unended
+      (λ us f. frame_size f ≤ largest_taken (received us).ack)
       (λ us f rest can p unended. subst (λ (a : Option Ack). frame_size f ≤ largest_taken a) (sym p.ack_is) can.0))
       (each_along r.frames (Place at base opened) (λ us f. May us f) step more first may (λ us c. is_finished us c.request ≡ false) merge.unended
       (λ us f. MayCarryBack limits (received us) (asked_before (end_of us f) all) (content f))
       (λ us f rest can p unended.
-      subst (λ (t : List Asking). MayCarryBack limits (received (r.frames ++ us)) t (content f)) (sym (asked_at (length octets) asks later r.frames us f reached r.placed))
+      subst (λ (t : List Asking). MayCarryBack limits (received (r.frames ++ us)) t (content f))
+      (sym (asked_at (length octets) asks later r.frames us f reached r.placed))
       (carried us f (received (r.frames ++ us)) rest can p unended)))
       (goes_ordered (received r.frames).last start next (numbers more) follows m.numbered)
       (subst (λ (us : List Chunk). TakesMessages limits.max_message_size limits.max_chunk_count us (messages more)) (append-nil base)
@@ -530,14 +579,16 @@ module _ (limits : Limits) (asks later : List Placed) (octets : List ℕ) (told 
 
   told_here : each_from (client_rules limits all).tells r.frames more ≡ told_merged_back ms more
   told_here =
-      all_told r.frames (Place at base opened) (λ us f. May us f) step more first may (λ us c. given us c ≡ ended_by ms c) merge.each (client_rules limits all).tells (λ us f. told_back ms (content f))
+      all_told r.frames (Place at base opened) (λ us f. May us f) step more first may (λ us c. given us c ≡ ended_by ms c) merge.each
+      (client_rules limits all).tells (λ us f. told_back ms (content f))
       (λ us f rest can p each. tells us f (received (r.frames ++ us)) rest can p each)
       ∙ told_flat ms [] more
 
   tells_all : events (client_rules limits all) (r.frames ++ more) ≡ told ++ told_merged_back ms more
   tells_all =
       events_on (client_rules limits all) r.frames more
-      ∙ (ap (λ (ts : List ClientTold). ts ++ each_from (client_rules limits all).tells r.frames more) r.told_is ∙ ap (λ (ts : List ClientTold). told ++ ts) told_here)
+      ∙ (ap (λ (ts : List ClientTold). ts ++ each_from (client_rules limits all).tells r.frames more) r.told_is
+      ∙ ap (λ (ts : List ClientTold). told ++ ts) told_here)
 
   asked_all : asked_in all ≡ asked ++ asked_in later
   asked_all = asked_in-append asks (placed_later (length octets) later) ∙ ap (λ (t : List Asking). asked ++ t) (in_later (length octets) later)
@@ -549,8 +600,10 @@ module _ (limits : Limits) (asks later : List Placed) (octets : List ℕ) (told 
   placed_all =
       let long : length (octets ++ frames_octets more) ≡ length octets + length (frames_octets more) = length-append octets (frames_octets more) in
       all_append (λ (a : Placed). a.0 ≤ length (octets ++ frames_octets more)) asks (placed_later (length octets) later)
-      (all-weaken (λ (a : Placed). a.0 ≤ length octets) (λ (a : Placed). a.0 ≤ length (octets ++ frames_octets more)) asks (λ a le. omega (arith, le, long)) r.placed)
-      (subst (λ (n : ℕ). AllByRecursion (λ (a : Placed). a.0 ≤ n) (placed_later (length octets) later)) (sym long) (later_placed (length octets) (length (frames_octets more)) later m.placed))
+      (all-weaken (λ (a : Placed). a.0 ≤ length octets) (λ (a : Placed). a.0 ≤ length (octets ++ frames_octets more)) asks (λ a le. omega (arith, le, long))
+      r.placed)
+      (subst (λ (n : ℕ). AllByRecursion (λ (a : Placed). a.0 ≤ n) (placed_later (length octets) later)) (sym long)
+      (later_placed (length octets) (length (frames_octets more)) later m.placed))
 
   asked_below : AllByRecursion (λ (a : Asking). id_of a < end) (asked ++ asked_in later)
   asked_below = all_append (λ (a : Asking). id_of a < end) asked (asked_in later) old_below (new_below (asked_in later) all_new)
@@ -563,10 +616,12 @@ module _ (limits : Limits) (asks later : List Placed) (octets : List ℕ) (told 
 
   opened_below : AllByRecursion (λ (id : ℕ). id < end) (opened ++ opened_ids (openings more))
   opened_below =
-      all_append (λ (id : ℕ). id < end) opened (opened_ids (openings more)) (all-weaken (λ (id : ℕ). id < next_id asked) (λ (id : ℕ). id < end) opened (λ id less. omega (arith, less)) r.opened_below)
+      all_append (λ (id : ℕ). id < end) opened (opened_ids (openings more))
+      (all-weaken (λ (id : ℕ). id < next_id asked) (λ (id : ℕ). id < end) opened (λ id less. omega (arith, less)) r.opened_below)
       (openings_below [] more may)
 
-  pub reads_merged : ClientReads limits (asks ++ placed_later (length octets) later) (octets ++ frames_octets more) (told ++ told_merged_back ms more) (with_merged_back at (asked_in later) more next)
+  pub reads_merged : ClientReads limits (asks ++ placed_later (length octets) later) (octets ++ frames_octets more) (told ++ told_merged_back ms more)
+      (with_merged_back at (asked_in later) more next)
   reads_merged = record {
     frames = r.frames ++ more;
     run = run_on (client_rules limits all) octets r.frames more run_asked fit refl;
@@ -583,7 +638,8 @@ module _ (limits : Limits) (asks later : List Placed) (octets : List ℕ) (told 
         ∙ (ap (λ (cs : List Chunk). pending_calls cs (asked ++ asked_in later)) there.messages_are ∙ left_calls (asked_in later) all_new (messages more));
     renewals_are =
         ap (pending_renewals (opened_ids (received (r.frames ++ more)).openings)) asked_all
-        ∙ (ap (λ (ids : List ℕ). pending_renewals ids (asked ++ asked_in later)) there.opened_are ∙ left_renewals (asked_in later) all_new (opened_ids (openings more)));
+        ∙ (ap (λ (ids : List ℕ). pending_renewals ids (asked ++ asked_in later)) there.opened_are
+        ∙ left_renewals (asked_in later) all_new (opened_ids (openings more)));
     asked_below = rw (count, asked_all) asked_below;
     sent_below = rw (count, there.messages_are) sent_below;
     opened_below = rw (count, there.opened_are) opened_below;
@@ -594,9 +650,11 @@ module _ (limits : Limits) (asks later : List Placed) (octets : List ℕ) (told 
 
   pub reads_messages : told_of_calls (told_merged_back ms more) ≡ map told_item (outcomes ms (messages more))
   reads_messages =
-      told_new told_of_calls told_item told (told_merged_back ms more) base (messages more) (outcomes ms (messages more)) (filter-append is_of_call told (told_merged_back ms more)) r.none_open merge.all
+      told_new told_of_calls told_item told (told_merged_back ms more) base (messages more) (outcomes ms (messages more))
+      (filter-append is_of_call told (told_merged_back ms more)) r.none_open merge.all
       (ap told_of_calls (sym r.told_is) ∙ tells_delivered limits asks r.frames)
-      (ap told_of_calls (sym tells_all) ∙ (tells_delivered limits all (r.frames ++ more) ∙ ap (λ (cs : List Chunk). map told_item (delivered cs)) there.messages_are))
+      (ap told_of_calls (sym tells_all)
+      ∙ (tells_delivered limits all (r.frames ++ more) ∙ ap (λ (cs : List Chunk). map told_item (delivered cs)) there.messages_are))
 
   pub reads_once : (id : ℕ) → filter (is_told_under id) (told_merged_back ms more) ≡ map told_item (outcome_under (sent_under id ms))
   reads_once id =

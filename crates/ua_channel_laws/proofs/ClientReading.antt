@@ -1,5 +1,6 @@
 -- That a client takes what a server writes, one message after the other.
-use Rattle.std.proofs.Common.{◌≡◌, ℕ, ◌<◌, ◌≤◌, ◌^◌, min, Bool, true, false, IsTrue, ◌||◌, eqb, ltb, List, [], ◌∷◌, ◌++◌, Option, Some, None, length, map, refl, sym, ◌∙◌, ap, subst, arith, append-nil, length-append, not}
+use Rattle.std.proofs.Common.{◌≡◌, ℕ, ◌<◌, ◌≤◌, ◌^◌, min, Bool, true, false, IsTrue, ◌||◌, eqb, ltb, List, [], ◌∷◌, ◌++◌}
+use Rattle.std.proofs.Common.{Option, Some, None, length, map, refl, sym, ◌∙◌, ap, subst, arith, append-nil, length-append, not}
 use Rattle.std.specs.List.{AllByRecursion, filter}
 use Rattle.std.proofs.lemmas.Bool.{and_from, and_parts, eq-eqb, le-ltb, ltb-true, or_left}
 use Rattle.ua_builtin.specs.NodeId.{node_id}
@@ -59,22 +60,27 @@ use Rattle.ua_chunk.proofs.OneMore.{delivered_from}
 use Rattle.ua_chunk.proofs.Fresh.{some_pieces}
 use Rattle.ua_chunk.proofs.Pieces.{next_small}
 use Rattle.ua_chunk.proofs.ReaderLaws.{abort_written}
-use Rattle.ua_channel.specs.Asks.{Asking, Placed, asked_before, asked_in, end_of, id_of, is_in, next_id, pending_calls, pending_renewals, calls, is_finished, renewals}
+use Rattle.ua_channel.specs.Asks.{Asking, Placed, asked_before, asked_in, end_of, id_of, is_in, next_id}
+use Rattle.ua_channel.specs.Asks.{pending_calls, pending_renewals, calls, is_finished, renewals}
 use Rattle.ua_channel.specs.Asks.Asking.{Call, Renewal}
-use Rattle.ua_channel_laws.specs.ClientReads.{AtClient, ClientAgrees, ClientReads, IsAnswered, IsLaneBack, told_reply, with_answer, with_call, with_renewal, with_reply, without_id}
+use Rattle.ua_channel_laws.specs.ClientReads.{AtClient, ClientAgrees, ClientReads, IsAnswered, IsLaneBack, told_reply}
+use Rattle.ua_channel_laws.specs.ClientReads.{with_answer, with_call, with_renewal, with_reply, without_id}
 use Rattle.ua_channel.specs.ClientSends.{hello_to}
 use Rattle.ua_channel.specs.ClientTable.{answer_gate, client_gate, client_reasons, client_rules, gate_agreed, is_outside, reply_gate}
 use Rattle.ua_channel.specs.ClientTokens.{answer_in, channel_in, from_last, held_by, held_tokens, opened_ids, responses, tokens_of, response_listed}
 use Rattle.ua_channel.specs.ClientTold.{ClientTold, ClientTold as event, client_tells, told_item}
 use Rattle.ua_channel.specs.Content.{Content, Opening, content}
 use Rattle.ua_channel.specs.Content.Content.{Acks, Opens}
-use Rattle.ua_channel.specs.Received.{Received, after, latest, nothing_received, number_or, received, messages, openings, openings_in, tokens_in, used_tokens, chunks_in, numbers, numbers_in, number_listed}
+use Rattle.ua_channel.specs.Received.{Received, after, latest, nothing_received, number_or, received, messages, openings}
+use Rattle.ua_channel.specs.Received.{openings_in, tokens_in, used_tokens, chunks_in, numbers, numbers_in, number_listed}
 use Rattle.ua_channel_laws.specs.ServerReads.{IsBodyFor}
 use Rattle.ua_channel.specs.ServerSends.{opened_frame, replied, replied_by}
 use Rattle.ua_channel.proofs.AskedLater.{asked_later}
-use Rattle.ua_channel.proofs.Askings.{all-push, all-weaken, asked_in-push, pending_calls-call, pending_calls-renewal, pending_renewals-call, pending_renewals-renewal, no_asks, next-append, filter_same}
+use Rattle.ua_channel.proofs.Askings.{all-push, all-weaken, asked_in-push, pending_calls-call, pending_calls-renewal}
+use Rattle.ua_channel.proofs.Askings.{pending_renewals-call, pending_renewals-renewal, no_asks, next-append, filter_same}
 use Rattle.ua_channel.proofs.ClientAsking.{first_unset}
-use Rattle.ua_channel.proofs.ClientTalks.{first_tail, responses-push, opened_ids-push, tokens_of-push, no_ids, no_responses, no_tokens, nothing_pending, nothing_renewed}
+use Rattle.ua_channel.proofs.ClientTalks.{first_tail, responses-push, opened_ids-push, tokens_of-push}
+use Rattle.ua_channel.proofs.ClientTalks.{no_ids, no_responses, no_tokens, nothing_pending, nothing_renewed}
 use Rattle.ua_channel.proofs.Carried.{content_ack, content_opn}
 use Rattle.ua_channel.proofs.HeldTokens.{latest-push, stays_in, held_by-used}
 use Rattle.ua_channel.proofs.OneFrameMore.{received-nil, received-push}
@@ -83,11 +89,13 @@ use Rattle.ua_channel_laws.proofs.ClientConversing.{response_as}
 use Rattle.ua_channel_laws.specs.ClientConversation.{IsGoodResponse}
 use Rattle.ua_opening.specs.declared.open.OpenAnswer.{OpenAnswer}
 use Rattle.std.specs.Prelude.{if◌then◌else◌}
-use Rattle.ua_channel_laws.proofs.CutChunks.{AreSentIn, IsSentIn, cut_alone, cut_finished, cut_goes, ends_own, frames_fit, frames_framed, frames_messages, frames_numbers, frames_openings, frames_tokens, latest_token, one_merge, sent_in, all_under}
+use Rattle.ua_channel_laws.proofs.CutChunks.{AreSentIn, IsSentIn, cut_alone, cut_finished, cut_goes, ends_own, frames_fit, frames_framed, frames_messages}
+use Rattle.ua_channel_laws.proofs.CutChunks.{frames_numbers, frames_openings, frames_tokens, latest_token, one_merge, sent_in, all_under}
 use Rattle.ua_channel_laws.proofs.ClientMerges.{nothing_opened, reads_merged}
 use Rattle.ua_channel_laws.proofs.MergedChunks.{comes}
 use Rattle.ua_channel_laws.proofs.MergedFrames.{nothing_yet, openings-more, tokens-more}
-use Rattle.ua_channel_laws.specs.Merges.{AreMerged, ClientMerge, MayComeDown, NumbersGoOn, ended_by, latest_or, told_back, told_merged_back, with_merged_back, told_renewed}
+use Rattle.ua_channel_laws.specs.Merges.{AreMerged, ClientMerge, MayComeDown, NumbersGoOn, ended_by, latest_or}
+use Rattle.ua_channel_laws.specs.Merges.{told_back, told_merged_back, with_merged_back, told_renewed}
 use Rattle.ua_channel_laws.proofs.Written.{IsOf, chunks_are, opening_carried, lets_opn, chunk_carried, none_is}
 use Rattle.ua_channel.proofs.OpeningFrames.{none_header, opening_size}
 
@@ -133,7 +141,8 @@ module _ (limits : Limits) (a : Ack) (fits : IsTrue (ack.encodable a)) (inside :
   ack_good b asked = rw inside refl
 
   ack_received : received (ack_frame a ∷ []) ≡ record nothing_received { ack = Some a }
-  ack_received = received-push [] (ack_frame a) ∙ (ap (λ (b : Received). after b (content (ack_frame a))) received-nil ∙ ap (after nothing_received) ack_carried)
+  ack_received = received-push [] (ack_frame a)
+      ∙ (ap (λ (b : Received). after b (content (ack_frame a))) received-nil ∙ ap (after nothing_received) ack_carried)
 
   ack_size : frame_size (ack_frame a) ≡ 28
   ack_size = omega (arith, ack_length a)
@@ -145,10 +154,14 @@ module _ (limits : Limits) (a : Ack) (fits : IsTrue (ack.encodable a)) (inside :
         run_one (client_rules limits []) [] [] (ack_frame a) (run_nil (client_rules limits []) refl) (record {
           goes_on = refl;
           sized = omega (arith, ack_size);
-          let_in = subst (λ (g : Gate). LetsIn g (ack_frame a)) (sym (ap client_gate received-nil)) (record { kind = refl; flag = refl; largest = omega (arith, ack_size); least = omega (arith, ack_size) });
-          accepted = ap (λ (k : Content). first_reason (client_reasons limits (received []) (asked_before (end_of [] (ack_frame a)) []) k)) ack_carried ∙ ack_good (received []) (asked_before (end_of [] (ack_frame a)) []);
+          let_in = subst (λ (g : Gate). LetsIn g (ack_frame a)) (sym (ap client_gate received-nil))
+              (record { kind = refl; flag = refl; largest = omega (arith, ack_size); least = omega (arith, ack_size) });
+          accepted = ap (λ (k : Content). first_reason (client_reasons limits (received []) (asked_before (end_of [] (ack_frame a)) []) k)) ack_carried
+              ∙ ack_good (received []) (asked_before (end_of [] (ack_frame a)) []);
         }) refl;
-    told_is = events-push (client_rules limits []) [] (ack_frame a) ∙ (ap (λ (ts : List ClientTold). ts ++ client_tells (received []) (content (ack_frame a))) (no_events (client_rules limits [])) ∙ ap (client_tells (received [])) ack_carried);
+    told_is = events-push (client_rules limits []) [] (ack_frame a)
+        ∙ (ap (λ (ts : List ClientTold). ts ++ client_tells (received []) (content (ack_frame a))) (no_events (client_rules limits []))
+        ∙ ap (client_tells (received [])) ack_carried);
     received_is = ack_received;
     large = large;
     sized = ack_sized a fits;
@@ -156,11 +169,13 @@ module _ (limits : Limits) (a : Ack) (fits : IsTrue (ack.encodable a)) (inside :
 
 -- the ACK of a server to this client's HEL
 pub reads_ack : (limits server : Limits) (url : Option (List ℕ)) → IsTrue (ack.encodable (ack_to (hello_to limits url) server))
-    → ClientAgrees limits (frame_octets (ack_frame (ack_to (hello_to limits url) server))) (event.Agreed (ack_to (hello_to limits url) server) ∷ []) (ack_to (hello_to limits url) server)
+    → ClientAgrees limits (frame_octets (ack_frame (ack_to (hello_to limits url) server))) (event.Agreed (ack_to (hello_to limits url) server) ∷ [])
+    (ack_to (hello_to limits url) server)
 reads_ack limits server url fits =
     reads_acknowledge limits (ack_to (hello_to limits url) server) fits
     (outside_none (ltb (min server.receive_buffer_size limits.send_buffer_size) 8192) (ltb (min server.send_buffer_size limits.receive_buffer_size) 8192)
-    (ltb limits.send_buffer_size (min server.receive_buffer_size limits.send_buffer_size)) (ltb limits.receive_buffer_size (min server.send_buffer_size limits.receive_buffer_size))
+    (ltb limits.send_buffer_size (min server.receive_buffer_size limits.send_buffer_size))
+    (ltb limits.receive_buffer_size (min server.send_buffer_size limits.receive_buffer_size))
     (le-ltb (min server.receive_buffer_size limits.send_buffer_size) 8192 (omega (arith, server.receives, limits.sends)))
     (le-ltb (min server.send_buffer_size limits.receive_buffer_size) 8192 (omega (arith, server.sends, limits.receives)))
     (le-ltb limits.send_buffer_size (min server.receive_buffer_size limits.send_buffer_size) (omega arith))
@@ -176,29 +191,42 @@ answer_fits = refl
 response_read : (m : OpenResponse) → IsTrue (open_response.encodable m) → answer_read ((message 449 open_response).canonical m) ≡ Some (Open m)
 response_read m fits =
     (answer_read-is ((message 449 open_response).canonical m) (Open m)).1
-    (body_reads_back (message 449 open_response) (lawful_message 449 lawful_open_response) m (and_from (node_id.encodable (standard 449)) (open_response.encodable m) answer_fits fits)).0
+    (body_reads_back (message 449 open_response) (lawful_message 449 lawful_open_response) m
+    (and_from (node_id.encodable (standard 449)) (open_response.encodable m) answer_fits fits)).0
 
 module _ (channel number id handle token lifetime : ℕ) (moment : DateTime) (is : IsAnswered channel number id handle token lifetime moment) where
   abbrev response : OpenResponse
   response = open_response_of moment handle channel token lifetime
 
   abbrev answer : Opening
-  answer = record { security = Some (none_header channel); numbers = Some (number, id); body = (message 449 open_response).canonical (open_response_of moment handle channel token lifetime) }
+  answer =
+      record {
+        security = Some (none_header channel);
+        numbers = Some (number, id);
+        body = (message 449 open_response).canonical (open_response_of moment handle channel token lifetime);
+      }
 
   opened_carried : content (opened_frame channel number id handle token lifetime moment) ≡ Opens answer
   opened_carried =
       content_opn (opened_frame channel number id handle token lifetime moment) refl
-      ∙ ap Opens (opening_carried channel number id ((message 449 open_response).canonical (open_response_of moment handle channel token lifetime)) is.channel_small (omega (arith, is.number_small)) is.id_small)
+      ∙ ap Opens (opening_carried channel number id ((message 449 open_response).canonical (open_response_of moment handle channel token lifetime))
+      is.channel_small (omega (arith, is.number_small)) is.id_small)
 
   answer_is : answer_in answer ≡ Some (Open response)
   unfolding answer_in
-  answer_is = response_read (open_response_of moment handle channel token lifetime) (open_response_fits moment handle channel token lifetime is.moment_fits is.handle_small is.channel_small is.token_small is.lifetime_small)
+  answer_is = response_read (open_response_of moment handle channel token lifetime)
+      (open_response_fits moment handle channel token lifetime is.moment_fits is.handle_small is.channel_small is.token_small is.lifetime_small)
 
   opened_size : frame_size (opened_frame channel number id handle token lifetime moment) ≡ 135
-  opened_size = omega (arith, opening_size channel number id ((message 449 open_response).canonical (open_response_of moment handle channel token lifetime)), open_response_length moment handle channel token lifetime)
+  opened_size = omega (
+    arith,
+    opening_size channel number id ((message 449 open_response).canonical (open_response_of moment handle channel token lifetime)),
+    open_response_length moment handle channel token lifetime,
+  )
 
   -- the first answer
-  first_good : (limits : Limits) (a : Ack) (asked : List Asking) → id ≡ 1 → first_reason (client_reasons limits (record nothing_received { ack = Some a }) asked (Opens answer)) ≡ None
+  first_good : (limits : Limits) (a : Ack) (asked : List Asking) → id ≡ 1
+      → first_reason (client_reasons limits (record nothing_received { ack = Some a }) asked (Opens answer)) ≡ None
   unfolding held_tokens
   first_good limits a asked one = rw (answer_is, no_responses, no_tokens, eq-eqb id 1 one) refl
 
@@ -206,7 +234,8 @@ module _ (channel number id handle token lifetime : ℕ) (moment : DateTime) (is
   first_tells a = rw (answer_is, no_responses) refl
 
 -- an OPN is let in behind an ACK
-opn_by : (a : Ack) (rs : List OpenResponse) (f : Frame) → f.kind ≡ kind.Opn → f.flag ≡ 70 → frame_size f ≤ a.send_buffer_size → 32 ≤ frame_size f → LetsIn (gate_agreed a.send_buffer_size rs) f
+opn_by : (a : Ack) (rs : List OpenResponse) (f : Frame) → f.kind ≡ kind.Opn → f.flag ≡ 70 → frame_size f ≤ a.send_buffer_size → 32 ≤ frame_size f
+    → LetsIn (gate_agreed a.send_buffer_size rs) f
 opn_by a [] f kind flag fits least = lets_opn (answer_gate a.send_buffer_size) f refl kind flag fits least
 opn_by a (r ∷ rs) f kind flag fits least = lets_opn (reply_gate a.send_buffer_size) f refl kind flag fits least
 
@@ -234,14 +263,16 @@ module _ (limits : Limits) (octets : List ℕ) (told : List ClientTold) (a : Ack
   now = received-push r.frames f ∙ (ap (λ (b : Received). after b (content f)) r.received_is ∙ ap (after (record nothing_received { ack = Some a })) o_carried)
 
   one_response : responses (o ∷ []) ≡ open_response_of moment handle channel token lifetime ∷ []
-  one_response = responses-push [] o (open_response_of moment handle channel token lifetime) o_answers ∙ ap (λ (rs : List OpenResponse). rs ++ open_response_of moment handle channel token lifetime ∷ []) no_responses
+  one_response = responses-push [] o (open_response_of moment handle channel token lifetime) o_answers
+      ∙ ap (λ (rs : List OpenResponse). rs ++ open_response_of moment handle channel token lifetime ∷ []) no_responses
 
   one_id : opened_ids (o ∷ []) ≡ 1 ∷ []
   one_id = opened_ids-push [] o (number, 1) o_numbers ∙ ap (λ (ids : List ℕ). ids ++ 1 ∷ []) no_ids
 
   one_token : held_tokens (after before (Opens o)) ≡ token ∷ []
   unfolding held_tokens
-  one_token = ap tokens_of one_response ∙ (tokens_of-push [] (open_response_of moment handle channel token lifetime) ∙ ap (λ (ts : List ℕ). ts ++ token ∷ []) no_tokens)
+  one_token = ap tokens_of one_response
+      ∙ (tokens_of-push [] (open_response_of moment handle channel token lifetime) ∙ ap (λ (ts : List ℕ). ts ++ token ∷ []) no_tokens)
 
   f_size : frame_size f ≡ 135
   f_size = opened_size channel number 1 handle token lifetime moment is
@@ -251,7 +282,8 @@ module _ (limits : Limits) (octets : List ℕ) (told : List ClientTold) (a : Ack
       subst (λ (g : Gate). LetsIn g f) (sym (ap client_gate r.received_is))
       (opn_by a (responses []) f refl refl (omega (arith, f_size, r.large)) (omega (arith, f_size)))
 
-  pub reads_opened : ClientReads limits [] (octets ++ frame_octets (opened_frame channel number 1 handle token lifetime moment)) (told ++ event.Opened channel token ∷ [])
+  pub reads_opened : ClientReads limits [] (octets ++ frame_octets (opened_frame channel number 1 handle token lifetime moment))
+      (told ++ event.Opened channel token ∷ [])
       (record { ack = a; channel = channel; tokens = token ∷ []; newest = token; pending = []; renewals = []; next = next_number number })
   reads_opened = record {
     frames = r.frames ++ f ∷ [];
@@ -262,14 +294,16 @@ module _ (limits : Limits) (octets : List ℕ) (told : List ClientTold) (a : Ack
           let_in = f_in;
           accepted =
               ap (λ (b : Received). first_reason (client_reasons limits b (asked_before (end_of r.frames f) []) (content f))) r.received_is
-              ∙ (ap (λ (k : Content). first_reason (client_reasons limits (record nothing_received { ack = Some a }) (asked_before (end_of r.frames f) []) k)) o_carried
+              ∙ (ap (λ (k : Content). first_reason (client_reasons limits (record nothing_received { ack = Some a }) (asked_before (end_of r.frames f) []) k))
+              o_carried
               ∙ first_good channel number 1 handle token lifetime moment is limits a (asked_before (end_of r.frames f) []) refl);
         }) refl;
     placed = tt;
     told_is =
         events-push (client_rules limits []) r.frames f
         ∙ (ap (λ (ts : List ClientTold). ts ++ client_tells (received r.frames) (content f)) r.told_is
-        ∙ ap (λ (ts : List ClientTold). told ++ ts) (ap (λ (b : Received). client_tells b (content f)) r.received_is ∙ (ap (client_tells (record nothing_received { ack = Some a })) o_carried ∙ first_tells channel number 1 handle token lifetime moment is a)));
+        ∙ ap (λ (ts : List ClientTold). told ++ ts) (ap (λ (b : Received). client_tells b (content f)) r.received_is
+        ∙ (ap (client_tells (record nothing_received { ack = Some a })) o_carried ∙ first_tells channel number 1 handle token lifetime moment is a)));
     ack_is = ap (λ (b : Received). b.ack) now;
     large = r.large;
     sized = r.sized;
@@ -277,13 +311,15 @@ module _ (limits : Limits) (octets : List ℕ) (told : List ClientTold) (a : Ack
     tokens_are = ap held_tokens now ∙ one_token;
     newest_is = refl;
     pending_are = ap (λ (b : Received). pending_calls b.messages (asked_in [])) now ∙ (ap (pending_calls []) no_asks ∙ nothing_pending []);
-    renewals_are = ap (λ (b : Received). pending_renewals (opened_ids b.openings) (asked_in [])) now ∙ (ap (pending_renewals (opened_ids (o ∷ []))) no_asks ∙ nothing_renewed (opened_ids (o ∷ [])));
+    renewals_are = ap (λ (b : Received). pending_renewals (opened_ids b.openings) (asked_in [])) now
+        ∙ (ap (pending_renewals (opened_ids (o ∷ []))) no_asks ∙ nothing_renewed (opened_ids (o ∷ [])));
     asked_below = subst (λ (ss : List Asking). AllByRecursion (λ (x : Asking). id_of x < next_id ss) ss) (sym no_asks) tt;
     sent_below = subst (λ (b : Received). AllByRecursion (λ (c : Chunk). c.request < next_id (asked_in [])) b.messages) (sym now) tt;
     opened_below =
         subst (λ (b : Received). AllByRecursion (λ (id : ℕ). id < next_id (asked_in [])) (opened_ids b.openings)) (sym now)
         (subst (λ (ids : List ℕ). AllByRecursion (λ (id : ℕ). id < next_id (asked_in [])) ids) (sym one_id) (omega arith, tt));
-    follows = ap (λ (b : Received). may_follow b.last (next_number number)) now ∙ (ap (λ (n : Option (ℕ × ℕ)). may_follow (number_or None n) (next_number number)) o_numbers ∙ follows_next number);
+    follows = ap (λ (b : Received). may_follow b.last (next_number number)) now
+        ∙ (ap (λ (n : Option (ℕ × ℕ)). may_follow (number_or None n) (next_number number)) o_numbers ∙ follows_next number);
     next_small = next_small number is.number_small;
     none_open = ap (λ (b : Received). open_ids b.messages) now;
   }
@@ -293,7 +329,8 @@ module _ (limits : Limits) (octets : List ℕ) (told : List ClientTold) (a : Ack
 below_more : {X : Type 0} (id : X → ℕ) (n m : ℕ) (xs : List X) → n ≤ m → AllByRecursion (λ (x : X). id x < n) xs → AllByRecursion (λ (x : X). id x < m) xs
 below_more {X = X} id n m xs le all = all-weaken (λ (x : X). id x < n) (λ (x : X). id x < m) xs (λ x less. omega (arith, less, le)) all
 
-module _ (limits : Limits) (asks : List Placed) (octets : List ℕ) (told : List ClientTold) (at : AtClient) (ask : Asking) (r : ClientReads limits asks octets told at) (id_is : id_of ask ≡ next_id (asked_in asks)) where
+module _ (limits : Limits) (asks : List Placed) (octets : List ℕ) (told : List ClientTold) (at : AtClient) (ask : Asking)
+    (r : ClientReads limits asks octets told at) (id_is : id_of ask ≡ next_id (asked_in asks)) where
   abbrev more : List Placed
   more = asks ++ (length octets, ask) ∷ []
 
@@ -301,7 +338,8 @@ module _ (limits : Limits) (asks : List Placed) (octets : List ℕ) (told : List
   run_asked = asked_later limits asks (length octets, ask) octets r.frames [] (omega arith) r.run
 
   -- an ask behind the octets, where these calls and renewals are then unanswered
-  reads_asked : (pending waiting : List ℕ) → pending_calls (received r.frames).messages (asked_in asks ++ ask ∷ []) ≡ pending → pending_renewals (opened_ids (received r.frames).openings) (asked_in asks ++ ask ∷ []) ≡ waiting
+  reads_asked : (pending waiting : List ℕ) → pending_calls (received r.frames).messages (asked_in asks ++ ask ∷ []) ≡ pending
+      → pending_renewals (opened_ids (received r.frames).openings) (asked_in asks ++ ask ∷ []) ≡ waiting
       → ClientReads limits (asks ++ (length octets, ask) ∷ []) octets told (record at { pending = pending; renewals = waiting })
   reads_asked pending waiting calls_are answers_are = record {
     frames = r.frames;
@@ -317,12 +355,16 @@ module _ (limits : Limits) (asks : List Placed) (octets : List ℕ) (told : List
     pending_are = ap (pending_calls (received r.frames).messages) (asked_in-push asks (length octets, ask)) ∙ calls_are;
     renewals_are = ap (pending_renewals (opened_ids (received r.frames).openings)) (asked_in-push asks (length octets, ask)) ∙ answers_are;
     asked_below =
-        subst (λ (ss : List Asking). AllByRecursion (λ (x : Asking). id_of x < next_id (asked_in (asks ++ (length octets, ask) ∷ []))) ss) (sym (asked_in-push asks (length octets, ask)))
+        subst (λ (ss : List Asking). AllByRecursion (λ (x : Asking). id_of x < next_id (asked_in (asks ++ (length octets, ask) ∷ []))) ss)
+        (sym (asked_in-push asks (length octets, ask)))
         (all-push (λ (x : Asking). id_of x < next_id (asked_in (asks ++ (length octets, ask) ∷ []))) (asked_in asks) ask
-        (below_more id_of (next_id (asked_in asks)) (next_id (asked_in (asks ++ (length octets, ask) ∷ []))) (asked_in asks) (omega (arith, next-append asks ((length octets, ask) ∷ []))) r.asked_below)
+        (below_more id_of (next_id (asked_in asks)) (next_id (asked_in (asks ++ (length octets, ask) ∷ []))) (asked_in asks)
+        (omega (arith, next-append asks ((length octets, ask) ∷ []))) r.asked_below)
         (omega (arith, id_is, next-append asks ((length octets, ask) ∷ []))));
-    sent_below = below_more (λ (c : Chunk). c.request) (next_id (asked_in asks)) (next_id (asked_in (asks ++ (length octets, ask) ∷ []))) (received r.frames).messages (omega (arith, next-append asks ((length octets, ask) ∷ []))) r.sent_below;
-    opened_below = below_more (λ (id : ℕ). id) (next_id (asked_in asks)) (next_id (asked_in (asks ++ (length octets, ask) ∷ []))) (opened_ids (received r.frames).openings) (omega (arith, next-append asks ((length octets, ask) ∷ []))) r.opened_below;
+    sent_below = below_more (λ (c : Chunk). c.request) (next_id (asked_in asks)) (next_id (asked_in (asks ++ (length octets, ask) ∷ [])))
+        (received r.frames).messages (omega (arith, next-append asks ((length octets, ask) ∷ []))) r.sent_below;
+    opened_below = below_more (λ (id : ℕ). id) (next_id (asked_in asks)) (next_id (asked_in (asks ++ (length octets, ask) ∷ [])))
+        (opened_ids (received r.frames).openings) (omega (arith, next-append asks ((length octets, ask) ∷ []))) r.opened_below;
     follows = r.follows;
     next_small = r.next_small;
     none_open = r.none_open;
@@ -344,7 +386,8 @@ reads_renewal limits asks octets told at r =
     let id = next_id (asked_in asks) in
     reads_asked limits asks octets told at (Renewal id) r refl at.pending (at.renewals ++ id ∷ [])
     (pending_calls-renewal (received r.frames).messages (asked_in asks) id ∙ r.pending_are)
-    (pending_renewals-renewal (opened_ids (received r.frames).openings) (asked_in asks) id r.opened_below ∙ ap (λ (ids : List ℕ). ids ++ id ∷ []) r.renewals_are)
+    (pending_renewals-renewal (opened_ids (received r.frames).openings) (asked_in asks) id r.opened_below
+    ∙ ap (λ (ids : List ℕ). ids ++ id ∷ []) r.renewals_are)
 
 -- ---- replies
 
@@ -361,20 +404,30 @@ in_front id xs ys e = list_any-append (λ (n : ℕ). eqb n id) xs ys ∙ or_left
 
 abort_length : (code : StatusCode) → length (abort_body.canonical (code, None)) ≡ 8
 unfolding abort_body status_code text counted
-abort_length code = omega (arith, length-append (number_octets 4 code.code) (number_octets 4 0xFFFF_FFFF), length-number_octets 4 code.code, length-number_octets 4 0xFFFF_FFFF)
+abort_length code = omega (
+  arith,
+  length-append (number_octets 4 code.code) (number_octets 4 0xFFFF_FFFF),
+  length-number_octets 4 code.code,
+  length-number_octets 4 0xFFFF_FFFF,
+)
 
-told_sent : (size : ℕ) (lane : Lane) (id : ℕ) (ms : List Sent) (cs : List Chunk) → AreSentIn size lane id cs → told_merged_back ms (map frame_of cs) ≡ map told_item (outcomes ms cs)
+told_sent : (size : ℕ) (lane : Lane) (id : ℕ) (ms : List Sent) (cs : List Chunk) → AreSentIn size lane id cs
+    → told_merged_back ms (map frame_of cs) ≡ map told_item (outcomes ms cs)
 told_sent size lane id ms [] s = refl
 told_sent size lane id ms (c ∷ cs) s =
     ap (λ (k : Content). told_back ms k ++ told_merged_back ms (map frame_of cs)) (chunk_carried c s.0.numbers)
-    ∙ (ap (λ (ts : List ClientTold). map told_item (ended_by ms c) ++ ts) (told_sent size lane id ms cs s.1) ∙ sym (map-append told_item (ended_by ms c) (outcomes ms cs)))
+    ∙ (ap (λ (ts : List ClientTold). map told_item (ended_by ms c) ++ ts) (told_sent size lane id ms cs s.1)
+    ∙ sym (map-append told_item (ended_by ms c) (outcomes ms cs)))
 
 module _ (limits : Limits) (asks : List Placed) (octets : List ℕ) (told : List ClientTold) (at : AtClient) (r : ClientReads limits asks octets told at) where
   -- frames of a merge, where the client asks nothing on and these tokens, calls and renewals are left
   reads_frames : (ms : List Sent) (fs : List Frame) (next newest : ℕ) (tokens pending waiting : List ℕ) → ClientMerge limits at (asked_in asks) [] ms fs next
-      → held_by (latest (used_tokens fs)) (at.tokens ++ tokens_of (responses (openings fs))) ≡ tokens → latest_or at.newest (tokens_of (responses (openings fs))) ≡ newest
-      → filter (λ (i : ℕ). not (is_finished (messages fs) i)) at.pending ≡ pending → filter (λ (i : ℕ). not (is_in i (opened_ids (openings fs)))) at.renewals ≡ waiting
-      → ClientReads limits asks (octets ++ frames_octets fs) (told ++ told_merged_back ms fs) (record at { tokens = tokens; newest = newest; pending = pending; renewals = waiting; next = next })
+      → held_by (latest (used_tokens fs)) (at.tokens ++ tokens_of (responses (openings fs))) ≡ tokens
+      → latest_or at.newest (tokens_of (responses (openings fs))) ≡ newest
+      → filter (λ (i : ℕ). not (is_finished (messages fs) i)) at.pending ≡ pending → filter (λ (i : ℕ). not (is_in i (opened_ids (openings fs)))) at.renewals
+      ≡ waiting
+      → ClientReads limits asks (octets ++ frames_octets fs) (told ++ told_merged_back ms fs)
+      (record at { tokens = tokens; newest = newest; pending = pending; renewals = waiting; next = next })
   reads_frames ms fs next newest tokens pending waiting m held last calls_are answers_are =
       let left : filter (λ (i : ℕ). not (is_finished (messages fs) i)) (at.pending ++ calls (asked_in [])) ≡ pending =
       ap (λ (t : List ℕ). filter (λ (i : ℕ). not (is_finished (messages fs) i)) (at.pending ++ t)) no_later.0
@@ -383,20 +436,27 @@ module _ (limits : Limits) (asks : List Placed) (octets : List ℕ) (told : List
       ap (λ (t : List ℕ). filter (λ (i : ℕ). not (is_in i (opened_ids (openings fs)))) (at.renewals ++ t)) no_later.1
       ∙ (ap (filter (λ (i : ℕ). not (is_in i (opened_ids (openings fs))))) (append-nil at.renewals) ∙ answers_are) in
       let read : ClientReads limits asks (octets ++ frames_octets fs) (told ++ told_merged_back ms fs) (with_merged_back at (asked_in []) fs next) =
-      subst (λ (t : List Placed). ClientReads limits t (octets ++ frames_octets fs) (told ++ told_merged_back ms fs) (with_merged_back at (asked_in []) fs next)) (append-nil asks)
+      subst (λ (t : List Placed). ClientReads limits t (octets ++ frames_octets fs) (told ++ told_merged_back ms fs)
+      (with_merged_back at (asked_in []) fs next)) (append-nil asks)
       (reads_merged limits asks [] octets told at at.next ms fs next r (record { frames = r.frames; run = r.run; follows = r.follows }) m) in
-      at_as (held_by (latest (used_tokens fs)) (at.tokens ++ tokens_of (responses (openings fs)))) tokens (latest_or at.newest (tokens_of (responses (openings fs)))) newest _ pending _ waiting held last left waits read
+      at_as (held_by (latest (used_tokens fs)) (at.tokens ++ tokens_of (responses (openings fs)))) tokens
+      (latest_or at.newest (tokens_of (responses (openings fs)))) newest _ pending _ waiting held last left waits read
     where
       at_as : (ts us : List ℕ) (n o : ℕ) (ps qs ws vs : List ℕ) → ts ≡ us → n ≡ o → ps ≡ qs → ws ≡ vs
-          → ClientReads limits asks (octets ++ frames_octets fs) (told ++ told_merged_back ms fs) (record at { tokens = ts; newest = n; pending = ps; renewals = ws; next = next })
-          → ClientReads limits asks (octets ++ frames_octets fs) (told ++ told_merged_back ms fs) (record at { tokens = us; newest = o; pending = qs; renewals = vs; next = next })
-      at_as ts us n o ps qs ws vs a b c d h = subst (λ (x : AtClient). ClientReads limits asks (octets ++ frames_octets fs) (told ++ told_merged_back ms fs) x) (same a b c d) h
+          → ClientReads limits asks (octets ++ frames_octets fs) (told ++ told_merged_back ms fs)
+          (record at { tokens = ts; newest = n; pending = ps; renewals = ws; next = next })
+          → ClientReads limits asks (octets ++ frames_octets fs) (told ++ told_merged_back ms fs)
+          (record at { tokens = us; newest = o; pending = qs; renewals = vs; next = next })
+      at_as ts us n o ps qs ws vs a b c d h = subst (λ (x : AtClient). ClientReads limits asks (octets ++ frames_octets fs) (told ++ told_merged_back ms fs) x)
+          (same a b c d) h
         where
           same : ts ≡ us → n ≡ o → ps ≡ qs → ws ≡ vs
-              → ◌≡◌ {A = AtClient} (record at { tokens = ts; newest = n; pending = ps; renewals = ws; next = next }) (record at { tokens = us; newest = o; pending = qs; renewals = vs; next = next })
+              → ◌≡◌ {A = AtClient} (record at { tokens = ts; newest = n; pending = ps; renewals = ws; next = next })
+              (record at { tokens = us; newest = o; pending = qs; renewals = vs; next = next })
           same a b c d = cc
 
-module _ (limits : Limits) (asks : List Placed) (octets : List ℕ) (told : List ClientTold) (at : AtClient) (lane : Lane) (id : ℕ) (r : ClientReads limits asks octets told at) (back : IsLaneBack limits at lane)
+module _ (limits : Limits) (asks : List Placed) (octets : List ℕ) (told : List ClientTold) (at : AtClient) (lane : Lane) (id : ℕ)
+    (r : ClientReads limits asks octets told at) (back : IsLaneBack limits at lane)
     (awaited : is_in id at.pending ≡ true) (few : id < 2 ^ 32) where
   abbrev size : ℕ
   size = at.ack.send_buffer_size
@@ -413,13 +473,17 @@ module _ (limits : Limits) (asks : List Placed) (octets : List ℕ) (told : List
       ∙ (ap (λ (t : ℕ). is_in lane.token (from_last t (held_by (latest ts) tokens))) is ∙ stays_in lane.token (held_by (latest ts) tokens) held))
 
   carries_from : (us : List Frame) (cs : List Chunk) → AreSentIn size lane id cs → IsHeld (used_tokens us) (openings us)
-      → AllFrom (λ vs f. MayComeDown (with_merged_back at (asked_before (end_of vs f) []) vs at.next) (at.pending ++ calls (asked_before (end_of vs f) [])) (content f)) us (map frame_of cs)
+      → AllFrom (λ vs f. MayComeDown (with_merged_back at (asked_before (end_of vs f) []) vs at.next) (at.pending ++ calls (asked_before (end_of vs f) []))
+      (content f)) us (map frame_of cs)
   carries_from us [] s held = tt
   carries_from us (c ∷ cs) s held =
       let f : Frame = frame_of c in
-      let tokens : used_tokens (us ++ f ∷ []) ≡ used_tokens us ++ c.token ∷ [] = tokens-more us f ∙ ap (λ (k : Content). used_tokens us ++ tokens_in k) (chunk_carried c s.0.numbers) in
-      let opens : openings (us ++ f ∷ []) ≡ openings us = openings-more us f ∙ (ap (λ (k : Content). openings us ++ openings_in k) (chunk_carried c s.0.numbers) ∙ append-nil (openings us)) in (
-        subst (MayComeDown (with_merged_back at (asked_before (end_of us f) []) us at.next) (at.pending ++ calls (asked_before (end_of us f) []))) (sym (chunk_carried c s.0.numbers))
+      let tokens : used_tokens (us ++ f ∷ []) ≡ used_tokens us ++ c.token ∷ [] = tokens-more us f
+      ∙ ap (λ (k : Content). used_tokens us ++ tokens_in k) (chunk_carried c s.0.numbers) in
+      let opens : openings (us ++ f ∷ []) ≡ openings us = openings-more us f
+      ∙ (ap (λ (k : Content). openings us ++ openings_in k) (chunk_carried c s.0.numbers) ∙ append-nil (openings us)) in (
+        subst (MayComeDown (with_merged_back at (asked_before (end_of us f) []) us at.next) (at.pending ++ calls (asked_before (end_of us f) [])))
+            (sym (chunk_carried c s.0.numbers))
             (record {
               on = ap not (eq-eqb c.channel at.channel (s.0.channel_is ∙ back.on));
               held = ap (λ (t : ℕ). is_in t (held_by (latest (used_tokens us)) (at.tokens ++ tokens_of (responses (openings us))))) s.0.token_is ∙ held;
@@ -448,7 +512,8 @@ module _ (limits : Limits) (asks : List Placed) (octets : List ℕ) (told : List
         fits = frames_fit size lane id (c ∷ cs) sent;
         carries =
             carries_from [] (c ∷ cs) sent
-            (nothing_yet (λ ts os us. IsHeld ts os) (ap (λ (t : List ℕ). is_in lane.token (at.tokens ++ t)) nothing_opened ∙ (ap (is_in lane.token) (append-nil at.tokens) ∙ back.held)));
+            (nothing_yet (λ ts os us. IsHeld ts os) (ap (λ (t : List ℕ). is_in lane.token (at.tokens ++ t)) nothing_opened
+            ∙ (ap (is_in lane.token) (append-nil at.tokens) ∙ back.held)));
         numbered = subst (λ (ns : List ℕ). NumbersGoOn at.next ns next) (sym (frames_numbers size lane id (c ∷ cs) sent)) goes;
         merged = subst (AreMerged limits (m ∷ [])) (sym (frames_messages size lane id (c ∷ cs) sent)) merged;
       })
@@ -462,26 +527,33 @@ module _ (limits : Limits) (asks : List Placed) (octets : List ℕ) (told : List
 
   -- a reply
   reads_reply : (body : List ℕ) → IsBodyFor limits lane.room body
-      → ClientReads limits asks (octets ++ chunks_octets (chunks_of lane body at.next id)) (told ++ event.Answered id body ∷ []) (with_reply at lane.token id (number_after at.next (pieces lane.room body)))
+      → ClientReads limits asks (octets ++ chunks_octets (chunks_of lane body at.next id)) (told ++ event.Answered id body ∷ [])
+      (with_reply at lane.token id (number_after at.next (pieces lane.room body)))
   reads_reply body w =
       let ps = some_pieces lane.room body w.some in
       let alone = cut_alone limits lane body at.next id back.some w in
       let sent : AreSentIn size lane id (chunks_of lane body at.next id) =
-      all-weaken (IsOf lane id) (IsSentIn size lane id) (chunks_of lane body at.next id) (sent_in size lane id back.on_small back.token_small few back.fits) (chunks_are lane body at.next id r.next_small back.some w.some) in
-      subst (λ (t : List (List ℕ)). ClientReads limits asks (octets ++ chunks_octets (numbered lane at.next id t)) (told ++ event.Answered id body ∷ []) (with_reply at lane.token id (number_after at.next t))) (sym ps.are)
-      (reads_sent (chunk_of lane (flag_before ps.others) at.next id ps.first) (numbered lane (next_number at.next) id ps.others) (number_after at.next (ps.first ∷ ps.others)) alone.message (Whole id body ∷ [])
-      (subst (λ (t : List (List ℕ)). AreSentIn size lane id (numbered lane at.next id t)) ps.are sent) (subst (λ (t : List (List ℕ)). AreMerged limits (alone.message ∷ []) (numbered lane at.next id t)) ps.are alone.merged)
+      all-weaken (IsOf lane id) (IsSentIn size lane id) (chunks_of lane body at.next id) (sent_in size lane id back.on_small back.token_small few back.fits)
+      (chunks_are lane body at.next id r.next_small back.some w.some) in
+      subst (λ (t : List (List ℕ)). ClientReads limits asks (octets ++ chunks_octets (numbered lane at.next id t)) (told ++ event.Answered id body ∷ [])
+      (with_reply at lane.token id (number_after at.next t))) (sym ps.are)
+      (reads_sent (chunk_of lane (flag_before ps.others) at.next id ps.first) (numbered lane (next_number at.next) id ps.others)
+      (number_after at.next (ps.first ∷ ps.others)) alone.message (Whole id body ∷ [])
+      (subst (λ (t : List (List ℕ)). AreSentIn size lane id (numbered lane at.next id t)) ps.are sent)
+      (subst (λ (t : List (List ℕ)). AreMerged limits (alone.message ∷ []) (numbered lane at.next id t)) ps.are alone.merged)
       (cut_goes lane at.next id ps.first ps.others r.next_small) (λ i. cut_finished lane at.next id i ps.first ps.others)
       (ap (λ (t : List (List ℕ)). delivered (numbered lane at.next id t)) (sym ps.are) ∙ cut_delivered lane body at.next id back.some w.some))
 
   -- a reply that is given up
   reads_abort : (code : StatusCode) → code.code < 2 ^ 32
-      → ClientReads limits asks (octets ++ frame_octets (frame_of (abort_chunk lane at.next id code))) (told ++ event.GaveUp id code ∷ []) (with_reply at lane.token id (next_number at.next))
+      → ClientReads limits asks (octets ++ frame_octets (frame_of (abort_chunk lane at.next id code))) (told ++ event.GaveUp id code ∷ [])
+      (with_reply at lane.token id (next_number at.next))
   reads_abort code small =
       let c : Chunk = abort_chunk lane at.next id code in
       let body : List ℕ = abort_body.canonical (code, None) in
       let sent : Sent = record { request = id; pieces = []; end = A; last = body } in
-      subst (λ (t : List ℕ). ClientReads limits asks (octets ++ t) (told ++ event.GaveUp id code ∷ []) (with_reply at lane.token id (next_number at.next))) (one_octets (frame_of c))
+      subst (λ (t : List ℕ). ClientReads limits asks (octets ++ t) (told ++ event.GaveUp id code ∷ []) (with_reply at lane.token id (next_number at.next)))
+      (one_octets (frame_of c))
       (reads_sent c [] (next_number at.next) sent (Aborted id code None ∷ []) (
         record {
           numbers = record { channel = back.on_small; token = back.token_small; sequence = omega (arith, r.next_small); request = few };
@@ -495,8 +567,15 @@ module _ (limits : Limits) (asks : List Placed) (octets : List ℕ) (told : List
       (record {
         own_ids = (refl, tt);
         within =
-            all_under (IsWithin limits.max_message_size limits.max_chunk_count) (sent ∷ [])
-            (record { ending = refl; readable = λ f. ap is_some (abort_written code small); octets_fit = none_within limits.max_message_size; chunks_fit = none_within limits.max_chunk_count }, tt);
+            all_under (IsWithin limits.max_message_size limits.max_chunk_count) (sent ∷ []) (
+              record {
+                ending = refl;
+                readable = λ f. ap is_some (abort_written code small);
+                octets_fit = none_within limits.max_message_size;
+                chunks_fit = none_within limits.max_chunk_count;
+              },
+              tt,
+            );
         merged = one_merge sent (map part_of (c ∷ [])) refl;
         few_open = (omega arith, tt);
       })
@@ -509,10 +588,12 @@ module _ (limits : Limits) (asks : List Placed) (octets : List ℕ) (told : List
   cut_octets body e = first_unset TooManyOctets (passes lane.octets (length body)) ((TooManyChunks, passes lane.chunks (length (pieces lane.room body))) ∷ []) e
 
   cut_chunks : (body : List ℕ) → cut_refusal lane body ≡ None → passes lane.chunks (length (pieces lane.room body)) ≡ false
-  cut_chunks body e = first_unset TooManyChunks (passes lane.chunks (length (pieces lane.room body))) [] (first_tail TooManyOctets (passes lane.octets (length body)) ((TooManyChunks, passes lane.chunks (length (pieces lane.room body))) ∷ []) e)
+  cut_chunks body e = first_unset TooManyChunks (passes lane.chunks (length (pieces lane.room body))) []
+      (first_tail TooManyOctets (passes lane.octets (length body)) ((TooManyChunks, passes lane.chunks (length (pieces lane.room body))) ∷ []) e)
 
   replied_so : (body : List ℕ) (o : Option CutFault) → 0 < length body → cut_refusal lane body ≡ o
-      → ClientReads limits asks (octets ++ (replied_by o lane body at.next id).0) (told ++ told_reply o id body ∷ []) (with_reply at lane.token id (replied_by o lane body at.next id).1)
+      → ClientReads limits asks (octets ++ (replied_by o lane body at.next id).0) (told ++ told_reply o id body ∷ [])
+      (with_reply at lane.token id (replied_by o lane body at.next id).1)
   replied_so body None some e =
       reads_reply body (record {
         some = some;
@@ -522,7 +603,8 @@ module _ (limits : Limits) (asks : List Placed) (octets : List ℕ) (told : List
   replied_so body (Some fault) some e = reads_abort (of_code 0x80B9_0000) (omega arith)
 
   pub reads_replied : (body : List ℕ) → 0 < length body
-      → ClientReads limits asks (octets ++ (replied lane body at.next id).0) (told ++ told_reply (cut_refusal lane body) id body ∷ []) (with_reply at lane.token id (replied lane body at.next id).1)
+      → ClientReads limits asks (octets ++ (replied lane body at.next id).0) (told ++ told_reply (cut_refusal lane body) id body ∷ [])
+      (with_reply at lane.token id (replied lane body at.next id).1)
   reads_replied body some = replied_so body (cut_refusal lane body) some refl
 
 -- ---- the answer to a renewal
@@ -530,7 +612,8 @@ module _ (limits : Limits) (asks : List Placed) (octets : List ℕ) (told : List
 one_in : (id : ℕ) (ids : List ℕ) → ids ≡ id ∷ [] → is_in id ids ≡ true
 one_in id ids one = ap (is_in id) one ∙ ap (λ (b : Bool). b || false) (eq-eqb id id refl)
 
-module _ (limits : Limits) (asks : List Placed) (octets : List ℕ) (told : List ClientTold) (at : AtClient) (id handle token lifetime : ℕ) (moment : DateTime) (r : ClientReads limits asks octets told at)
+module _ (limits : Limits) (asks : List Placed) (octets : List ℕ) (told : List ClientTold) (at : AtClient) (id handle token lifetime : ℕ) (moment : DateTime)
+    (r : ClientReads limits asks octets told at)
     (is : IsAnswered at.channel at.next id handle token lifetime moment) (one : at.renewals ≡ id ∷ []) (fresh : is_in token at.tokens ≡ false) where
   abbrev p : Opening
   p = answer at.channel at.next id handle token lifetime moment is
@@ -560,7 +643,8 @@ module _ (limits : Limits) (asks : List Placed) (octets : List ℕ) (told : List
   p_tokens : tokens_of (responses (openings (g ∷ []))) ≡ token ∷ []
   p_tokens =
       ap (λ (os : List Opening). tokens_of (responses os)) brings.0
-      ∙ (ap tokens_of (responses-push [] p (open_response_of moment handle at.channel token lifetime) p_answers ∙ ap (λ (rs : List OpenResponse). rs ++ open_response_of moment handle at.channel token lifetime ∷ []) no_responses)
+      ∙ (ap tokens_of (responses-push [] p (open_response_of moment handle at.channel token lifetime) p_answers
+      ∙ ap (λ (rs : List OpenResponse). rs ++ open_response_of moment handle at.channel token lifetime ∷ []) no_responses)
       ∙ (tokens_of-push [] (open_response_of moment handle at.channel token lifetime) ∙ ap (λ (ts : List ℕ). ts ++ token ∷ []) no_tokens))
 
   p_ids : opened_ids (openings (g ∷ [])) ≡ id ∷ []
@@ -585,17 +669,23 @@ module _ (limits : Limits) (asks : List Placed) (octets : List ℕ) (told : List
   }
 
   -- and where it comes
-  comes_here : (new : List Asking) → IsGoodResponse (Some at.channel) (with_merged_back at new [] at.next).tokens (λ (i : ℕ). is_in i (with_merged_back at new [] at.next).renewals) p
+  comes_here : (new : List Asking) → IsGoodResponse (Some at.channel) (with_merged_back at new [] at.next).tokens
+      (λ (i : ℕ). is_in i (with_merged_back at new [] at.next).renewals) p
   comes_here new =
-      response_as (Some at.channel) (Some at.channel) at.tokens (with_merged_back at new [] at.next).tokens (λ (i : ℕ). is_in i at.renewals) (λ (i : ℕ). is_in i (with_merged_back at new [] at.next).renewals) p refl
-      (nothing_yet (λ ts os us. at.tokens ≡ held_by (latest ts) (at.tokens ++ tokens_of (responses os))) (sym (append-nil at.tokens) ∙ ap (λ (t : List ℕ). at.tokens ++ t) (sym nothing_opened)))
+      response_as (Some at.channel) (Some at.channel) at.tokens (with_merged_back at new [] at.next).tokens (λ (i : ℕ). is_in i at.renewals)
+      (λ (i : ℕ). is_in i (with_merged_back at new [] at.next).renewals) p refl
+      (nothing_yet (λ ts os us. at.tokens ≡ held_by (latest ts) (at.tokens ++ tokens_of (responses os))) (sym (append-nil at.tokens)
+      ∙ ap (λ (t : List ℕ). at.tokens ++ t) (sym nothing_opened)))
       (λ i e.
       nothing_yet (λ ts os us. is_in i (filter (λ (j : ℕ). not (is_in j (opened_ids os))) (at.renewals ++ renewals new)) ≡ true)
-      (ap (λ (ids : List ℕ). is_in i (filter (λ (j : ℕ). not (is_in j ids)) (at.renewals ++ renewals new))) no_ids ∙ (ap (is_in i) (all_stay (at.renewals ++ renewals new)) ∙ in_front i at.renewals (renewals new) e))) good
+      (ap (λ (ids : List ℕ). is_in i (filter (λ (j : ℕ). not (is_in j ids)) (at.renewals ++ renewals new))) no_ids
+      ∙ (ap (is_in i) (all_stay (at.renewals ++ renewals new)) ∙ in_front i at.renewals (renewals new) e))) good
 
-  pub reads_renewed : ClientReads limits asks (octets ++ frame_octets (opened_frame at.channel at.next id handle token lifetime moment)) (told ++ event.Renewed token ∷ []) (with_answer at token (next_number at.next))
+  pub reads_renewed : ClientReads limits asks (octets ++ frame_octets (opened_frame at.channel at.next id handle token lifetime moment))
+      (told ++ event.Renewed token ∷ []) (with_answer at token (next_number at.next))
   reads_renewed =
-      subst (λ (t : List ℕ). ClientReads limits asks (octets ++ t) (told ++ event.Renewed token ∷ []) (with_answer at token (next_number at.next))) (one_octets g)
+      subst (λ (t : List ℕ). ClientReads limits asks (octets ++ t) (told ++ event.Renewed token ∷ []) (with_answer at token (next_number at.next)))
+      (one_octets g)
       (subst (λ (ts : List ClientTold). ClientReads limits asks (octets ++ frames_octets (g ∷ [])) (told ++ ts) (with_answer at token (next_number at.next)))
       (ap (λ (k : Content). told_back [] k ++ []) p_carried ∙ ap (λ (a : Option OpenAnswer). map told_renewed (response_listed a) ++ []) p_answers)
       (reads_frames limits asks octets told at r [] (g ∷ []) (next_number at.next) token (at.tokens ++ token ∷ []) at.pending []
@@ -605,13 +695,16 @@ module _ (limits : Limits) (asks : List Placed) (octets : List ℕ) (told : List
         framed = (record { sized = omega (arith, g_size); flag = refl; least = omega (arith, g_size) }, tt);
         fits = (omega (arith, g_size, r.large), tt);
         carries = (
-          subst (MayComeDown (with_merged_back at (asked_before (end_of [] g) []) [] at.next) (at.pending ++ calls (asked_before (end_of [] g) []))) (sym p_carried) (comes_here (asked_before (end_of [] g) [])),
+          subst (MayComeDown (with_merged_back at (asked_before (end_of [] g) []) [] at.next) (at.pending ++ calls (asked_before (end_of [] g) [])))
+              (sym p_carried) (comes_here (asked_before (end_of [] g) [])),
           tt,
         );
-        numbered = subst (λ (ns : List ℕ). NumbersGoOn at.next ns (next_number at.next)) (sym brings.3) (refl, tt, follows_next at.next, next_small at.next r.next_small);
+        numbered = subst (λ (ns : List ℕ). NumbersGoOn at.next ns (next_number at.next)) (sym brings.3)
+            (refl, tt, follows_next at.next, next_small at.next r.next_small);
         merged = subst (AreMerged limits []) (sym brings.1) (record { own_ids = tt; within = λ i m e. absurd cc; merged = refl; few_open = tt });
       })
-      (ap (λ (ts : List ℕ). held_by (latest ts) (at.tokens ++ tokens_of (responses (openings (g ∷ []))))) brings.2 ∙ ap (λ (t : List ℕ). at.tokens ++ t) p_tokens)
+      (ap (λ (ts : List ℕ). held_by (latest ts) (at.tokens ++ tokens_of (responses (openings (g ∷ []))))) brings.2
+      ∙ ap (λ (t : List ℕ). at.tokens ++ t) p_tokens)
       (ap (latest_or at.newest) p_tokens) (ap (λ (us : List Chunk). filter (λ (i : ℕ). not (is_finished us i)) at.pending) brings.1 ∙ all_stay at.pending)
       (ap (λ (ids : List ℕ). filter (λ (i : ℕ). not (is_in i ids)) at.renewals) p_ids
       ∙ (ap (filter (λ (i : ℕ). not (is_in i (id ∷ [])))) one ∙ ap (λ (b : Bool). if not b then id ∷ [] else []) (one_in id (id ∷ []) refl)))))

@@ -1,5 +1,6 @@
 -- That a client stands as its laws say it behind any good frames, where its channel is open and no message is unfinished.
-use Rattle.std.proofs.Common.{◌≡◌, ℕ, ◌<◌, ◌≤◌, ◌^◌, Bool, true, false, IsTrue, ◌||◌, ltb, List, [], ◌∷◌, ◌++◌, Option, Some, None, length, map, refl, sym, ◌∙◌, ap, subst, arith, append-nil, append_assoc}
+use Rattle.std.proofs.Common.{◌≡◌, ℕ, ◌<◌, ◌≤◌, ◌^◌, Bool, true, false, IsTrue, ◌||◌, ltb, List, [], ◌∷◌, ◌++◌, Option}
+use Rattle.std.proofs.Common.{Some, None, length, map, refl, sym, ◌∙◌, ap, subst, arith, append-nil, append_assoc}
 use Rattle.std.specs.List.{AllByRecursion, filter, range_with_len}
 use Rattle.std.proofs.lemmas.Bool.{eqb-true, ltb-false}
 use Rattle.ua_frame.specs.After.{AllAfter, AllFrom}
@@ -58,7 +59,8 @@ second_false false false c d e = refl
 large_within : (limits : Limits) (a : Ack) → is_outside limits a ≡ false → 8192 ≤ a.send_buffer_size
 large_within limits a e =
     ltb-false a.send_buffer_size 8192
-    (second_false (ltb a.receive_buffer_size 8192) (ltb a.send_buffer_size 8192) (ltb limits.send_buffer_size a.receive_buffer_size) (ltb limits.receive_buffer_size a.send_buffer_size) e)
+    (second_false (ltb a.receive_buffer_size 8192) (ltb a.send_buffer_size 8192) (ltb limits.send_buffer_size a.receive_buffer_size)
+    (ltb limits.receive_buffer_size a.send_buffer_size) e)
 
 -- ---- what was asked before a place
 
@@ -85,7 +87,8 @@ none_held : (b : Received) → responses b.openings ≡ [] → held_tokens b ≡
 unfolding held_tokens
 none_held b none = ap (λ (rs : List OpenResponse). held_by b.used (tokens_of rs)) none ∙ (ap (held_by b.used) no_tokens ∙ none_of b.used)
 
-first_held : (b : Received) (o : Opening) (r : OpenResponse) → answer_in o ≡ Some (Open r) → responses b.openings ≡ [] → b.used ≡ None → held_tokens (after b (Opens o)) ≡ r.token_id ∷ []
+first_held : (b : Received) (o : Opening) (r : OpenResponse) → answer_in o ≡ Some (Open r) → responses b.openings ≡ [] → b.used ≡ None
+    → held_tokens (after b (Opens o)) ≡ r.token_id ∷ []
 unfolding held_tokens
 first_held b o r answers none unused =
     ap (λ (rs : List OpenResponse). held_by b.used (tokens_of rs)) (responses-push b.openings o r answers ∙ ap (λ (rs : List OpenResponse). rs ++ r ∷ []) none)
@@ -111,11 +114,13 @@ none_behind : {A : Type 0} (xs : List A) (x : A) → xs ++ x ∷ [] ≡ [] → �
 none_behind [] x e = absurd cc
 none_behind (y ∷ xs) x e = absurd cc
 
-awaited_below : (n : ℕ) (rs : List OpenResponse) (opened : List ℕ) (asked : List Asking) (id : ℕ) → 2 ≤ n → AllByRecursion (λ (a : Asking). id_of a < n) asked → is_awaited rs opened asked id ≡ true → id < n
+awaited_below : (n : ℕ) (rs : List OpenResponse) (opened : List ℕ) (asked : List Asking) (id : ℕ) → 2 ≤ n → AllByRecursion (λ (a : Asking). id_of a < n) asked
+    → is_awaited rs opened asked id ≡ true → id < n
 awaited_below n [] opened asked id least below e = omega (arith, least, eqb-true id 1 e)
 awaited_below n (r ∷ rs) opened asked id least below e = renewal_below n id opened asked below e
 
-module _ (limits : Limits) (n : ℕ) (least : 2 ≤ n) (asked : List Asking) (below : AllByRecursion (λ (a : Asking). id_of a < n) asked) (b : Received) (known : Known n b) where
+module _ (limits : Limits) (n : ℕ) (least : 2 ≤ n) (asked : List Asking) (below : AllByRecursion (λ (a : Asking). id_of a < n) asked) (b : Received)
+    (known : Known n b) where
   said_is : (o : Option Ack) (g : IsGoodAck limits o) (a : Ack) → or_before b.ack o ≡ Some a → g.said ≡ a
   said_is o g a e =
       let same : Some g.said ≡ Some a = sym (ap (or_before b.ack) g.reads) ∙ e in
@@ -150,7 +155,8 @@ module _ (limits : Limits) (n : ℕ) (least : 2 ≤ n) (asked : List Asking) (be
     sent_below = known.sent_below;
     opened_below =
         subst (AllByRecursion (λ (id : ℕ). id < n)) (sym (opened_ids-push b.openings o g.numbered g.numbers_are))
-        (all-push (λ (id : ℕ). id < n) (opened_ids b.openings) g.numbered.1 known.opened_below (awaited_below n (responses b.openings) (opened_ids b.openings) asked g.numbered.1 least below g.awaited));
+        (all-push (λ (id : ℕ). id < n) (opened_ids b.openings) g.numbered.1 known.opened_below
+        (awaited_below n (responses b.openings) (opened_ids b.openings) asked g.numbered.1 least below g.awaited));
   }
 
   never_used : (token : ℕ) → is_in token (held_tokens b) ≡ true → responses b.openings ≡ [] → ⊥
@@ -174,7 +180,14 @@ module _ (limits : Limits) (n : ℕ) (least : 2 ≤ n) (asked : List Asking) (be
 
   known_more : (f : Frame) (k : Kind) → IsTrue (lets_in (client_gate b) k) → MayCarryBack limits b asked (content_by k f) → Known n (after b (content_by k f))
   unfolding held_tokens
-  known_more f Hel place may = record { large = known.large; sized = known.sized; newest = known.newest; unused = known.unused; sent_below = known.sent_below; opened_below = known.opened_below }
+  known_more f Hel place may = record {
+    large = known.large;
+    sized = known.sized;
+    newest = known.newest;
+    unused = known.unused;
+    sent_below = known.sent_below;
+    opened_below = known.opened_below;
+  }
   known_more f kind.Ack place may = agreed f.body may
   known_more f kind.Err place may = absurd may
   known_more f Opn place may = opened (opening_of f.body) may
@@ -196,10 +209,12 @@ nothing_known n =
     })
 
 module _ (limits : Limits) (asks : List Placed) (n : ℕ) (least : 2 ≤ n) (below : AllByRecursion (λ (a : Asking). id_of a < n) (asked_in asks)) where
-  known_next : (start : List Frame) (f : Frame) → Known n (received start) → IsTrue (lets_in (client_gate (received start)) f.kind) → MayCarryBack limits (received start) (asked_before (end_of start f) asks) (content f) → Known n (received (start ++ f ∷ []))
+  known_next : (start : List Frame) (f : Frame) → Known n (received start) → IsTrue (lets_in (client_gate (received start)) f.kind)
+      → MayCarryBack limits (received start) (asked_before (end_of start f) asks) (content f) → Known n (received (start ++ f ∷ []))
   known_next start f known place may =
       subst (Known n) (sym (received-push start f ∙ ap (after (received start)) (content_kind f)))
-      (known_more limits n least (asked_before (end_of start f) asks) (all_before (λ (a : Asking). id_of a < n) (end_of start f) asks below) (received start) known f f.kind place
+      (known_more limits n least (asked_before (end_of start f) asks) (all_before (λ (a : Asking). id_of a < n) (end_of start f) asks below)
+      (received start) known f f.kind place
       (subst (MayCarryBack limits (received start) (asked_before (end_of start f) asks)) (content_kind f) may))
 
   all_from : (start fs : List Frame) → IsPlaced (received start) → Known n (received start) → AllFrom (Fits (client_rules limits asks)) start fs
@@ -208,7 +223,8 @@ module _ (limits : Limits) (asks : List Placed) (n : ℕ) (least : 2 ≤ n) (bel
   all_from start [] placed known fits may = subst (λ (us : List Frame). IsPlaced (received us) × Known n (received us)) (sym (append-nil start)) (placed, known)
   all_from start (f ∷ fs) placed known fits may =
       subst (λ (us : List Frame). IsPlaced (received us) × Known n (received us)) (append_assoc start (f ∷ []) fs)
-      (all_from (start ++ f ∷ []) fs (placed_next limits asks start f placed fits.0.let_in.kind) (known_next start f known fits.0.let_in.kind may.0) fits.1 may.1)
+      (all_from (start ++ f ∷ []) fs (placed_next limits asks start f placed fits.0.let_in.kind) (known_next start f known fits.0.let_in.kind may.0) fits.1
+      may.1)
 
   all_known : (frames : List Frame) → AllAfter (Fits (client_rules limits asks)) frames → IsPlaced (received frames) × Known n (received frames)
   unfolding AllAfter
@@ -268,7 +284,8 @@ reads_run limits asks octets frames run placed below channel is none next follow
 
 -- ---- the asks of a channel
 
-own_below : (limits : Limits) (p : Phase) (b : Received) (asked : List Asking) → InPhase limits p b asked → AllByRecursion (λ (a : Asking). id_of a < next_id asked) asked
+own_below : (limits : Limits) (p : Phase) (b : Received) (asked : List Asking) → InPhase limits p b asked
+    → AllByRecursion (λ (a : Asking). id_of a < next_id asked) asked
 own_below limits phase.Waiting b asked h = subst (λ (ss : List Asking). AllByRecursion (λ (a : Asking). id_of a < next_id ss) ss) (sym h.1) tt
 own_below limits (phase.Agreed g) b asked h = subst (λ (ss : List Asking). AllByRecursion (λ (a : Asking). id_of a < next_id ss) ss) (sym h.1) tt
 own_below limits (phase.Open t) b asked h = subst (λ (m : ℕ). AllByRecursion (λ (a : Asking). id_of a < m) asked) h.next_is h.asked_below
@@ -282,7 +299,8 @@ own_counted limits phase.Done b asked h = absurd h
 
 -- they were asked by the end of the octets, under ids below the next one, which are counted on from 2
 pub own_asks : (x : ClientChannel) (asks : List Placed) (octets : List ℕ) (frames : List Frame) (rest : List ℕ) → ClientStands x asks octets frames rest
-    → AllByRecursion (λ (a : Placed). a.0 ≤ length octets) asks × AllByRecursion (λ (a : Asking). id_of a < next_id (asked_in asks)) (asked_in asks) × (map id_of (asked_in asks) ≡ range_with_len 2 (length (asked_in asks)))
+    → AllByRecursion (λ (a : Placed). a.0 ≤ length octets) asks × AllByRecursion (λ (a : Asking). id_of a < next_id (asked_in asks)) (asked_in asks)
+    × (map id_of (asked_in asks) ≡ range_with_len 2 (length (asked_in asks)))
 own_asks x asks octets frames rest s = (
   s.placed,
   own_below (client_limits x) (phase_of x) (received frames) (asked_in asks) s.phase_is,

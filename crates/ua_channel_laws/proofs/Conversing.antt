@@ -1,5 +1,6 @@
 -- What a conversation says of one frame more, at both ends.
-use Rattle.std.proofs.Common.{◌≡◌, ℕ, Bool, true, false, IsTrue, not, List, [], ◌∷◌, ◌++◌, Option, Some, None, option_map, refl, ◌&&◌, length, sym, ◌∙◌, ap, ◌≤◌, map, subst, arith}
+use Rattle.std.proofs.Common.{◌≡◌, ℕ, Bool, true, false, IsTrue, not, List, [], ◌∷◌, ◌++◌, Option, Some}
+use Rattle.std.proofs.Common.{None, option_map, refl, ◌&&◌, length, sym, ◌∙◌, ap, ◌≤◌, map, subst, arith}
 use Rattle.std.specs.List.{AllByRecursion}
 use Rattle.std.specs.Prelude.{◌↔◌, is_none}
 use Rattle.std.proofs.lemmas.Bool.{le-ltb, ltb-false, not-false, not_from_true}
@@ -94,11 +95,13 @@ MessageFits limits b Nothing = Unit {0}
 
 -- ---- lists of numbers and of chunks, with one frame more
 
-opening_apart : (last : Option ℕ) (n : Option (ℕ × ℕ)) (ns : List ℕ) → AreOrdered last (number_listed n ++ ns) ↔ (AreOrdered last (number_listed n) × AreOrdered (number_or last n) ns)
+opening_apart : (last : Option ℕ) (n : Option (ℕ × ℕ)) (ns : List ℕ)
+    → AreOrdered last (number_listed n ++ ns) ↔ (AreOrdered last (number_listed n) × AreOrdered (number_or last n) ns)
 opening_apart last None ns = (λ h. (tt, h), λ k. k.1)
 opening_apart last (Some n) ns = (λ h. ((h.0, tt), h.1), λ k. (k.0.0, k.1))
 
-pub ordered_apart : (b : Received) (c : Content) (ns : List ℕ) → AreOrdered b.last (numbers_in c ++ ns) ↔ (AreOrdered b.last (numbers_in c) × AreOrdered (after b c).last ns)
+pub ordered_apart : (b : Received) (c : Content) (ns : List ℕ)
+    → AreOrdered b.last (numbers_in c ++ ns) ↔ (AreOrdered b.last (numbers_in c) × AreOrdered (after b c).last ns)
 ordered_apart b (Greets hello) ns = (λ h. (tt, h), λ k. k.1)
 ordered_apart b (Acks ack) ns = (λ h. (tt, h), λ k. k.1)
 ordered_apart b (Fails error) ns = (λ h. (tt, h), λ k. k.1)
@@ -107,7 +110,8 @@ ordered_apart b (Sends c) ns = (λ h. ((h.0, tt), h.1), λ k. (k.0.0, k.1))
 ordered_apart b (Closes c) ns = (λ h. ((h.0, tt), h.1), λ k. (k.0.0, k.1))
 ordered_apart b Nothing ns = (λ h. (tt, h), λ k. k.1)
 
-pub messages_apart : (limits : Limits) (b : Received) (c : Content) (cs : List Chunk) → TakesMessages limits.max_message_size limits.max_chunk_count b.messages (chunks_in c ++ cs)
+pub messages_apart : (limits : Limits) (b : Received) (c : Content) (cs : List Chunk)
+    → TakesMessages limits.max_message_size limits.max_chunk_count b.messages (chunks_in c ++ cs)
     ↔ (MessageFits limits b c × TakesMessages limits.max_message_size limits.max_chunk_count (after b c).messages cs)
 unfolding MessageFits
 messages_apart limits b (Greets hello) cs = (λ h. (tt, h), λ k. k.1)
@@ -163,7 +167,8 @@ takes_from limits us (c ∷ cs) h =
     let octets = passed_none (is_abort_flag c.flag) (passes limits.max_message_size (length (joined (gathered us c)))) h.octets_fit.0 in
     let chunks = passed_none (is_abort_flag c.flag) (passes limits.max_chunk_count (length (gathered us c))) h.chunks_fit.0 in (
       rw (read, few, octets, chunks) refl,
-      takes_from limits (us ++ c ∷ []) cs (record { aborts_read = h.aborts_read.1; few_open = h.few_open.1; octets_fit = h.octets_fit.1; chunks_fit = h.chunks_fit.1 }),
+      takes_from limits (us ++ c ∷ []) cs
+          (record { aborts_read = h.aborts_read.1; few_open = h.few_open.1; octets_fit = h.octets_fit.1; chunks_fit = h.chunks_fit.1 }),
     )
 
 -- messages that are taken are those that fit
@@ -185,7 +190,8 @@ pub record IsGoodFrame (May : Type 0) (limits : Limits) (b : Received) (c : Cont
   pub message : MessageFits limits b c
 
 -- the rest of a conversation behind some frames
-pub record From {A : Type 0} (limits : Limits) (name : Frame → A) (Order : Received → List A → Type 0) (size : Received → ℕ) (May : List Frame → Frame → Type 0) (start fs : List Frame) : Type 0 where
+pub record From {A : Type 0} (limits : Limits) (name : Frame → A) (Order : Received → List A → Type 0) (size : Received → ℕ) (May : List Frame → Frame → Type 0)
+    (start fs : List Frame) : Type 0 where
   pub order : Order (received start) (map name fs)
   pub framed : AllByRecursion IsFramed fs
   pub fits : AllFrom (λ before f. frame_size f ≤ size (received before)) start fs
@@ -194,7 +200,8 @@ pub record From {A : Type 0} (limits : Limits) (name : Frame → A) (Order : Rec
   pub messages_fit : TakesMessages limits.max_message_size limits.max_chunk_count (received start).messages (messages fs)
 
 -- what an end says of each frame of a conversation
-pub record Converses {E X A : Type 0} (R : Rules E X) (limits : Limits) (name : Frame → A) (Order : Received → List A → Type 0) (IsPlaced : Received → Type 0) (size : Received → ℕ) (May : List Frame → Frame → Type 0) : Type 0 where
+pub record Converses {E X A : Type 0} (R : Rules E X) (limits : Limits) (name : Frame → A) (Order : Received → List A → Type 0) (IsPlaced : Received → Type 0)
+    (size : Received → ℕ) (May : List Frame → Frame → Type 0) : Type 0 where
   pub order_nil : (b : Received) → Order b []
   pub goes_on : (start : List Frame) (f : Frame) (later : List A) → Order (received start) (name f ∷ later) → R.over start ≡ false
   pub largest : (start : List Frame) → (R.gate start).largest ≡ size (received start)
@@ -204,7 +211,8 @@ pub record Converses {E X A : Type 0} (R : Rules E X) (limits : Limits) (name : 
   pub good : (start : List Frame) (f : Frame) → refusal R start f ≡ None → IsGoodFrame (May start f) limits (received start) (content f)
   pub accepted : (start : List Frame) (f : Frame) → IsGoodFrame (May start f) limits (received start) (content f) → refusal R start f ≡ None
 
-module _ {E X A : Type 0} (R : Rules E X) (limits : Limits) (name : Frame → A) (Order : Received → List A → Type 0) (IsPlaced : Received → Type 0) (size : Received → ℕ) (May : List Frame → Frame → Type 0)
+module _ {E X A : Type 0} (R : Rules E X) (limits : Limits) (name : Frame → A) (Order : Received → List A → Type 0) (IsPlaced : Received → Type 0)
+    (size : Received → ℕ) (May : List Frame → Frame → Type 0)
     (w : Converses R limits name Order IsPlaced size May) where
   -- frames that are taken behind others are the rest of a conversation
   pub converse : (start fs : List Frame) → IsPlaced (received start) → AllFrom (Fits R) start fs → From limits name Order size May start fs
@@ -216,11 +224,13 @@ module _ {E X A : Type 0} (R : Rules E X) (limits : Limits) (name : Frame → A)
       let rest = converse (start ++ f ∷ []) fs (w.placed start f placed one.let_in.kind) fits.1 in
       let now = received-push start f in
       record {
-        order = (w.in_order start f (map name fs) one.goes_on placed g.carries).comes one.let_in.kind (subst (λ (b : Received). Order b (map name fs)) now rest.order);
+        order = (w.in_order start f (map name fs) one.goes_on placed g.carries).comes one.let_in.kind
+            (subst (λ (b : Received). Order b (map name fs)) now rest.order);
         framed = (record { sized = one.sized; flag = one.let_in.flag; least = one.let_in.least }, rest.framed);
         fits = (omega (arith, one.let_in.largest, w.largest start), rest.fits);
         carries = (g.carries, rest.carries);
-        ordered = (ordered_apart (received start) (content f) (numbers fs)).1 (g.ordered, subst (λ (b : Received). AreOrdered b.last (numbers fs)) now rest.ordered);
+        ordered = (ordered_apart (received start) (content f) (numbers fs)).1
+            (g.ordered, subst (λ (b : Received). AreOrdered b.last (numbers fs)) now rest.ordered);
         messages_fit =
             (messages_apart limits (received start) (content f) (messages fs)).1
             (g.message, subst (λ (b : Received). TakesMessages limits.max_message_size limits.max_chunk_count b.messages (messages fs)) now rest.messages_fit);
@@ -256,5 +266,7 @@ module _ {E X A : Type 0} (R : Rules E X) (limits : Limits) (name : Frame → A)
 pub ordered_first : (ns : List ℕ) → AreOrdered (received []).last ns ↔ AreOrdered None ns
 ordered_first ns = (subst (λ (b : Received). AreOrdered b.last ns) received-nil, subst (λ (b : Received). AreOrdered b.last ns) (sym received-nil))
 
-pub fit_first : (limits : Limits) (cs : List Chunk) → TakesMessages limits.max_message_size limits.max_chunk_count (received []).messages cs ↔ FitMessages limits cs
-fit_first limits cs = subst (λ (b : Received). TakesMessages limits.max_message_size limits.max_chunk_count b.messages cs ↔ FitMessages limits cs) (sym received-nil) (messages_fit limits cs)
+pub fit_first : (limits : Limits) (cs : List Chunk) → TakesMessages limits.max_message_size limits.max_chunk_count (received []).messages cs ↔ FitMessages
+    limits cs
+fit_first limits cs = subst (λ (b : Received). TakesMessages limits.max_message_size limits.max_chunk_count b.messages cs ↔ FitMessages limits cs)
+    (sym received-nil) (messages_fit limits cs)

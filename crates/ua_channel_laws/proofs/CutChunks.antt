@@ -1,5 +1,6 @@
 -- What the frames of the chunks of one message bring, and that these chunks are a merge of that message alone.
-use Rattle.std.proofs.Common.{◌≡◌, ℕ, ◌+◌, ◌<◌, ◌≤◌, ◌^◌, Bool, true, false, ◌&&◌, ◌||◌, eqb, List, [], ◌∷◌, ◌++◌, Option, Some, length, map, refl, sym, ◌∙◌, ap, subst, arith}
+use Rattle.std.proofs.Common.{◌≡◌, ℕ, ◌+◌, ◌<◌, ◌≤◌, ◌^◌, Bool, true, false, ◌&&◌, ◌||◌, eqb, List, []}
+use Rattle.std.proofs.Common.{◌∷◌, ◌++◌, Option, Some, length, map, refl, sym, ◌∙◌, ap, subst, arith}
 use Rattle.std.specs.List.{AllByRecursion, flat_map}
 use Rattle.std.specs.Prelude.{if◌then◌else◌}
 use Rattle.ua_frame.specs.Frames.{frame_size}
@@ -7,7 +8,8 @@ use Rattle.ua_frame.specs.declared.frame.Frame.{Frame}
 use Rattle.ua_frame.specs.declared.limits.Limits.{Limits}
 use Rattle.ua_chunk.specs.Cutting.{chunks_of, number_after, numbered, pieces}
 use Rattle.ua_chunk.specs.Layout.{frame_of}
-use Rattle.ua_chunk.specs.Merge.{Interleaves, Interleaves as interleaves, IsWithin, Merges, Part, Sent, more_part, part_of, parts_of, HaveOwnIds, bodies_by, sent_under}
+use Rattle.ua_chunk.specs.Merge.{Interleaves, Interleaves as interleaves, IsWithin, Merges, Part, Sent}
+use Rattle.ua_chunk.specs.Merge.{more_part, part_of, parts_of, HaveOwnIds, bodies_by, sent_under}
 use Rattle.ua_chunk.specs.Refusal.{passes, FewOpen}
 use Rattle.ua_chunk.specs.Sequence.{may_follow, next_number}
 use Rattle.ua_chunk.specs.declared.chunk.Chunk.{Chunk}
@@ -39,7 +41,8 @@ pub record IsSentIn (size : ℕ) (lane : Lane) (id : ℕ) (c : Chunk) : Type 0 w
   pub request_is : c.request ≡ id
   pub fits : 24 + length c.body ≤ size
 
-pub sent_in : (size : ℕ) (lane : Lane) (id : ℕ) → lane.channel < 2 ^ 32 → lane.token < 2 ^ 32 → id < 2 ^ 32 → 24 + lane.room ≤ size → (c : Chunk) → IsOf lane id c → IsSentIn size lane id c
+pub sent_in : (size : ℕ) (lane : Lane) (id : ℕ) → lane.channel < 2 ^ 32 → lane.token < 2 ^ 32 → id < 2 ^ 32 → 24 + lane.room ≤ size → (c : Chunk)
+    → IsOf lane id c → IsSentIn size lane id c
 sent_in size lane id on few small fits c is = record {
   numbers = record {
     channel = omega (arith, is.channel, on);
@@ -62,7 +65,8 @@ module _ (size : ℕ) (lane : Lane) (id : ℕ) where
   pub frames_messages : (cs : List Chunk) → AreSentIn cs → messages (map frame_of cs) ≡ cs
   unfolding messages
   frames_messages [] s = refl
-  frames_messages (c ∷ cs) s = ap (λ (k : Content). chunks_in k ++ messages (map frame_of cs)) (chunk_carried c s.0.numbers) ∙ ap (λ (us : List Chunk). c ∷ us) (frames_messages cs s.1)
+  frames_messages (c ∷ cs) s = ap (λ (k : Content). chunks_in k ++ messages (map frame_of cs)) (chunk_carried c s.0.numbers)
+      ∙ ap (λ (us : List Chunk). c ∷ us) (frames_messages cs s.1)
 
   pub frames_openings : (cs : List Chunk) → AreSentIn cs → openings (map frame_of cs) ≡ []
   unfolding openings
@@ -72,7 +76,8 @@ module _ (size : ℕ) (lane : Lane) (id : ℕ) where
   pub frames_numbers : (cs : List Chunk) → AreSentIn cs → numbers (map frame_of cs) ≡ map (λ (c : Chunk). c.sequence) cs
   unfolding numbers
   frames_numbers [] s = refl
-  frames_numbers (c ∷ cs) s = ap (λ (k : Content). numbers_in k ++ numbers (map frame_of cs)) (chunk_carried c s.0.numbers) ∙ ap (λ (ns : List ℕ). c.sequence ∷ ns) (frames_numbers cs s.1)
+  frames_numbers (c ∷ cs) s = ap (λ (k : Content). numbers_in k ++ numbers (map frame_of cs)) (chunk_carried c s.0.numbers)
+      ∙ ap (λ (ns : List ℕ). c.sequence ∷ ns) (frames_numbers cs s.1)
 
   pub frames_tokens : (cs : List Chunk) → AreSentIn cs → used_tokens (map frame_of cs) ≡ map (λ (c : Chunk). lane.token) cs
   unfolding used_tokens
@@ -105,12 +110,14 @@ numbers_ordered : (lane : Lane) (s id : ℕ) (ps : List (List ℕ)) → AreOrder
 numbers_ordered lane s id [] = tt
 numbers_ordered lane s id (p ∷ ps) = (follows_next s, numbers_ordered lane (next_number s) id ps)
 
-number_follows : (lane : Lane) (s id : ℕ) (ps : List (List ℕ)) → may_follow (latest_behind (Some s) (map (λ (c : Chunk). c.sequence) (numbered lane (next_number s) id ps))) (number_after (next_number s) ps) ≡ true
+number_follows : (lane : Lane) (s id : ℕ) (ps : List (List ℕ))
+    → may_follow (latest_behind (Some s) (map (λ (c : Chunk). c.sequence) (numbered lane (next_number s) id ps))) (number_after (next_number s) ps) ≡ true
 number_follows lane s id [] = follows_next s
 number_follows lane s id (p ∷ ps) = number_follows lane (next_number s) id ps
 
 -- they are numbered on
-pub cut_goes : (lane : Lane) (s id : ℕ) (p : List ℕ) (ps : List (List ℕ)) → s ≤ 4294966272 → NumbersGoOn s (map (λ (c : Chunk). c.sequence) (numbered lane s id (p ∷ ps))) (number_after s (p ∷ ps))
+pub cut_goes : (lane : Lane) (s id : ℕ) (p : List ℕ) (ps : List (List ℕ)) → s ≤ 4294966272
+    → NumbersGoOn s (map (λ (c : Chunk). c.sequence) (numbered lane s id (p ∷ ps))) (number_after s (p ∷ ps))
 cut_goes lane s id p ps small = (refl, numbers_ordered lane s id ps, number_follows lane s id ps, after_small s (p ∷ ps) small)
 
 pub ends_own : (id i : ℕ) → ((eqb id i && true) || false) ≡ eqb i id
@@ -157,7 +164,8 @@ cut_within limits m c = record {
       ∙ (ap (λ (t : List (List ℕ)). passes limits.max_message_size (length (flat_map (λ p. p) t))) (sym c.pieces_are)
       ∙ (ap (λ (t : List ℕ). passes limits.max_message_size (length t)) (joined_pieces c.room c.body c.some_room c.fits.some) ∙ c.fits.octets_fit));
   chunks_fit =
-      ap (λ (f : Flag). passes limits.max_chunk_count (length (bodies_by f m))) c.ends ∙ (ap (λ (t : List (List ℕ)). passes limits.max_chunk_count (length t)) (sym c.pieces_are) ∙ c.fits.chunks_fit);
+      ap (λ (f : Flag). passes limits.max_chunk_count (length (bodies_by f m))) c.ends
+      ∙ (ap (λ (t : List (List ℕ)). passes limits.max_chunk_count (length t)) (sym c.pieces_are) ∙ c.fits.chunks_fit);
 }
 
 -- what holds of each message holds of that under a request id
@@ -170,19 +178,23 @@ all_under P (n ∷ ms) all id m e = by_id (eqb n.request id) e (λ f. all_under 
     by_id false f rest = rest f
 
 -- bodies that are cut, whose chunks come merged
-pub cut_merged : (limits : Limits) (ms : List Sent) (cs : List Chunk) → AllByRecursion (IsCutBody limits) ms → HaveOwnIds ms → Merges (map parts_of ms) (map part_of cs) → FewOpen [] cs → AreMerged limits ms cs
+pub cut_merged : (limits : Limits) (ms : List Sent) (cs : List Chunk) → AllByRecursion (IsCutBody limits) ms → HaveOwnIds ms
+    → Merges (map parts_of ms) (map part_of cs) → FewOpen [] cs → AreMerged limits ms cs
 cut_merged limits ms cs all own merges few = record {
   own_ids = own;
-  within = all_under (IsWithin limits.max_message_size limits.max_chunk_count) ms (all-weaken (IsCutBody limits) (IsWithin limits.max_message_size limits.max_chunk_count) ms (cut_within limits) all);
+  within = all_under (IsWithin limits.max_message_size limits.max_chunk_count) ms
+      (all-weaken (IsCutBody limits) (IsWithin limits.max_message_size limits.max_chunk_count) ms (cut_within limits) all);
   merged = merges;
   few_open = few;
 }
 
 -- the chunks of a body have its parts
-pub cut_sent : (lane : Lane) (body : List ℕ) (s : ℕ) (m : Sent) → pieces lane.room body ≡ m.pieces ++ m.last ∷ [] → m.end ≡ F → map part_of (chunks_of lane body s m.request) ≡ parts_of m
+pub cut_sent : (lane : Lane) (body : List ℕ) (s : ℕ) (m : Sent) → pieces lane.room body ≡ m.pieces ++ m.last ∷ [] → m.end ≡ F
+    → map part_of (chunks_of lane body s m.request) ≡ parts_of m
 cut_sent lane body s m are end =
     ap (λ (t : List (List ℕ)). map part_of (numbered lane s m.request t)) are
-    ∙ (cut_parts lane s m.request m.pieces m.last ∙ ap (λ (f : Flag). map (more_part m.request) m.pieces ++ record { flag = f; request = m.request; body = m.last } ∷ []) (sym end))
+    ∙ (cut_parts lane s m.request m.pieces m.last
+    ∙ ap (λ (f : Flag). map (more_part m.request) m.pieces ++ record { flag = f; request = m.request; body = m.last } ∷ []) (sym end))
 
 -- a message that is a merge alone
 pub record Alone (limits : Limits) (id : ℕ) (cs : List Chunk) : Type 0 where
@@ -192,7 +204,8 @@ pub record Alone (limits : Limits) (id : ℕ) (cs : List Chunk) : Type 0 where
   pub merged : AreMerged limits (message ∷ []) cs
 
 -- the chunks of a body are a merge of its message
-pub cut_alone : (limits : Limits) (lane : Lane) (body : List ℕ) (s id : ℕ) → 0 < lane.room → IsBodyFor limits lane.room body → Alone limits id (chunks_of lane body s id)
+pub cut_alone : (limits : Limits) (lane : Lane) (body : List ℕ) (s id : ℕ) → 0 < lane.room → IsBodyFor limits lane.room body
+    → Alone limits id (chunks_of lane body s id)
 cut_alone limits lane body s id room w =
     let ps = some_pieces lane.room body w.some in
     let parts = split ps.first ps.others in
@@ -203,6 +216,8 @@ cut_alone limits lane body s id room w =
       request_is = refl;
       cut = cut;
       merged =
-          cut_merged limits (sent ∷ []) (chunks_of lane body s id) (cut, tt) (refl, tt) (one_merge sent (map part_of (chunks_of lane body s id)) (cut_sent lane body s sent cut.pieces_are refl))
-          ((messages_fit limits (chunks_of lane body s id)).0 (cut_messages limits.max_message_size limits.max_chunk_count lane body s id room w.some w.octets_fit w.chunks_fit)).few_open;
+          cut_merged limits (sent ∷ []) (chunks_of lane body s id) (cut, tt) (refl, tt)
+          (one_merge sent (map part_of (chunks_of lane body s id)) (cut_sent lane body s sent cut.pieces_are refl))
+          ((messages_fit limits (chunks_of lane body s id)).0
+          (cut_messages limits.max_message_size limits.max_chunk_count lane body s id room w.some w.octets_fit w.chunks_fit)).few_open;
     }

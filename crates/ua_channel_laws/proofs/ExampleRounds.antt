@@ -18,7 +18,20 @@ module _ (asked answered : DateTime) (fits : IsTrue (date_time.encodable asked))
         few = omega arith;
         answered = (
           (refl, omega arith, omega arith),
-          ((refl, refl, record { id_small = omega arith; handle_small = omega arith; token_small = omega arith; lifetime_small = omega arith; moment_fits = answered_fits }), tt),
+          (
+            (
+              refl,
+              refl,
+              record {
+                id_small = omega arith;
+                handle_small = omega arith;
+                token_small = omega arith;
+                lifetime_small = omega arith;
+                moment_fits = answered_fits;
+              },
+            ),
+            tt,
+          ),
         );
         brings = (tt, (refl, tt));
       },

@@ -16,41 +16,58 @@ use Rattle.ua_channel_laws.proofs.ReadOn.{begins, never_refused, not_over, same_
 
 -- ---- a server
 
-pub server_begins : (x : ServerChannel) (octets more : List ℕ) (told all : List Told) (at : AtServer) → Goes x octets told → ServerReads (limits_of x) (channel_of x) (octets ++ more) all at → (later : List Told) × (all ≡ told ++ later)
+pub server_begins : (x : ServerChannel) (octets more : List ℕ) (told all : List Told) (at : AtServer) → Goes x octets told
+    → ServerReads (limits_of x) (channel_of x) (octets ++ more) all at → (later : List Told) × (all ≡ told ++ later)
 server_begins x octets more told all at g r = begins (rules_of x) octets more g.frames r.frames g.rest told all Going g.stands.run g.told_is r.run r.told_is
 
-pub server_told : (x : ServerChannel) (octets : List ℕ) (told all : List Told) (at : AtServer) → Goes x octets told → ServerReads (limits_of x) (channel_of x) octets all at → told ≡ all
+pub server_told : (x : ServerChannel) (octets : List ℕ) (told all : List Told) (at : AtServer) → Goes x octets told
+    → ServerReads (limits_of x) (channel_of x) octets all at → told ≡ all
 server_told x octets told all at g r = same_told (rules_of x) octets g.frames r.frames g.rest [] told all g.stands.run r.run g.told_is r.told_is
 
-pub server_not_refused : (x : ServerChannel) (octets more : List ℕ) (told all : List Told) (at : AtServer) (code : ℕ) → RefusedAt x octets told code → ServerReads (limits_of x) (channel_of x) (octets ++ more) all at → ⊥
+pub server_not_refused : (x : ServerChannel) (octets more : List ℕ) (told all : List Told) (at : AtServer) (code : ℕ) → RefusedAt x octets told code
+    → ServerReads (limits_of x) (channel_of x) (octets ++ more) all at → ⊥
 server_not_refused x octets more told all at code e r = never_refused (rules_of x) octets more e.frames r.frames e.rest code Going (λ s. cc) e.run r.run
 
-pub server_not_closed : (x : ServerChannel) (octets more : List ℕ) (told all : List Told) (at : AtServer) → ClosedAt x octets told → ServerReads (limits_of x) (channel_of x) (octets ++ more) all at → ⊥
+pub server_not_closed : (x : ServerChannel) (octets more : List ℕ) (told all : List Told) (at : AtServer) → ClosedAt x octets told
+    → ServerReads (limits_of x) (channel_of x) (octets ++ more) all at → ⊥
 server_not_closed x octets more told all at e r = not_over (rules_of x) octets more e.frames r.frames [] e.run r.run
 
-pub server_begins_close : (x : ServerChannel) (octets more : List ℕ) (told all : List Told) → Goes x octets told → ServerCloses (limits_of x) (channel_of x) (octets ++ more) all → (later : List Told) × (all ≡ told ++ later)
+pub server_begins_close : (x : ServerChannel) (octets more : List ℕ) (told all : List Told) → Goes x octets told
+    → ServerCloses (limits_of x) (channel_of x) (octets ++ more) all → (later : List Told) × (all ≡ told ++ later)
 server_begins_close x octets more told all g r = begins (rules_of x) octets more g.frames r.frames g.rest told all Over g.stands.run g.told_is r.run r.told_is
 
-pub server_closed : (x : ServerChannel) (octets more : List ℕ) (told all : List Told) → ClosedAt x octets told → ServerCloses (limits_of x) (channel_of x) (octets ++ more) all → told ≡ all
+pub server_closed : (x : ServerChannel) (octets more : List ℕ) (told all : List Told) → ClosedAt x octets told
+    → ServerCloses (limits_of x) (channel_of x) (octets ++ more) all → told ≡ all
 server_closed x octets more told all e r =
-    sym e.told_is ∙ (ap (events (rules_of x)) (unique (rules_of x) (octets ++ more) e.frames r.frames more [] Over Over (ends_stay (rules_of x) octets more e.frames [] Over (λ s. cc) e.run) r.run).frames ∙ r.told_is)
+    sym e.told_is
+    ∙ (ap (events (rules_of x))
+    (unique (rules_of x) (octets ++ more) e.frames r.frames more [] Over Over (ends_stay (rules_of x) octets more e.frames [] Over (λ s. cc) e.run)
+    r.run).frames ∙ r.told_is)
 
-pub server_close_not_refused : (x : ServerChannel) (octets more : List ℕ) (told all : List Told) (code : ℕ) → RefusedAt x octets told code → ServerCloses (limits_of x) (channel_of x) (octets ++ more) all → ⊥
+pub server_close_not_refused : (x : ServerChannel) (octets more : List ℕ) (told all : List Told) (code : ℕ) → RefusedAt x octets told code
+    → ServerCloses (limits_of x) (channel_of x) (octets ++ more) all → ⊥
 server_close_not_refused x octets more told all code e r = never_refused (rules_of x) octets more e.frames r.frames e.rest code Over (λ s. cc) e.run r.run
 
-pub server_not_open : (x : ServerChannel) (octets : List ℕ) (told all : List Told) → Goes x octets told → ServerCloses (limits_of x) (channel_of x) octets all → ⊥
+pub server_not_open : (x : ServerChannel) (octets : List ℕ) (told all : List Told) → Goes x octets told → ServerCloses (limits_of x) (channel_of x) octets all
+    → ⊥
 server_not_open x octets told all g r =
     let ends : Going ≡ Over = (unique (rules_of x) octets g.frames r.frames g.rest [] Going Over g.stands.run r.run).ends in
     cc
 
 -- ---- a client
 
-pub client_begins : (x : ClientChannel) (asks : List Placed) (octets more : List ℕ) (told all : List ClientTold) (at : AtClient) → ClientGoes x asks octets told → ClientReads (client_limits x) asks (octets ++ more) all at
+pub client_begins : (x : ClientChannel) (asks : List Placed) (octets more : List ℕ) (told all : List ClientTold) (at : AtClient) → ClientGoes x asks octets told
+    → ClientReads (client_limits x) asks (octets ++ more) all at
     → (later : List ClientTold) × (all ≡ told ++ later)
-client_begins x asks octets more told all at g r = begins (client_rules_of x asks) octets more g.frames r.frames g.rest told all Going g.stands.run g.told_is r.run r.told_is
+client_begins x asks octets more told all at g r = begins (client_rules_of x asks) octets more g.frames r.frames g.rest told all Going g.stands.run g.told_is
+    r.run r.told_is
 
-pub client_told : (x : ClientChannel) (asks : List Placed) (octets : List ℕ) (told all : List ClientTold) (at : AtClient) → ClientGoes x asks octets told → ClientReads (client_limits x) asks octets all at → told ≡ all
-client_told x asks octets told all at g r = same_told (client_rules_of x asks) octets g.frames r.frames g.rest [] told all g.stands.run r.run g.told_is r.told_is
+pub client_told : (x : ClientChannel) (asks : List Placed) (octets : List ℕ) (told all : List ClientTold) (at : AtClient) → ClientGoes x asks octets told
+    → ClientReads (client_limits x) asks octets all at → told ≡ all
+client_told x asks octets told all at g r = same_told (client_rules_of x asks) octets g.frames r.frames g.rest [] told all g.stands.run r.run g.told_is
+    r.told_is
 
-pub client_not_failed : (x : ClientChannel) (asks : List Placed) (octets more : List ℕ) (told all : List ClientTold) (at : AtClient) (why : Why) → ClientEnded x asks octets told why → ClientReads (client_limits x) asks (octets ++ more) all at → ⊥
-client_not_failed x asks octets more told all at why e r = never_refused (client_rules_of x asks) octets more e.frames r.frames e.rest why Going (λ s. cc) e.run r.run
+pub client_not_failed : (x : ClientChannel) (asks : List Placed) (octets more : List ℕ) (told all : List ClientTold) (at : AtClient) (why : Why)
+    → ClientEnded x asks octets told why → ClientReads (client_limits x) asks (octets ++ more) all at → ⊥
+client_not_failed x asks octets more told all at why e r = never_refused (client_rules_of x asks) octets more e.frames r.frames e.rest why Going
+    (λ s. cc) e.run r.run

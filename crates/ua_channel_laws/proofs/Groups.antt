@@ -1,5 +1,6 @@
 -- What a client sends at once, and what a server answers to it, one message after the other.
-use Rattle.std.proofs.Common.{◌≡◌, ℕ, ◌+◌, ◌<◌, ◌≤◌, ◌^◌, Bool, true, false, leb, IsTrue, List, [], ◌∷◌, ◌++◌, Option, Some, None, length, map, refl, sym, ◌∙◌, ap, subst, arith, append-nil, append_assoc}
+use Rattle.std.proofs.Common.{◌≡◌, ℕ, ◌+◌, ◌<◌, ◌≤◌, ◌^◌, Bool, true, false, leb, IsTrue, List, [], ◌∷◌, ◌++◌, Option}
+use Rattle.std.proofs.Common.{Some, None, length, map, refl, sym, ◌∙◌, ap, subst, arith, append-nil, append_assoc}
 use Rattle.std.specs.Prelude.{if◌then◌else◌}
 use Rattle.std.specs.List.{AllByRecursion}
 use Rattle.std.proofs.lemmas.Bool.{leb-false}
@@ -23,7 +24,8 @@ use Rattle.ua_channel_laws.specs.ClientReads.{AtClient, ClientReads, IsLaneBack,
 use Rattle.ua_channel.specs.ClientSends.{renewal_frame}
 use Rattle.ua_channel.specs.ClientTold.{ClientTold, Renewed}
 use Rattle.ua_channel_laws.specs.InStep.{AreInStep, lane_back}
-use Rattle.ua_channel_laws.specs.Outgoing.{AreWritable, Outgoing, asks_at, asking_of, client_behind, issued_behind, one_reasons, outgoing_number, outgoing_octets, outgoing_refusal, outgoing_told, server_behind}
+use Rattle.ua_channel_laws.specs.Outgoing.{AreWritable, Outgoing, asks_at, asking_of, client_behind, issued_behind, one_reasons}
+use Rattle.ua_channel_laws.specs.Outgoing.{outgoing_number, outgoing_octets, outgoing_refusal, outgoing_told, server_behind}
 use Rattle.ua_channel_laws.specs.Outgoing.Outgoing.{CallWith, RenewalAt}
 use Rattle.ua_channel.specs.Received.{has_some, latest}
 use Rattle.ua_channel_laws.specs.ServerReads.{AtServer, ServerReads, with_message, with_token}
@@ -94,7 +96,8 @@ no_fewer issued (CallWith body ∷ os) = no_fewer issued os
 no_fewer issued (RenewalAt moment ∷ os) = let more = no_fewer (issued + 1) os in omega (arith, more)
 
 -- what calls tell does not go by how many were issued
-pub none_told : (token issued other id : ℕ) (bodies : List (List ℕ)) → outgoing_told token issued id (map CallWith bodies) ≡ outgoing_told token other id (map CallWith bodies)
+pub none_told : (token issued other id : ℕ) (bodies : List (List ℕ)) → outgoing_told token issued id (map CallWith bodies) ≡ outgoing_told token other id
+    (map CallWith bodies)
 none_told token issued other id [] = refl
 none_told token issued other id (body ∷ bodies) = ap (λ (ts : List Told). Asked id token body ∷ ts) (none_told token issued other (id + 1) bodies)
 
@@ -126,22 +129,33 @@ module _ (server client : Limits) (url : Option (List ℕ)) (channel : ℕ) (on 
       let now : AtServer = with_message s lane body in
       let chunks : List ℕ = chunks_octets (chunks_of lane body s.next id) in
       let read : Reads now (octets ++ chunks) (told ++ Asked id lane.token body ∷ []) =
-      reads_message server channel octets told s lane body id on (omega (arith, can.0)) r (lane_to server client url channel s c t) (body_for server client url channel s c t body can.1.0 can.1.1) in
-      let rest = reads_sendable (octets ++ chunks) (told ++ Asked id lane.token body ∷ []) now (with_call c id) (id + 1) os read (in_step_call server client url channel s c t body id newest) newest can.2 few in
-      (behind_one (Reads (server_behind lane now os)) octets chunks (outgoing_octets (Some lane) now.next (id + 1) os) told (Asked id lane.token body) (outgoing_told c.newest s.issued (id + 1) os) rest.0, rest.1)
+      reads_message server channel octets told s lane body id on (omega (arith, can.0)) r (lane_to server client url channel s c t)
+      (body_for server client url channel s c t body can.1.0 can.1.1) in
+      let rest = reads_sendable (octets ++ chunks) (told ++ Asked id lane.token body ∷ []) now (with_call c id) (id + 1) os read
+      (in_step_call server client url channel s c t body id newest) newest can.2 few in (
+        behind_one (Reads (server_behind lane now os)) octets chunks (outgoing_octets (Some lane) now.next (id + 1) os) told (Asked id lane.token body)
+            (outgoing_told c.newest s.issued (id + 1) os) rest.0,
+        rest.1,
+      )
   reads_sendable octets told s c id (RenewalAt moment ∷ os) r t newest can few =
       let one_more : s.issued + 1 ≤ issued_behind (s.issued + 1) os = no_fewer (s.issued + 1) os in
       let some : 0 < s.issued = omega (arith, r.some_used, t.taken.not_before, t.taken.issued) in
       let now : AtServer = with_token s in
       let opn : List ℕ = frame_octets (renewal_frame c.channel s.next id moment) in
       let read : Reads now (octets ++ opn) (told ++ Opened id 0 (s.issued + 1) 3600000 ∷ []) =
-      subst (λ (k : ℕ). Reads now (octets ++ frame_octets (renewal_frame k s.next id moment)) (told ++ Opened id 0 (s.issued + 1) 3600000 ∷ [])) (sym t.channel_is)
+      subst (λ (k : ℕ). Reads now (octets ++ frame_octets (renewal_frame k s.next id moment)) (told ++ Opened id 0 (s.issued + 1) 3600000 ∷ []))
+      (sym t.channel_is)
       (reads_renewal server channel octets told s id moment r some (omega (arith, few, one_more)) on (omega (arith, can.0)) can.1) in
-      let rest = reads_sendable (octets ++ opn) (told ++ Opened id 0 (s.issued + 1) 3600000 ∷ []) now (with_renewal c id) (id + 1) os read (in_step_renewal server client url channel s c t id) newest can.2 few in
-      (behind_one (Reads (server_behind (lane_from c) now os)) octets opn (outgoing_octets (Some (lane_from c)) now.next (id + 1) os) told (Opened id 0 (s.issued + 1) 3600000) (outgoing_told c.newest now.issued (id + 1) os) rest.0, rest.1)
+      let rest = reads_sendable (octets ++ opn) (told ++ Opened id 0 (s.issued + 1) 3600000 ∷ []) now (with_renewal c id) (id + 1) os read
+      (in_step_renewal server client url channel s c t id) newest can.2 few in (
+        behind_one (Reads (server_behind (lane_from c) now os)) octets opn (outgoing_octets (Some (lane_from c)) now.next (id + 1) os) told
+            (Opened id 0 (s.issued + 1) 3600000) (outgoing_told c.newest now.issued (id + 1) os) rest.0,
+        rest.1,
+      )
 
   pub reads_outgoing : (octets : List ℕ) (told : List Told) (s : AtServer) (c : AtClient) (id : ℕ) (os : List Outgoing)
-      → Reads s octets told → InStepAt s c → latest c.tokens ≡ Some c.newest → AreWritable os → outgoing_refusal c id os ≡ None → issued_behind s.issued os < 2 ^ 32
+      → Reads s octets told → InStepAt s c → latest c.tokens ≡ Some c.newest → AreWritable os → outgoing_refusal c id os ≡ None
+      → issued_behind s.issued os < 2 ^ 32
       → Reads (server_behind (lane_from c) s os) (octets ++ outgoing_octets (Some (lane_from c)) s.next id os) (told ++ outgoing_told c.newest s.issued id os)
       × InStepAt (server_behind (lane_from c) s os) (client_behind c id os)
   reads_outgoing octets told s c id os r t newest w judged few = reads_sendable octets told s c id os r t newest (sendable c id os w judged) few
@@ -156,41 +170,68 @@ module _ (limits : Limits) (octets : List ℕ) (told : List ClientTold) where
       → ClientReads limits (asks ++ asks_at (length octets) (next_id (asked_in asks)) (o ∷ os)) octets told (client_behind c (next_id (asked_in asks) + 1) os)
   asks_more asks c o os h =
       let ask : Placed = (length octets, asking_of (next_id (asked_in asks)) o) in
-      subst (λ (ps : List Placed). ClientReads limits ps octets told (client_behind c (next_id (asked_in asks) + 1) os)) (append_assoc asks (ask ∷ []) (asks_at (length octets) (next_id (asked_in asks) + 1) os))
-      (subst (λ (id : ℕ). ClientReads limits ((asks ++ ask ∷ []) ++ asks_at (length octets) id os) octets told (client_behind c id os)) (next-append asks (ask ∷ [])) h)
+      subst (λ (ps : List Placed). ClientReads limits ps octets told (client_behind c (next_id (asked_in asks) + 1) os))
+      (append_assoc asks (ask ∷ []) (asks_at (length octets) (next_id (asked_in asks) + 1) os))
+      (subst (λ (id : ℕ). ClientReads limits ((asks ++ ask ∷ []) ++ asks_at (length octets) id os) octets told (client_behind c id os))
+      (next-append asks (ask ∷ [])) h)
 
   pub asks_outgoing : (asks : List Placed) (c : AtClient) (os : List Outgoing) → ClientReads limits asks octets told c
       → ClientReads limits (asks ++ asks_at (length octets) (next_id (asked_in asks)) os) octets told (client_behind c (next_id (asked_in asks)) os)
   asks_outgoing asks c [] r = subst (λ (ps : List Placed). ClientReads limits ps octets told c) (sym (append-nil asks)) r
   asks_outgoing asks c (CallWith body ∷ os) r =
       let id : ℕ = next_id (asked_in asks) in
-      asks_more asks (with_call c id) (CallWith body) os (asks_outgoing (asks ++ (length octets, Call id) ∷ []) (with_call c id) os (reads_call limits asks octets told c r))
+      asks_more asks (with_call c id) (CallWith body) os
+      (asks_outgoing (asks ++ (length octets, Call id) ∷ []) (with_call c id) os (reads_call limits asks octets told c r))
   asks_outgoing asks c (RenewalAt moment ∷ os) r =
       let id : ℕ = next_id (asked_in asks) in
-      asks_more asks (with_renewal c id) (RenewalAt moment) os (asks_outgoing (asks ++ (length octets, Renewal id) ∷ []) (with_renewal c id) os (client.reads_renewal limits asks octets told c r))
+      asks_more asks (with_renewal c id) (RenewalAt moment) os
+      (asks_outgoing (asks ++ (length octets, Renewal id) ∷ []) (with_renewal c id) os (client.reads_renewal limits asks octets told c r))
 
 -- ---- what a server answers
 
 -- a lane to a client stays one
-lane_replied : (limits : Limits) (c : AtClient) (lane : Lane) (id next : ℕ) → IsLaneBack limits c lane → IsLaneBack limits (with_reply c lane.token id next) lane
-lane_replied limits c lane id next back = record { on = back.on; held = stays_in lane.token c.tokens back.held; on_small = back.on_small; token_small = back.token_small; some = back.some; fits = back.fits; octets = back.octets; chunks = back.chunks }
+lane_replied : (limits : Limits) (c : AtClient) (lane : Lane) (id next : ℕ) → IsLaneBack limits c lane
+    → IsLaneBack limits (with_reply c lane.token id next) lane
+lane_replied limits c lane id next back = record {
+  on = back.on;
+  held = stays_in lane.token c.tokens back.held;
+  on_small = back.on_small;
+  token_small = back.token_small;
+  some = back.some;
+  fits = back.fits;
+  octets = back.octets;
+  chunks = back.chunks;
+}
 
 lane_answered : (limits : Limits) (c : AtClient) (lane : Lane) (token next : ℕ) → IsLaneBack limits c lane → IsLaneBack limits (with_answer c token next) lane
-lane_answered limits c lane token next back = record { on = back.on; held = in_more lane.token token c.tokens back.held; on_small = back.on_small; token_small = back.token_small; some = back.some; fits = back.fits; octets = back.octets; chunks = back.chunks }
+lane_answered limits c lane token next back = record {
+  on = back.on;
+  held = in_more lane.token token c.tokens back.held;
+  on_small = back.on_small;
+  token_small = back.token_small;
+  some = back.some;
+  fits = back.fits;
+  octets = back.octets;
+  chunks = back.chunks;
+}
 
 module _ (limits : Limits) (asks : List Placed) (lane : Lane) where
   abbrev Hears : AtClient → List ℕ → List ClientTold → Type 0
   Hears c octets told = ClientReads limits asks octets told c
 
-  pub reads_answers : (octets : List ℕ) (told : List ClientTold) (c : AtClient) (answers : List Answer) → Hears c octets told → IsLaneBack limits c lane → AreAnswersTo lane c answers
+  pub reads_answers : (octets : List ℕ) (told : List ClientTold) (c : AtClient) (answers : List Answer) → Hears c octets told → IsLaneBack limits c lane
+      → AreAnswersTo lane c answers
       → Hears (client_answered_all lane c answers) (octets ++ answers_octets lane c.next answers) (told ++ answers_told lane answers)
   reads_answers octets told c [] r back may = behind_none (Hears c) octets told r
   reads_answers octets told c (ReplyTo id body ∷ answers) r back may =
       let out : List ℕ × ℕ = replied lane body c.next id in
       let now : AtClient = with_reply c lane.token id out.1 in
-      let read : Hears now (octets ++ out.0) (told ++ told_reply (cut_refusal lane body) id body ∷ []) = reads_replied limits asks octets told c lane id r back may.0.0 may.0.1 body may.0.2 in
-      behind_one (Hears (client_answered_all lane now answers)) octets out.0 (answers_octets lane now.next answers) told (told_reply (cut_refusal lane body) id body) (answers_told lane answers)
-      (reads_answers (octets ++ out.0) (told ++ told_reply (cut_refusal lane body) id body ∷ []) now answers read (lane_replied limits c lane id out.1 back) may.1)
+      let read : Hears now (octets ++ out.0) (told ++ told_reply (cut_refusal lane body) id body ∷ []) =
+      reads_replied limits asks octets told c lane id r back may.0.0 may.0.1 body may.0.2 in
+      behind_one (Hears (client_answered_all lane now answers)) octets out.0 (answers_octets lane now.next answers) told
+      (told_reply (cut_refusal lane body) id body) (answers_told lane answers)
+      (reads_answers (octets ++ out.0) (told ++ told_reply (cut_refusal lane body) id body ∷ []) now answers read (lane_replied limits c lane id out.1 back)
+      may.1)
   reads_answers octets told c (TokenFor id handle token lifetime moment ∷ answers) r back may =
       let opn : List ℕ = frame_octets (opened_frame lane.channel c.next id handle token lifetime moment) in
       let now : AtClient = with_answer c token (next_number c.next) in
@@ -206,19 +247,22 @@ module _ (limits : Limits) (asks : List Placed) (lane : Lane) where
         lifetime_small = may.0.2.lifetime_small;
         moment_fits = may.0.2.moment_fits;
       }) may.0.0 may.0.1) in
-      behind_one (Hears (client_answered_all lane now answers)) octets opn (answers_octets lane now.next answers) told (Renewed token) (answers_told lane answers)
+      behind_one (Hears (client_answered_all lane now answers)) octets opn (answers_octets lane now.next answers) told (Renewed token)
+      (answers_told lane answers)
       (reads_answers (octets ++ opn) (told ++ Renewed token ∷ []) now answers read (lane_answered limits c lane token (next_number c.next) back) may.1)
 
 -- both stay in step
 pub in_step_answers : (server client : Limits) (url : Option (List ℕ)) (channel : ℕ) (s : AtServer) (c : AtClient) (answers : List Answer)
-    → AreInStep server client url channel s c → AllByRecursion (BringsToken s.issued) answers → AreInStep server client url channel s (client_answered_all (lane_back server channel s) c answers)
+    → AreInStep server client url channel s c → AllByRecursion (BringsToken s.issued) answers
+    → AreInStep server client url channel s (client_answered_all (lane_back server channel s) c answers)
 in_step_answers server client url channel s c [] t brings = t
 in_step_answers server client url channel s c (ReplyTo id body ∷ answers) t brings =
     let next : ℕ = (replied (lane_back server channel s) body c.next id).1 in
     in_step_answers server client url channel s (with_reply c s.used id next) answers (in_step_reply server client url channel s c t id next) brings.1
 in_step_answers server client url channel s c (TokenFor id handle token lifetime moment ∷ answers) t brings =
     in_step_answers server client url channel s (with_answer c token (next_number c.next)) answers
-    (subst (λ (k : ℕ). AreInStep server client url channel s (with_answer c k (next_number c.next))) (sym brings.0) (in_step_answer server client url channel s c t (next_number c.next))) brings.1
+    (subst (λ (k : ℕ). AreInStep server client url channel s (with_answer c k (next_number c.next))) (sym brings.0)
+    (in_step_answer server client url channel s c t (next_number c.next))) brings.1
 
 -- ---- why a channel does not send the next one
 
@@ -229,7 +273,8 @@ or_none_behind (Some x) = refl
 plus_zero : (n : ℕ) → n + 0 ≡ n
 plus_zero n = omega arith
 
-module _ (x : ClientChannel) (asks : List Placed) (octets : List ℕ) (frames : List Frame) (rest : List ℕ) (told : List ClientTold) (at : AtClient) (stands : ClientStands x asks octets frames rest) (r : ClientReads (client_limits x) asks octets told at) where
+module _ (x : ClientChannel) (asks : List Placed) (octets : List ℕ) (frames : List Frame) (rest : List ℕ) (told : List ClientTold) (at : AtClient)
+    (stands : ClientStands x asks octets frames rest) (r : ClientReads (client_limits x) asks octets told at) where
   abbrev next : ℕ
   next = next_id (asked_in asks)
 
@@ -242,4 +287,5 @@ module _ (x : ClientChannel) (asks : List Placed) (octets : List ℕ) (frames : 
 
   pub renewal_is_refused : (moment : DateTime) → renewal_refused x ≡ outgoing_refusal at next (RenewalAt moment ∷ [])
   renewal_is_refused moment =
-      refuses_renewal x asks octets frames rest told at stands r ∙ sym (or_none_behind (first_reason (reasons_of_renewal (has_some at.renewals) (length at.tokens) next)))
+      refuses_renewal x asks octets frames rest told at stands r
+      ∙ sym (or_none_behind (first_reason (reasons_of_renewal (has_some at.renewals) (length at.tokens) next)))

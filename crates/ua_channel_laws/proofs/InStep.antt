@@ -1,5 +1,6 @@
 -- Both ends stay in step.
-use Rattle.std.proofs.Common.{◌≡◌, ◌⊎◌, inl, inr, ℕ, zero, suc, ◌<◌, ◌≤◌, ◌^◌, min, Bool, true, false, not, cond, ◌&&◌, ◌||◌, eqb, ltb, List, [], ◌∷◌, ◌++◌, Option, Some, length, refl, sym, subst, ◌∙◌, ap, arith}
+use Rattle.std.proofs.Common.{◌≡◌, ◌⊎◌, inl, inr, ℕ, zero, suc, ◌<◌, ◌≤◌, ◌^◌, min, Bool, true, false, not, cond, ◌&&◌}
+use Rattle.std.proofs.Common.{◌||◌, eqb, ltb, List, [], ◌∷◌, ◌++◌, Option, Some, length, refl, sym, subst, ◌∙◌, ap, arith}
 use Rattle.std.proofs.lemmas.Bool.{eq-eqb, eqb-false, le-ltb, ltb-false, ne_eqb, or_parts}
 use Rattle.std.proofs.Math.Bool.{and-false}
 use Rattle.std.proofs.lemmas.List.Folds.{list_any-append}
@@ -103,7 +104,8 @@ module _ (server client : Limits) (url : Option (List ℕ)) (channel : ℕ) (s :
     token_small = few;
     some = omega (arith, sent_size, server.sends, client.receives);
     fits = omega (arith, sent_size, sends, server.sends, client.receives);
-    octets = subst (λ (m : ℕ). IsTighter (tighter m server.max_response_size) client.max_message_size) (sym (ap (λ (x : Hello). x.max_message_size) h.hello_is)) (tighter_first client.max_message_size server.max_response_size);
+    octets = subst (λ (m : ℕ). IsTighter (tighter m server.max_response_size) client.max_message_size) (sym (ap (λ (x : Hello). x.max_message_size) h.hello_is))
+        (tighter_first client.max_message_size server.max_response_size);
     chunks = ap (λ (x : Hello). x.max_chunk_count) h.hello_is;
   }
 
@@ -118,18 +120,48 @@ module _ (server client : Limits) (url : Option (List ℕ)) (channel : ℕ) (s :
       }
 
   -- they stay in step
-  pub in_step_call : (body : List ℕ) (id : ℕ) → latest c.tokens ≡ Some c.newest → AreInStep server client url channel (with_message s (lane_from c) body) (with_call c id)
-  in_step_call body id newest = record { hello_is = h.hello_is; ack_is = h.ack_is; channel_is = h.channel_is; taken = record { not_before = omega arith; issued = h.taken.issued }; held = last_in c.newest c.tokens newest }
+  pub in_step_call : (body : List ℕ) (id : ℕ) → latest c.tokens ≡ Some c.newest
+      → AreInStep server client url channel (with_message s (lane_from c) body) (with_call c id)
+  in_step_call body id newest =
+      record {
+        hello_is = h.hello_is;
+        ack_is = h.ack_is;
+        channel_is = h.channel_is;
+        taken = record { not_before = omega arith; issued = h.taken.issued };
+        held = last_in c.newest c.tokens newest;
+      }
 
   pub in_step_reply : (id next : ℕ) → AreInStep server client url channel s (with_reply c s.used id next)
-  in_step_reply id next = record { hello_is = h.hello_is; ack_is = h.ack_is; channel_is = h.channel_is; taken = h.taken; held = stays_in s.used c.tokens h.held }
+  in_step_reply id next = record {
+    hello_is = h.hello_is;
+    ack_is = h.ack_is;
+    channel_is = h.channel_is;
+    taken = h.taken;
+    held = stays_in s.used c.tokens h.held;
+  }
 
   pub in_step_renewal : (id : ℕ) → AreInStep server client url channel (with_token s) (with_renewal c id)
-  in_step_renewal id = record { hello_is = h.hello_is; ack_is = h.ack_is; channel_is = h.channel_is; taken = record { not_before = h.taken.not_before; issued = omega (arith, h.taken.issued) }; held = h.held }
+  in_step_renewal id =
+      record {
+        hello_is = h.hello_is;
+        ack_is = h.ack_is;
+        channel_is = h.channel_is;
+        taken = record { not_before = h.taken.not_before; issued = omega (arith, h.taken.issued) };
+        held = h.held;
+      }
 
   pub in_step_answer : (next : ℕ) → AreInStep server client url channel s (with_answer c s.issued next)
-  in_step_answer next = record { hello_is = h.hello_is; ack_is = h.ack_is; channel_is = h.channel_is; taken = record { not_before = omega (arith, h.taken.not_before, h.taken.issued); issued = omega arith }; held = in_more s.used s.issued c.tokens h.held }
+  in_step_answer next =
+      record {
+        hello_is = h.hello_is;
+        ack_is = h.ack_is;
+        channel_is = h.channel_is;
+        taken = record { not_before = omega (arith, h.taken.not_before, h.taken.issued); issued = omega arith };
+        held = in_more s.used s.issued c.tokens h.held;
+      }
 
 -- they are in step behind the opening
-pub in_step_opened : (server client : Limits) (url : Option (List ℕ)) (channel next : ℕ) → AreInStep server client url channel (with_token (greeted_at (hello_to client url))) (opened_at (ack_to (hello_to client url) server) channel 1 next)
-in_step_opened server client url channel next = record { hello_is = refl; ack_is = refl; channel_is = refl; taken = record { not_before = omega arith; issued = omega arith }; held = refl }
+pub in_step_opened : (server client : Limits) (url : Option (List ℕ)) (channel next : ℕ)
+    → AreInStep server client url channel (with_token (greeted_at (hello_to client url))) (opened_at (ack_to (hello_to client url) server) channel 1 next)
+in_step_opened server client url channel next =
+    record { hello_is = refl; ack_is = refl; channel_is = refl; taken = record { not_before = omega arith; issued = omega arith }; held = refl }

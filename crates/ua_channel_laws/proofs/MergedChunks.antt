@@ -1,6 +1,7 @@
 -- What each chunk of merged messages delivers, also behind chunks that leave nothing unfinished; and that merged messages leave nothing
 -- unfinished.
-use Rattle.std.proofs.Common.{◌≡◌, ℕ, ◌≤◌, Bool, true, false, cond, not, ◌||◌, eqb, List, [], ◌∷◌, ◌++◌, Option, Some, None, length, map, refl, sym, ◌∙◌, ap, subst, arith, append-nil, append_assoc, length-append, ◌&&◌}
+use Rattle.std.proofs.Common.{◌≡◌, ℕ, ◌≤◌, Bool, true, false, cond, not, ◌||◌, eqb, List, [], ◌∷◌, ◌++◌, Option, Some, None}
+use Rattle.std.proofs.Common.{length, map, refl, sym, ◌∙◌, ap, subst, arith, append-nil, append_assoc, length-append, ◌&&◌}
 use Rattle.std.specs.List.{filter, list_any}
 use Rattle.std.proofs.lemmas.Bool.{eq-eqb, or_right, or_from}
 use Rattle.std.proofs.lemmas.List.{append_cancel_left, append_cancel_right, length-map, map-append}
@@ -16,7 +17,8 @@ use Rattle.ua_chunk.specs.Delivered.{aborted, delivered, delivered_behind, given
 use Rattle.ua_chunk.specs.Flag.{is_more_flag}
 use Rattle.ua_chunk.specs.Gathered.{after_last, ends, is_more, is_of}
 use Rattle.ua_chunk.specs.Item.{Item}
-use Rattle.ua_chunk.specs.Merge.{IsMerge, Part, Sent, id_of, last_part, more_part, outcome_by, outcome_under, outcomes, part_of, parts_under, sent_under, is_item_of}
+use Rattle.ua_chunk.specs.Merge.{IsMerge, Part, Sent, id_of, last_part, more_part, outcome_by}
+use Rattle.ua_chunk.specs.Merge.{outcome_under, outcomes, part_of, parts_under, sent_under, is_item_of}
 use Rattle.ua_chunk.specs.Open.{open_ids}
 use Rattle.ua_chunk.specs.Pending.{without}
 use Rattle.ua_chunk.specs.Refusal.{TakesMessages, message_refusal}
@@ -69,14 +71,16 @@ under_few : (o : Option Sent) → length (outcome_under o) ≤ 1
 under_few None = omega arith
 under_few (Some m) = outcome_few m.end m
 
-few_step : (b : Bool) (now later : List Item) (c : Chunk) (cs : List Chunk) → length now ≤ 1 → length later ≤ length cs → length (cond b now [] ++ later) ≤ length (cond b (c ∷ cs) cs)
+few_step : (b : Bool) (now later : List Item) (c : Chunk) (cs : List Chunk) → length now ≤ 1 → length later ≤ length cs
+    → length (cond b now [] ++ later) ≤ length (cond b (c ∷ cs) cs)
 few_step true now later c cs one more = omega (arith, one, more, length-append now later)
 few_step false now later c cs one more = more
 
 -- at most one outcome stands at each such chunk
 outcomes_few : (ms : List Sent) (cs : List Chunk) → length (outcomes ms cs) ≤ length (filter ends cs)
 outcomes_few ms [] = omega arith
-outcomes_few ms (c ∷ cs) = few_step (ends c) (outcome_under (sent_under c.request ms)) (outcomes ms cs) c (filter ends cs) (under_few (sent_under c.request ms)) (outcomes_few ms cs)
+outcomes_few ms (c ∷ cs) = few_step (ends c) (outcome_under (sent_under c.request ms)) (outcomes ms cs) c (filter ends cs) (under_few (sent_under c.request ms))
+    (outcomes_few ms cs)
 
 -- ---- what each chunk delivers
 
@@ -89,10 +93,12 @@ outcomes-append ms us rest = flat_map-append (ended_by ms) us rest
 
 module _ (octets chunks : ℕ) (ms : List Sent) where
   -- where all chunks together deliver the outcomes, so do those behind a beginning
-  rest_delivers : (us rest : List Chunk) → TakesMessages octets chunks [] (us ++ rest) → delivered (us ++ rest) ≡ outcomes ms (us ++ rest) → delivered_behind us rest ≡ outcomes ms rest
+  rest_delivers : (us rest : List Chunk) → TakesMessages octets chunks [] (us ++ rest) → delivered (us ++ rest) ≡ outcomes ms (us ++ rest)
+      → delivered_behind us rest ≡ outcomes ms rest
   rest_delivers us rest taken all =
       let front : TakesMessages octets chunks [] us = all_front (λ vs c. message_refusal octets chunks vs c ≡ None) [] us rest taken in
-      let parts : delivered us ++ delivered_behind us rest ≡ outcomes ms us ++ outcomes ms rest = sym (delivered-append us rest) ∙ (all ∙ outcomes-append ms us rest) in
+      let parts : delivered us ++ delivered_behind us rest ≡ outcomes ms us ++ outcomes ms rest = sym (delivered-append us rest)
+      ∙ (all ∙ outcomes-append ms us rest) in
       let many : length (delivered us) ≡ length (outcomes ms us) =
       omega (
         arith,
@@ -113,7 +119,8 @@ module _ (octets chunks : ℕ) (ms : List Sent) where
   each_ends us (c ∷ rest) taken all =
       let moved : us ++ c ∷ rest ≡ (us ++ c ∷ []) ++ rest = sym (append_assoc us (c ∷ []) rest) in
       let taken-on : TakesMessages octets chunks [] ((us ++ c ∷ []) ++ rest) = subst (TakesMessages octets chunks []) moved taken in
-      let all-on : delivered ((us ++ c ∷ []) ++ rest) ≡ outcomes ms ((us ++ c ∷ []) ++ rest) = subst (λ (t : List Chunk). delivered t ≡ outcomes ms t) moved all in
+      let all-on : delivered ((us ++ c ∷ []) ++ rest) ≡ outcomes ms ((us ++ c ∷ []) ++ rest) =
+      subst (λ (t : List Chunk). delivered t ≡ outcomes ms t) moved all in
       let now : given us c ++ delivered_behind (us ++ c ∷ []) rest ≡ ended_by ms c ++ outcomes ms rest = rest_delivers us (c ∷ rest) taken all in
       let later : delivered_behind (us ++ c ∷ []) rest ≡ outcomes ms rest = rest_delivers (us ++ c ∷ []) rest taken-on all-on in (
         append_cancel_right (given us c) (ended_by ms c) (outcomes ms rest) (ap (λ (t : List Item). given us c ++ t) (sym later) ∙ now),
@@ -154,7 +161,8 @@ closed_more c cs h = record {
   none_after = ap (λ (b : Bool). cond b (after_last ends cs) (c ∷ cs)) (or_right (ends c) (list_any ends cs) h.some) ∙ h.none_after;
 }
 
-closed_parts : (id : ℕ) (ps : List (List ℕ)) (z : Part) (cs : List Chunk) → is_more_flag z.flag ≡ false → map part_of cs ≡ map (more_part id) ps ++ z ∷ [] → Closed cs
+closed_parts : (id : ℕ) (ps : List (List ℕ)) (z : Part) (cs : List Chunk) → is_more_flag z.flag ≡ false → map part_of cs ≡ map (more_part id) ps ++ z ∷ []
+    → Closed cs
 closed_parts id [] z [] last e = absurd cc
 closed_parts id [] z (c ∷ cs) last e =
     let first : part_of c ≡ z = cc in
@@ -162,7 +170,8 @@ closed_parts id [] z (c ∷ cs) last e =
 closed_parts id (p ∷ ps) z [] last e = absurd cc
 closed_parts id (p ∷ ps) z (c ∷ cs) last e = closed_more c cs (closed_parts id ps z cs last cc)
 
-closed_under : (o : Option Sent) (cs : List Chunk) → ((m : Sent) → o ≡ Some m → is_more_flag m.end ≡ false) → map part_of cs ≡ parts_under o → after_last ends cs ≡ []
+closed_under : (o : Option Sent) (cs : List Chunk) → ((m : Sent) → o ≡ Some m → is_more_flag m.end ≡ false) → map part_of cs ≡ parts_under o
+    → after_last ends cs ≡ []
 closed_under None cs ending e = ap (after_last ends) (none_mapped cs e)
 closed_under (Some m) cs ending e = (closed_parts m.request m.pieces (last_part m) cs (ending m refl) e).none_after
 
@@ -191,7 +200,8 @@ no_more [] ys c e = cc
 no_more (x ∷ xs) ys c e = cc
 
 -- before a part of a message its parts are C's
-unended_parts : (id : ℕ) (ps : List (List ℕ)) (z : Part) (xs ys : List Chunk) (c : Chunk) → map part_of (xs ++ c ∷ ys) ≡ map (more_part id) ps ++ z ∷ [] → list_any ends xs ≡ false
+unended_parts : (id : ℕ) (ps : List (List ℕ)) (z : Part) (xs ys : List Chunk) (c : Chunk) → map part_of (xs ++ c ∷ ys) ≡ map (more_part id) ps ++ z ∷ []
+    → list_any ends xs ≡ false
 unended_parts id ps z [] ys c e = refl
 unended_parts id [] z (x ∷ xs) ys c e = absurd (no_more xs ys c cc)
 unended_parts id (p ∷ ps) z (x ∷ xs) ys c e =
@@ -210,9 +220,11 @@ ended_own : (id : ℕ) (cs : List Chunk) → is_finished cs id ≡ list_any ends
 ended_own id [] = refl
 ended_own id (c ∷ cs) = ended_step (is_of id c) (ends c) c (filter (is_of id) cs) (is_finished cs id) refl (ended_own id cs)
 
-own_chunks : (id : ℕ) (us rest : List Chunk) (c : Chunk) → c.request ≡ id → filter (is_of id) (us ++ c ∷ rest) ≡ filter (is_of id) us ++ c ∷ filter (is_of id) rest
+own_chunks : (id : ℕ) (us rest : List Chunk) (c : Chunk) → c.request ≡ id → filter (is_of id) (us ++ c ∷ rest) ≡ filter (is_of id) us
+    ++ c ∷ filter (is_of id) rest
 own_chunks id us rest c is =
-    filter_append (is_of id) us (c ∷ rest) ∙ ap (λ (b : Bool). filter (is_of id) us ++ cond b (c ∷ filter (is_of id) rest) (filter (is_of id) rest)) (eq-eqb c.request id is)
+    filter_append (is_of id) us (c ∷ rest) ∙ ap (λ (b : Bool). filter (is_of id) us ++ cond b (c ∷ filter (is_of id) rest) (filter (is_of id) rest))
+    (eq-eqb c.request id is)
 
 unfinished : (ms : List Sent) (us cs : List Chunk) → IsMerge ms (us ++ cs) → AllFrom (λ vs c. is_finished vs c.request ≡ false) us cs
 unfinished ms us [] merge = tt
@@ -237,7 +249,8 @@ pub record Comes (limits : Limits) (ms : List Sent) (cs : List Chunk) : Type 0 w
 pub comes : (limits : Limits) (ms : List Sent) (cs : List Chunk) → AreMerged limits ms cs → Comes limits ms cs
 comes limits ms cs m =
     let merge : IsMerge ms cs = merge_by_id ms cs m.own_ids m.merged in
-    let taken : TakesMessages limits.max_message_size limits.max_chunk_count [] cs = messages_behind limits.max_message_size limits.max_chunk_count ms [] cs m.within merge m.few_open in
+    let taken : TakesMessages limits.max_message_size limits.max_chunk_count [] cs =
+    messages_behind limits.max_message_size limits.max_chunk_count ms [] cs m.within merge m.few_open in
     let all : delivered cs ≡ outcomes ms cs = merged ms cs merge in
     record {
       taken = taken;
@@ -251,11 +264,13 @@ comes limits ms cs m =
     }
 
 -- messages that are taken alone are taken behind chunks that leave nothing unfinished
-pub takes_fresh : (octets chunks : ℕ) (base us cs : List Chunk) → open_ids base ≡ [] → TakesMessages octets chunks us cs → TakesMessages octets chunks (base ++ us) cs
+pub takes_fresh : (octets chunks : ℕ) (base us cs : List Chunk) → open_ids base ≡ [] → TakesMessages octets chunks us cs
+    → TakesMessages octets chunks (base ++ us) cs
 takes_fresh octets chunks base us [] none h = tt
 takes_fresh octets chunks base us (c ∷ cs) none h = (
   fresh_message octets chunks base us c none ∙ h.0,
-  subst (λ (t : List Chunk). TakesMessages octets chunks t cs) (sym (append_assoc base us (c ∷ []))) (takes_fresh octets chunks base (us ++ c ∷ []) cs none h.1),
+  subst (λ (t : List Chunk). TakesMessages octets chunks t cs) (sym (append_assoc base us (c ∷ [])))
+      (takes_fresh octets chunks base (us ++ c ∷ []) cs none h.1),
 )
 
 -- and leave nothing unfinished there where they leave nothing alone
@@ -265,7 +280,8 @@ closed_fresh base cs none end = open_behind base [] cs (ap open_ids (append-nil 
 -- ---- what is told of them
 
 -- what is found in what was told of them alone, where in all that was told is found what all chunks deliver
-pub told_new : {E B : Type 0} (found : List E → List B) (name : Item → B) (had told : List E) (base cs : List Chunk) (items : List Item) → found (had ++ told) ≡ found had ++ found told → open_ids base ≡ []
+pub told_new : {E B : Type 0} (found : List E → List B) (name : Item → B) (had told : List E) (base cs : List Chunk) (items : List Item)
+    → found (had ++ told) ≡ found had ++ found told → open_ids base ≡ []
     → delivered cs ≡ items → found had ≡ map name (delivered base) → found (had ++ told) ≡ map name (delivered (base ++ cs))
     → found told ≡ map name items
 told_new {B = B} found name had told base cs items apart none all old new =
@@ -279,13 +295,16 @@ kept_or_not : {A B : Type 0} (name : A → B) (b : Bool) (x : A) (xs : List A) �
 kept_or_not name true x xs = refl
 kept_or_not name false x xs = refl
 
-pub names_kept : {A B : Type 0} (name : A → B) (p : B → Bool) (q : A → Bool) → ((x : A) → p (name x) ≡ q x) → (xs : List A) → filter p (map name xs) ≡ map name (filter q xs)
+pub names_kept : {A B : Type 0} (name : A → B) (p : B → Bool) (q : A → Bool) → ((x : A) → p (name x) ≡ q x) → (xs : List A)
+    → filter p (map name xs) ≡ map name (filter q xs)
 names_kept name p q same [] = refl
 names_kept name p q same (x ∷ xs) = rw (same x, names_kept name p q same xs) (kept_or_not name (q x) x (filter q xs))
 
 -- under each request id the outcome of its message stands once
-pub outcomes_once : {B : Type 0} (limits : Limits) (ms : List Sent) (cs : List Chunk) (m : AreMerged limits ms cs) (name : Item → B) (p : B → Bool) (id : ℕ) → ((d : Item) → p (name d) ≡ is_item_of id d)
+pub outcomes_once : {B : Type 0} (limits : Limits) (ms : List Sent) (cs : List Chunk) (m : AreMerged limits ms cs) (name : Item → B) (p : B → Bool) (id : ℕ)
+    → ((d : Item) → p (name d) ≡ is_item_of id d)
     → filter p (map name (outcomes ms cs)) ≡ map name (outcome_under (sent_under id ms))
 outcomes_once limits ms cs m name p id names =
     names_kept name p (is_item_of id) names (outcomes ms cs)
-    ∙ (ap (λ (items : List Item). map name (filter (is_item_of id) items)) (sym (comes limits ms cs m).all) ∙ ap (map name) (once ms cs id (comes limits ms cs m).own))
+    ∙ (ap (λ (items : List Item). map name (filter (is_item_of id) items)) (sym (comes limits ms cs m).all)
+    ∙ ap (map name) (once ms cs id (comes limits ms cs m).own))

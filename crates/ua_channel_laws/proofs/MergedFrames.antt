@@ -14,7 +14,8 @@ use Rattle.ua_channel.specs.Content.{Content, Opening, content}
 use Rattle.ua_channel.specs.Content.Content.{Greets, Acks, Fails, Opens, Sends, Closes, Nothing}
 use Rattle.ua_channel_laws.specs.Conversation.{AreOrdered}
 use Rattle.ua_channel_laws.specs.Merges.{CarriesEither, MayComeNext, NumbersGoOn, latest_or}
-use Rattle.ua_channel.specs.Received.{Received, after, chunks_in, latest, latest_behind, messages, numbers, numbers_in, openings, openings_in, received, tokens_in, used_tokens}
+use Rattle.ua_channel.specs.Received.{Received, after, chunks_in, latest, latest_behind, messages, numbers}
+use Rattle.ua_channel.specs.Received.{numbers_in, openings, openings_in, received, tokens_in, used_tokens}
 use Rattle.ua_channel.proofs.Askings.{all_append}
 use Rattle.ua_channel.proofs.OneFrameMore.{behind_append, received-push}
 use Rattle.ua_channel_laws.proofs.ReadOn.{all_behind}
@@ -45,21 +46,26 @@ pub goes_ordered : (last : Option ℕ) (next after : ℕ) (ns : List ℕ) → ma
 goes_ordered last next after [] follows g = tt
 goes_ordered last next after (n ∷ ns) follows g = (ap (may_follow last) g.0 ∙ follows, g.1)
 
-goes_behind : (last : Option ℕ) (next after : ℕ) (ns : List ℕ) → may_follow last next ≡ true → NumbersGoOn next ns after → may_follow (latest_behind last ns) after ≡ true
+goes_behind : (last : Option ℕ) (next after : ℕ) (ns : List ℕ) → may_follow last next ≡ true → NumbersGoOn next ns after
+    → may_follow (latest_behind last ns) after ≡ true
 goes_behind last next after [] follows g = ap (may_follow last) g.0 ∙ follows
 goes_behind last next after (n ∷ ns) follows g = g.2
 
 -- and the one after them may follow the last
-pub goes_follows : (before more : List Frame) (next after : ℕ) → may_follow (received before).last next ≡ true → NumbersGoOn next (numbers more) after → may_follow (received (before ++ more)).last after ≡ true
-goes_follows before more next after follows g = ap (λ (o : Option ℕ). may_follow o after) (last_behind before more) ∙ goes_behind (received before).last next after (numbers more) follows g
+pub goes_follows : (before more : List Frame) (next after : ℕ) → may_follow (received before).last next ≡ true → NumbersGoOn next (numbers more) after
+    → may_follow (received (before ++ more)).last after ≡ true
+goes_follows before more next after follows g = ap (λ (o : Option ℕ). may_follow o after) (last_behind before more)
+    ∙ goes_behind (received before).last next after (numbers more) follows g
 
 pub goes_small : (next after : ℕ) (ns : List ℕ) → NumbersGoOn next ns after → after ≤ 4294966272
 goes_small next after [] g = g.1
 goes_small next after (n ∷ ns) g = g.3
 
 -- a number that may come next follows the last one of the frames
-pub next_follows : {T W : Type 0} (R : Rules T W) (octets : List ℕ) (fs : List Frame) (number : ℕ) → Run R octets fs [] Going → MayComeNext R octets number → may_follow (received fs).last number ≡ true
-next_follows R octets fs number run n = subst (λ (gs : List Frame). may_follow (received gs).last number ≡ true) (sym (unique R octets fs n.frames [] [] Going Going run n.run).frames) n.follows
+pub next_follows : {T W : Type 0} (R : Rules T W) (octets : List ℕ) (fs : List Frame) (number : ℕ) → Run R octets fs [] Going → MayComeNext R octets number
+    → may_follow (received fs).last number ≡ true
+next_follows R octets fs number run n = subst (λ (gs : List Frame). may_follow (received gs).last number ≡ true)
+    (sym (unique R octets fs n.frames [] [] Going Going run n.run).frames) n.follows
 
 -- ---- the lists that frames brought
 
@@ -87,7 +93,8 @@ none_used n = refl
 -- ---- what a frame of a merge carries
 
 -- what holds of such openings and of such chunks
-pub of_either : (opens : Opening → Type 0) (sends : Chunk → Type 0) (P : Content → Type 0) → ((o : Opening) → opens o → P (Opens o)) → ((c : Chunk) → sends c → P (Sends c)) → (k : Content)
+pub of_either : (opens : Opening → Type 0) (sends : Chunk → Type 0) (P : Content → Type 0) → ((o : Opening) → opens o → P (Opens o))
+    → ((c : Chunk) → sends c → P (Sends c)) → (k : Content)
     → CarriesEither opens sends k → P k
 of_either opens sends P h g (Greets hello) is = absurd is
 of_either opens sends P h g (Acks ack) is = absurd is
@@ -98,13 +105,15 @@ of_either opens sends P h g (Closes c) is = absurd is
 of_either opens sends P h g Nothing is = absurd is
 
 -- what holds of the chunks of each frame holds of those of all
-pub each_chunk : (May : List Frame → Frame → Type 0) (P : Chunk → Type 0) → ((us : List Frame) (f : Frame) → May us f → AllByRecursion P (chunks_in (content f))) → (us fs : List Frame) → AllFrom May us fs
+pub each_chunk : (May : List Frame → Frame → Type 0) (P : Chunk → Type 0)
+    → ((us : List Frame) (f : Frame) → May us f → AllByRecursion P (chunks_in (content f))) → (us fs : List Frame) → AllFrom May us fs
     → AllByRecursion P (messages fs)
 unfolding messages
 each_chunk May P one us [] may = tt
 each_chunk May P one us (f ∷ fs) may = all_append P (chunks_in (content f)) (messages fs) (one us f may.0) (each_chunk May P one (us ++ f ∷ []) fs may.1)
 
-pub sized : (size : ℕ) (May : List Frame → Frame → Type 0) (us fs : List Frame) → AllByRecursion (λ (f : Frame). frame_size f ≤ size) fs → AllFrom May us fs → AllFrom (λ vs f. (frame_size f ≤ size) × May vs f) us fs
+pub sized : (size : ℕ) (May : List Frame → Frame → Type 0) (us fs : List Frame) → AllByRecursion (λ (f : Frame). frame_size f ≤ size) fs → AllFrom May us fs
+    → AllFrom (λ vs f. (frame_size f ≤ size) × May vs f) us fs
 sized size May us [] fits may = tt
 sized size May us (f ∷ fs) fits may = ((fits.0, may.0), sized size May (us ++ f ∷ []) fs fits.1 may.1)
 
@@ -116,38 +125,46 @@ module _ (C : List Chunk → Chunk → Type 0) (us : List Frame) (f : Frame) (fs
   chunks_here = all
 
   chunks_behind : AllFrom C (messages (us ++ f ∷ [])) (messages fs)
-  chunks_behind = subst (λ (t : List Chunk). AllFrom C t (messages fs)) (sym (messages-more us f)) (all_behind C (messages us) (chunks_in (content f)) (messages fs) chunks_here)
+  chunks_behind = subst (λ (t : List Chunk). AllFrom C t (messages fs)) (sym (messages-more us f))
+      (all_behind C (messages us) (chunks_in (content f)) (messages fs) chunks_here)
 
 -- where these frames come behind others: what is known behind each of them, by what was received and by the tokens, openings and chunks of those
 -- of them that came
 module _ (before : List Frame) (Here : Received → List ℕ → List Opening → List Chunk → Type 0) (May : List Frame → Frame → Type 0)
     (step : (b : Received) (us : List Frame) (f : Frame) → May us f → Here b (used_tokens us) (openings us) (messages us)
-    → Here (after b (content f)) (used_tokens us ++ tokens_in (content f)) (openings us ++ openings_in (content f)) (messages us ++ chunks_in (content f))) where
+    → Here (after b (content f)) (used_tokens us ++ tokens_in (content f)) (openings us ++ openings_in (content f))
+    (messages us ++ chunks_in (content f))) where
   abbrev pub IsAt : List Frame → Type 0
   IsAt us = Here (received (before ++ us)) (used_tokens us) (openings us) (messages us)
 
   then_at : (us : List Frame) (f : Frame) → May us f → IsAt us → IsAt (us ++ f ∷ [])
   then_at us f may h =
-      let now : received (before ++ (us ++ f ∷ [])) ≡ after (received (before ++ us)) (content f) = ap received (sym (append_assoc before us (f ∷ []))) ∙ received-push (before ++ us) f in
+      let now : received (before ++ (us ++ f ∷ [])) ≡ after (received (before ++ us)) (content f) = ap received (sym (append_assoc before us (f ∷ [])))
+      ∙ received-push (before ++ us) f in
       rw (now, tokens-more us f, openings-more us f, messages-more us f) (step (received (before ++ us)) us f may h)
 
   module _ (C : List Chunk → Chunk → Type 0) where
-    along : (Q : List Frame → Frame → Type 0) → ((us : List Frame) (f : Frame) (rest : List Chunk) → May us f → IsAt us → AllFrom C (messages us) (chunks_in (content f) ++ rest) → Q (before ++ us) f) → (us fs : List Frame)
+    along : (Q : List Frame → Frame → Type 0)
+        → ((us : List Frame) (f : Frame) (rest : List Chunk) → May us f → IsAt us → AllFrom C (messages us) (chunks_in (content f) ++ rest)
+        → Q (before ++ us) f) → (us fs : List Frame)
         → IsAt us → AllFrom May us fs → AllFrom C (messages us) (messages fs) → AllFrom Q (before ++ us) fs
     along Q one us [] h may cs = tt
     along Q one us (f ∷ fs) h may cs = (
       one us f (messages fs) may.0 h (chunks_here C us f fs cs),
-      subst (λ (t : List Frame). AllFrom Q t fs) (sym (append_assoc before us (f ∷ []))) (along Q one (us ++ f ∷ []) fs (then_at us f may.0 h) may.1 (chunks_behind C us f fs cs)),
+      subst (λ (t : List Frame). AllFrom Q t fs) (sym (append_assoc before us (f ∷ [])))
+          (along Q one (us ++ f ∷ []) fs (then_at us f may.0 h) may.1 (chunks_behind C us f fs cs)),
     )
 
     told_along : {E : Type 0} (tells told : List Frame → Frame → List E)
-        → ((us : List Frame) (f : Frame) (rest : List Chunk) → May us f → IsAt us → AllFrom C (messages us) (chunks_in (content f) ++ rest) → tells (before ++ us) f ≡ told us f) → (us fs : List Frame)
+        → ((us : List Frame) (f : Frame) (rest : List Chunk) → May us f → IsAt us → AllFrom C (messages us) (chunks_in (content f) ++ rest)
+        → tells (before ++ us) f ≡ told us f) → (us fs : List Frame)
         → IsAt us → AllFrom May us fs → AllFrom C (messages us) (messages fs) → each_from tells (before ++ us) fs ≡ each_from told us fs
     told_along tells told one us [] h may cs = refl
     told_along {E = E} tells told one us (f ∷ fs) h may cs =
         ap (λ (ts : List E). ts ++ each_from tells ((before ++ us) ++ f ∷ []) fs) (one us f (messages fs) may.0 h (chunks_here C us f fs cs))
         ∙ ap (λ (ts : List E). told us f ++ ts)
-        (ap (λ (t : List Frame). each_from tells t fs) (append_assoc before us (f ∷ [])) ∙ told_along tells told one (us ++ f ∷ []) fs (then_at us f may.0 h) may.1 (chunks_behind C us f fs cs))
+        (ap (λ (t : List Frame). each_from tells t fs) (append_assoc before us (f ∷ []))
+        ∙ told_along tells told one (us ++ f ∷ []) fs (then_at us f may.0 h) may.1 (chunks_behind C us f fs cs))
 
   ends_at : (us fs : List Frame) → IsAt us → AllFrom May us fs → IsAt (us ++ fs)
   ends_at us [] h may = subst (λ (t : List Frame). IsAt t) (sym (append-nil us)) h
@@ -155,7 +172,8 @@ module _ (before : List Frame) (Here : Received → List ℕ → List Opening �
 
   module _ (fs : List Frame) (h : Here (received before) [] [] []) (may : AllFrom May [] fs) where
     first : IsAt []
-    first = nothing_yet (λ ts os cs. Here (received (before ++ [])) ts os cs) (subst (λ (t : List Frame). Here (received t) [] [] []) (sym (append-nil before)) h)
+    first = nothing_yet (λ ts os cs. Here (received (before ++ [])) ts os cs)
+        (subst (λ (t : List Frame). Here (received t) [] [] []) (sym (append-nil before)) h)
 
     -- what is known behind all of them
     pub at_end : Here (received (before ++ fs)) (used_tokens fs) (openings fs) (messages fs)
@@ -166,10 +184,13 @@ module _ (before : List Frame) (Here : Received → List ℕ → List Opening �
       from_first = nothing_yet (λ ts os us. AllFrom C us (messages fs)) cs
 
       -- what is so of each of them
-      pub each_along : (Q : List Frame → Frame → Type 0) → ((us : List Frame) (f : Frame) (rest : List Chunk) → May us f → IsAt us → AllFrom C (messages us) (chunks_in (content f) ++ rest) → Q (before ++ us) f) → AllFrom Q before fs
+      pub each_along : (Q : List Frame → Frame → Type 0)
+          → ((us : List Frame) (f : Frame) (rest : List Chunk) → May us f → IsAt us → AllFrom C (messages us) (chunks_in (content f) ++ rest)
+          → Q (before ++ us) f) → AllFrom Q before fs
       each_along Q one = subst (λ (t : List Frame). AllFrom Q t fs) (append-nil before) (along C Q one [] fs first may from_first)
 
       -- and what they tell
       pub all_told : {E : Type 0} (tells told : List Frame → Frame → List E)
-          → ((us : List Frame) (f : Frame) (rest : List Chunk) → May us f → IsAt us → AllFrom C (messages us) (chunks_in (content f) ++ rest) → tells (before ++ us) f ≡ told us f) → each_from tells before fs ≡ each_from told [] fs
+          → ((us : List Frame) (f : Frame) (rest : List Chunk) → May us f → IsAt us → AllFrom C (messages us) (chunks_in (content f) ++ rest)
+          → tells (before ++ us) f ≡ told us f) → each_from tells before fs ≡ each_from told [] fs
       all_told tells told one = ap (λ (t : List Frame). each_from tells t fs) (sym (append-nil before)) ∙ told_along C tells told one [] fs first may from_first

@@ -32,23 +32,27 @@ in_phase limits (Greeted a) before h = (λ t. ap (λ (b : Received). b.openings)
 in_phase limits (Open r) before h = (λ t. absurd t, λ e. none_issued before.openings r.issued h.issued_is h.some e)
 in_phase limits Done before h = absurd h
 
-pub server_open : (x : ServerChannel) (octets : List ℕ) (frames : List Frame) (rest : List ℕ) → server.ChannelStands x octets frames rest → server.IsWithoutToken x ↔ ((received frames).openings ≡ [])
+pub server_open : (x : ServerChannel) (octets : List ℕ) (frames : List Frame) (rest : List ℕ) → server.ChannelStands x octets frames rest
+    → server.IsWithoutToken x ↔ ((received frames).openings ≡ [])
 server_open x octets frames rest s = in_phase (server.limits_of x) x.end.phase (received frames) s.phase_is
 
 pub server_done : (x : ServerChannel) → server.IsDone x → server.IsWithoutToken x
 server_done x d = subst server.HasNoToken (sym d.phase) tt
 
 -- where nothing was received but a Hello, no token was used
-none_used : (limits : Limits) (p : Phase) (before : Received) (token : ℕ) → server.InServerPhase limits p before → server.HasNoToken p → before.used ≡ Some token → ⊥
+none_used : (limits : Limits) (p : Phase) (before : Received) (token : ℕ) → server.InServerPhase limits p before → server.HasNoToken p
+    → before.used ≡ Some token → ⊥
 none_used limits Waiting before token h none used = let e = ap (λ (b : Received). b.used) h in absurd cc
 none_used limits (Greeted a) before token h none used = let e = ap (λ (b : Received). b.used) h.before_is in absurd cc
 none_used limits (Open r) before token h none used = none
 none_used limits Done before token h none used = h
 
-pub server_asked : (x : ServerChannel) (octets : List ℕ) (told : List Told) (id token : ℕ) (message : List ℕ) → server.GoesTelling x octets told (Asked id token message) → server.IsWithoutToken x → ⊥
+pub server_asked : (x : ServerChannel) (octets : List ℕ) (told : List Told) (id token : ℕ) (message : List ℕ)
+    → server.GoesTelling x octets told (Asked id token message) → server.IsWithoutToken x → ⊥
 server_asked x octets told id token message g none =
     let chunk = asks_by (server.limits_of x) (received g.frames) (content g.frame) id token message g.tells in
-    let now : received (g.frames ++ g.frame ∷ []) ≡ after (received g.frames) (Sends chunk.0) = received-push g.frames g.frame ∙ ap (after (received g.frames)) chunk.1 in
+    let now : received (g.frames ++ g.frame ∷ []) ≡ after (received g.frames) (Sends chunk.0) = received-push g.frames g.frame
+    ∙ ap (after (received g.frames)) chunk.1 in
     none_used (server.limits_of x) x.end.phase (received (g.frames ++ g.frame ∷ [])) chunk.0.token g.stands.phase_is none (ap (λ (b : Received). b.used) now)
 
 -- ---- at a client
@@ -57,14 +61,16 @@ no_channel : (rs : List OpenResponse) (n : ℕ) → channel_in rs ≡ Some n →
 no_channel [] n e none = absurd cc
 no_channel (r ∷ rs) n e none = absurd cc
 
-client_phase : (limits : Limits) (p : ClientPhase) (before : Received) (asked : List Asking) → InPhase limits p before asked → IsNotOpen p ↔ (responses before.openings ≡ [])
+client_phase : (limits : Limits) (p : ClientPhase) (before : Received) (asked : List Asking) → InPhase limits p before asked
+    → IsNotOpen p ↔ (responses before.openings ≡ [])
 unfolding responses
 client_phase limits asking.Waiting before asked h = (λ t. ap (λ (b : Received). responses b.openings) h.0, λ e. tt)
 client_phase limits (asking.Agreed a) before asked h = (λ t. ap (λ (b : Received). responses b.openings) h.0, λ e. tt)
 client_phase limits (asking.Open t) before asked h = (λ n. absurd n, λ e. no_channel (responses before.openings) t.channel h.channel_is e)
 client_phase limits asking.Done before asked h = absurd h
 
-pub client_open : (x : ClientChannel) (asks : List Placed) (octets : List ℕ) (frames : List Frame) (rest : List ℕ) → ClientStands x asks octets frames rest → IsNotOpen (phase_of x) ↔ (responses (received frames).openings ≡ [])
+pub client_open : (x : ClientChannel) (asks : List Placed) (octets : List ℕ) (frames : List Frame) (rest : List ℕ) → ClientStands x asks octets frames rest
+    → IsNotOpen (phase_of x) ↔ (responses (received frames).openings ≡ [])
 client_open x asks octets frames rest s = client_phase (client_limits x) (phase_of x) (received frames) (asked_in asks) s.phase_is
 
 pub client_done : (x : ClientChannel) → IsClientDone x → IsNotOpen (phase_of x)

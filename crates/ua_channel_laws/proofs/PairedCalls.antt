@@ -1,5 +1,6 @@
 -- That each call of a client is answered once.
-use Rattle.std.proofs.Common.{◌≡◌, ℕ, List, [], ◌∷◌, ◌++◌, Bool, true, false, cond, not, ◌&&◌, ◌||◌, eqb, ltb, map, Option, Some, None, refl, sym, ◌∙◌, ap, subst, append-nil, append_assoc}
+use Rattle.std.proofs.Common.{◌≡◌, ℕ, List, [], ◌∷◌, ◌++◌, Bool, true, false, cond, not, ◌&&◌, ◌||◌, eqb, ltb}
+use Rattle.std.proofs.Common.{map, Option, Some, None, refl, sym, ◌∙◌, ap, subst, append-nil, append_assoc}
 use Rattle.std.specs.List.{AllByRecursion, filter}
 use Rattle.std.proofs.lemmas.Bool.{or_parts, eqb-true, not-false, not-true, or_right}
 use Rattle.std.proofs.lemmas.List.Elements.{filter-append}
@@ -60,7 +61,8 @@ frame_told b (Sends c) = items_told (given b.messages c)
 frame_told b (Closes c) = refl
 frame_told b Nothing = refl
 
-pub tells_delivered : (limits : Limits) (asks : List Placed) (frames : List Frame) → told_of_calls (events (client_rules limits asks) frames) ≡ map told_item (delivered (received frames).messages)
+pub tells_delivered : (limits : Limits) (asks : List Placed) (frames : List Frame) → told_of_calls (events (client_rules limits asks) frames)
+    ≡ map told_item (delivered (received frames).messages)
 unfolding each_after
 tells_delivered limits asks frames = found_all told_of_calls told_item client_tells refl (filter-append is_of_call) frame_told frames
 
@@ -70,11 +72,13 @@ one_of : (b : Bool) (x : Item) → cond b (x ∷ []) [] ≡ listed (first (cond 
 one_of true x = refl
 one_of false x = refl
 
-aborted_once : (id r : ℕ) (o : Option (StatusCode × Option (List ℕ))) → filter (is_item_of id) (aborted r o) ≡ listed (first (filter (is_item_of id) (aborted r o)))
+aborted_once : (id r : ℕ) (o : Option (StatusCode × Option (List ℕ)))
+    → filter (is_item_of id) (aborted r o) ≡ listed (first (filter (is_item_of id) (aborted r o)))
 aborted_once id r None = refl
 aborted_once id r (Some a) = one_of (eqb r id) (Aborted r a.0 a.1)
 
-given_once : (id : ℕ) (f : Flag) (cs : List Chunk) (c : Chunk) → filter (is_item_of id) (given_by f cs c) ≡ listed (first (filter (is_item_of id) (given_by f cs c)))
+given_once : (id : ℕ) (f : Flag) (cs : List Chunk) (c : Chunk)
+    → filter (is_item_of id) (given_by f cs c) ≡ listed (first (filter (is_item_of id) (given_by f cs c)))
 given_once id F cs c = one_of (eqb c.request id) (Whole c.request (joined (gathered cs c)))
 given_once id C cs c = refl
 given_once id A cs c = aborted_once id c.request (abort_of c.body)
@@ -92,7 +96,8 @@ left_false : (b : Bool) → (b && true) ≡ false → b ≡ false
 left_false true e = absurd cc
 left_false false e = refl
 
-given_none : (id : ℕ) (f : Flag) (cs : List Chunk) (c : Chunk) → (eqb c.request id && not (is_more_flag f)) ≡ false → filter (is_item_of id) (given_by f cs c) ≡ []
+given_none : (id : ℕ) (f : Flag) (cs : List Chunk) (c : Chunk) → (eqb c.request id && not (is_more_flag f)) ≡ false
+    → filter (is_item_of id) (given_by f cs c) ≡ []
 given_none id F cs c e = given_other id F cs c (left_false (eqb c.request id) e)
 given_none id C cs c e = refl
 given_none id A cs c e = given_other id A cs c (left_false (eqb c.request id) e)
@@ -123,14 +128,16 @@ or_more : (a b c : Bool) → (b ≡ true → c ≡ true) → (a || b) ≡ true �
 or_more true b c h e = refl
 or_more false b c h e = h e
 
-asked_step : (kept : Bool) (a : Asking) (id : ℕ) (some all : List Asking) → (is_in id (calls some) ≡ true → is_in id (calls all) ≡ true) → is_in id (calls (cond kept (a ∷ some) some)) ≡ true → is_in id (calls (a ∷ all)) ≡ true
+asked_step : (kept : Bool) (a : Asking) (id : ℕ) (some all : List Asking) → (is_in id (calls some) ≡ true → is_in id (calls all) ≡ true)
+    → is_in id (calls (cond kept (a ∷ some) some)) ≡ true → is_in id (calls (a ∷ all)) ≡ true
 unfolding calls
 asked_step true (Call j) id some all h e = or_more (eqb j id) (is_in id (calls some)) (is_in id (calls all)) h e
 asked_step true (Renewal j) id some all h e = h e
 asked_step false (Call j) id some all h e = or_right (eqb j id) (is_in id (calls all)) (h e)
 asked_step false (Renewal j) id some all h e = h e
 
-map_cond : (kept : Bool) (a : Placed) (some : List Placed) → map (λ (b : Placed). b.1) (cond kept (a ∷ some) some) ≡ cond kept (a.1 ∷ map (λ (b : Placed). b.1) some) (map (λ (b : Placed). b.1) some)
+map_cond : (kept : Bool) (a : Placed) (some : List Placed) → map (λ (b : Placed). b.1) (cond kept (a ∷ some) some)
+    ≡ cond kept (a.1 ∷ map (λ (b : Placed). b.1) some) (map (λ (b : Placed). b.1) some)
 map_cond true a some = refl
 map_cond false a some = refl
 
@@ -141,7 +148,8 @@ asked_within place id (a ∷ asks) e =
     asked_step (ltb a.0 place) a.1 id (asked_before place asks) (asked_in asks) (asked_within place id asks)
     (ap (λ (xs : List Asking). is_in id (calls xs)) (sym (map_cond (ltb a.0 place) a (filter (λ (b : Placed). ltb b.0 place) asks))) ∙ e)
 
-pending_within : (place id : ℕ) (cs : List Chunk) (asks : List Placed) → is_in id (pending_calls cs (asked_before place asks)) ≡ true → is_in id (calls (asked_in asks)) ≡ true
+pending_within : (place id : ℕ) (cs : List Chunk) (asks : List Placed) → is_in id (pending_calls cs (asked_before place asks)) ≡ true
+    → is_in id (calls (asked_in asks)) ≡ true
 unfolding pending_calls
 pending_within place id cs asks e = asked_within place id asks (within_filter (λ (j : ℕ). not (is_finished cs j)) id (calls (asked_before place asks)) e)
 
@@ -154,12 +162,14 @@ record Answers (asks : List Placed) (cs : List Chunk) : Type 0 where
 once_same : (xs ys : List Item) → ys ≡ xs → xs ≡ listed (first xs) → ys ≡ listed (first ys)
 once_same xs ys e h = e ∙ (h ∙ ap (λ (zs : List Item). listed (first zs)) (sym e))
 
-module _ (asks : List Placed) (place : ℕ) (cs : List Chunk) (c : Chunk) (answers : Answers asks cs) (pending : is_in c.request (pending_calls cs (asked_before place asks)) ≡ true) where
+module _ (asks : List Placed) (place : ℕ) (cs : List Chunk) (c : Chunk) (answers : Answers asks cs)
+    (pending : is_in c.request (pending_calls cs (asked_before place asks)) ≡ true) where
   own : (id : ℕ) → eqb c.request id ≡ true → delivered_under id (cs ++ c ∷ []) ≡ filter (is_item_of id) (given cs c)
   own id same =
       under_push id cs c
       ∙ ap (λ (is : List Item). is ++ filter (is_item_of id) (given cs c))
-      (ap (λ (n : ℕ). delivered_under n cs) (sym (eqb-true c.request id same)) ∙ unfinished_none c.request cs (still_pending cs (asked_before place asks) c.request pending))
+      (ap (λ (n : ℕ). delivered_under n cs) (sym (eqb-true c.request id same))
+      ∙ unfinished_none c.request cs (still_pending cs (asked_before place asks) c.request pending))
 
   others : (id : ℕ) → eqb c.request id ≡ false → delivered_under id (cs ++ c ∷ []) ≡ delivered_under id cs
   others id other =
@@ -193,12 +203,14 @@ none_holds [] e = tt
 none_holds ((a, true) ∷ rs) e = absurd cc
 none_holds ((a, false) ∷ rs) e = (refl, none_holds rs e)
 
-asked_for : (limits : Limits) (before : Received) (asked : List Asking) (c : Chunk) → first_reason (client_reasons limits before asked (Sends c)) ≡ None → is_in c.request (pending_calls before.messages asked) ≡ true
+asked_for : (limits : Limits) (before : Received) (asked : List Asking) (c : Chunk) → first_reason (client_reasons limits before asked (Sends c)) ≡ None
+    → is_in c.request (pending_calls before.messages asked) ≡ true
 asked_for limits before asked c e =
     let all = none_holds (client_reasons limits before asked (Sends c)) e in
     not-false (is_in c.request (pending_calls before.messages asked)) all.1.1.1.1.1.1.1.1.1.1.1.1.0
 
-frame_answers : (limits : Limits) (asks : List Placed) (place : ℕ) (before : Received) (c : Content) → first_reason (client_reasons limits before (asked_before place asks) c) ≡ None → Answers asks before.messages → Answers asks (after before c).messages
+frame_answers : (limits : Limits) (asks : List Placed) (place : ℕ) (before : Received) (c : Content)
+    → first_reason (client_reasons limits before (asked_before place asks) c) ≡ None → Answers asks before.messages → Answers asks (after before c).messages
 frame_answers limits asks place before (Greets hello) e h = h
 frame_answers limits asks place before (Acks ack) e h = h
 frame_answers limits asks place before (Fails error) e h = h
@@ -207,12 +219,15 @@ frame_answers limits asks place before (Sends c) e h = chunk_answers asks place 
 frame_answers limits asks place before (Closes c) e h = h
 frame_answers limits asks place before Nothing e h = h
 
-answers_from : (limits : Limits) (asks : List Placed) (start fs : List Frame) → Answers asks (received start).messages → AllFrom (Fits (client_rules limits asks)) start fs → Answers asks (received (start ++ fs)).messages
+answers_from : (limits : Limits) (asks : List Placed) (start fs : List Frame) → Answers asks (received start).messages
+    → AllFrom (Fits (client_rules limits asks)) start fs → Answers asks (received (start ++ fs)).messages
 answers_from limits asks start [] h fits = subst (λ (xs : List Frame). Answers asks (received xs).messages) (sym (append-nil start)) h
 answers_from limits asks start (f ∷ fs) h fits =
     let next : Answers asks (received (start ++ f ∷ [])).messages =
-    subst (λ (b : Received). Answers asks b.messages) (sym (received-push start f)) (frame_answers limits asks (end_of start f) (received start) (content f) fits.0.accepted h) in
-    subst (λ (xs : List Frame). Answers asks (received xs).messages) (append_assoc start (f ∷ []) fs) (answers_from limits asks (start ++ f ∷ []) fs next fits.1)
+    subst (λ (b : Received). Answers asks b.messages) (sym (received-push start f))
+    (frame_answers limits asks (end_of start f) (received start) (content f) fits.0.accepted h) in
+    subst (λ (xs : List Frame). Answers asks (received xs).messages) (append_assoc start (f ∷ []) fs)
+    (answers_from limits asks (start ++ f ∷ []) fs next fits.1)
 
 nothing_answers : (asks : List Placed) → Answers asks (received []).messages
 nothing_answers asks =
@@ -222,11 +237,13 @@ nothing_answers asks =
       no_other = λ id not_asked. none id;
     }
 
-all_answers : (limits : Limits) (asks : List Placed) (frames : List Frame) → AllAfter (Fits (client_rules limits asks)) frames → Answers asks (received frames).messages
+all_answers : (limits : Limits) (asks : List Placed) (frames : List Frame) → AllAfter (Fits (client_rules limits asks)) frames
+    → Answers asks (received frames).messages
 unfolding AllAfter
 all_answers limits asks frames fits = answers_from limits asks [] frames (nothing_answers asks) fits
 
-each_paired : (cs : List Chunk) (ids : List ℕ) → ((id : ℕ) → delivered_under id cs ≡ listed (first (delivered_under id cs))) → map (with_all cs) ids ≡ map as_list (map (with_first cs) ids)
+each_paired : (cs : List Chunk) (ids : List ℕ) → ((id : ℕ) → delivered_under id cs ≡ listed (first (delivered_under id cs)))
+    → map (with_all cs) ids ≡ map as_list (map (with_first cs) ids)
 each_paired cs [] once = refl
 each_paired cs (id ∷ ids) once =
     ap (λ (ps : List (ℕ × List Item)). with_all cs id ∷ ps) (each_paired cs ids once)
@@ -240,5 +257,6 @@ pub pairs_once : (limits : Limits) (asks : List Placed) (frames : List Frame) �
 unfolding paired
 pairs_once limits asks frames fits = each_paired (received frames).messages (calls (asked_in asks)) (all_answers limits asks frames fits).once
 
-pub pairs_no_other : (limits : Limits) (asks : List Placed) (frames : List Frame) (id : ℕ) → AllAfter (Fits (client_rules limits asks)) frames → is_in id (calls (asked_in asks)) ≡ false → delivered_under id (received frames).messages ≡ []
+pub pairs_no_other : (limits : Limits) (asks : List Placed) (frames : List Frame) (id : ℕ) → AllAfter (Fits (client_rules limits asks)) frames
+    → is_in id (calls (asked_in asks)) ≡ false → delivered_under id (received frames).messages ≡ []
 pairs_no_other limits asks frames id fits not_asked = (all_answers limits asks frames fits).no_other id not_asked

@@ -1,5 +1,6 @@
 -- That a server reads merged messages with renewals among them from where it stands, what they tell it, and where it stands behind them.
-use Rattle.std.proofs.Common.{◌≡◌, ℕ, ◌+◌, ◌<◌, ◌≤◌, ◌^◌, true, false, leb, List, [], ◌∷◌, ◌++◌, Option, Some, None, length, map, refl, sym, ◌∙◌, ap, subst, arith, append-nil, append_assoc, length-append}
+use Rattle.std.proofs.Common.{◌≡◌, ℕ, ◌+◌, ◌<◌, ◌≤◌, ◌^◌, true, false, leb, List, [], ◌∷◌, ◌++◌, Option, Some, None}
+use Rattle.std.proofs.Common.{length, map, refl, sym, ◌∙◌, ap, subst, arith, append-nil, append_assoc, length-append}
 use Rattle.std.specs.List.{filter, range_with_len}
 use Rattle.std.proofs.lemmas.Bool.{and_from, eq-eqb, eqb-false, le-leb}
 use Rattle.std.proofs.lemmas.List.Concat.{flat_map-append}
@@ -21,7 +22,8 @@ use Rattle.ua_chunk.specs.Sequence.{may_follow}
 use Rattle.ua_channel.specs.Content.{Content, Opening, content}
 use Rattle.ua_channel.specs.Content.Content.{Opens, Sends}
 use Rattle.ua_channel_laws.specs.Conversation.{IsGoodRequest, IsOrderOpen, MayCarry}
-use Rattle.ua_channel_laws.specs.Merges.{CarriesEither, IsChunkHere, MayComeNext, ServerMerge, ended_by, is_message_under, latest_or, told_by_merged, told_of_merge, token_in, tokens_told, with_merged}
+use Rattle.ua_channel_laws.specs.Merges.{CarriesEither, IsChunkHere, MayComeNext, ServerMerge, ended_by, is_message_under}
+use Rattle.ua_channel_laws.specs.Merges.{latest_or, told_by_merged, told_of_merge, token_in, tokens_told, with_merged}
 use Rattle.ua_channel.specs.Received.{Received, after, chunks_in, messages, numbers, openings, openings_in, received, tokens_in, used_tokens}
 use Rattle.ua_channel_laws.specs.ServerMessages.{message_in, message_of, messages_in}
 use Rattle.ua_channel_laws.specs.ServerReads.{AtServer, ServerReads}
@@ -30,7 +32,8 @@ use Rattle.ua_channel.specs.ServerRules.{receive_size, server_rules}
 use Rattle.ua_channel.specs.ServerTold.{Told, issued, opened_by, request_behind, request_of, server_tells, told_under}
 use Rattle.ua_channel.proofs.Askings.{range-append}
 use Rattle.ua_channel_laws.proofs.MergedChunks.{Comes, EachEnds, closed_fresh, comes, given_fresh, outcomes_once, takes_fresh, told_new}
-use Rattle.ua_channel_laws.proofs.MergedFrames.{all_told, at_end, each_along, goes_follows, goes_ordered, goes_small, latest_or-append, next_follows, of_either, openings-more, sized}
+use Rattle.ua_channel_laws.proofs.MergedFrames.{all_told, at_end, each_along, goes_follows, goes_ordered, goes_small}
+use Rattle.ua_channel_laws.proofs.MergedFrames.{latest_or-append, next_follows, of_either, openings-more, sized}
 use Rattle.ua_channel_laws.proofs.ReadOn.{events_on, run_on}
 use Rattle.ua_channel_laws.proofs.ServerConversing.{taken_open}
 use Rattle.ua_channel_laws.proofs.ServerMessages.{messages_delivered}
@@ -42,7 +45,8 @@ no_tokens token [] = refl
 no_tokens token (Whole id octets ∷ items) = no_tokens token items
 no_tokens token (Aborted id code reason ∷ items) = no_tokens token items
 
-token_opened : (token : ℕ) (n : Option (ℕ × ℕ)) (body : List ℕ) (r : OpenRequest) → request_behind n body ≡ Some r → tokens_told (opened_by token n (request_behind n body)) ≡ token ∷ []
+token_opened : (token : ℕ) (n : Option (ℕ × ℕ)) (body : List ℕ) (r : OpenRequest) → request_behind n body ≡ Some r
+    → tokens_told (opened_by token n (request_behind n body)) ≡ token ∷ []
 token_opened token None body r e = absurd cc
 token_opened token (Some m) body r e = ap (λ (q : Option OpenRequest). tokens_told (opened_by token (Some m) q)) e
 
@@ -83,7 +87,8 @@ module _ (limits : Limits) (channel : ℕ) (at : AtServer) (base : List Chunk) w
       → ((c : Chunk) → IsChunkHere channel (with_merged at us at.next) c → P (Sends c)) → (k : Content) → Carries us k → P k
   by_either us P h g k may = of_either (IsGoodRequest channel (with_merged at us at.next).issued) (IsChunkHere channel (with_merged at us at.next)) P h g k may
 
-  opened : (b : Received) (ts : List ℕ) (os : List Opening) (cs : List Chunk) (o : Opening) → IsGoodRequest channel (at.issued + length os) o → Here b ts os cs → Here (after b (Opens o)) (ts ++ []) (os ++ o ∷ []) (cs ++ [])
+  opened : (b : Received) (ts : List ℕ) (os : List Opening) (cs : List Chunk) (o : Opening) → IsGoodRequest channel (at.issued + length os) o → Here b ts os cs
+      → Here (after b (Opens o)) (ts ++ []) (os ++ o ∷ []) (cs ++ [])
   opened b ts os cs o g p =
       let left : at.issued + length os ≡ 4294967295 → ⊥ = eqb-false (at.issued + length os) 4294967295 g.left in
       let more : length (os ++ o ∷ []) ≡ length os + 1 = length-append os (o ∷ []) in
@@ -98,7 +103,8 @@ module _ (limits : Limits) (channel : ℕ) (at : AtServer) (base : List Chunk) w
         messages_are = p.messages_are;
       })
 
-  sent : (b : Received) (ts : List ℕ) (os : List Opening) (cs : List Chunk) (c : Chunk) → latest_or at.used ts ≤ c.token → Here b ts os cs → Here (after b (Sends c)) (ts ++ c.token ∷ []) (os ++ []) (cs ++ c ∷ [])
+  sent : (b : Received) (ts : List ℕ) (os : List Opening) (cs : List Chunk) (c : Chunk) → latest_or at.used ts ≤ c.token → Here b ts os cs
+      → Here (after b (Sends c)) (ts ++ c.token ∷ []) (os ++ []) (cs ++ c ∷ [])
   sent b ts os cs c taken p =
       rw (append-nil os)
       (record {
@@ -115,12 +121,14 @@ module _ (limits : Limits) (channel : ℕ) (at : AtServer) (base : List Chunk) w
       → Here (after b (content f)) (used_tokens us ++ tokens_in (content f)) (openings us ++ openings_in (content f)) (messages us ++ chunks_in (content f))
   step b us f may p =
       by_either us (λ (k : Content). Here (after b k) (used_tokens us ++ tokens_in k) (openings us ++ openings_in k) (messages us ++ chunks_in k))
-      (λ o g. opened b (used_tokens us) (openings us) (messages us) o g p) (λ c g. sent b (used_tokens us) (openings us) (messages us) c g.1.not_before p) (content f) may.1
+      (λ o g. opened b (used_tokens us) (openings us) (messages us) o g p) (λ c g. sent b (used_tokens us) (openings us) (messages us) c g.1.not_before p)
+      (content f) may.1
 
   order_from : (us fs : List Frame) → AllFrom May us fs → IsOrderOpen (map content fs)
   order_from us [] may = tt
   order_from us (f ∷ fs) may =
-      by_either us (λ (k : Content). IsOrderOpen (k ∷ map content fs)) (λ o g. order_from (us ++ f ∷ []) fs may.1) (λ c g. order_from (us ++ f ∷ []) fs may.1) (content f) may.0.1
+      by_either us (λ (k : Content). IsOrderOpen (k ∷ map content fs)) (λ o g. order_from (us ++ f ∷ []) fs may.1) (λ c g. order_from (us ++ f ∷ []) fs may.1)
+      (content f) may.0.1
 
   carried : (us : List Frame) (b : Received) (k : Content) → Carries us k → Here b (used_tokens us) (openings us) (messages us) → MayCarry channel b k
   carried us b k may p =
@@ -133,21 +141,26 @@ module _ (limits : Limits) (channel : ℕ) (at : AtServer) (base : List Chunk) w
             (le-leb c.token (issued b) (omega (arith, p.issued_is, g.1.issued)));
       }) k may
 
-  tells : (ms : List Sent) (none : open_ids base ≡ []) (us : List Frame) (b : Received) (rest : List Chunk) (k : Content) → Carries us k → Here b (used_tokens us) (openings us) (messages us)
+  tells : (ms : List Sent) (none : open_ids base ≡ []) (us : List Frame) (b : Received) (rest : List Chunk) (k : Content) → Carries us k
+      → Here b (used_tokens us) (openings us) (messages us)
       → EachEnds ms (messages us) (chunks_in k ++ rest) → server_tells limits b k ≡ told_by_merged ms (at.issued + length (openings us)) k
   tells ms none us b rest k may p =
-      by_either us (λ (d : Content). EachEnds ms (messages us) (chunks_in d ++ rest) → server_tells limits b d ≡ told_by_merged ms (at.issued + length (openings us)) d)
+      by_either us (λ (d : Content). EachEnds ms (messages us) (chunks_in d ++ rest)
+      → server_tells limits b d ≡ told_by_merged ms (at.issued + length (openings us)) d)
       (λ o g ends. ap (λ (n : ℕ). opened_by (n + 1) o.numbers (request_of o)) p.issued_is)
       (λ c g ends. ap (map (told_under c.token)) (ap (λ (cs : List Chunk). given cs c) p.messages_are ∙ (given_fresh base (messages us) c none ∙ ends.0))) k may
 
-  token_at : (ms : List Sent) (us : List Frame) (n : ℕ) (k : Content) → Carries us k → tokens_told (told_by_merged ms n k) ≡ range_with_len (n + 1) (length (openings_in k))
+  token_at : (ms : List Sent) (us : List Frame) (n : ℕ) (k : Content) → Carries us k
+      → tokens_told (told_by_merged ms n k) ≡ range_with_len (n + 1) (length (openings_in k))
   token_at ms us n k may =
-      by_either us (λ (d : Content). tokens_told (told_by_merged ms n d) ≡ range_with_len (n + 1) (length (openings_in d))) (λ o g. request_token channel (at.issued + length (openings us)) (n + 1) o g)
+      by_either us (λ (d : Content). tokens_told (told_by_merged ms n d) ≡ range_with_len (n + 1) (length (openings_in d)))
+      (λ o g. request_token channel (at.issued + length (openings us)) (n + 1) o g)
       (λ c g. no_tokens c.token (ended_by ms c)) k may
 
   -- each opening has one token more told
   tokens_from : (ms : List Sent) (us fs : List Frame) → AllFrom May us fs
-      → tokens_told (each_from (λ vs f. told_by_merged ms (at.issued + length (openings vs)) (content f)) us fs) ≡ range_with_len ((at.issued + length (openings us)) + 1) (length (openings fs))
+      → tokens_told (each_from (λ vs f. told_by_merged ms (at.issued + length (openings vs)) (content f)) us fs)
+      ≡ range_with_len ((at.issued + length (openings us)) + 1) (length (openings fs))
   unfolding openings
   tokens_from ms us [] may = refl
   tokens_from ms us (f ∷ fs) may =
@@ -169,7 +182,8 @@ unfolding openings
 no_openings n = omega arith
 
 module _ (limits : Limits) (channel : ℕ) (octets : List ℕ) (told : List Told) (stood : AtServer) (start : ℕ) (ms : List Sent) (more : List Frame) (next : ℕ)
-    (r : ServerReads limits channel octets told stood) (n : MayComeNext (server_rules limits channel) octets start) (m : ServerMerge limits channel (record stood { next = start }) ms more next) where
+    (r : ServerReads limits channel octets told stood) (n : MayComeNext (server_rules limits channel) octets start)
+    (m : ServerMerge limits channel (record stood { next = start }) ms more next) where
   abbrev at : AtServer
   at = record stood { next = start }
 
@@ -201,19 +215,24 @@ module _ (limits : Limits) (channel : ℕ) (octets : List ℕ) (told : List Told
 
   fit : AllFrom (Fits (server_rules limits channel)) r.frames more
   fit =
-      taken_open limits channel at.hello r.frames more r.run.ends.0 r.hello_is (omega (arith, m.is_open, r.issued_is)) (order_from limits channel at base [] more may) m.framed
-      (each_along r.frames (Place at base) (May limits channel at base) (step limits channel at base) more first may (λ us c. given us c ≡ ended_by ms c) merge.each
+      taken_open limits channel at.hello r.frames more r.run.ends.0 r.hello_is (omega (arith, m.is_open, r.issued_is))
+      (order_from limits channel at base [] more may) m.framed
+      (each_along r.frames (Place at base) (May limits channel at base) (step limits channel at base) more first may (λ us c. given us c ≡ ended_by ms c)
+      merge.each
       (λ us f. frame_size f ≤ receive_size limits (received us).hello)
       (λ us f rest can p ends. subst (λ (o : Option Hello). frame_size f ≤ receive_size limits o) (sym p.hello_is) can.0))
-      (each_along r.frames (Place at base) (May limits channel at base) (step limits channel at base) more first may (λ us c. given us c ≡ ended_by ms c) merge.each
-      (λ us f. MayCarry channel (received us) (content f)) (λ us f rest can p ends. carried limits channel at base us (received (r.frames ++ us)) (content f) can.1 p))
+      (each_along r.frames (Place at base) (May limits channel at base) (step limits channel at base) more first may (λ us c. given us c ≡ ended_by ms c)
+      merge.each
+      (λ us f. MayCarry channel (received us) (content f))
+      (λ us f rest can p ends. carried limits channel at base us (received (r.frames ++ us)) (content f) can.1 p))
       (goes_ordered (received r.frames).last start next (numbers more) follows m.numbered)
       (subst (λ (us : List Chunk). TakesMessages limits.max_message_size limits.max_chunk_count us (messages more)) (append-nil base)
       (takes_fresh limits.max_message_size limits.max_chunk_count base [] (messages more) r.none_open merge.taken))
 
   told_here : each_from (server_rules limits channel).tells r.frames more ≡ told_of_merge ms at.issued more
   told_here =
-      all_told r.frames (Place at base) (May limits channel at base) (step limits channel at base) more first may (λ us c. given us c ≡ ended_by ms c) merge.each (server_rules limits channel).tells
+      all_told r.frames (Place at base) (May limits channel at base) (step limits channel at base) more first may (λ us c. given us c ≡ ended_by ms c)
+      merge.each (server_rules limits channel).tells
       (λ us f. told_by_merged ms (at.issued + length (openings us)) (content f))
       (λ us f rest can p ends. tells limits channel at base ms r.none_open us (received (r.frames ++ us)) rest (content f) can.1 p ends)
 
@@ -241,12 +260,15 @@ module _ (limits : Limits) (channel : ℕ) (octets : List ℕ) (told : List Told
 
   pub reads_messages : messages_in (told_of_merge ms at.issued more) ≡ map message_of (outcomes ms (messages more))
   reads_messages =
-      told_new messages_in message_of told (told_of_merge ms at.issued more) base (messages more) (outcomes ms (messages more)) (flat_map-append message_in told (told_of_merge ms at.issued more)) r.none_open merge.all
+      told_new messages_in message_of told (told_of_merge ms at.issued more) base (messages more) (outcomes ms (messages more))
+      (flat_map-append message_in told (told_of_merge ms at.issued more)) r.none_open merge.all
       (ap messages_in (sym r.told_is) ∙ messages_delivered limits channel r.frames)
-      (ap messages_in (sym tells_all) ∙ (messages_delivered limits channel (r.frames ++ more) ∙ ap (λ (cs : List Chunk). map message_of (delivered cs)) there.messages_are))
+      (ap messages_in (sym tells_all)
+      ∙ (messages_delivered limits channel (r.frames ++ more) ∙ ap (λ (cs : List Chunk). map message_of (delivered cs)) there.messages_are))
 
   pub reads_once : (id : ℕ) → filter (is_message_under id) (messages_in (told_of_merge ms at.issued more)) ≡ map message_of (outcome_under (sent_under id ms))
-  reads_once id = ap (filter (is_message_under id)) reads_messages ∙ outcomes_once limits ms (messages more) m.merged message_of (is_message_under id) id (message_names id)
+  reads_once id = ap (filter (is_message_under id)) reads_messages ∙ outcomes_once limits ms (messages more) m.merged message_of (is_message_under id) id
+      (message_names id)
 
   pub reads_tokens : tokens_told (told_of_merge ms at.issued more) ≡ range_with_len (at.issued + 1) (length (openings more))
   reads_tokens = tokens_from limits channel at base ms [] more may ∙ ap (λ (n : ℕ). range_with_len (n + 1) (length (openings more))) (no_openings at.issued)

@@ -40,6 +40,7 @@ message_told limits b (Sends c) = items_in c.token (given b.messages c)
 message_told limits b (Closes c) = refl
 message_told limits b Nothing = refl
 
-pub messages_delivered : (limits : Limits) (channel : ℕ) (frames : List Frame) → messages_in (events (server_rules limits channel) frames) ≡ map message_of (delivered (received frames).messages)
+pub messages_delivered : (limits : Limits) (channel : ℕ) (frames : List Frame) → messages_in (events (server_rules limits channel) frames)
+    ≡ map message_of (delivered (received frames).messages)
 unfolding each_after
 messages_delivered limits channel frames = found_all messages_in message_of (server_tells limits) refl (flat_map-append message_in) (message_told limits) frames

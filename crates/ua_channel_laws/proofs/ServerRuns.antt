@@ -1,5 +1,6 @@
 -- That a server stands as its laws say it behind any good frames, where its channel is open and no message is unfinished.
-use Rattle.std.proofs.Common.{◌≡◌, ℕ, ◌+◌, ◌<◌, ◌≤◌, ◌^◌, Bool, true, false, IsTrue, ◌&&◌, ◌||◌, eqb, leb, ltb, List, [], ◌∷◌, ◌++◌, Option, Some, None, length, refl, sym, ◌∙◌, ap, subst, arith, append-nil, append_assoc, length-append}
+use Rattle.std.proofs.Common.{◌≡◌, ℕ, ◌+◌, ◌<◌, ◌≤◌, ◌^◌, Bool, true, false, IsTrue, ◌&&◌, ◌||◌, eqb, leb, ltb, List, [], ◌∷◌, ◌++◌}
+use Rattle.std.proofs.Common.{Option, Some, None, length, refl, sym, ◌∙◌, ap, subst, arith, append-nil, append_assoc, length-append}
 use Rattle.std.proofs.lemmas.Bool.{and_from, and_parts, eq-eqb, eqb-false, leb-false, leb-true, lt-ltb, ltb-false, or_left, or_right}
 use Rattle.ua_frame.specs.After.{AllAfter, AllFrom}
 use Rattle.ua_frame.specs.Hello.{hello_in}
@@ -58,7 +59,8 @@ module _ (channel : ℕ) (b : Received) (known : Known b) where
 
   greeted : (body : List ℕ) → IsGoodHello (hello_in body) → Known (after b (Greets (hello_in body)))
   greeted body g = record {
-    large = λ h e. subst (λ (x : Hello). 8192 ≤ x.send_buffer_size) (said_is (hello_in body) g h e) (ltb-false g.said.send_buffer_size 8192 (second_false (ltb g.said.receive_buffer_size 8192) (ltb g.said.send_buffer_size 8192) g.sizes));
+    large = λ h e. subst (λ (x : Hello). 8192 ≤ x.send_buffer_size) (said_is (hello_in body) g h e)
+        (ltb-false g.said.send_buffer_size 8192 (second_false (ltb g.said.receive_buffer_size 8192) (ltb g.said.send_buffer_size 8192) g.sizes));
     sized = λ h e. subst (λ (x : Hello). x.send_buffer_size < 2 ^ 32) (said_is (hello_in body) g h e) (small_read body g.said g.reads);
     few_issued = known.few_issued;
     some_used = known.some_used;
@@ -94,7 +96,12 @@ module _ (channel : ℕ) (b : Received) (known : Known b) where
 nothing_known : Known (received [])
 nothing_known =
     rw received-nil
-    (record { large = λ h e. let never : None ≡ Some h = e in absurd cc; sized = λ h e. let never : None ≡ Some h = e in absurd cc; few_issued = omega arith; some_used = omega arith })
+    (record {
+      large = λ h e. let never : None ≡ Some h = e in absurd cc;
+      sized = λ h e. let never : None ≡ Some h = e in absurd cc;
+      few_issued = omega arith;
+      some_used = omega arith;
+    })
 
 module _ (limits : Limits) (channel : ℕ) where
   known_next : (start : List Frame) (f : Frame) → Known (received start) → MayCarry channel (received start) (content f) → Known (received (start ++ f ∷ []))
@@ -102,7 +109,8 @@ module _ (limits : Limits) (channel : ℕ) where
       subst Known (sym (received-push start f ∙ ap (after (received start)) (content_kind f)))
       (known_more channel (received start) known f f.kind (subst (MayCarry channel (received start)) (content_kind f) may))
 
-  all_from : (start fs : List Frame) → IsPlaced (received start) → Known (received start) → AllFrom (Fits (server_rules limits channel)) start fs → AllFrom (λ us f. MayCarry channel (received us) (content f)) start fs
+  all_from : (start fs : List Frame) → IsPlaced (received start) → Known (received start) → AllFrom (Fits (server_rules limits channel)) start fs
+      → AllFrom (λ us f. MayCarry channel (received us) (content f)) start fs
       → IsPlaced (received (start ++ fs)) × Known (received (start ++ fs))
   all_from start [] placed known fits may = subst (λ (us : List Frame). IsPlaced (received us) × Known (received us)) (sym (append-nil start)) (placed, known)
   all_from start (f ∷ fs) placed known fits may =
@@ -120,8 +128,17 @@ said_by None n placed some = absurd (omega (arith, placed refl, some))
 said_by (Some h) n placed some = (h, refl)
 
 next_by : (small : Bool) (s : ℕ) → leb s 4294966271 ≡ small → (next : ℕ) × (follows s next ≡ true) × (next ≤ 4294966272)
-next_by true s e = (s + 1, or_left (eqb (s + 1) (s + 1)) (ltb 4294966271 s && ltb (s + 1) 1024) (eq-eqb (s + 1) (s + 1) refl), omega (arith, leb-true s 4294966271 e))
-next_by false s e = (1, or_right (eqb 1 (s + 1)) (ltb 4294966271 s && ltb 1 1024) (and_from (ltb 4294966271 s) (ltb 1 1024) (lt-ltb 4294966271 s (omega (arith, leb-false s 4294966271 e))) refl), omega arith)
+next_by true s e = (
+  s + 1,
+  or_left (eqb (s + 1) (s + 1)) (ltb 4294966271 s && ltb (s + 1) 1024) (eq-eqb (s + 1) (s + 1) refl),
+  omega (arith, leb-true s 4294966271 e),
+)
+next_by false s e = (
+  1,
+  or_right (eqb 1 (s + 1)) (ltb 4294966271 s && ltb 1 1024)
+      (and_from (ltb 4294966271 s) (ltb 1 1024) (lt-ltb 4294966271 s (omega (arith, leb-false s 4294966271 e))) refl),
+  omega arith,
+)
 
 -- there is a number that may follow
 pub some_follows : (last : Option ℕ) → (next : ℕ) × IsTrue (may_follow last next) × (next ≤ 4294966272)
@@ -129,9 +146,11 @@ some_follows None = (1, refl, omega arith)
 some_follows (Some s) = next_by (leb s 4294966271) s refl
 
 -- a server stands so behind its frames
-pub reads_run : (limits : Limits) (channel : ℕ) (octets : List ℕ) (frames : List Frame) → Run (server_rules limits channel) octets frames [] Going → 0 < issued (received frames) → open_ids (received frames).messages ≡ []
+pub reads_run : (limits : Limits) (channel : ℕ) (octets : List ℕ) (frames : List Frame) → Run (server_rules limits channel) octets frames [] Going
+    → 0 < issued (received frames) → open_ids (received frames).messages ≡ []
     → (next : ℕ) → IsTrue (may_follow (received frames).last next) → next ≤ 4294966272
-    → (said : Hello) × ((received frames).hello ≡ Some said) × ServerReads limits channel octets (events (server_rules limits channel) frames) (record { hello = said; issued = issued (received frames); used = last_used (received frames); next = next })
+    → (said : Hello) × ((received frames).hello ≡ Some said) × ServerReads limits channel octets (events (server_rules limits channel) frames)
+    (record { hello = said; issued = issued (received frames); used = last_used (received frames); next = next })
 reads_run limits channel octets frames run some none next follows small =
     let all = all_known limits channel frames run.good in
     let h = said_by (received frames).hello (issued (received frames)) all.0 some in (

@@ -56,7 +56,8 @@ chunk_flag c = flag_known c.flag
 -- ---- an OPN
 
 -- where a gate lets one in
-pub lets_opn : (gate : Gate) (f : Frame) → IsTrue (lets_in gate Opn) → f.kind ≡ Opn → f.flag ≡ 70 → frame_size f ≤ gate.largest → 32 ≤ frame_size f → LetsIn gate f
+pub lets_opn : (gate : Gate) (f : Frame) → IsTrue (lets_in gate Opn) → f.kind ≡ Opn → f.flag ≡ 70 → frame_size f ≤ gate.largest → 32 ≤ frame_size f
+    → LetsIn gate f
 lets_opn gate f opens kind flag fits least = record {
   kind = ap (lets_in gate) kind ∙ opens;
   flag = ap (λ (k : Kind). has_flag k f.flag) kind ∙ ap (has_flag Opn) flag;
@@ -79,13 +80,18 @@ small_pieces k [] h = tt
 small_pieces k (p ∷ []) h = (h.1, tt)
 small_pieces k (p ∷ (q ∷ ps)) h = (omega (arith, h.0), small_pieces k (q ∷ ps) h.1)
 
-numbered_are : (lane : Lane) (s id : ℕ) (ps : List (List ℕ)) → s ≤ 4294966272 → AllByRecursion (λ (p : List ℕ). length p ≤ lane.room) ps → AllByRecursion (IsOf lane id) (numbered lane s id ps)
+numbered_are : (lane : Lane) (s id : ℕ) (ps : List (List ℕ)) → s ≤ 4294966272 → AllByRecursion (λ (p : List ℕ). length p ≤ lane.room) ps
+    → AllByRecursion (IsOf lane id) (numbered lane s id ps)
 numbered_are lane s id [] small fit = tt
-numbered_are lane s id (p ∷ ps) small fit =
-    (record { channel = refl; token = refl; sequence = small; request = refl; fits = fit.0 }, numbered_are lane (next_number s) id ps (next_small s small) fit.1)
+numbered_are lane s id (p ∷ ps) small fit = (
+  record { channel = refl; token = refl; sequence = small; request = refl; fits = fit.0 },
+  numbered_are lane (next_number s) id ps (next_small s small) fit.1,
+)
 
-pub chunks_are : (lane : Lane) (body : List ℕ) (s id : ℕ) → s ≤ 4294966272 → 0 < lane.room → 0 < length body → AllByRecursion (IsOf lane id) (numbered lane s id (pieces lane.room body))
-chunks_are lane body s id small pos some = numbered_are lane s id (pieces lane.room body) small (small_pieces lane.room (pieces lane.room body) (full_pieces lane.room body pos some))
+pub chunks_are : (lane : Lane) (body : List ℕ) (s id : ℕ) → s ≤ 4294966272 → 0 < lane.room → 0 < length body
+    → AllByRecursion (IsOf lane id) (numbered lane s id (pieces lane.room body))
+chunks_are lane body s id small pos some = numbered_are lane s id (pieces lane.room body) small
+    (small_pieces lane.room (pieces lane.room body) (full_pieces lane.room body pos some))
 
 pub after_small : (s : ℕ) (ps : List (List ℕ)) → s ≤ 4294966272 → number_after s ps ≤ 4294966272
 after_small s [] small = small
@@ -109,6 +115,8 @@ pub opening_carried : (channel number id : ℕ) (octets : List ℕ) → channel 
 unfolding opening_of
 opening_carried channel number id octets on small few =
     ap (opening_secured (opening_body channel number id octets))
-    (sound_policy_header.exact.complete (none_header channel) (policy_header.canonical (none_header channel)) (sequence_header.canonical (number, id) ++ octets) (sound_policy_header.canonical_encodes (none_header channel) (header_fits channel on)))
+    (sound_policy_header.exact.complete (none_header channel) (policy_header.canonical (none_header channel)) (sequence_header.canonical (number, id) ++ octets)
+    (sound_policy_header.canonical_encodes (none_header channel) (header_fits channel on)))
     ∙ ap (opening_numbered (none_header channel) (sequence_header.canonical (number, id) ++ octets))
-    (sound_sequence_header.exact.complete (number, id) (sequence_header.canonical (number, id)) octets (sound_sequence_header.canonical_encodes (number, id) (numbers_fit number id small few)))
+    (sound_sequence_header.exact.complete (number, id) (sequence_header.canonical (number, id)) octets
+    (sound_sequence_header.canonical_encodes (number, id) (numbers_fit number id small few)))

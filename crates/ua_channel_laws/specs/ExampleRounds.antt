@@ -31,7 +31,12 @@ least_limits = record {
 
 -- after the opening
 abbrev pub behind_opening : BothEnds
-behind_opening = record { server = with_token (greeted_at (hello_to least_limits None)); client = opened_at (ack_to (hello_to least_limits None) least_limits) 7 1 2; id = 2 }
+behind_opening =
+    record {
+      server = with_token (greeted_at (hello_to least_limits None));
+      client = opened_at (ack_to (hello_to least_limits None) least_limits) 7 1 2;
+      id = 2;
+    }
 
 -- calls 2 and 3 and a renewal, 4, of which none is answered; a call, 5, while the renewal is
 -- unanswered, and then the reply to 3 and the token for 4; a call, 6, and then a reply to 2 that

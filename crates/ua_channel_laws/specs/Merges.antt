@@ -109,7 +109,8 @@ pub record ServerMerge (limits : Limits) (channel : ℕ) (at : AtServer) (ms : L
   -- it carries what may come at its place, after the frames of the merge before it: an OPN that
   -- requests a renewal, or a chunk
   pub carries :
-      AllFrom (λ us f. CarriesEither (IsGoodRequest channel (with_merged at us at.next).issued) (IsChunkHere channel (with_merged at us at.next)) (content f)) [] more
+      AllFrom (λ us f. CarriesEither (IsGoodRequest channel (with_merged at us at.next).issued) (IsChunkHere channel (with_merged at us at.next)) (content f))
+      [] more
   -- all are numbered consecutively in the order in which they come
   pub numbered : NumbersGoOn at.next (numbers more) next
   pub merged : AreMerged limits ms (messages more)
@@ -168,7 +169,8 @@ MayComeDown here ids k =
 -- as a client with these limits takes them from this state; it has these operations before them,
 -- and further ones in the middle of them, each at a place that is counted from their beginning; and
 -- this number is next after them
-pub record ClientMerge (limits : Limits) (at : AtClient) (asked : List Asking) (later : List Placed) (ms : List Sent) (more : List Frame) (next : ℕ) : Type 0 where
+pub record ClientMerge (limits : Limits) (at : AtClient) (asked : List Asking) (later : List Placed) (ms : List Sent) (more : List Frame)
+    (next : ℕ) : Type 0 where
   -- the further operations have the next RequestIds, and places up to the end of the frames
   pub counted : map id_of (asked_in later) ≡ range_with_len (next_id asked) (length later)
   pub placed : AllByRecursion (λ (a : Placed). a.0 ≤ length (frames_octets more)) later
@@ -179,7 +181,8 @@ pub record ClientMerge (limits : Limits) (at : AtClient) (asked : List Asking) (
   -- operations before its end. A chunk is of the reply to a call that was unanswered before the
   -- frames, or was made among them before it
   pub carries :
-      AllFrom (λ us f. MayComeDown (with_merged_back at (asked_before (end_of us f) later) us at.next) (at.pending ++ calls (asked_before (end_of us f) later)) (content f))
+      AllFrom (λ us f. MayComeDown (with_merged_back at (asked_before (end_of us f) later) us at.next) (at.pending ++ calls (asked_before (end_of us f) later))
+      (content f))
       [] more
   -- all are numbered consecutively in the order in which they come
   pub numbered : NumbersGoOn at.next (numbers more) next

@@ -9,7 +9,8 @@ use Rattle.ua_channel.specs.Asks.{Placed, asked_in, next_id}
 use Rattle.ua_channel_laws.specs.ClientReads.{AtClient, ClientReads, lane_from}
 use Rattle.ua_channel.specs.ClientTold.{ClientTold}
 use Rattle.ua_channel_laws.specs.InStep.{AreInStep, lane_back}
-use Rattle.ua_channel_laws.specs.Outgoing.{AreWritable, Outgoing, asks_at, client_behind, issued_behind, outgoing_octets, outgoing_refusal, outgoing_told, server_behind}
+use Rattle.ua_channel_laws.specs.Outgoing.{AreWritable, Outgoing, asks_at, client_behind, issued_behind}
+use Rattle.ua_channel_laws.specs.Outgoing.{outgoing_octets, outgoing_refusal, outgoing_told, server_behind}
 use Rattle.ua_channel_laws.specs.ServerReads.{AtServer, ServerReads}
 use Rattle.ua_channel.specs.ServerTold.{Told}
 
@@ -28,7 +29,8 @@ pub record BothEnds : Type 0 where
 -- a server and a client with these limits, for this URL and on this channel, that are in step:
 -- these bytes were sent to the server and told it this; those were sent to the client with these
 -- operations, and told it that; and these are the states of both
-pub record AreConnected (server client : Limits) (url : Option (List ℕ)) (channel : ℕ) (up : List ℕ) (told : List Told) (asks : List Placed) (down : List ℕ) (heard : List ClientTold) (at : BothEnds) : Type 0 where
+pub record AreConnected (server client : Limits) (url : Option (List ℕ)) (channel : ℕ) (up : List ℕ) (told : List Told) (asks : List Placed) (down : List ℕ)
+    (heard : List ClientTold) (at : BothEnds) : Type 0 where
   pub server_reads : ServerReads server channel up told at.server
   pub client_reads : ClientReads client asks down heard at.client
   pub in_step : AreInStep server client url channel at.server at.client
@@ -38,7 +40,11 @@ pub record AreConnected (server client : Limits) (url : Option (List ℕ)) (chan
 
 -- after what the client sends
 abbrev pub both_sent : BothEnds → List Outgoing → BothEnds
-both_sent at outgoing = record { server = server_behind (lane_from at.client) at.server outgoing; client = client_behind at.client at.id outgoing; id = at.id + length outgoing }
+both_sent at outgoing = record {
+  server = server_behind (lane_from at.client) at.server outgoing;
+  client = client_behind at.client at.id outgoing;
+  id = at.id + length outgoing;
+}
 
 -- the lane of the answers to that: under the last token that the server then saw used
 abbrev pub answers_lane : Limits → ℕ → BothEnds → List Outgoing → Lane
@@ -46,7 +52,11 @@ answers_lane server channel at outgoing = lane_back server channel (both_sent at
 
 -- after a round
 abbrev pub round_behind : Limits → ℕ → BothEnds → Round → BothEnds
-round_behind server channel at round = record (both_sent at round.outgoing) { client = client_answered_all (answers_lane server channel at round.outgoing) (both_sent at round.outgoing).client round.answers }
+round_behind server channel at round =
+    record (both_sent at round.outgoing) {
+      client = client_answered_all (answers_lane server channel at round.outgoing) (both_sent at round.outgoing).client
+          round.answers;
+    }
 
 -- after rounds
 abbrev pub rounds_behind : Limits → ℕ → BothEnds → List Round → BothEnds
@@ -76,18 +86,21 @@ rounds_down server channel at (r ∷ rounds) = round_down server channel at r ++
 -- what they tell the server: each body, whole and once, under its own RequestId, and each renewal
 abbrev pub rounds_told : Limits → ℕ → BothEnds → List Round → List Told
 rounds_told server channel at [] = []
-rounds_told server channel at (r ∷ rounds) = outgoing_told at.client.newest at.server.issued at.id r.outgoing ++ rounds_told server channel (round_behind server channel at r) rounds
+rounds_told server channel at (r ∷ rounds) = outgoing_told at.client.newest at.server.issued at.id r.outgoing ++ rounds_told server channel
+    (round_behind server channel at r) rounds
 
 -- what they tell the client: each call that is answered its own reply, or if that is past its
 -- limits that it was aborted, and each token
 abbrev pub rounds_heard : Limits → ℕ → BothEnds → List Round → List ClientTold
 rounds_heard server channel at [] = []
-rounds_heard server channel at (r ∷ rounds) = answers_told (answers_lane server channel at r.outgoing) r.answers ++ rounds_heard server channel (round_behind server channel at r) rounds
+rounds_heard server channel at (r ∷ rounds) = answers_told (answers_lane server channel at r.outgoing) r.answers ++ rounds_heard server channel
+    (round_behind server channel at r) rounds
 
 -- the operations of the client in them, the first of them after it took this many bytes
 abbrev pub rounds_asks : Limits → ℕ → ℕ → BothEnds → List Round → List Placed
 rounds_asks server channel place at [] = []
-rounds_asks server channel place at (r ∷ rounds) = asks_at place at.id r.outgoing ++ rounds_asks server channel (place + length (round_down server channel at r)) (round_behind server channel at r) rounds
+rounds_asks server channel place at (r ∷ rounds) = asks_at place at.id r.outgoing ++ rounds_asks server channel
+    (place + length (round_down server channel at r)) (round_behind server channel at r) rounds
 
 -- ---- which rounds there may be
 

@@ -17,7 +17,8 @@ ghost use Rattle.ua_channel.specs.declared.client.channel.ClientChannel.{ClientC
 /// A client reads what it reads also where it sent the same operations earlier, even inside a frame
 /// or a message: it reports the same events, and its state is the same.
 pub fn client_asks_earlier()
-    ensures { (limits : Limits) (earlier asks : List Placed) (octets : List ℕ) (told : List ClientTold) (at : AtClient) → AreEarlier earlier asks →
+    ensures { (limits : Limits) (earlier asks : List Placed) (octets : List ℕ) (told : List ClientTold) (at : AtClient)
+        → AreEarlier earlier asks →
         ClientReads limits asks octets told at → ClientReads limits earlier octets told at }
 {}
 
@@ -26,10 +27,14 @@ pub fn client_asks_earlier()
 /// bytes, and does not fail, where its further operations are placed at the end of that prefix or
 /// after it.
 pub fn client_follows_asking()
-    ensures begins { (x : ClientChannel) (asks later : List Placed) (octets more : List ℕ) (told all : List ClientTold) (at : AtClient) → ClientGoes x asks octets told →
-        AllByRecursion (λ (a : Placed). length octets ≤ a.0) later → ClientReads (client_limits x) (asks ++ later) (octets ++ more) all at →
+    ensures begins { (x : ClientChannel) (asks later : List Placed) (octets more : List ℕ) (told all : List ClientTold)
+        (at : AtClient) → ClientGoes x asks octets told →
+        AllByRecursion (λ (a : Placed). length octets ≤ a.0) later
+        → ClientReads (client_limits x) (asks ++ later) (octets ++ more) all at →
         (rest : List ClientTold) × (all ≡ told ++ rest) }
-    ensures not_failed { (x : ClientChannel) (asks later : List Placed) (octets more : List ℕ) (told all : List ClientTold) (at : AtClient) (why : Why) →
+    ensures not_failed { (x : ClientChannel) (asks later : List Placed) (octets more : List ℕ)
+        (told all : List ClientTold) (at : AtClient) (why : Why) →
         ClientEnded x asks octets told why →
-        AllByRecursion (λ (a : Placed). length octets ≤ a.0) later → ClientReads (client_limits x) (asks ++ later) (octets ++ more) all at → ⊥ }
+        AllByRecursion (λ (a : Placed). length octets ≤ a.0) later
+        → ClientReads (client_limits x) (asks ++ later) (octets ++ more) all at → ⊥ }
 {}

@@ -20,14 +20,16 @@ ghost use Rattle.ua_channel_laws.specs.ServerMessages.{message_of, messages_in};
 ghost use Rattle.ua_channel.specs.ServerPlaces.{agreed_by};
 ghost use Rattle.ua_channel.specs.ServerRules.{server_rules};
 ghost use Rattle.ua_channel.specs.ServerSends.{RepliesGo};
-ghost use Rattle.ua_channel.specs.ServerStands.{channel_of, limits_of, Goes, GoesTelling, IsDone, IsWithoutToken, ChannelStands};
+ghost use Rattle.ua_channel.specs.ServerStands.{channel_of, limits_of, Goes, GoesTelling};
+ghost use Rattle.ua_channel.specs.ServerStands.{IsDone, IsWithoutToken, ChannelStands};
 ghost use Rattle.ua_channel.specs.ServerTold.{Told, Told as told};
 ghost use Rattle.ua_channel.specs.declared.server.ServerChannel.{ServerChannel};
 
 /// What was received with one more frame is the effect of that frame on what was received before.
 pub fn one_frame_more()
     ensures first { received [] ≡ nothing_received }
-    ensures more { (frames : List Frame) (frame : Frame) → received (frames ++ frame ∷ []) ≡ after (received frames) (content frame) }
+    ensures more { (frames : List Frame) (frame : Frame) → received (frames ++ frame ∷ []) ≡ after (received frames)
+        (content frame) }
 {}
 
 /// Every byte sequence has exactly one reading at a server, however it is fragmented. The reading
@@ -43,26 +45,32 @@ pub fn server_reads()
 pub fn server_stands_once()
     ensures frames { (x : ServerChannel) (octets : List ℕ) (fs gs : List Frame) (rest more : List ℕ) →
         ChannelStands x octets fs rest → ChannelStands x octets gs more → (fs ≡ gs) × (rest ≡ more) }
-    ensures told { (x : ServerChannel) (octets : List ℕ) (told more : List Told) → Goes x octets told → Goes x octets more → told ≡ more }
+    ensures told { (x : ServerChannel) (octets : List ℕ) (told more : List Told) → Goes x octets told
+        → Goes x octets more → told ≡ more }
 {}
 
 /// A channel in the state after a frame that has an event continues with that event reported.
 pub fn server_goes_on()
-    ensures { (x : ServerChannel) (octets : List ℕ) (told : List Told) (e : Told) → GoesTelling x octets told e → Goes x octets (told ++ e ∷ []) }
+    ensures { (x : ServerChannel) (octets : List ℕ) (told : List Told) (e : Told) → GoesTelling x octets told e
+        → Goes x octets (told ++ e ∷ []) }
 {}
 
 /// Directly after a complete message a reply goes under the token of its last chunk, to what was
 /// agreed.
 pub fn server_replies()
-    ensures { (x : ServerChannel) (octets : List ℕ) (before : List Told) (id token : ℕ) (message : List ℕ) (frames : List Frame) (rest : List ℕ) (lane : Lane) →
-        GoesTelling x octets before (told.Asked id token message) → ChannelStands x octets frames rest → RepliesGo (limits_of x) (channel_of x) (received frames) lane →
+    ensures { (x : ServerChannel) (octets : List ℕ) (before : List Told) (id token : ℕ) (message : List ℕ)
+        (frames : List Frame) (rest : List ℕ) (lane : Lane) →
+        GoesTelling x octets before (told.Asked id token message) → ChannelStands x octets frames rest
+        → RepliesGo (limits_of x) (channel_of x) (received frames) lane →
         (a : Agreement) × (agreed_by before ≡ Some a) × (lane ≡ lane_of (channel_of x) token a) }
 {}
 
 /// The first event is the agreement of the client and the server, and no later event is.
 pub fn server_agrees_first()
-    ensures first { (x : ServerChannel) (octets : List ℕ) (before : List Told) (e : Told) → GoesTelling x octets before e → agreed_by before ≡ None → (a : Agreement) × (e ≡ told.Agreed a) }
-    ensures once { (x : ServerChannel) (octets : List ℕ) (before : List Told) (e : Told) → GoesTelling x octets before e → (a b : Agreement) → agreed_by before ≡ Some a → e ≡ told.Agreed b → ⊥ }
+    ensures first { (x : ServerChannel) (octets : List ℕ) (before : List Told) (e : Told)
+        → GoesTelling x octets before e → agreed_by before ≡ None → (a : Agreement) × (e ≡ told.Agreed a) }
+    ensures once { (x : ServerChannel) (octets : List ℕ) (before : List Told) (e : Told) → GoesTelling x octets before e
+        → (a b : Agreement) → agreed_by before ≡ Some a → e ≡ told.Agreed b → ⊥ }
 {}
 
 /// No channel is open before the first OPN, or after the channel ended; one that reported a message
@@ -79,7 +87,8 @@ pub fn server_is_open()
 /// deliver, in that order.
 pub fn server_tells_delivered()
     ensures { (limits : Limits) (channel : ℕ) (frames : List Frame) →
-        messages_in (events (server_rules limits channel) frames) ≡ map message_of (delivered (received frames).messages) }
+        messages_in (events (server_rules limits channel) frames)
+        ≡ map message_of (delivered (received frames).messages) }
 {}
 
 /// The frames that a server accepts, one after the other, are exactly those of a conversation in
@@ -87,11 +96,14 @@ pub fn server_tells_delivered()
 /// its frames are a conversation, and the bytes after them are less than a frame with no error in
 /// its header, or they end with a CLO.
 pub fn server_converses()
-    ensures frames { (limits : Limits) (channel : ℕ) (frames : List Frame) → AllAfter (Fits (server_rules limits channel)) frames ↔ ServerConversation limits channel frames }
+    ensures frames { (limits : Limits) (channel : ℕ) (frames : List Frame)
+        → AllAfter (Fits (server_rules limits channel)) frames ↔ ServerConversation limits channel frames }
     ensures going { (limits : Limits) (channel : ℕ) (octets : List ℕ) (frames : List Frame) (rest : List ℕ) →
         Run (server_rules limits channel) octets frames rest Going ↔ Continues limits channel octets frames rest }
     ensures over { (limits : Limits) (channel : ℕ) (octets : List ℕ) (frames : List Frame) (rest : List ℕ) →
         Run (server_rules limits channel) octets frames rest Over ↔ HasEnded limits channel octets frames rest }
-    ensures none_wrong { (limits : Limits) (channel : ℕ) (octets : List ℕ) (raws : List (List ℕ)) (rest : List ℕ) → Frames octets raws rest →
-        ((why : ℕ) → FirstWrong (server_rules limits channel) raws rest why → ⊥) ↔ IsConversation limits channel octets }
+    ensures none_wrong { (limits : Limits) (channel : ℕ) (octets : List ℕ) (raws : List (List ℕ)) (rest : List ℕ)
+        → Frames octets raws rest →
+        ((why : ℕ) → FirstWrong (server_rules limits channel) raws rest why → ⊥) ↔ IsConversation limits channel
+        octets }
 {}

@@ -12,7 +12,8 @@ ghost use Rattle.ua_frame.specs.Frames.{frames_octets};
 ghost use Rattle.ua_frame.specs.declared.frame.Frame.{Frame};
 ghost use Rattle.ua_frame.specs.declared.limits.Limits.{Limits};
 ghost use Rattle.ua_chunk.specs.Cutting.{chunks_of, pieces};
-ghost use Rattle.ua_chunk.specs.Merge.{HaveOwnIds, Merges, Sent, outcome_under, outcomes, part_of, parts_of, sent_under};
+ghost use Rattle.ua_chunk.specs.Merge.{HaveOwnIds, Merges, Sent, outcome_under};
+ghost use Rattle.ua_chunk.specs.Merge.{outcomes, part_of, parts_of, sent_under};
 ghost use Rattle.ua_chunk.specs.Refusal.{FewOpen, TakesMessages};
 ghost use Rattle.ua_chunk.specs.declared.chunk.Chunk.{Chunk};
 ghost use Rattle.ua_chunk.specs.declared.flag.Flag.TheVariants.{F};
@@ -23,7 +24,10 @@ ghost use Rattle.ua_channel.specs.ClientTable.{client_rules};
 ghost use Rattle.ua_channel.specs.ClientTokens.{responses, tokens_of};
 ghost use Rattle.ua_channel.specs.ClientTold.{ClientTold, told_item};
 ghost use Rattle.ua_channel_laws.specs.Conversation.{FitMessages};
-ghost use Rattle.ua_channel_laws.specs.Merges.{AreMerged, ClientMerge, IsCutBody, MayComeNext, ServerMerge, is_message_under, is_told_under, placed_later, told_merged_back, told_of_merge, tokens_renewed, tokens_told, with_merged, with_merged_back};
+ghost use Rattle.ua_channel_laws.specs.Merges.{AreMerged, ClientMerge, IsCutBody, MayComeNext};
+ghost use Rattle.ua_channel_laws.specs.Merges.{ServerMerge, is_message_under, is_told_under, placed_later};
+ghost use Rattle.ua_channel_laws.specs.Merges.{told_merged_back, told_of_merge, tokens_renewed};
+ghost use Rattle.ua_channel_laws.specs.Merges.{tokens_told, with_merged, with_merged_back};
 ghost use Rattle.ua_channel_laws.specs.Paired.{told_of_calls};
 ghost use Rattle.ua_channel.specs.Received.{messages, openings};
 ghost use Rattle.ua_channel_laws.specs.ServerMessages.{message_of, messages_in};
@@ -34,8 +38,10 @@ ghost use Rattle.ua_channel.specs.ServerTold.{Told};
 /// Chunks of which none is refused for its message are those whose messages fit, in plain words; so
 /// interleaved messages fit.
 pub fn messages_fit()
-    ensures taken { (limits : Limits) (cs : List Chunk) → TakesMessages limits.max_message_size limits.max_chunk_count [] cs ↔ FitMessages limits cs }
-    ensures merged { (limits : Limits) (ms : List Sent) (cs : List Chunk) → AreMerged limits ms cs → FitMessages limits cs }
+    ensures taken { (limits : Limits) (cs : List Chunk)
+        → TakesMessages limits.max_message_size limits.max_chunk_count [] cs ↔ FitMessages limits cs }
+    ensures merged { (limits : Limits) (ms : List Sent) (cs : List Chunk) → AreMerged limits ms cs
+        → FitMessages limits cs }
 {}
 
 /// The chunks of bodies that senders split within the limits of a receiver, under distinct
@@ -43,11 +49,14 @@ pub fn messages_fit()
 /// in any way with at most 4 messages unfinished after each chunk, are the interleaved messages
 /// that the laws below read. The chunks of a single body are so as well.
 pub fn cut_bodies_merge()
-    ensures merged { (limits : Limits) (ms : List Sent) (cs : List Chunk) → AllByRecursion (IsCutBody limits) ms → HaveOwnIds ms → Merges (map parts_of ms) (map part_of cs) → FewOpen [] cs →
+    ensures merged { (limits : Limits) (ms : List Sent) (cs : List Chunk) → AllByRecursion (IsCutBody limits) ms
+        → HaveOwnIds ms → Merges (map parts_of ms) (map part_of cs) → FewOpen [] cs →
         AreMerged limits ms cs }
-    ensures parts { (lane : Lane) (body : List ℕ) (number : ℕ) (m : Sent) → pieces lane.room body ≡ m.pieces ++ m.last ∷ [] → m.end ≡ F →
+    ensures parts { (lane : Lane) (body : List ℕ) (number : ℕ) (m : Sent)
+        → pieces lane.room body ≡ m.pieces ++ m.last ∷ [] → m.end ≡ F →
         map part_of (chunks_of lane body number m.request) ≡ parts_of m }
-    ensures alone { (limits : Limits) (lane : Lane) (body : List ℕ) (number id : ℕ) → 0 < lane.room → IsBodyFor limits lane.room body →
+    ensures alone { (limits : Limits) (lane : Lane) (body : List ℕ) (number id : ℕ) → 0 < lane.room
+        → IsBodyFor limits lane.room body →
         (m : Sent) × (m.request ≡ id) × IsCutBody limits m × AreMerged limits (m ∷ []) (chunks_of lane body number id) }
 {}
 
@@ -60,20 +69,31 @@ pub fn cut_bodies_merge()
 /// `server_follows` follows them all. The server reports each message at its last chunk, once under
 /// its RequestId, and each renewal with the next token.
 pub fn server_reads_merged()
-    ensures reads { (limits : Limits) (channel : ℕ) (octets : List ℕ) (told : List Told) (at : AtServer) (first : ℕ) (ms : List Sent) (more : List Frame) (next : ℕ) →
-        ServerReads limits channel octets told at → MayComeNext (server_rules limits channel) octets first → ServerMerge limits channel (record at { next = first }) ms more next →
-        ServerReads limits channel (octets ++ frames_octets more) (told ++ told_of_merge ms at.issued more) (with_merged at more next) }
-    ensures messages { (limits : Limits) (channel : ℕ) (octets : List ℕ) (told : List Told) (at : AtServer) (first : ℕ) (ms : List Sent) (more : List Frame) (next : ℕ) →
-        ServerReads limits channel octets told at → MayComeNext (server_rules limits channel) octets first → ServerMerge limits channel (record at { next = first }) ms more next →
+    ensures reads { (limits : Limits) (channel : ℕ) (octets : List ℕ) (told : List Told) (at : AtServer) (first : ℕ)
+        (ms : List Sent) (more : List Frame) (next : ℕ) →
+        ServerReads limits channel octets told at → MayComeNext (server_rules limits channel) octets first
+        → ServerMerge limits channel (record at { next = first }) ms more next →
+        ServerReads limits channel (octets ++ frames_octets more) (told ++ told_of_merge ms at.issued more)
+        (with_merged at more next) }
+    ensures messages { (limits : Limits) (channel : ℕ) (octets : List ℕ) (told : List Told) (at : AtServer) (first : ℕ)
+        (ms : List Sent) (more : List Frame) (next : ℕ) →
+        ServerReads limits channel octets told at → MayComeNext (server_rules limits channel) octets first
+        → ServerMerge limits channel (record at { next = first }) ms more next →
         messages_in (told_of_merge ms at.issued more) ≡ map message_of (outcomes ms (messages more)) }
-    ensures once { (limits : Limits) (channel : ℕ) (octets : List ℕ) (told : List Told) (at : AtServer) (first : ℕ) (ms : List Sent) (more : List Frame) (next : ℕ) →
-        ServerReads limits channel octets told at → MayComeNext (server_rules limits channel) octets first → ServerMerge limits channel (record at { next = first }) ms more next →
-        (id : ℕ) → filter (is_message_under id) (messages_in (told_of_merge ms at.issued more)) ≡ map message_of (outcome_under (sent_under id ms)) }
-    ensures tokens { (limits : Limits) (channel : ℕ) (octets : List ℕ) (told : List Told) (at : AtServer) (first : ℕ) (ms : List Sent) (more : List Frame) (next : ℕ) →
-        ServerReads limits channel octets told at → MayComeNext (server_rules limits channel) octets first → ServerMerge limits channel (record at { next = first }) ms more next →
+    ensures once { (limits : Limits) (channel : ℕ) (octets : List ℕ) (told : List Told) (at : AtServer) (first : ℕ)
+        (ms : List Sent) (more : List Frame) (next : ℕ) →
+        ServerReads limits channel octets told at → MayComeNext (server_rules limits channel) octets first
+        → ServerMerge limits channel (record at { next = first }) ms more next →
+        (id : ℕ) → filter (is_message_under id) (messages_in (told_of_merge ms at.issued more))
+        ≡ map message_of (outcome_under (sent_under id ms)) }
+    ensures tokens { (limits : Limits) (channel : ℕ) (octets : List ℕ) (told : List Told) (at : AtServer) (first : ℕ)
+        (ms : List Sent) (more : List Frame) (next : ℕ) →
+        ServerReads limits channel octets told at → MayComeNext (server_rules limits channel) octets first
+        → ServerMerge limits channel (record at { next = first }) ms more next →
         tokens_told (told_of_merge ms at.issued more) ≡ range_with_len (at.issued + 1) (length (openings more)) }
     // The next SequenceNumber of its state is one that may come first.
-    ensures first { (limits : Limits) (channel : ℕ) (octets : List ℕ) (told : List Told) (at : AtServer) → ServerReads limits channel octets told at →
+    ensures first { (limits : Limits) (channel : ℕ) (octets : List ℕ) (told : List Told) (at : AtServer)
+        → ServerReads limits channel octets told at →
         MayComeNext (server_rules limits channel) octets at.next }
 {}
 
@@ -82,18 +102,29 @@ pub fn server_reads_merged()
 /// state afterwards has the calls and renewals that were not answered. It reports each reply at its
 /// last chunk, once under the RequestId of its call, and each token.
 pub fn client_reads_merged()
-    ensures reads { (limits : Limits) (asks later : List Placed) (octets : List ℕ) (told : List ClientTold) (at : AtClient) (first : ℕ) (ms : List Sent) (more : List Frame) (next : ℕ) →
-        ClientReads limits asks octets told at → MayComeNext (client_rules limits asks) octets first → ClientMerge limits (record at { next = first }) (asked_in asks) later ms more next →
-        ClientReads limits (asks ++ placed_later (length octets) later) (octets ++ frames_octets more) (told ++ told_merged_back ms more) (with_merged_back at (asked_in later) more next) }
-    ensures messages { (limits : Limits) (asks later : List Placed) (octets : List ℕ) (told : List ClientTold) (at : AtClient) (first : ℕ) (ms : List Sent) (more : List Frame) (next : ℕ) →
-        ClientReads limits asks octets told at → MayComeNext (client_rules limits asks) octets first → ClientMerge limits (record at { next = first }) (asked_in asks) later ms more next →
+    ensures reads { (limits : Limits) (asks later : List Placed) (octets : List ℕ) (told : List ClientTold)
+        (at : AtClient) (first : ℕ) (ms : List Sent) (more : List Frame) (next : ℕ) →
+        ClientReads limits asks octets told at → MayComeNext (client_rules limits asks) octets first
+        → ClientMerge limits (record at { next = first }) (asked_in asks) later ms more next →
+        ClientReads limits (asks ++ placed_later (length octets) later) (octets ++ frames_octets more)
+        (told ++ told_merged_back ms more) (with_merged_back at (asked_in later) more next) }
+    ensures messages { (limits : Limits) (asks later : List Placed) (octets : List ℕ) (told : List ClientTold)
+        (at : AtClient) (first : ℕ) (ms : List Sent) (more : List Frame) (next : ℕ) →
+        ClientReads limits asks octets told at → MayComeNext (client_rules limits asks) octets first
+        → ClientMerge limits (record at { next = first }) (asked_in asks) later ms more next →
         told_of_calls (told_merged_back ms more) ≡ map told_item (outcomes ms (messages more)) }
-    ensures once { (limits : Limits) (asks later : List Placed) (octets : List ℕ) (told : List ClientTold) (at : AtClient) (first : ℕ) (ms : List Sent) (more : List Frame) (next : ℕ) →
-        ClientReads limits asks octets told at → MayComeNext (client_rules limits asks) octets first → ClientMerge limits (record at { next = first }) (asked_in asks) later ms more next →
-        (id : ℕ) → filter (is_told_under id) (told_merged_back ms more) ≡ map told_item (outcome_under (sent_under id ms)) }
-    ensures tokens { (limits : Limits) (asks later : List Placed) (octets : List ℕ) (told : List ClientTold) (at : AtClient) (first : ℕ) (ms : List Sent) (more : List Frame) (next : ℕ) →
-        ClientReads limits asks octets told at → MayComeNext (client_rules limits asks) octets first → ClientMerge limits (record at { next = first }) (asked_in asks) later ms more next →
+    ensures once { (limits : Limits) (asks later : List Placed) (octets : List ℕ) (told : List ClientTold)
+        (at : AtClient) (first : ℕ) (ms : List Sent) (more : List Frame) (next : ℕ) →
+        ClientReads limits asks octets told at → MayComeNext (client_rules limits asks) octets first
+        → ClientMerge limits (record at { next = first }) (asked_in asks) later ms more next →
+        (id : ℕ) → filter (is_told_under id) (told_merged_back ms more)
+        ≡ map told_item (outcome_under (sent_under id ms)) }
+    ensures tokens { (limits : Limits) (asks later : List Placed) (octets : List ℕ) (told : List ClientTold)
+        (at : AtClient) (first : ℕ) (ms : List Sent) (more : List Frame) (next : ℕ) →
+        ClientReads limits asks octets told at → MayComeNext (client_rules limits asks) octets first
+        → ClientMerge limits (record at { next = first }) (asked_in asks) later ms more next →
         tokens_renewed (told_merged_back ms more) ≡ tokens_of (responses (openings more)) }
-    ensures first { (limits : Limits) (asks : List Placed) (octets : List ℕ) (told : List ClientTold) (at : AtClient) → ClientReads limits asks octets told at →
+    ensures first { (limits : Limits) (asks : List Placed) (octets : List ℕ) (told : List ClientTold) (at : AtClient)
+        → ClientReads limits asks octets told at →
         MayComeNext (client_rules limits asks) octets at.next }
 {}

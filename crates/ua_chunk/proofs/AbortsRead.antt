@@ -37,12 +37,14 @@ with_code code y = Some ((code, y.0), y.1)
 not_empty : (x : ℕ) (xs : List ℕ) → nat_eq (length (x ∷ xs)) 0 ≡ false
 not_empty x xs = ne_eqb (length (x ∷ xs)) 0 (λ h. absurd (omega arith))
 
-readable_by : (t : Bool) (code : StatusCode) (v : Option (List ℕ)) (rest : List ℕ) → (nat_eq (length rest) 0 && t) ≡ is_some (if_nothing_left (cond t (Some (v, rest)) None >>= with_code code))
+readable_by : (t : Bool) (code : StatusCode) (v : Option (List ℕ)) (rest : List ℕ)
+    → (nat_eq (length rest) 0 && t) ≡ is_some (if_nothing_left (cond t (Some (v, rest)) None >>= with_code code))
 readable_by true code v [] = refl
 readable_by true code v (x ∷ rest) = ap (λ (b : Bool). b && true) (not_empty x rest)
 readable_by false code v [] = refl
 readable_by false code v (x ∷ rest) = ap (λ (b : Bool). b && false) (not_empty x rest)
 
-pub readable_whole : (b rest left : List ℕ) (n : ℕ) (v : Option (List ℕ)) → number_at 4 b ≡ Some (n, rest) → counted.decode rest ≡ Some (v, left) → (nat_eq (length left) 0 && is_text v) ≡ is_readable_abort b
+pub readable_whole : (b rest left : List ℕ) (n : ℕ) (v : Option (List ℕ)) → number_at 4 b ≡ Some (n, rest) → counted.decode rest ≡ Some (v, left)
+    → (nat_eq (length left) 0 && is_text v) ≡ is_readable_abort b
 unfolding whole_of abort_body status_code text
 readable_whole b rest left n v e f = rw (e, f) (readable_by (is_text v) (of_code n) v left)

@@ -1,5 +1,6 @@
 -- The assembler, which keeps messages, against the lists of chunks.
-use Rattle.std.proofs.Common.{◌≡◌, ℕ, ◌+◌, ◌≤◌, ◌<◌, ◌^◌, min, Bool, true, false, cond, not, ◌&&◌, eqb, ltb, Option, Some, None, List, [], ◌∷◌, ◌++◌, refl, sym, ◌∙◌, ap, subst, arith, length, length-append}
+use Rattle.std.proofs.Common.{◌≡◌, ℕ, ◌+◌, ◌≤◌, ◌<◌, ◌^◌, min, Bool, true, false, cond, not, ◌&&◌, eqb, ltb, Option}
+use Rattle.std.proofs.Common.{Some, None, List, [], ◌∷◌, ◌++◌, refl, sym, ◌∙◌, ap, subst, arith, length, length-append}
 use Rattle.std.proofs.lemmas.Bool.{le-ltb, ltb-false, ltb-true, lt-ltb}
 use Rattle.std.specs.List.{concat}
 use Rattle.ua_chunk.specs.declared.assembler.Assembler.{Assembler}
@@ -44,24 +45,30 @@ given_flag F cs c =
 given_flag C cs c = refl
 given_flag A cs c = refl
 
-put_back_flag : (f : Flag) (cs : List Chunk) (c : Chunk) → put_back_by f (kept c.request (unfinished c.request cs)) c ≡ cond (is_more_flag f) (kept c.request (unfinished c.request cs ++ c ∷ []) ∷ []) []
+put_back_flag : (f : Flag) (cs : List Chunk) (c : Chunk) → put_back_by f (kept c.request (unfinished c.request cs)) c
+    ≡ cond (is_more_flag f) (kept c.request (unfinished c.request cs ++ c ∷ []) ∷ []) []
 put_back_flag F cs c = refl
 put_back_flag C cs c = ap (λ m. m ∷ []) (added_is c.request (unfinished c.request cs) c)
 put_back_flag A cs c = refl
 
-pub given_is : (cs : List Chunk) (c : Chunk) (ms : List Pending) (ds : List Item) → ms ≡ kept_messages cs → ds ≡ given_kept (message_of c.request ms) c → given cs c ≡ ds
+pub given_is : (cs : List Chunk) (c : Chunk) (ms : List Pending) (ds : List Item) → ms ≡ kept_messages cs → ds ≡ given_kept (message_of c.request ms) c
+    → given cs c ≡ ds
 given_is cs c ms ds e f = sym (given_flag c.flag cs c) ∙ ap (λ m. given_kept m c) (sym (ap (message_of c.request) e ∙ message_is c.request cs)) ∙ sym f
 
 -- the parts of what is handed out, where these are the parts that were kept
-pub parts_are : (cs : List Chunk) (c : Chunk) (ms : List Pending) (d : Option Delivered) → ms ≡ kept_messages cs → HasParts d ((message_of c.request ms).message ++ filled (c.body ∷ [])) → HasParts d (bodies (gathered cs c))
+pub parts_are : (cs : List Chunk) (c : Chunk) (ms : List Pending) (d : Option Delivered) → ms ≡ kept_messages cs
+    → HasParts d ((message_of c.request ms).message ++ filled (c.body ∷ [])) → HasParts d (bodies (gathered cs c))
 parts_are cs c ms d e h =
     subst (HasParts d)
-    (ap (λ (m : Pending). m.message ++ filled (c.body ∷ [])) (ap (message_of c.request) e ∙ message_is c.request cs) ∙ sym (bodies_push (unfinished c.request cs) c)) h
+    (ap (λ (m : Pending). m.message ++ filled (c.body ∷ [])) (ap (message_of c.request) e ∙ message_is c.request cs)
+    ∙ sym (bodies_push (unfinished c.request cs) c)) h
 
-pub delivered_is : (cs : List Chunk) (c : Chunk) (ms : List Pending) (ds : List Item) → ms ≡ kept_messages cs → ds ≡ given_kept (message_of c.request ms) c → delivered (cs ++ c ∷ []) ≡ delivered cs ++ ds
+pub delivered_is : (cs : List Chunk) (c : Chunk) (ms : List Pending) (ds : List Item) → ms ≡ kept_messages cs → ds ≡ given_kept (message_of c.request ms) c
+    → delivered (cs ++ c ∷ []) ≡ delivered cs ++ ds
 delivered_is cs c ms ds e f = delivered_push cs c ∙ ap (λ t. delivered cs ++ t) (given_is cs c ms ds e f)
 
-messages_are : (cs : List Chunk) (c : Chunk) (ms new : List Pending) → ms ≡ kept_messages cs → new ≡ without (is_under c.request) ms ++ put_back (message_of c.request ms) c → new ≡ kept_messages (cs ++ c ∷ [])
+messages_are : (cs : List Chunk) (c : Chunk) (ms new : List Pending) → ms ≡ kept_messages cs
+    → new ≡ without (is_under c.request) ms ++ put_back (message_of c.request ms) c → new ≡ kept_messages (cs ++ c ∷ [])
 messages_are cs c ms new e f =
     f
     ∙ ap (λ t. without (is_under c.request) t ++ put_back (message_of c.request t) c) e
@@ -88,9 +95,12 @@ few_open : (cs : List Chunk) (c : Chunk) (rest : List Pending) → length (open_
 few_open cs c rest h e =
     let last = cond (is_more c) (kept c.request (unfinished c.request cs ++ c ∷ []) ∷ []) [] in
     let all : length (open_ids (cs ++ c ∷ [])) ≡ length rest + length last =
-    sym (count_is (cs ++ c ∷ [])) ∙ ap length (messages_push cs c) ∙ length-append (without (is_under c.request) (kept_messages cs)) last ∙ ap (λ t. length t + length last) (sym e) in
-    let small : length rest ≤ length (kept_messages cs) = subst (λ (t : List Pending). length t ≤ length (kept_messages cs)) (sym e) (without_shorter (is_under c.request) (kept_messages cs)) in
-    few_by (is_more c) (length rest) (length (open_ids (cs ++ c ∷ []))) (kept c.request (unfinished c.request cs ++ c ∷ [])) (omega (arith, small, count_is cs)) all
+    sym (count_is (cs ++ c ∷ [])) ∙ ap length (messages_push cs c) ∙ length-append (without (is_under c.request) (kept_messages cs)) last
+    ∙ ap (λ t. length t + length last) (sym e) in
+    let small : length rest ≤ length (kept_messages cs) = subst (λ (t : List Pending). length t ≤ length (kept_messages cs)) (sym e)
+    (without_shorter (is_under c.request) (kept_messages cs)) in
+    few_by (is_more c) (length rest) (length (open_ids (cs ++ c ∷ []))) (kept c.request (unfinished c.request cs ++ c ∷ [])) (omega (arith, small, count_is cs))
+    all
 
 large : (limit : ℕ) (us : List Chunk) (c : Chunk) → passes limit (length (joined (us ++ c ∷ []))) ≡ passes limit (length (concat (bodies us)) + length c.body)
 large limit us c =
@@ -110,39 +120,61 @@ many limit us c h = ap (λ b. not (eqb limit 0) && b) (many_by limit (length us)
 -- the chain of reasons, by its tests
 abbrev pub chain : Bool → Bool → Bool → Bool → Bool → Option AssembleFault
 chain follows unreadable crowded octets chunks =
-    cond (not follows) (Some Sequence) (cond unreadable (Some Unreadable) (cond crowded (Some TooManyOpen) (cond octets (Some MessageTooLarge) (cond chunks (Some TooManyChunks) None))))
+    cond (not follows) (Some Sequence)
+    (cond unreadable (Some Unreadable) (cond crowded (Some TooManyOpen) (cond octets (Some MessageTooLarge) (cond chunks (Some TooManyChunks) None))))
 
-pub refusal_is : (a b : Assembler) (cs : List Chunk) (c : Chunk) → Stands a cs → a.chunks < 2 ^ 32 → b.last ≡ a.last → b.octets ≡ a.octets → b.chunks ≡ a.chunks → b.pending ≡ without (is_under c.request) a.pending
+pub refusal_is : (a b : Assembler) (cs : List Chunk) (c : Chunk) → Stands a cs → a.chunks < 2 ^ 32 → b.last ≡ a.last → b.octets ≡ a.octets → b.chunks ≡ a.chunks
+    → b.pending ≡ without (is_under c.request) a.pending
     → refusal a.octets a.chunks a.last cs c ≡ refusal_kept b (message_of c.request a.pending) c
 refusal_is a b cs c s h last octets chunks pending =
     let m : message_of c.request a.pending ≡ kept c.request (unfinished c.request cs) = ap (message_of c.request) s.unfinished ∙ message_is c.request cs in
     let p : b.pending ≡ without (is_under c.request) (kept_messages cs) = pending ∙ ap (without (is_under c.request)) s.unfinished in
-    ap (λ t. chain (may_follow a.last c.sequence) (is_abort_flag c.flag && not (is_readable_abort c.body)) t (not (is_abort_flag c.flag) && passes a.octets (length (joined (gathered cs c)))) (not (is_abort_flag c.flag) && passes a.chunks (length (gathered cs c)))) (few_open cs c b.pending s.few p)
-    ∙ ap (λ t. chain (may_follow a.last c.sequence) (is_abort_flag c.flag && not (is_readable_abort c.body)) (is_more c && ltb 3 (length b.pending)) (not (is_abort_flag c.flag) && t) (not (is_abort_flag c.flag) && passes a.chunks (length (gathered cs c)))) (large a.octets (unfinished c.request cs) c)
-    ∙ ap (λ t. chain (may_follow a.last c.sequence) (is_abort_flag c.flag && not (is_readable_abort c.body)) (is_more c && ltb 3 (length b.pending)) (not (is_abort_flag c.flag) && passes a.octets (length (concat (bodies (unfinished c.request cs))) + length c.body)) (not (is_abort_flag c.flag) && t)) (many a.chunks (unfinished c.request cs) c h)
-    ∙ ap (λ (t : Pending). chain (may_follow a.last c.sequence) (is_abort_flag c.flag && not (is_readable_abort c.body)) (is_more c && ltb 3 (length b.pending)) (not (is_abort_flag c.flag) && passes a.octets (length (concat t.message) + length c.body)) (not (is_abort_flag c.flag) && passes a.chunks (t.chunks + 1))) (sym m)
-    ∙ ap (λ t. chain (may_follow t c.sequence) (is_abort_flag c.flag && not (is_readable_abort c.body)) (is_more c && ltb 3 (length b.pending)) (not (is_abort_flag c.flag) && passes a.octets (length (concat (message_of c.request a.pending).message) + length c.body)) (not (is_abort_flag c.flag) && passes a.chunks ((message_of c.request a.pending).chunks + 1))) (sym last)
-    ∙ ap (λ t. chain (may_follow b.last c.sequence) (is_abort_flag c.flag && not (is_readable_abort c.body)) (is_more c && ltb 3 (length b.pending)) (not (is_abort_flag c.flag) && passes t (length (concat (message_of c.request a.pending).message) + length c.body)) (not (is_abort_flag c.flag) && passes a.chunks ((message_of c.request a.pending).chunks + 1))) (sym octets)
-    ∙ ap (λ t. chain (may_follow b.last c.sequence) (is_abort_flag c.flag && not (is_readable_abort c.body)) (is_more c && ltb 3 (length b.pending)) (not (is_abort_flag c.flag) && passes b.octets (length (concat (message_of c.request a.pending).message) + length c.body)) (not (is_abort_flag c.flag) && passes t ((message_of c.request a.pending).chunks + 1))) (sym chunks)
+    ap (λ t. chain (may_follow a.last c.sequence) (is_abort_flag c.flag && not (is_readable_abort c.body)) t
+    (not (is_abort_flag c.flag) && passes a.octets (length (joined (gathered cs c))))
+    (not (is_abort_flag c.flag) && passes a.chunks (length (gathered cs c)))) (few_open cs c b.pending s.few p)
+    ∙ ap (λ t. chain (may_follow a.last c.sequence) (is_abort_flag c.flag && not (is_readable_abort c.body)) (is_more c && ltb 3 (length b.pending))
+    (not (is_abort_flag c.flag) && t) (not (is_abort_flag c.flag) && passes a.chunks (length (gathered cs c)))) (large a.octets (unfinished c.request cs) c)
+    ∙ ap (λ t. chain (may_follow a.last c.sequence) (is_abort_flag c.flag && not (is_readable_abort c.body)) (is_more c && ltb 3 (length b.pending))
+    (not (is_abort_flag c.flag) && passes a.octets (length (concat (bodies (unfinished c.request cs))) + length c.body)) (not (is_abort_flag c.flag) && t))
+    (many a.chunks (unfinished c.request cs) c h)
+    ∙ ap (λ (t : Pending). chain (may_follow a.last c.sequence) (is_abort_flag c.flag && not (is_readable_abort c.body)) (is_more c && ltb 3 (length b.pending))
+    (not (is_abort_flag c.flag) && passes a.octets (length (concat t.message) + length c.body))
+    (not (is_abort_flag c.flag) && passes a.chunks (t.chunks + 1))) (sym m)
+    ∙ ap (λ t. chain (may_follow t c.sequence) (is_abort_flag c.flag && not (is_readable_abort c.body)) (is_more c && ltb 3 (length b.pending))
+    (not (is_abort_flag c.flag) && passes a.octets (length (concat (message_of c.request a.pending).message) + length c.body))
+    (not (is_abort_flag c.flag) && passes a.chunks ((message_of c.request a.pending).chunks + 1))) (sym last)
+    ∙ ap (λ t. chain (may_follow b.last c.sequence) (is_abort_flag c.flag && not (is_readable_abort c.body)) (is_more c && ltb 3 (length b.pending))
+    (not (is_abort_flag c.flag) && passes t (length (concat (message_of c.request a.pending).message) + length c.body))
+    (not (is_abort_flag c.flag) && passes a.chunks ((message_of c.request a.pending).chunks + 1))) (sym octets)
+    ∙ ap (λ t. chain (may_follow b.last c.sequence) (is_abort_flag c.flag && not (is_readable_abort c.body)) (is_more c && ltb 3 (length b.pending))
+    (not (is_abort_flag c.flag) && passes b.octets (length (concat (message_of c.request a.pending).message) + length c.body))
+    (not (is_abort_flag c.flag) && passes t ((message_of c.request a.pending).chunks + 1))) (sym chunks)
 
-some_step : (t : Bool) (f : AssembleFault) (o : Option AssembleFault) (g : AssembleFault) → cond t (Some f) o ≡ Some g → (f ≡ g → IsFor (Some f) g) → (o ≡ Some g → IsFor o g) → IsFor (cond t (Some f) o) g
+some_step : (t : Bool) (f : AssembleFault) (o : Option AssembleFault) (g : AssembleFault) → cond t (Some f) o ≡ Some g → (f ≡ g → IsFor (Some f) g)
+    → (o ≡ Some g → IsFor o g) → IsFor (cond t (Some f) o) g
 some_step true f o g e h k = h cc
 some_step false f o g e h k = k e
 
 for_self : (f g : AssembleFault) (P : AssembleFault → Type 0) → f ≡ g → P f → P g
 for_self f g P e p = subst P e p
 
-chain_for : (follows unreadable crowded octets chunks : Bool) (g : AssembleFault) → chain follows unreadable crowded octets chunks ≡ Some g → IsFor (chain follows unreadable crowded octets chunks) g
+chain_for : (follows unreadable crowded octets chunks : Bool) (g : AssembleFault) → chain follows unreadable crowded octets chunks ≡ Some g
+    → IsFor (chain follows unreadable crowded octets chunks) g
 chain_for follows unreadable crowded octets chunks g e =
-    some_step (not follows) Sequence (cond unreadable (Some Unreadable) (cond crowded (Some TooManyOpen) (cond octets (Some MessageTooLarge) (cond chunks (Some TooManyChunks) None)))) g e (λ s. for_self Sequence g (IsFor (Some Sequence)) s refl)
-    (λ e1. some_step unreadable Unreadable (cond crowded (Some TooManyOpen) (cond octets (Some MessageTooLarge) (cond chunks (Some TooManyChunks) None))) g e1 (λ s. for_self Unreadable g (IsFor (Some Unreadable)) s refl)
-    (λ e2. some_step crowded TooManyOpen (cond octets (Some MessageTooLarge) (cond chunks (Some TooManyChunks) None)) g e2 (λ s. for_self TooManyOpen g (IsFor (Some TooManyOpen)) s refl)
+    some_step (not follows) Sequence
+    (cond unreadable (Some Unreadable) (cond crowded (Some TooManyOpen) (cond octets (Some MessageTooLarge) (cond chunks (Some TooManyChunks) None)))) g e
+    (λ s. for_self Sequence g (IsFor (Some Sequence)) s refl)
+    (λ e1. some_step unreadable Unreadable (cond crowded (Some TooManyOpen) (cond octets (Some MessageTooLarge) (cond chunks (Some TooManyChunks) None))) g e1
+    (λ s. for_self Unreadable g (IsFor (Some Unreadable)) s refl)
+    (λ e2. some_step crowded TooManyOpen (cond octets (Some MessageTooLarge) (cond chunks (Some TooManyChunks) None)) g e2
+    (λ s. for_self TooManyOpen g (IsFor (Some TooManyOpen)) s refl)
     (λ e3. some_step octets MessageTooLarge (cond chunks (Some TooManyChunks) None) g e3 (λ s. for_self MessageTooLarge g (IsFor (Some MessageTooLarge)) s refl)
     (λ e4. some_step chunks TooManyChunks None g e4 (λ s. for_self TooManyChunks g (IsFor (Some TooManyChunks)) s refl)
     (λ e5. absurd cc)))))
 
 -- a fault that is the first reason is for it
-pub fault_is_for : (octets chunks : ℕ) (last : Option ℕ) (cs : List Chunk) (c : Chunk) (g : AssembleFault) → refusal octets chunks last cs c ≡ Some g → IsFor (refusal octets chunks last cs c) g
+pub fault_is_for : (octets chunks : ℕ) (last : Option ℕ) (cs : List Chunk) (c : Chunk) (g : AssembleFault) → refusal octets chunks last cs c ≡ Some g
+    → IsFor (refusal octets chunks last cs c) g
 fault_is_for octets chunks last cs c g e =
     chain_for (may_follow last c.sequence) (is_abort_flag c.flag && not (is_readable_abort c.body)) (ltb most_open (length (open_ids (cs ++ c ∷ []))))
     (not (is_abort_flag c.flag) && passes octets (length (joined (gathered cs c)))) (not (is_abort_flag c.flag) && passes chunks (length (gathered cs c))) g e
@@ -166,14 +198,17 @@ unreadable_after true true crowded octets chunks e = absurd cc
 unreadable_after true false crowded octets chunks e = refl
 
 -- an assembler that took a chunk stands after it
-pub stays : (a b : Assembler) (cs : List Chunk) (c : Chunk) → Stands a cs → refusal a.octets a.chunks a.last cs c ≡ None → b.closed ≡ false → b.octets ≡ a.octets → b.pending ≡ without (is_under c.request) a.pending ++ put_back (message_of c.request a.pending) c → Stands b (cs ++ c ∷ [])
+pub stays : (a b : Assembler) (cs : List Chunk) (c : Chunk) → Stands a cs → refusal a.octets a.chunks a.last cs c ≡ None → b.closed ≡ false
+    → b.octets ≡ a.octets → b.pending ≡ without (is_under c.request) a.pending ++ put_back (message_of c.request a.pending) c → Stands b (cs ++ c ∷ [])
 stays a b cs c s none closed octets pending = record {
   goes_on = closed;
   unfinished = messages_are cs c a.pending b.pending s.unfinished pending;
   few = ltb-false most_open (length (open_ids (cs ++ c ∷ [])))
       (few_after (may_follow a.last c.sequence) (is_abort_flag c.flag && not (is_readable_abort c.body)) (ltb most_open (length (open_ids (cs ++ c ∷ []))))
-      (not (is_abort_flag c.flag) && passes a.octets (length (joined (gathered cs c)))) (not (is_abort_flag c.flag) && passes a.chunks (length (gathered cs c))) none);
+      (not (is_abort_flag c.flag) && passes a.octets (length (joined (gathered cs c)))) (not (is_abort_flag c.flag) && passes a.chunks (length (gathered cs c)))
+      none);
   within = subst (λ n. OpenWithin n (cs ++ c ∷ [])) (sym octets) (within_push a.octets cs c s.within
       (large_after (may_follow a.last c.sequence) (is_abort_flag c.flag && not (is_readable_abort c.body)) (ltb most_open (length (open_ids (cs ++ c ∷ []))))
-      (not (is_abort_flag c.flag) && passes a.octets (length (joined (gathered cs c)))) (not (is_abort_flag c.flag) && passes a.chunks (length (gathered cs c))) none));
+      (not (is_abort_flag c.flag) && passes a.octets (length (joined (gathered cs c)))) (not (is_abort_flag c.flag) && passes a.chunks (length (gathered cs c)))
+      none));
 }

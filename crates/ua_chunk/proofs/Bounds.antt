@@ -1,5 +1,6 @@
 -- What is held of unfinished messages within a limit.
-use Rattle.std.proofs.Common.{◌≡◌, ℕ, zero, suc, ◌+◌, ◌*◌, ◌≤◌, ◌<◌, Bool, true, false, not, ◌&&◌, eqb, ltb, List, [], ◌∷◌, ◌++◌, refl, sym, ◌∙◌, ap, arith, length, map}
+use Rattle.std.proofs.Common.{◌≡◌, ℕ, zero, suc, ◌+◌, ◌*◌, ◌≤◌, ◌<◌, Bool, true, false, not, ◌&&◌}
+use Rattle.std.proofs.Common.{eqb, ltb, List, [], ◌∷◌, ◌++◌, refl, sym, ◌∙◌, ap, arith, length, map}
 use Rattle.std.proofs.lemmas.Bool.{le-ltb, ltb-false, ne_eqb, eqb-true}
 use Rattle.std.proofs.lemmas.List.Sums.{sum_by-cons}
 use Rattle.std.specs.List.{concat, sum_by}
@@ -38,7 +39,8 @@ counted_by F b m e = absurd cc
 counted_by C b m e = e
 counted_by A b m e = absurd cc
 
-within_one : (of more : Bool) (octets id : ℕ) (cs : List Chunk) (c : Chunk) → is_of id c ≡ of → is_more c ≡ more → OpenWithin octets cs → (not (is_abort_flag c.flag) && passes octets (length (joined (gathered cs c)))) ≡ false
+within_one : (of more : Bool) (octets id : ℕ) (cs : List Chunk) (c : Chunk) → is_of id c ≡ of → is_more c ≡ more → OpenWithin octets cs
+    → (not (is_abort_flag c.flag) && passes octets (length (joined (gathered cs c)))) ≡ false
     → passes octets (length (joined (unfinished id (cs ++ c ∷ [])))) ≡ false
 within_one false more octets id cs c e m w fits = ap (λ us. passes octets (length (joined us))) (unfinished_other id cs c e) ∙ w id
 within_one true false octets id cs c e m w fits = ap (λ us. passes octets (length (joined us))) (unfinished_end id cs c e m) ∙ none_within octets
@@ -48,7 +50,8 @@ within_one true true octets id cs c e m w fits =
     ∙ counted_by c.flag (passes octets (length (joined (gathered cs c)))) m fits
 
 -- a chunk whose message fits leaves what fits
-pub within_push : (octets : ℕ) (cs : List Chunk) (c : Chunk) → OpenWithin octets cs → (not (is_abort_flag c.flag) && passes octets (length (joined (gathered cs c)))) ≡ false → OpenWithin octets (cs ++ c ∷ [])
+pub within_push : (octets : ℕ) (cs : List Chunk) (c : Chunk) → OpenWithin octets cs
+    → (not (is_abort_flag c.flag) && passes octets (length (joined (gathered cs c)))) ≡ false → OpenWithin octets (cs ++ c ∷ [])
 within_push octets cs c w fits id = within_one (is_of id c) (is_more c) octets id cs c refl refl w fits
 
 -- ---- the sum
@@ -67,7 +70,8 @@ fits_in octets n some fits =
     ltb-false octets n (sym (ap (λ b. not b && ltb octets n) limited) ∙ fits)
 
 pub bounded : (octets : ℕ) (cs : List Chunk) → 0 < octets → OpenWithin octets cs → length (open_ids cs) ≤ 4 → open_octets cs ≤ 4 * octets
-bounded octets cs some w few = sum_small (λ id. length (joined (unfinished id cs))) octets (open_ids cs) (λ id. fits_in octets (length (joined (unfinished id cs))) some (w id)) 4 few
+bounded octets cs some w few = sum_small (λ id. length (joined (unfinished id cs))) octets (open_ids cs)
+    (λ id. fits_in octets (length (joined (unfinished id cs))) some (w id)) 4 few
 
 octets_kept : (f : ℕ → List Chunk) (ids : List ℕ) → octets_in (map (λ id. kept id (f id)) ids) ≡ sum_by (λ id. length (joined (f id))) ids
 octets_kept f [] = refl

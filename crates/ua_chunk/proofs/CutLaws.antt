@@ -1,5 +1,6 @@
 -- What is cut is taken and delivered.
-use Rattle.std.proofs.Common.{◌≡◌, ℕ, ◌+◌, ◌<◌, ◌≤◌, Bool, true, false, cond, not, ◌&&◌, eqb, ltb, Option, Some, None, List, [], ◌∷◌, ◌++◌, refl, sym, ◌∙◌, ap, subst, arith, length, map, append_assoc}
+use Rattle.std.proofs.Common.{◌≡◌, ℕ, ◌+◌, ◌<◌, ◌≤◌, Bool, true, false, cond, not, ◌&&◌, eqb, ltb, Option, Some}
+use Rattle.std.proofs.Common.{None, List, [], ◌∷◌, ◌++◌, refl, sym, ◌∙◌, ap, subst, arith, length, map, append_assoc}
 use Rattle.std.proofs.lemmas.Bool.{or_parts, or_left, or_right, and_parts, and_from, eq-eqb, eqb-true, lt-ltb, not-true}
 use Rattle.std.specs.List.{list_any, list_all, flat_map}
 use Rattle.ua_chunk.specs.declared.chunk.Chunk.{Chunk}
@@ -60,7 +61,8 @@ only_sent false m n e = absurd cc
 within_one : (octets chunks : ℕ) (m : Sent) → IsWithin octets chunks m → AllWithin octets chunks (m ∷ [])
 within_one octets chunks m w id n e = subst (IsWithin octets chunks) (only_sent (eqb m.request id) m n e) w
 
-pieces_within : (octets chunks id : ℕ) (p : List ℕ) (ps : List (List ℕ)) → passes octets (length (flat_map (λ p. p) (p ∷ ps))) ≡ false → passes chunks (length (p ∷ ps)) ≡ false → IsWithin octets chunks (sent_of id p ps)
+pieces_within : (octets chunks id : ℕ) (p : List ℕ) (ps : List (List ℕ)) → passes octets (length (flat_map (λ p. p) (p ∷ ps))) ≡ false
+    → passes chunks (length (p ∷ ps)) ≡ false → IsWithin octets chunks (sent_of id p ps)
 unfolding sent_of
 pieces_within octets chunks id p ps o c = record {
   ending = refl;
@@ -81,10 +83,12 @@ follows_next_by false s e = or_left (eqb (s + 1) (s + 1)) (ltb 4294966271 s && l
 pub follows_next : (s : ℕ) → follows s (next_number s) ≡ true
 follows_next s = follows_next_by (eqb s 4294966272) s refl
 
-numbered_ordered : (lane : Lane) (last : Option ℕ) (s id : ℕ) (p : List ℕ) (ps : List (List ℕ)) → may_follow last s ≡ true → ordered last (numbered lane s id (p ∷ ps)) ≡ true
+numbered_ordered : (lane : Lane) (last : Option ℕ) (s id : ℕ) (p : List ℕ) (ps : List (List ℕ)) → may_follow last s ≡ true
+    → ordered last (numbered lane s id (p ∷ ps)) ≡ true
 numbered_ordered lane last s id p [] h = and_from (may_follow last s) true h refl
 numbered_ordered lane last s id p (q ∷ qs) h =
-    and_from (may_follow last s) (ordered (Some s) (numbered lane (next_number s) id (q ∷ qs))) h (numbered_ordered lane (Some s) (next_number s) id q qs (follows_next s))
+    and_from (may_follow last s) (ordered (Some s) (numbered lane (next_number s) id (q ∷ qs))) h
+    (numbered_ordered lane (Some s) (next_number s) id q qs (follows_next s))
 
 -- ---- one request id alone
 
@@ -112,7 +116,8 @@ one_open id (c ∷ cs) h =
     let same : c.request ≡ id = eqb-true c.request id parts.0 in
     one_step (is_more c && not (list_any (is_of c.request) cs)) c.request (open_ids cs) (one_open id cs parts.1)
     (λ t.
-    let later : list_any (is_of c.request) cs ≡ false = not-true (list_any (is_of c.request) cs) ((and_parts (is_more c) (not (list_any (is_of c.request) cs)) t).1) in
+    let later : list_any (is_of c.request) cs ≡ false =
+    not-true (list_any (is_of c.request) cs) ((and_parts (is_more c) (not (list_any (is_of c.request) cs)) t).1) in
     ap open_ids (all_none (is_of id) cs parts.1 (subst (λ (k : ℕ). list_any (is_of k) cs ≡ false) same later)))
 
 few_all : (id : ℕ) (before cs : List Chunk) → list_all (is_of id) (before ++ cs) ≡ true → FewOpen before cs
@@ -123,24 +128,30 @@ few_all id before (c ∷ cs) h =
 
 numbered_all : (lane : Lane) (s id : ℕ) (ps : List (List ℕ)) → list_all (is_of id) (numbered lane s id ps) ≡ true
 numbered_all lane s id [] = refl
-numbered_all lane s id (p ∷ ps) = and_from (eqb id id) (list_all (is_of id) (numbered lane (next_number s) id ps)) (eq-eqb id id refl) (numbered_all lane (next_number s) id ps)
+numbered_all lane s id (p ∷ ps) = and_from (eqb id id) (list_all (is_of id) (numbered lane (next_number s) id ps)) (eq-eqb id id refl)
+    (numbered_all lane (next_number s) id ps)
 
 -- ---- the laws
 
-messages_pieces : (octets chunks : ℕ) (lane : Lane) (s id : ℕ) (p : List ℕ) (ps : List (List ℕ)) → passes octets (length (flat_map (λ p. p) (p ∷ ps))) ≡ false → passes chunks (length (p ∷ ps)) ≡ false
+messages_pieces : (octets chunks : ℕ) (lane : Lane) (s id : ℕ) (p : List ℕ) (ps : List (List ℕ)) → passes octets (length (flat_map (λ p. p) (p ∷ ps))) ≡ false
+    → passes chunks (length (p ∷ ps)) ≡ false
     → TakesMessages octets chunks [] (numbered lane s id (p ∷ ps))
 messages_pieces octets chunks lane s id p ps o c =
-    messages_behind octets chunks (sent_of id p ps ∷ []) [] (numbered lane s id (p ∷ ps)) (within_one octets chunks (sent_of id p ps) (pieces_within octets chunks id p ps o c))
-    (merge_by_id (sent_of id p ps ∷ []) (numbered lane s id (p ∷ ps)) (refl, tt) (one_merge (sent_of id p ps) (map part_of (numbered lane s id (p ∷ ps))) (numbered_parts lane s id p ps)))
+    messages_behind octets chunks (sent_of id p ps ∷ []) [] (numbered lane s id (p ∷ ps))
+    (within_one octets chunks (sent_of id p ps) (pieces_within octets chunks id p ps o c))
+    (merge_by_id (sent_of id p ps ∷ []) (numbered lane s id (p ∷ ps)) (refl, tt)
+    (one_merge (sent_of id p ps) (map part_of (numbered lane s id (p ∷ ps))) (numbered_parts lane s id p ps)))
     (few_all id [] (numbered lane s id (p ∷ ps)) (numbered_all lane s id (p ∷ ps)))
 
-pub cut_messages : (octets chunks : ℕ) (lane : Lane) (b : List ℕ) (s id : ℕ) → 0 < lane.room → 0 < length b → passes octets (length b) ≡ false → passes chunks (length (pieces lane.room b)) ≡ false
+pub cut_messages : (octets chunks : ℕ) (lane : Lane) (b : List ℕ) (s id : ℕ) → 0 < lane.room → 0 < length b → passes octets (length b) ≡ false
+    → passes chunks (length (pieces lane.room b)) ≡ false
     → TakesMessages octets chunks [] (chunks_of lane b s id)
 cut_messages octets chunks lane b s id pos some o c =
     let ps = some_pieces lane.room b some in
     subst (λ (t : List (List ℕ)). TakesMessages octets chunks [] (numbered lane s id t)) (sym ps.are)
     (messages_pieces octets chunks lane s id ps.first ps.others
-    (ap (λ (t : List (List ℕ)). passes octets (length (flat_map (λ p. p) t))) (sym ps.are) ∙ ap (λ (t : List ℕ). passes octets (length t)) (joined_pieces lane.room b pos some) ∙ o)
+    (ap (λ (t : List (List ℕ)). passes octets (length (flat_map (λ p. p) t))) (sym ps.are)
+    ∙ ap (λ (t : List ℕ). passes octets (length t)) (joined_pieces lane.room b pos some) ∙ o)
     (ap (λ (t : List (List ℕ)). passes chunks (length t)) (sym ps.are) ∙ c))
 
 cut_ordered : (lane : Lane) (last : Option ℕ) (b : List ℕ) (s id : ℕ) → 0 < length b → may_follow last s ≡ true → ordered last (chunks_of lane b s id) ≡ true
@@ -148,7 +159,8 @@ cut_ordered lane last b s id some h =
     let ps = some_pieces lane.room b some in
     ap (λ (t : List (List ℕ)). ordered last (numbered lane s id t)) ps.are ∙ numbered_ordered lane last s id ps.first ps.others h
 
-pub cut_taken : (octets chunks : ℕ) (last : Option ℕ) (lane : Lane) (b : List ℕ) (s id : ℕ) → 0 < lane.room → 0 < length b → may_follow last s ≡ true → passes octets (length b) ≡ false → passes chunks (length (pieces lane.room b)) ≡ false
+pub cut_taken : (octets chunks : ℕ) (last : Option ℕ) (lane : Lane) (b : List ℕ) (s id : ℕ) → 0 < lane.room → 0 < length b → may_follow last s ≡ true
+    → passes octets (length b) ≡ false → passes chunks (length (pieces lane.room b)) ≡ false
     → TakesAll octets chunks last [] (chunks_of lane b s id)
 cut_taken octets chunks last lane b s id pos some h o c =
     takes_all octets chunks last [] (chunks_of lane b s id) (cut_ordered lane last b s id some h) (cut_messages octets chunks lane b s id pos some o c)

@@ -1,5 +1,6 @@
 -- Chunks behind chunks that leave nothing unfinished, and what a cut body delivers.
-use Rattle.std.proofs.Common.{◌≡◌, ℕ, ◌<◌, Bool, true, false, cond, not, ◌&&◌, ◌||◌, eqb, ltb, Option, Some, List, [], ◌∷◌, ◌++◌, refl, sym, ◌∙◌, ap, arith, length, map, append-nil, append_assoc, take, drop}
+use Rattle.std.proofs.Common.{◌≡◌, ℕ, ◌<◌, Bool, true, false, cond, not, ◌&&◌, ◌||◌, eqb, ltb, Option, Some, List, []}
+use Rattle.std.proofs.Common.{◌∷◌, ◌++◌, refl, sym, ◌∙◌, ap, arith, length, map, append-nil, append_assoc, take, drop}
 use Rattle.std.proofs.lemmas.Bool.{cond-true, eq-eqb}
 use Rattle.std.specs.List.{list_any, filter, flat_map}
 use Rattle.ua_chunk.specs.declared.assembler.Assembler.{Assembler}
@@ -28,7 +29,8 @@ use Rattle.ua_chunk.proofs.KeptMessages.{joined_push}
 
 -- ---- behind nothing unfinished
 
-after_append_step : {X : Type 0} (any any' : Bool) (x : X) (xs ys al al' end : List X) → (any ≡ true → any' ≡ true) → (al ≡ [] → al' ≡ end) → cond any al (x ∷ xs) ≡ [] → cond any' al' (x ∷ ys) ≡ end
+after_append_step : {X : Type 0} (any any' : Bool) (x : X) (xs ys al al' end : List X) → (any ≡ true → any' ≡ true) → (al ≡ [] → al' ≡ end)
+    → cond any al (x ∷ xs) ≡ [] → cond any' al' (x ∷ ys) ≡ end
 after_append_step true any' x xs ys al al' end grows same e = cond-true any' al' (x ∷ ys) (grows refl) ∙ same e
 after_append_step false any' x xs ys al al' end grows same e = absurd cc
 
@@ -76,12 +78,14 @@ pub fresh : (cs ds : List Chunk) → open_ids cs ≡ [] → delivered (cs ++ ds)
 fresh cs ds none =
     delivered_from (cs ++ ds)
     ∙ behind_append [] cs ds
-    ∙ ap (λ t. delivered_behind [] cs ++ t) (ap (λ t. delivered_behind t ds) (sym (append-nil cs)) ∙ fresh_behind cs [] ds (none_unfinished cs none) ∙ sym (delivered_from ds))
+    ∙ ap (λ t. delivered_behind [] cs ++ t) (ap (λ t. delivered_behind t ds) (sym (append-nil cs)) ∙ fresh_behind cs [] ds (none_unfinished cs none)
+    ∙ sym (delivered_from ds))
     ∙ ap (λ t. t ++ delivered ds) (sym (delivered_from cs))
 
 -- ---- why chunks are refused behind nothing unfinished
 
-open_step : (more later later' : Bool) (r : ℕ) (o o' end : List ℕ) → (later ≡ true → later' ≡ true) → (o ≡ [] → o' ≡ end) → cond (more && not later) (r ∷ o) o ≡ [] → cond (more && not later') (r ∷ o') o' ≡ end
+open_step : (more later later' : Bool) (r : ℕ) (o o' end : List ℕ) → (later ≡ true → later' ≡ true) → (o ≡ [] → o' ≡ end)
+    → cond (more && not later) (r ∷ o) o ≡ [] → cond (more && not later') (r ∷ o') o' ≡ end
 open_step false later later' r o o' end grows same e = same e
 open_step true true later' r o o' end grows same e = ap (λ b. cond (not b) (r ∷ o') o') (grows refl) ∙ same e
 open_step true false later' r o o' end grows same e = absurd cc
@@ -93,7 +97,8 @@ open_behind (c ∷ cs) us e =
     (any_grows (is_of c.request) cs us) (open_behind cs us) e
 
 -- what may be wrong with a message is what may be wrong with it alone
-same_reasons : (octets chunks : ℕ) (cs ds : List Chunk) (c : Chunk) → open_ids cs ≡ [] → message_reasons octets chunks (cs ++ ds) c ≡ message_reasons octets chunks ds c
+same_reasons : (octets chunks : ℕ) (cs ds : List Chunk) (c : Chunk) → open_ids cs ≡ []
+    → message_reasons octets chunks (cs ++ ds) c ≡ message_reasons octets chunks ds c
 same_reasons octets chunks cs ds c none =
     let table : List ℕ → List Chunk → List (AssembleFault × Bool) = λ ids us.
     (Unreadable, is_abort_flag c.flag && not (is_readable_abort c.body))
@@ -104,10 +109,12 @@ same_reasons octets chunks cs ds c none =
     ap (λ ids. table ids (gathered (cs ++ ds) c)) (ap open_ids (append_assoc cs ds (c ∷ [])) ∙ open_behind cs (ds ++ c ∷ []) none)
     ∙ ap (λ us. table (open_ids (ds ++ c ∷ [])) (us ++ c ∷ [])) (unfinished_behind c.request cs ds (none_unfinished cs none c.request))
 
-pub fresh_message : (octets chunks : ℕ) (cs ds : List Chunk) (c : Chunk) → open_ids cs ≡ [] → message_refusal octets chunks (cs ++ ds) c ≡ message_refusal octets chunks ds c
+pub fresh_message : (octets chunks : ℕ) (cs ds : List Chunk) (c : Chunk) → open_ids cs ≡ []
+    → message_refusal octets chunks (cs ++ ds) c ≡ message_refusal octets chunks ds c
 fresh_message octets chunks cs ds c none = ap (first_reason) (same_reasons octets chunks cs ds c none)
 
-pub fresh_refusal : (octets chunks : ℕ) (last : Option ℕ) (cs ds : List Chunk) (c : Chunk) → open_ids cs ≡ [] → refusal octets chunks last (cs ++ ds) c ≡ refusal octets chunks last ds c
+pub fresh_refusal : (octets chunks : ℕ) (last : Option ℕ) (cs ds : List Chunk) (c : Chunk) → open_ids cs ≡ []
+    → refusal octets chunks last (cs ++ ds) c ≡ refusal octets chunks last ds c
 fresh_refusal octets chunks last cs ds c none = ap (λ o. cond (not (may_follow last c.sequence)) (Some Sequence) o) (fresh_message octets chunks cs ds c none)
 
 -- an assembler without unfinished messages stands as after no chunks
@@ -121,13 +128,15 @@ stands_fresh a cs s none = record {
 
 -- ---- what a cut body delivers
 
-pub cut_behind : (lane : Lane) (s id : ℕ) (p : List ℕ) (ps : List (List ℕ)) (before : List Chunk) → delivered_behind before (numbered lane s id (p ∷ ps)) ≡ Whole id (joined (unfinished id before) ++ flat_map (λ p. p) (p ∷ ps)) ∷ []
+pub cut_behind : (lane : Lane) (s id : ℕ) (p : List ℕ) (ps : List (List ℕ)) (before : List Chunk) → delivered_behind before (numbered lane s id (p ∷ ps))
+    ≡ Whole id (joined (unfinished id before) ++ flat_map (λ p. p) (p ∷ ps)) ∷ []
 cut_behind lane s id p [] before =
     ap (λ t. Whole id t ∷ []) (joined_push (unfinished id before) (chunk_of lane F s id p) ∙ ap (λ t. joined (unfinished id before) ++ t) (sym (append-nil p)))
 cut_behind lane s id p (q ∷ qs) before =
     let c = chunk_of lane C s id p in
     cut_behind lane (next_number s) id q qs (before ++ c ∷ [])
-    ∙ ap (λ t. Whole id (t ++ flat_map (λ p. p) (q ∷ qs)) ∷ []) (ap joined (unfinished_more id before c (eq-eqb id id refl) refl) ∙ joined_push (unfinished id before) c)
+    ∙ ap (λ t. Whole id (t ++ flat_map (λ p. p) (q ∷ qs)) ∷ []) (ap joined (unfinished_more id before c (eq-eqb id id refl) refl)
+    ∙ joined_push (unfinished id before) c)
     ∙ ap (λ t. Whole id t ∷ []) (append_assoc (joined (unfinished id before)) p (flat_map (λ p. p) (q ∷ qs)))
 
 -- pieces that there are

@@ -40,18 +40,21 @@ filter_right p (left {x = x} {xs = xs} {zs = zs} i) h =
     cond-false (p x) (x ∷ filter p zs) (filter p zs) parts.0 ∙ filter_right p i parts.1
 filter_right p (right {y = y} {ys = ys} {zs = zs} i) h = right_step (p y) y (filter p zs) (filter p ys) (filter_right p i h)
 
-all_parts : (r id : ℕ) (ps : List (List ℕ)) (z : Part) → eqb r id ≡ true → eqb z.request id ≡ true → list_all (is_part_of id) (map (more_part r) ps ++ z ∷ []) ≡ true
+all_parts : (r id : ℕ) (ps : List (List ℕ)) (z : Part) → eqb r id ≡ true → eqb z.request id ≡ true → list_all (is_part_of id) (map (more_part r) ps ++ z ∷ [])
+    ≡ true
 all_parts r id [] z e f = and_from (eqb z.request id) true f refl
 all_parts r id (p ∷ ps) z e f = and_from (eqb r id) (list_all (is_part_of id) (map (more_part r) ps ++ z ∷ [])) e (all_parts r id ps z e f)
 
-no_parts : (r id : ℕ) (ps : List (List ℕ)) (z : Part) → eqb r id ≡ false → eqb z.request id ≡ false → list_any (is_part_of id) (map (more_part r) ps ++ z ∷ []) ≡ false
+no_parts : (r id : ℕ) (ps : List (List ℕ)) (z : Part) → eqb r id ≡ false → eqb z.request id ≡ false → list_any (is_part_of id) (map (more_part r) ps ++ z ∷ [])
+    ≡ false
 no_parts r id [] z e f = or_from (eqb z.request id) false f refl
 no_parts r id (p ∷ ps) z e f = or_from (eqb r id) (list_any (is_part_of id) (map (more_part r) ps ++ z ∷ [])) e (no_parts r id ps z e f)
 
 empty_any : {X : Type 0} (p : X → Bool) (xs : List X) → filter p xs ≡ [] → list_any p xs ≡ false
 empty_any p xs e = false_from_ne_true (list_any p xs) (λ h. filter_some p xs h e)
 
-one_message : (b : Bool) (id : ℕ) (m : Sent) (ms : List Sent) (ys zs : List Part) → eqb m.request id ≡ b → sent_under m.request ms ≡ None → filter (is_part_of id) ys ≡ parts_under (sent_under id ms) → Interleaves (parts_of m) ys zs
+one_message : (b : Bool) (id : ℕ) (m : Sent) (ms : List Sent) (ys zs : List Part) → eqb m.request id ≡ b → sent_under m.request ms ≡ None
+    → filter (is_part_of id) ys ≡ parts_under (sent_under id ms) → Interleaves (parts_of m) ys zs
     → filter (is_part_of id) zs ≡ parts_under (cond b (Some m) (sent_under id ms))
 one_message true id m ms ys zs e own rest i =
     filter_left (is_part_of id) i (all_parts m.request id m.pieces (last_part m) e e)
@@ -59,7 +62,8 @@ one_message true id m ms ys zs e own rest i =
 one_message false id m ms ys zs e own rest i =
     filter_right (is_part_of id) i (no_parts m.request id m.pieces (last_part m) e e) ∙ rest
 
-merged_id : (id : ℕ) (ms : List Sent) (zs : List Part) → HaveOwnIds ms → Merges (map parts_of ms) zs → filter (is_part_of id) zs ≡ parts_under (sent_under id ms)
+merged_id : (id : ℕ) (ms : List Sent) (zs : List Part) → HaveOwnIds ms → Merges (map parts_of ms) zs
+    → filter (is_part_of id) zs ≡ parts_under (sent_under id ms)
 merged_id id [] zs own merge = ap (filter (is_part_of id)) merge
 merged_id id (m ∷ ms) zs own merge = one_message (eqb m.request id) id m ms merge.0 zs refl own.0 (merged_id id ms merge.0 own.1 merge.1) merge.2
 

@@ -14,14 +14,16 @@ use Rattle.ua_chunk.proofs.OneMore.{open_push, open_gone, not_open, unfinished_o
 
 -- ---- taking one out
 
-found_here : (b : Bool) (id j : ℕ) (f : ℕ → List Chunk) (rest : Pending) → eqb j id ≡ b → (b ≡ false → rest ≡ kept id (f id)) → cond b (kept j (f j)) rest ≡ kept id (f id)
+found_here : (b : Bool) (id j : ℕ) (f : ℕ → List Chunk) (rest : Pending) → eqb j id ≡ b → (b ≡ false → rest ≡ kept id (f id))
+    → cond b (kept j (f j)) rest ≡ kept id (f id)
 found_here true id j f rest e h = ap (λ (k : ℕ). kept k (f k)) (eqb-true j id e)
 found_here false id j f rest e h = h refl
 
 found : (id : ℕ) (f : ℕ → List Chunk) (ids : List ℕ) → list_any (λ j. eqb j id) ids ≡ true → message_of id (map (λ j. kept j (f j)) ids) ≡ kept id (f id)
 found id f [] h = absurd cc
 found id f (j ∷ ids) h =
-    found_here (eqb j id) id j f (message_of id (map (λ j. kept j (f j)) ids)) refl (λ e. found id f ids (left_any (eqb j id) (list_any (λ j. eqb j id) ids) h e))
+    found_here (eqb j id) id j f (message_of id (map (λ j. kept j (f j)) ids)) refl
+    (λ e. found id f ids (left_any (eqb j id) (list_any (λ j. eqb j id) ids) h e))
 
 missing : (id : ℕ) (f : ℕ → List Chunk) (ids : List ℕ) → list_any (λ j. eqb j id) ids ≡ false → message_of id (map (λ j. kept j (f j)) ids) ≡ nothing_of id
 missing id f [] h = refl
@@ -29,7 +31,8 @@ missing id f (j ∷ ids) h =
     let parts = or_parts (eqb j id) (list_any (λ j. eqb j id) ids) h in
     cond-false (eqb j id) (kept j (f j)) (message_of id (map (λ j. kept j (f j)) ids)) parts.0 ∙ missing id f ids parts.1
 
-message_case : (b : Bool) (id : ℕ) (cs : List Chunk) → list_any (λ j. eqb j id) (open_ids cs) ≡ b → message_of id (kept_messages cs) ≡ kept id (unfinished id cs)
+message_case : (b : Bool) (id : ℕ) (cs : List Chunk) → list_any (λ j. eqb j id) (open_ids cs) ≡ b
+    → message_of id (kept_messages cs) ≡ kept id (unfinished id cs)
 message_case true id cs e = found id (λ j. unfinished j cs) (open_ids cs) e
 message_case false id cs e = missing id (λ j. unfinished j cs) (open_ids cs) e ∙ ap (kept id) (sym (not_open id cs e))
 
@@ -44,23 +47,28 @@ without_step : (b : Bool) (j : ℕ) (f : ℕ → List Chunk) (ids rest : List �
 without_step true j f ids rest ms e = refl
 without_step false j f ids rest ms e = ap (λ t. kept j (f j) ∷ t) e
 
-without_kept : (id : ℕ) (f : ℕ → List Chunk) (ids : List ℕ) → without (is_under id) (map (λ j. kept j (f j)) ids) ≡ map (λ j. kept j (f j)) (without (λ j. eqb j id) ids)
+without_kept : (id : ℕ) (f : ℕ → List Chunk) (ids : List ℕ) → without (is_under id) (map (λ j. kept j (f j)) ids) ≡ map (λ j. kept j (f j))
+    (without (λ j. eqb j id) ids)
 without_kept id f [] = refl
-without_kept id f (j ∷ ids) = without_step (eqb j id) j f ids (without (λ j. eqb j id) ids) (without (is_under id) (map (λ j. kept j (f j)) ids)) (without_kept id f ids)
+without_kept id f (j ∷ ids) = without_step (eqb j id) j f ids (without (λ j. eqb j id) ids) (without (is_under id) (map (λ j. kept j (f j)) ids))
+    (without_kept id f ids)
 
 last_kept : (b : Bool) (cs : List Chunk) (c : Chunk) → is_more c ≡ b
     → map (λ id. kept id (unfinished id (cs ++ c ∷ []))) (cond b (c.request ∷ []) []) ≡ cond b (kept c.request (unfinished c.request cs ++ c ∷ []) ∷ []) []
 last_kept true cs c e = ap (λ us. kept c.request us ∷ []) (unfinished_more c.request cs c (eq-eqb c.request c.request refl) e)
 last_kept false cs c e = refl
 
-pub messages_push : (cs : List Chunk) (c : Chunk) → kept_messages (cs ++ c ∷ []) ≡ without (is_under c.request) (kept_messages cs) ++ cond (is_more c) (kept c.request (unfinished c.request cs ++ c ∷ []) ∷ []) []
+pub messages_push : (cs : List Chunk) (c : Chunk) → kept_messages (cs ++ c ∷ []) ≡ without (is_under c.request) (kept_messages cs)
+    ++ cond (is_more c) (kept c.request (unfinished c.request cs ++ c ∷ []) ∷ []) []
 messages_push cs c =
     let after : ℕ → Pending = λ id. kept id (unfinished id (cs ++ c ∷ [])) in
     let before : ℕ → Pending = λ id. kept id (unfinished id cs) in
     let others = without (λ j. eqb j c.request) (open_ids cs) in
     ap (map after) (open_push cs c)
     ∙ map_push after others (cond (is_more c) (c.request ∷ []) [])
-    ∙ ap (λ t. t ++ map after (cond (is_more c) (c.request ∷ []) [])) (map_same (λ j. eqb j c.request) after before others (λ j e. ap (kept j) (unfinished_other j cs c (eqb_comm j c.request false e))) (open_gone c.request cs))
+    ∙ ap (λ t. t ++ map after (cond (is_more c) (c.request ∷ []) []))
+    (map_same (λ j. eqb j c.request) after before others (λ j e. ap (kept j) (unfinished_other j cs c (eqb_comm j c.request false e)))
+    (open_gone c.request cs))
     ∙ ap (λ t. t ++ map after (cond (is_more c) (c.request ∷ []) [])) (sym (without_kept c.request (λ j. unfinished j cs) (open_ids cs)))
     ∙ ap (λ t. without (is_under c.request) (kept_messages cs) ++ t) (last_kept (is_more c) cs c refl)
 

@@ -1,5 +1,6 @@
 -- The most octets that a body may have to be cut.
-use Rattle.std.proofs.Common.{◌≡◌, ℕ, ◌*◌, ◌^◌, ◌<◌, Bool, true, false, if◌then◌else◌, not, ◌&&◌, ◌↔◌, eqb, ltb, Option, Some, None, List, [], ◌∷◌, length, refl, sym, ◌∙◌, ap, arith}
+use Rattle.std.proofs.Common.{◌≡◌, ℕ, ◌*◌, ◌^◌, ◌<◌, Bool, true, false, if◌then◌else◌, not, ◌&&◌, ◌↔◌, eqb}
+use Rattle.std.proofs.Common.{ltb, Option, Some, None, List, [], ◌∷◌, length, refl, sym, ◌∙◌, ap, arith}
 use Rattle.std.proofs.lemmas.Bool.{ltb-true, ltb-false, le-ltb}
 use Rattle.std.proofs.lemmas.Nat.{mul-lt}
 use Rattle.ua_builtin.specs.Reasons.{first_reason}
@@ -37,7 +38,8 @@ pieces_pass limit k b pos = more_pieces limit k (length b) b pos refl ∙ over_i
 refused_by : Bool → Bool → Option CutFault
 refused_by a b = first_reason ((TooManyOctets, a) ∷ (TooManyChunks, b) ∷ [])
 
-refusal_is : (lane : Lane) (b : List ℕ) → 0 < lane.room → cut_refusal lane b ≡ refused_by (over (limit_of lane.octets 1) (length b)) (over (limit_of lane.chunks lane.room) (length b))
+refusal_is : (lane : Lane) (b : List ℕ) → 0 < lane.room → cut_refusal lane b ≡ refused_by (over (limit_of lane.octets 1) (length b))
+    (over (limit_of lane.chunks lane.room) (length b))
 unfolding refused_by
 refusal_is lane b pos =
     ap (λ (t : Bool). refused_by t (passes lane.chunks (length (pieces lane.room b)))) (passes_is lane.octets (length b))

@@ -11,13 +11,15 @@ apart_by : (follows : Bool) (message : Option AssembleFault) → cond (not follo
 apart_by true message e = (refl, e)
 apart_by false message e = absurd cc
 
-pub apart : (octets chunks : ℕ) (last : Option ℕ) (cs : List Chunk) (c : Chunk) → (refusal octets chunks last cs c ≡ None) ↔ ((may_follow last c.sequence ≡ true) × (message_refusal octets chunks cs c ≡ None))
+pub apart : (octets chunks : ℕ) (last : Option ℕ) (cs : List Chunk) (c : Chunk)
+    → (refusal octets chunks last cs c ≡ None) ↔ ((may_follow last c.sequence ≡ true) × (message_refusal octets chunks cs c ≡ None))
 apart octets chunks last cs c = (
   λ e. apart_by (may_follow last c.sequence) (message_refusal octets chunks cs c) e,
   λ h. ap (λ b. cond (not b) (Some Sequence) (message_refusal octets chunks cs c)) h.0 ∙ h.1,
 )
 
-pub takes_all : (octets chunks : ℕ) (last : Option ℕ) (before cs : List Chunk) → ordered last cs ≡ true → TakesMessages octets chunks before cs → TakesAll octets chunks last before cs
+pub takes_all : (octets chunks : ℕ) (last : Option ℕ) (before cs : List Chunk) → ordered last cs ≡ true → TakesMessages octets chunks before cs
+    → TakesAll octets chunks last before cs
 takes_all octets chunks last before [] order taken = tt
 takes_all octets chunks last before (c ∷ cs) order taken =
     let follow = and_parts (may_follow last c.sequence) (ordered (Some c.sequence) cs) order in

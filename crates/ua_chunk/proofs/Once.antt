@@ -12,7 +12,8 @@ use Rattle.ua_chunk.specs.Delivered.{aborted, delivered}
 use Rattle.ua_chunk.specs.Flag.{is_more_flag}
 use Rattle.ua_chunk.specs.Gathered.{is_of, is_more, ends}
 use Rattle.ua_chunk.specs.Item.{Item}
-use Rattle.ua_chunk.specs.Merge.{Part, part_of, Sent, more_part, last_part, sent_under, parts_under, outcome_by, outcome, outcome_under, outcomes, is_item_of, IsMerge}
+use Rattle.ua_chunk.specs.Merge.{Part, part_of, Sent, more_part, last_part, sent_under, parts_under}
+use Rattle.ua_chunk.specs.Merge.{outcome_by, outcome, outcome_under, outcomes, is_item_of, IsMerge}
 use Rattle.ua_chunk.specs.Open.{open_ids}
 use Rattle.ua_chunk.proofs.Lists.{filter_append}
 use Rattle.ua_chunk.proofs.Merged.{merged}
@@ -41,7 +42,8 @@ outcome_own F id m = refl
 outcome_own C id m = none_either (eqb m.request id)
 outcome_own A id m = aborted_own m.request id (abort_of m.last)
 
-under_own : (r id : ℕ) (o : Option Sent) → ((m : Sent) → o ≡ Some m → m.request ≡ r) → filter (is_item_of id) (outcome_under o) ≡ cond (eqb r id) (outcome_under o) []
+under_own : (r id : ℕ) (o : Option Sent) → ((m : Sent) → o ≡ Some m → m.request ≡ r)
+    → filter (is_item_of id) (outcome_under o) ≡ cond (eqb r id) (outcome_under o) []
 under_own r id None h = none_either (eqb r id)
 under_own r id (Some m) h = outcome_own m.end id m ∙ ap (λ k. cond (eqb k id) (outcome m) []) (h m refl)
 
@@ -49,11 +51,13 @@ under_own r id (Some m) h = outcome_own m.end id m ∙ ap (λ k. cond (eqb k id)
 at_part : List Sent → Part → List Item
 at_part ms p = cond (not (is_more_flag p.flag)) (outcome_under (sent_under p.request ms)) []
 
-at_own : (b : Bool) (r id : ℕ) (ms : List Sent) → filter (is_item_of id) (cond b (outcome_under (sent_under r ms)) []) ≡ cond (eqb r id) (cond b (outcome_under (sent_under r ms)) []) []
+at_own : (b : Bool) (r id : ℕ) (ms : List Sent) → filter (is_item_of id) (cond b (outcome_under (sent_under r ms)) [])
+    ≡ cond (eqb r id) (cond b (outcome_under (sent_under r ms)) []) []
 at_own true r id ms = under_own r id (sent_under r ms) (under_id r ms)
 at_own false r id ms = none_either (eqb r id)
 
-one_id : (b : Bool) (ms : List Sent) (c : Chunk) (rest : List Chunk) → cond b (at_part ms (part_of c)) [] ++ flat_map (at_part ms) (map part_of rest) ≡ flat_map (at_part ms) (map part_of (cond b (c ∷ rest) rest))
+one_id : (b : Bool) (ms : List Sent) (c : Chunk) (rest : List Chunk) → cond b (at_part ms (part_of c)) [] ++ flat_map (at_part ms) (map part_of rest)
+    ≡ flat_map (at_part ms) (map part_of (cond b (c ∷ rest) rest))
 one_id true ms c rest = refl
 one_id false ms c rest = refl
 
@@ -103,7 +107,8 @@ none_after r (j ∷ ids) h =
     let parts = or_parts (eqb j r) (list_any (λ j. eqb j r) ids) h in
     (eqb_comm j r false parts.0, none_after r ids parts.1)
 
-distinct_step : (b : Bool) (r : ℕ) (ids : List ℕ) → (b ≡ true → list_any (λ j. eqb j r) ids ≡ false) → IsDistinct eqb ids → IsDistinct eqb (cond b (r ∷ ids) ids)
+distinct_step : (b : Bool) (r : ℕ) (ids : List ℕ) → (b ≡ true → list_any (λ j. eqb j r) ids ≡ false) → IsDistinct eqb ids
+    → IsDistinct eqb (cond b (r ∷ ids) ids)
 unfolding IsDistinct
 distinct_step true r ids h d = (none_after r ids (h refl), d)
 distinct_step false r ids h d = d

@@ -67,23 +67,28 @@ any_one false true = refl
 any_one false false = refl
 
 -- more: whether d is a C; later: whether its id has a later chunk; same: whether c has its id
-open_push_step : (more later same : Bool) (d c : ℕ) (t before after : List ℕ) → eqb c d ≡ same → after ≡ without (λ j. eqb j c) before ++ t → (later ≡ false → list_any (λ j. eqb j d) before ≡ false)
+open_push_step : (more later same : Bool) (d c : ℕ) (t before after : List ℕ) → eqb c d ≡ same → after ≡ without (λ j. eqb j c) before ++ t
+    → (later ≡ false → list_any (λ j. eqb j d) before ≡ false)
     → cond (more && not (later || same)) (d ∷ after) after ≡ without (λ j. eqb j c) (cond (more && not later) (d ∷ before) before) ++ t
 open_push_step false later same d c t before after s e n = e
 open_push_step true true same d c t before after s e n = e
 open_push_step true false true d c t before after s e n =
     let same_id : c ≡ d = eqb-true c d s in
-    e ∙ ap (λ u. u ++ t) (ap (λ (k : ℕ). without (λ j. eqb j k) before) same_id ∙ without_none (λ j. eqb j d) before (n refl) ∙ sym (ap (λ b. cond b before (d ∷ without (λ j. eqb j c) before)) (eqb_comm c d true s)))
+    e ∙ ap (λ u. u ++ t) (ap (λ (k : ℕ). without (λ j. eqb j k) before) same_id ∙ without_none (λ j. eqb j d) before (n refl)
+    ∙ sym (ap (λ b. cond b before (d ∷ without (λ j. eqb j c) before)) (eqb_comm c d true s)))
 open_push_step true false false d c t before after s e n =
     ap (λ u. d ∷ u) e ∙ sym (ap (λ b. cond b before (d ∷ without (λ j. eqb j c) before) ++ t) (eqb_comm c d false s))
 
 pub open_push : (cs : List Chunk) (c : Chunk) → open_ids (cs ++ c ∷ []) ≡ without (λ j. eqb j c.request) (open_ids cs) ++ cond (is_more c) (c.request ∷ []) []
 open_push [] c = open_one (is_more c) c.request
 open_push (d ∷ cs) c =
-    ap (λ b. cond (is_more d && not b) (d.request ∷ open_ids (cs ++ c ∷ [])) (open_ids (cs ++ c ∷ []))) (any_push (is_of d.request) cs c ∙ any_one (list_any (is_of d.request) cs) (is_of d.request c))
-    ∙ open_push_step (is_more d) (list_any (is_of d.request) cs) (is_of d.request c) d.request c.request (cond (is_more c) (c.request ∷ []) []) (open_ids cs) (open_ids (cs ++ c ∷ [])) refl (open_push cs c) (open_none d.request cs)
+    ap (λ b. cond (is_more d && not b) (d.request ∷ open_ids (cs ++ c ∷ [])) (open_ids (cs ++ c ∷ []))) (any_push (is_of d.request) cs c
+    ∙ any_one (list_any (is_of d.request) cs) (is_of d.request c))
+    ∙ open_push_step (is_more d) (list_any (is_of d.request) cs) (is_of d.request c) d.request c.request (cond (is_more c) (c.request ∷ []) []) (open_ids cs)
+    (open_ids (cs ++ c ∷ [])) refl (open_push cs c) (open_none d.request cs)
 
-gone_step : (b s : Bool) (r id : ℕ) (o : List ℕ) → eqb r id ≡ s → (b ≡ true → list_any (λ j. eqb j r) o ≡ false) → list_any (λ j. eqb j id) (without (λ j. eqb j id) o) ≡ false
+gone_step : (b s : Bool) (r id : ℕ) (o : List ℕ) → eqb r id ≡ s → (b ≡ true → list_any (λ j. eqb j r) o ≡ false)
+    → list_any (λ j. eqb j id) (without (λ j. eqb j id) o) ≡ false
     → list_any (λ j. eqb j id) (without (λ j. eqb j id) (cond b (r ∷ o) o)) ≡ false
 gone_step false s r id o e n ih = ih
 gone_step true true r id o e n ih =
@@ -107,7 +112,8 @@ any_rest false r id o h = h
 
 -- own: whether c has the id; more: whether it is a C; later: whether a later chunk has the id
 not_open_step : (own more later : Bool) (id : ℕ) (c : Chunk) (f : List Chunk) (o : List ℕ) → is_of id c ≡ own → is_more c ≡ more
-    → (own ≡ true → list_any (λ j. eqb j id) (cond (more && not later) (c.request ∷ o) o) ≡ false) → after_last ends f ≡ [] → (own ≡ true → later ≡ true → f ≡ [] → ⊥)
+    → (own ≡ true → list_any (λ j. eqb j id) (cond (more && not later) (c.request ∷ o) o) ≡ false) → after_last ends f ≡ []
+    → (own ≡ true → later ≡ true → f ≡ [] → ⊥)
     → after_last ends (cond own (c ∷ f) f) ≡ []
 not_open_step false more later id c f o s m h ih n = ih
 not_open_step true false later id c f o s m h ih n = ap (λ b. cond (not b || list_any ends f) (after_last ends f) (c ∷ f)) m ∙ ih

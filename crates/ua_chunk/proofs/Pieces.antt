@@ -1,5 +1,6 @@
 -- Cutting a body into pieces.
-use Rattle.std.proofs.Common.{◌≡◌, ℕ, zero, suc, ◌+◌, ◌-◌, ◌*◌, ◌<◌, ◌≤◌, Bool, true, false, cond, not, ◌&&◌, eqb, ltb, List, [], ◌∷◌, ◌++◌, refl, sym, ◌∙◌, ap, subst, arith, length, take, drop, length-append, length-drop, append_assoc, append-nil, take-append-drop}
+use Rattle.std.proofs.Common.{◌≡◌, ℕ, zero, suc, ◌+◌, ◌-◌, ◌*◌, ◌<◌, ◌≤◌, Bool, true, false, cond, not, ◌&&◌, eqb, ltb, List, [], ◌∷◌, ◌++◌, refl}
+use Rattle.std.proofs.Common.{sym, ◌∙◌, ap, subst, arith, length, take, drop, length-append, length-drop, append_assoc, append-nil, take-append-drop}
 use Rattle.std.proofs.lemmas.Bool.{ltb-true, ltb-false, lt-ltb, le-ltb, eqb-false, cond-true, cond-false}
 use Rattle.std.proofs.lemmas.List.{length-take-le}
 use Rattle.std.specs.List.{flat_map}
@@ -37,7 +38,8 @@ unfolding pieces
 pieces_more k [] pos more = absurd (omega arith)
 pieces_more k (x ∷ b) pos more =
     cond-true (ltb k (length (x ∷ b))) (take k (x ∷ b) ∷ pieces_in (length b) k (drop k (x ∷ b))) ((x ∷ b) ∷ []) (lt-ltb k (length (x ∷ b)) more)
-    ∙ ap (λ t. take k (x ∷ b) ∷ t) (same_pieces (length b) (length (drop k (x ∷ b))) k (drop k (x ∷ b)) pos (omega (arith, length-drop k (x ∷ b))) (omega (arith, length-drop k (x ∷ b))) (omega arith))
+    ∙ ap (λ t. take k (x ∷ b) ∷ t) (same_pieces (length b) (length (drop k (x ∷ b))) k (drop k (x ∷ b)) pos (omega (arith, length-drop k (x ∷ b)))
+    (omega (arith, length-drop k (x ∷ b))) (omega arith))
 
 pub pieces_last : (k : ℕ) (b : List ℕ) → 0 < length b → length b ≤ k → pieces k b ≡ b ∷ []
 unfolding pieces
@@ -65,7 +67,8 @@ full_more : (k : ℕ) (x : List ℕ) (ps : List (List ℕ)) → length x ≡ k �
 full_more k x [] e h = absurd h
 full_more k x (q ∷ ps) e h = (e, h)
 
-full_step : (t : Bool) (k : ℕ) (x b : List ℕ) (ps : List (List ℕ)) → ltb k (length b) ≡ t → 0 < length b → (t ≡ true → (length x ≡ k) × AreFull k ps) → AreFull k (cond t (x ∷ ps) (b ∷ []))
+full_step : (t : Bool) (k : ℕ) (x b : List ℕ) (ps : List (List ℕ)) → ltb k (length b) ≡ t → 0 < length b → (t ≡ true → (length x ≡ k) × AreFull k ps)
+    → AreFull k (cond t (x ∷ ps) (b ∷ []))
 full_step true k x b ps e some h = let g = h refl in full_more k x ps g.0 g.1
 full_step false k x b ps e some h = (some, ltb-false k (length b) e)
 
@@ -100,7 +103,8 @@ counted_none k count len some one = record { above = λ h. one; below = λ h. ab
 counted_one : (l k len : ℕ) → 0 < len → len ≤ k → Counted (suc l) k 1 len
 counted_one l k len some last = record { above = λ h. absurd (omega arith); below = λ h. omega arith }
 
-counted_step : (t : Bool) (limit k : ℕ) (x b : List ℕ) (ps : List (List ℕ)) → 0 < length b → ltb k (length b) ≡ t → ((l : ℕ) → t ≡ true → Counted l k (length ps) (length b - k)) → Counted limit k (length (cond t (x ∷ ps) (b ∷ []))) (length b)
+counted_step : (t : Bool) (limit k : ℕ) (x b : List ℕ) (ps : List (List ℕ)) → 0 < length b → ltb k (length b) ≡ t
+    → ((l : ℕ) → t ≡ true → Counted l k (length ps) (length b - k)) → Counted limit k (length (cond t (x ∷ ps) (b ∷ []))) (length b)
 counted_step true zero k x b ps some e h = counted_none k (suc (length ps)) (length b) some (omega arith)
 counted_step true (suc l) k x b ps some e h = counted_more l k (length ps) (length b) (ltb-true k (length b) e) (h l refl)
 counted_step false zero k x b ps some e h = counted_none k 1 (length b) some (omega arith)
@@ -112,7 +116,8 @@ counted_in (suc n) limit k b pos le some =
     counted_step (ltb k (length b)) limit k (take k b) b (pieces_in n k (drop k b)) some refl
     (λ l t.
     let more : k < length b = ltb-true k (length b) t in
-    subst (λ (m : ℕ). Counted l k (length (pieces_in n k (drop k b))) m) (length-drop k b) (counted_in n l k (drop k b) pos (omega (arith, length-drop k b)) (omega (arith, length-drop k b))))
+    subst (λ (m : ℕ). Counted l k (length (pieces_in n k (drop k b))) m) (length-drop k b)
+    (counted_in n l k (drop k b) pos (omega (arith, length-drop k b)) (omega (arith, length-drop k b))))
 
 same_test : (t : Bool) (a b c d : ℕ) → ltb c d ≡ t → (c < d → a < b) → (d ≤ c → b ≤ a) → ltb a b ≡ ltb c d
 same_test true a b c d e f g = lt-ltb a b (f (ltb-true c d e)) ∙ sym e
@@ -122,7 +127,8 @@ some_more : (limit k : ℕ) (b : List ℕ) → 0 < k → 0 < length b → passes
 unfolding pieces
 some_more limit k b pos some =
     let c = counted_in (length b) limit k b pos (omega arith) some in
-    ap (λ t. not (eqb limit 0) && t) (same_test (ltb (limit * k) (length b)) limit (length (pieces_in (length b) k b)) (limit * k) (length b) refl c.above c.below)
+    ap (λ t. not (eqb limit 0) && t) (same_test (ltb (limit * k) (length b)) limit (length (pieces_in (length b) k b)) (limit * k)
+    (length b) refl c.above c.below)
 
 no_pieces : (k : ℕ) → pieces k [] ≡ []
 unfolding pieces
@@ -150,10 +156,12 @@ unfolding pieces
 flag_more k [] some = absurd (omega arith)
 flag_more k (x ∷ b) some = flag_of_some (ltb k (length (x ∷ b))) (take k (x ∷ b)) (x ∷ b) (pieces_in (length b) k (drop k (x ∷ b)))
 
-pub numbered_more : (lane : Lane) (s id : ℕ) (b : List ℕ) → 0 < lane.room → lane.room < length b → chunks_of lane b s id ≡ chunk_of lane C s id (take lane.room b) ∷ chunks_of lane (drop lane.room b) (next_number s) id
+pub numbered_more : (lane : Lane) (s id : ℕ) (b : List ℕ) → 0 < lane.room → lane.room < length b
+    → chunks_of lane b s id ≡ chunk_of lane C s id (take lane.room b) ∷ chunks_of lane (drop lane.room b) (next_number s) id
 numbered_more lane s id b pos more =
     ap (numbered lane s id) (pieces_more lane.room b pos more)
-    ∙ ap (λ f. chunk_of lane f s id (take lane.room b) ∷ chunks_of lane (drop lane.room b) (next_number s) id) (flag_more lane.room (drop lane.room b) (omega (arith, length-drop lane.room b)))
+    ∙ ap (λ f. chunk_of lane f s id (take lane.room b) ∷ chunks_of lane (drop lane.room b) (next_number s) id)
+    (flag_more lane.room (drop lane.room b) (omega (arith, length-drop lane.room b)))
 
 pub numbered_last : (lane : Lane) (s id : ℕ) (b : List ℕ) → 0 < length b → length b ≤ lane.room → chunks_of lane b s id ≡ chunk_of lane F s id b ∷ []
 numbered_last lane s id b some last = ap (numbered lane s id) (pieces_last lane.room b some last)
@@ -164,7 +172,8 @@ numbers_length : (n m : ℕ) → length (number_octets 4 n ++ number_octets 4 m)
 numbers_length n m = omega (arith, length-append (number_octets 4 n) (number_octets 4 m), length-number_octets 4 n, length-number_octets 4 m)
 
 -- the headers and the body of a chunk are its frame
-pub framed : (lane : Lane) (flag : Flag) (size s id : ℕ) (piece : List ℕ) → size ≡ 24 + length piece → front_octets lane flag size s id ++ piece ≡ frame_octets (frame_of (chunk_of lane flag s id piece))
+pub framed : (lane : Lane) (flag : Flag) (size s id : ℕ) (piece : List ℕ) → size ≡ 24 + length piece
+    → front_octets lane flag size s id ++ piece ≡ frame_octets (frame_of (chunk_of lane flag s id piece))
 unfolding frame_octets
 framed lane flag size s id piece e =
     let token = token_header.canonical (lane.channel, lane.token) in
@@ -176,10 +185,12 @@ framed lane flag size s id piece e =
     ∙ ap (λ (t : List ℕ). number_octets 4 size ++ t) (append_assoc token numbers piece)
     ∙ ap (λ (m : ℕ). number_octets 4 m ++ (token ++ (numbers ++ piece))) same)
 
-pub chunk_appended : (lane : Lane) (flag : Flag) (size s id : ℕ) (old middle new piece : List ℕ) → size ≡ 24 + length piece → middle ≡ old ++ front_octets lane flag size s id → new ≡ middle ++ piece
+pub chunk_appended : (lane : Lane) (flag : Flag) (size s id : ℕ) (old middle new piece : List ℕ) → size ≡ 24 + length piece
+    → middle ≡ old ++ front_octets lane flag size s id → new ≡ middle ++ piece
     → new ≡ old ++ frame_octets (frame_of (chunk_of lane flag s id piece))
 chunk_appended lane flag size s id old middle new piece e f g =
-    g ∙ ap (λ (t : List ℕ). t ++ piece) f ∙ append_assoc old (front_octets lane flag size s id) piece ∙ ap (λ (t : List ℕ). old ++ t) (framed lane flag size s id piece e)
+    g ∙ ap (λ (t : List ℕ). t ++ piece) f ∙ append_assoc old (front_octets lane flag size s id) piece
+    ∙ ap (λ (t : List ℕ). old ++ t) (framed lane flag size s id piece e)
 
 chunks_octets-cons : (c : Chunk) (cs : List Chunk) → chunks_octets (c ∷ cs) ≡ frame_octets (frame_of c) ++ chunks_octets cs
 unfolding frames_octets
@@ -195,7 +206,8 @@ pub extends_then : (a b c : List ℕ) → Extends a b → Extends b c → Extend
 extends_then a b c e f = record { more = e.more ++ f.more; parts = f.parts ∙ ap (λ (t : List ℕ). t ++ f.more) e.parts ∙ append_assoc a e.more f.more }
 
 pub cut_starts : (lane : Lane) (id from : ℕ) (body before : List ℕ) → 0 < length body → from ≤ 4294966272 → CutSoFar lane id body from before body from before
-cut_starts lane id from body before some small = record { parts = refl; after = refl; some = some; small = small; extends = record { more = []; parts = sym (append-nil before) } }
+cut_starts lane id from body before some small =
+    record { parts = refl; after = refl; some = some; small = small; extends = record { more = []; parts = sym (append-nil before) } }
 
 next_small_by : (t : Bool) (n : ℕ) → eqb n 4294966272 ≡ t → n ≤ 4294966272 → cond t 1 (n + 1) ≤ 4294966272
 next_small_by true n e h = omega arith
@@ -204,13 +216,16 @@ next_small_by false n e h = let other : n ≡ 4294966272 → ⊥ = eqb-false n 4
 pub next_small : (n : ℕ) → n ≤ 4294966272 → next_number n ≤ 4294966272
 next_small n h = next_small_by (eqb n 4294966272) n refl h
 
-pub cut_more : (lane : Lane) (id from number next : ℕ) (body before rest left out new : List ℕ) → CutSoFar lane id body from before rest number out → 0 < lane.room → lane.room < length rest
-    → new ≡ out ++ frame_octets (frame_of (chunk_of lane C number id (take lane.room rest))) → next ≡ next_number number → left ≡ drop lane.room rest → CutSoFar lane id body from before left next new
+pub cut_more : (lane : Lane) (id from number next : ℕ) (body before rest left out new : List ℕ) → CutSoFar lane id body from before rest number out
+    → 0 < lane.room → lane.room < length rest
+    → new ≡ out ++ frame_octets (frame_of (chunk_of lane C number id (take lane.room rest))) → next ≡ next_number number → left ≡ drop lane.room rest
+    → CutSoFar lane id body from before left next new
 cut_more lane id from number next body before rest left out new s pos more e n l =
     let frame = frame_octets (frame_of (chunk_of lane C number id (take lane.room rest))) in
     let tail : List ℕ → ℕ → List ℕ = λ (b : List ℕ) (m : ℕ). chunks_octets (chunks_of lane b m id) in
     let rest_is : tail rest number ≡ frame ++ tail (drop lane.room rest) (next_number number) =
-    ap chunks_octets (numbered_more lane number id rest pos more) ∙ chunks_octets-cons (chunk_of lane C number id (take lane.room rest)) (chunks_of lane (drop lane.room rest) (next_number number) id) in
+    ap chunks_octets (numbered_more lane number id rest pos more)
+    ∙ chunks_octets-cons (chunk_of lane C number id (take lane.room rest)) (chunks_of lane (drop lane.room rest) (next_number number) id) in
     record {
       parts =
           ap (λ (t : List ℕ). t ++ tail left next) e
@@ -233,12 +248,14 @@ pub record IsCut (lane : Lane) (id from : ℕ) (body before new : List ℕ) (nex
   pub octets : new ≡ before ++ chunks_octets (chunks_of lane body from id)
   pub after : next ≡ number_after from (pieces lane.room body)
 
-pub cut_last : (lane : Lane) (id from number next : ℕ) (body before rest out new : List ℕ) → CutSoFar lane id body from before rest number out → length rest ≤ lane.room
+pub cut_last : (lane : Lane) (id from number next : ℕ) (body before rest out new : List ℕ) → CutSoFar lane id body from before rest number out
+    → length rest ≤ lane.room
     → new ≡ out ++ frame_octets (frame_of (chunk_of lane F number id rest)) → next ≡ next_number number → IsCut lane id from body before new next
 cut_last lane id from number next body before rest out new s last e n = record {
   octets =
       e
-      ∙ ap (λ (t : List ℕ). out ++ t) (sym (ap chunks_octets (numbered_last lane number id rest s.some last) ∙ chunks_octets-one (chunk_of lane F number id rest)))
+      ∙ ap (λ (t : List ℕ). out ++ t)
+      (sym (ap chunks_octets (numbered_last lane number id rest s.some last) ∙ chunks_octets-one (chunk_of lane F number id rest)))
       ∙ s.parts;
   after = n ∙ sym (ap (number_after number) (pieces_last lane.room rest s.some last)) ∙ s.after;
 }

@@ -15,7 +15,8 @@ pub record Found {X : Type 0} (i k : ℕ) (xs rest : List X) (x : X) : Type 0 wh
 same_some : (i k : ℕ) → ◌≡◌ {A = Option ℕ} (Some i) (Some k) → k ≡ i + 0
 same_some i k e = let s : i ≡ k = cc in omega arith
 
-found_step : {X : Type 0} (b : Bool) (i k : ℕ) (x f : X) (xs rest : List X) (o : Option ℕ) → cond b (Some i) o ≡ Some k → (o ≡ Some k → Found (i + 1) k xs rest f) → Found i k (x ∷ xs) (cond b xs (x ∷ rest)) (cond b x f)
+found_step : {X : Type 0} (b : Bool) (i k : ℕ) (x f : X) (xs rest : List X) (o : Option ℕ) → cond b (Some i) o ≡ Some k
+    → (o ≡ Some k → Found (i + 1) k xs rest f) → Found i k (x ∷ xs) (cond b xs (x ∷ rest)) (cond b x f)
 found_step true i k x f xs rest o e h = record { place = 0; is = same_some i k e; removed = refl; found = λ e. refl }
 found_step false i k x f xs rest o e h =
     let g = h e in
@@ -25,7 +26,8 @@ found_from : {X : Type 0} (p : X → Bool) (d : X) (i k : ℕ) (xs : List X) →
 found_from p d i k [] e = absurd cc
 found_from p d i k (x ∷ xs) e = found_step (p x) i k x (first_of p d xs) xs (without p xs) (position_from p (i + 1) xs) e (found_from p d (i + 1) k xs)
 
-missing_step : {X : Type 0} (b : Bool) (i : ℕ) (x f d : X) (xs rest : List X) (o : Option ℕ) → cond b (Some i) o ≡ None → (o ≡ None → (rest ≡ xs) × (f ≡ d)) → (cond b xs (x ∷ rest) ≡ x ∷ xs) × (cond b x f ≡ d)
+missing_step : {X : Type 0} (b : Bool) (i : ℕ) (x f d : X) (xs rest : List X) (o : Option ℕ) → cond b (Some i) o ≡ None → (o ≡ None → (rest ≡ xs) × (f ≡ d))
+    → (cond b xs (x ∷ rest) ≡ x ∷ xs) × (cond b x f ≡ d)
 missing_step true i x f d xs rest o e h = absurd cc
 missing_step false i x f d xs rest o e h = let g = h e in (ap (λ t. x ∷ t) g.0, g.1)
 

@@ -1,5 +1,6 @@
 -- The definitions in other words, for readers.
-use Rattle.std.proofs.Common.{◌≡◌, ℕ, ◌<◌, ◌^◌, Bool, true, false, cond, not, ◌&&◌, ◌||◌, ◌↔◌, eqb, ltb, Option, Some, None, List, [], ◌∷◌, refl, sym, ◌∙◌, ap, subst}
+use Rattle.std.proofs.Common.{◌≡◌, ℕ, ◌<◌, ◌^◌, Bool, true, false, cond, not, ◌&&◌, ◌||◌, ◌↔◌, eqb}
+use Rattle.std.proofs.Common.{ltb, Option, Some, None, List, [], ◌∷◌, refl, sym, ◌∙◌, ap, subst}
 use Rattle.std.proofs.lemmas.Bool.{or_parts, and_from, eqb-true, lt-ltb, false_from_ne_true}
 use Rattle.std.specs.List.{list_any, filter}
 use Rattle.ua_wire.specs.Counted.{text, counted}
@@ -37,7 +38,8 @@ last_alone c f more none e =
     cc
 
 -- own: whether c has the id; more: whether it is a C; later: whether a later chunk has its id
-open_some_step : (own more later : Bool) (id : ℕ) (c : Chunk) (f : List Chunk) (o : List ℕ) → is_of id c ≡ own → is_more c ≡ more → list_any (λ j. eqb j id) (cond (more && not later) (c.request ∷ o) o) ≡ true
+open_some_step : (own more later : Bool) (id : ℕ) (c : Chunk) (f : List Chunk) (o : List ℕ) → is_of id c ≡ own → is_more c ≡ more
+    → list_any (λ j. eqb j id) (cond (more && not later) (c.request ∷ o) o) ≡ true
     → after_last ends (cond own (c ∷ f) f) ≡ [] → (own ≡ true → later ≡ false → f ≡ []) → (list_any (λ j. eqb j id) o ≡ true → after_last ends f ≡ [] → ⊥) → ⊥
 open_some_step false false later id c f o s m h e none ih = ih h e
 open_some_step false true true id c f o s m h e none ih = ih h e
@@ -67,8 +69,10 @@ frame_of_chunk c channel token sequence request = record {
   security = token_header.canonical (c.channel, c.token);
   sequence = sequence_header.canonical (c.sequence, c.request);
   octets = refl;
-  security_encoded = sound_token_header.canonical_encodes (c.channel, c.token) (and_from (ltb c.channel (256 ^ 4)) (ltb c.token (256 ^ 4)) (lt-ltb c.channel (256 ^ 4) channel) (lt-ltb c.token (256 ^ 4) token));
-  sequence_encoded = sound_sequence_header.canonical_encodes (c.sequence, c.request) (and_from (ltb c.sequence (256 ^ 4)) (ltb c.request (256 ^ 4)) (lt-ltb c.sequence (256 ^ 4) sequence) (lt-ltb c.request (256 ^ 4) request));
+  security_encoded = sound_token_header.canonical_encodes (c.channel, c.token)
+      (and_from (ltb c.channel (256 ^ 4)) (ltb c.token (256 ^ 4)) (lt-ltb c.channel (256 ^ 4) channel) (lt-ltb c.token (256 ^ 4) token));
+  sequence_encoded = sound_sequence_header.canonical_encodes (c.sequence, c.request)
+      (and_from (ltb c.sequence (256 ^ 4)) (ltb c.request (256 ^ 4)) (lt-ltb c.sequence (256 ^ 4) sequence) (lt-ltb c.request (256 ^ 4) request));
 }
 
 -- ---- aborts
@@ -81,4 +85,5 @@ unfolding abort_body status_code text counted
 encodable_code code small = and_from (ltb code.code (256 ^ 4)) true (lt-ltb code.code (256 ^ 4) small) refl
 
 pub abort_written : (code : StatusCode) → code.code < 2 ^ 32 → abort_of (abort_body.canonical (code, None)) ≡ Some (code, None)
-abort_written code small = (abort_is_encoded (abort_body.canonical (code, None)) (code, None)).1 (sound_abort_body.canonical_encodes (code, None) (encodable_code code small))
+abort_written code small = (abort_is_encoded (abort_body.canonical (code, None)) (code, None)).1
+    (sound_abort_body.canonical_encodes (code, None) (encodable_code code small))

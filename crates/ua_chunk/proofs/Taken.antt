@@ -1,5 +1,6 @@
 -- Chunks that are taken.
-use Rattle.std.proofs.Common.{◌≡◌, ℕ, ◌*◌, ◌≤◌, ◌<◌, Bool, true, false, cond, not, ◌&&◌, ltb, Option, Some, None, is_some, List, [], ◌∷◌, ◌++◌, refl, sym, ◌∙◌, ap, subst, arith, length, map, append_assoc, append-nil}
+use Rattle.std.proofs.Common.{◌≡◌, ℕ, ◌*◌, ◌≤◌, ◌<◌, Bool, true, false, cond, not, ◌&&◌, ltb, Option, Some, None, is_some}
+use Rattle.std.proofs.Common.{List, [], ◌∷◌, ◌++◌, refl, sym, ◌∙◌, ap, subst, arith, length, map, append_assoc, append-nil}
 use Rattle.std.proofs.lemmas.Bool.{ltb-false}
 use Rattle.std.specs.List.{filter}
 use Rattle.ua_builtin.specs.declared.status_code.StatusCode.{StatusCode}
@@ -65,16 +66,19 @@ not_unreadable : (b : Bool) → (true && not b) ≡ false → b ≡ true
 not_unreadable true e = refl
 not_unreadable false e = absurd cc
 
-given_ids : (f : Flag) (before : List Chunk) (c : Chunk) → (is_abort_flag f && not (is_readable_abort c.body)) ≡ false → map id_of (given_by f before c) ≡ cond (not (is_more_flag f)) (c.request ∷ []) []
+given_ids : (f : Flag) (before : List Chunk) (c : Chunk) → (is_abort_flag f && not (is_readable_abort c.body)) ≡ false
+    → map id_of (given_by f before c) ≡ cond (not (is_more_flag f)) (c.request ∷ []) []
 given_ids F before c e = refl
 given_ids C before c e = refl
 given_ids A before c e = aborted_id c.request (abort_of c.body) (not_unreadable (is_readable_abort c.body) e)
 
-ended_one : (b : Bool) (c : Chunk) (rest : List Chunk) → cond b (c.request ∷ []) [] ++ map (λ (c : Chunk). c.request) rest ≡ map (λ (c : Chunk). c.request) (cond b (c ∷ rest) rest)
+ended_one : (b : Bool) (c : Chunk) (rest : List Chunk) → cond b (c.request ∷ []) [] ++ map (λ (c : Chunk). c.request) rest ≡ map (λ (c : Chunk). c.request)
+    (cond b (c ∷ rest) rest)
 ended_one true c rest = refl
 ended_one false c rest = refl
 
-ids_behind : (octets chunks : ℕ) (before cs : List Chunk) → TakesMessages octets chunks before cs → map id_of (delivered_behind before cs) ≡ map (λ (c : Chunk). c.request) (filter ends cs)
+ids_behind : (octets chunks : ℕ) (before cs : List Chunk) → TakesMessages octets chunks before cs
+    → map id_of (delivered_behind before cs) ≡ map (λ (c : Chunk). c.request) (filter ends cs)
 ids_behind octets chunks before [] taken = refl
 ids_behind octets chunks before (c ∷ cs) taken =
     map_push id_of (given before c) (delivered_behind (before ++ c ∷ []) cs)
@@ -82,5 +86,6 @@ ids_behind octets chunks before (c ∷ cs) taken =
     ∙ ap (λ t. cond (ends c) (c.request ∷ []) [] ++ t) (ids_behind octets chunks (before ++ c ∷ []) cs taken.1)
     ∙ ended_one (ends c) c (filter ends cs)
 
-pub delivered_ids : (octets chunks : ℕ) (cs : List Chunk) → TakesMessages octets chunks [] cs → map id_of (delivered cs) ≡ map (λ (c : Chunk). c.request) (filter ends cs)
+pub delivered_ids : (octets chunks : ℕ) (cs : List Chunk) → TakesMessages octets chunks [] cs
+    → map id_of (delivered cs) ≡ map (λ (c : Chunk). c.request) (filter ends cs)
 delivered_ids octets chunks cs taken = ap (map id_of) (delivered_from cs) ∙ ids_behind octets chunks [] cs taken

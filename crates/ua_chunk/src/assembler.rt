@@ -55,9 +55,11 @@ fn sum_passes(limit: u32, a: usize, b: usize) -> bool
 }
 
 impl Assembler {
-    ghost use Rattle.std.specs.Prelude.{◌≡◌, ◌≤◌, ◌<◌, ◌*◌, ◌∷◌, ◌++◌, [], List, length, true, false, Some, None, IsTrue, IsFalse, OnOk, OnErr, IfOk, MatchResult};
+    ghost use Rattle.std.specs.Prelude.{◌≡◌, ◌≤◌, ◌<◌, ◌*◌, ◌∷◌, ◌++◌, [], List, length, true, false};
+    ghost use Rattle.std.specs.Prelude.{Some, None, IsTrue, IsFalse, OnOk, OnErr, IfOk, MatchResult};
     ghost use Rattle.ua_chunk.specs.declared.chunk.Chunk.{Chunk};
-    ghost use Rattle.ua_chunk.specs.Assembling.{Stands, IsClosed, SameLimits, octet_limit, chunk_limit, last_number, refusal_kept, given_kept, put_back};
+    ghost use Rattle.ua_chunk.specs.Assembling.{Stands, IsClosed, SameLimits, octet_limit, chunk_limit};
+    ghost use Rattle.ua_chunk.specs.Assembling.{last_number, refusal_kept, given_kept, put_back};
     ghost use Rattle.ua_chunk.specs.Delivered.{given, delivered};
     ghost use Rattle.ua_chunk.specs.Open.{open_ids, open_octets};
     ghost use Rattle.ua_chunk.specs.Refusal.{refusal, IsFor};
@@ -144,7 +146,8 @@ impl Assembler {
             IfOk result (λ d. delivered (cs ++ chunk ∷ []) ≡ delivered cs ++ items_of d) }
         ensures items { (cs : List Chunk) → Stands self.old cs → IfOk result (λ d. given cs chunk ≡ items_of d) }
         // The bodies are not joined: the parts are the non-empty bodies of the chunks, in order.
-        ensures parts { (cs : List Chunk) → Stands self.old cs → IfOk result (λ d. HasParts d (bodies (gathered cs chunk))) }
+        ensures parts { (cs : List Chunk) → Stands self.old cs
+            → IfOk result (λ d. HasParts d (bodies (gathered cs chunk))) }
         ensures stands { (cs : List Chunk) → Stands self.old cs → OnOk result (Stands self.new (cs ++ chunk ∷ [])) }
         ensures last { OnOk result (last_number self.new ≡ Some chunk.sequence) }
         ensures limits { SameLimits self.old self.new }
@@ -211,7 +214,8 @@ impl Assembler {
     #[inline]
     pub fn held(&self) -> usize
         ensures held { (cs : List Chunk) → Stands self.now cs → result ≡ open_octets cs }
-        ensures bound { (cs : List Chunk) → Stands self.now cs → 0 < octet_limit self.now → result ≤ 4 * octet_limit self.now }
+        ensures bound { (cs : List Chunk) → Stands self.now cs → 0 < octet_limit self.now
+            → result ≤ 4 * octet_limit self.now }
         ensures closed { IsClosed self.now → result ≡ 0 }
     {
         self.pending.held()

@@ -3,7 +3,8 @@
 ghost use Rattle.std.specs.Prelude.{◌≡◌, ◌≤◌, ◌<◌, ◌+◌, ◌^◌, ◌++◌, length, OnOk, OnErr, IfOk, MatchResult, None};
 ghost use Rattle.ua_wire.specs.Format.{Extends};
 ghost use Rattle.ua_frame.specs.Frames.{frame_octets};
-ghost use Rattle.ua_chunk.specs.Cutting.{pieces, front_octets, chunk_of, chunks_of, chunks_octets, number_after, cut_refusal, IsCutFor};
+ghost use Rattle.ua_chunk.specs.Cutting.{pieces, front_octets, chunk_of, chunks_of};
+ghost use Rattle.ua_chunk.specs.Cutting.{chunks_octets, number_after, cut_refusal, IsCutFor};
 ghost use Rattle.ua_chunk.specs.Layout.{frame_of};
 ghost use Rattle.ua_chunk.specs.Refusal.{passes};
 ghost use Rattle.ua_chunk.specs.Sequence.{next_number};
@@ -66,7 +67,8 @@ fn append_chunk(
     out: &mut Vec<u8>,
 ) -> Result<(), AllocError>
     requires { length piece.now + 24 < 2 ^ 32 }
-    ensures ok { OnOk result (out.new.items ≡ out.old.items ++ frame_octets (frame_of (chunk_of lane.now flag sequence request piece.now))) }
+    ensures ok { OnOk result
+        (out.new.items ≡ out.old.items ++ frame_octets (frame_of (chunk_of lane.now flag sequence request piece.now))) }
     ensures err { OnErr result (Extends out.old.items out.new.items) }
 {
     let size = (CHUNK_HEADERS + piece.len()) as u32;
@@ -88,7 +90,8 @@ fn append_chunks(
     requires size { lane.now.room + 24 < 2 ^ 32 }
     requires body { 0 < length body.now }
     requires sequence { sequence ≤ 4294966272 }
-    ensures ok { IfOk result (λ n. (out.new.items ≡ out.old.items ++ chunks_octets (chunks_of lane.now body.now sequence request))
+    ensures ok { IfOk result
+        (λ n. (out.new.items ≡ out.old.items ++ chunks_octets (chunks_of lane.now body.now sequence request))
         × (n ≡ number_after sequence (pieces lane.now.room body.now))) }
     ensures range { IfOk result (λ n. (0 < n) × (n ≤ 4294966272)) }
     ensures err { OnErr result (Extends out.old.items out.new.items) }
@@ -118,10 +121,12 @@ pub fn cut(
     requires size { lane.now.room + 24 < 2 ^ 32 }
     requires body { 0 < length body.now }
     requires sequence { sequence ≤ 4294966272 }
-    ensures chunks { OnOk result (out.new.items ≡ out.old.items ++ chunks_octets (chunks_of lane.now body.now sequence request)) }
+    ensures chunks { OnOk result
+        (out.new.items ≡ out.old.items ++ chunks_octets (chunks_of lane.now body.now sequence request)) }
     ensures next { IfOk result (λ n. n ≡ number_after sequence (pieces lane.now.room body.now)) }
     ensures range { IfOk result (λ n. (0 < n) × (n ≤ 4294966272)) }
-    ensures faults { MatchResult result (λ _. cut_refusal lane.now body.now ≡ None) (IsCutFor (cut_refusal lane.now body.now)) }
+    ensures faults { MatchResult result (λ _. cut_refusal lane.now body.now ≡ None)
+        (IsCutFor (cut_refusal lane.now body.now)) }
     ensures err { OnErr result (out.new.items ≡ out.old.items) }
 {
     if let Some(fault) = lane.refusal(body.len()) {

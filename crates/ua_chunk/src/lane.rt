@@ -47,7 +47,8 @@ impl Lane {
     pub fn most_octets(&self) -> Option<usize>
         ensures most { result ≡ most_octets self.now }
         // A body can be split exactly where it has at most so many bytes.
-        ensures cut { (body : List ℕ) → 0 < self.now.room → (cut_refusal self.now body ≡ None) ↔ IsAtMost (length body) result }
+        ensures cut { (body : List ℕ) → 0 < self.now.room
+            → (cut_refusal self.now body ≡ None) ↔ IsAtMost (length body) result }
     {
         let octets = limit_of(self.octets, 1);
         let chunks = limit_of(self.chunks, self.room);

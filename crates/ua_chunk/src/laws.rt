@@ -2,7 +2,8 @@
 //!
 //! Each function has no effect; its contract is the law.
 
-ghost use Rattle.std.specs.Prelude.{◌≡◌, ◌<◌, ◌≤◌, ◌*◌, ◌^◌, ◌==◌, ◌++◌, ◌∷◌, ◌↔◌, [], ℕ, List, Option, Some, None, IsTrue, IsFalse, is_some, is_none, nat_eq, length, map};
+ghost use Rattle.std.specs.Prelude.{◌≡◌, ◌<◌, ◌≤◌, ◌*◌, ◌^◌, ◌==◌, ◌++◌, ◌∷◌, ◌↔◌, [], ℕ, List, Option};
+ghost use Rattle.std.specs.Prelude.{Some, None, IsTrue, IsFalse, is_some, is_none, nat_eq, length, map};
 ghost use Rattle.std.specs.List.{filter, flat_map, list_any, IsDistinct};
 ghost use Rattle.ua_builtin.specs.declared.status_code.StatusCode.{StatusCode};
 ghost use Rattle.ua_frame.specs.declared.frame.Frame.{Frame};
@@ -14,7 +15,8 @@ ghost use Rattle.ua_chunk.specs.Gathered.{ends, unfinished};
 ghost use Rattle.ua_chunk.specs.Item.Item.{Whole};
 ghost use Rattle.ua_chunk.specs.Layout.{IsChunkOf, chunk_in, frame_of};
 ghost use Rattle.ua_chunk.specs.Opening.{IsOpenChunkOf, opening_in, open_refusal};
-ghost use Rattle.ua_chunk.specs.Merge.{Sent, HaveOwnIds, AllWithin, Merges, IsMerge, parts_of, part_of, sent_under, outcome_under, outcomes, id_of, is_item_of};
+ghost use Rattle.ua_chunk.specs.Merge.{Sent, HaveOwnIds, AllWithin, Merges, IsMerge, parts_of, part_of};
+ghost use Rattle.ua_chunk.specs.Merge.{sent_under, outcome_under, outcomes, id_of, is_item_of};
 ghost use Rattle.ua_chunk.specs.Open.{open_ids, open_octets};
 ghost use Rattle.ua_chunk.specs.Refusal.{FewOpen, TakesAll, TakesMessages, message_refusal, passes, refusal};
 ghost use Rattle.ua_chunk.specs.Sequence.{ordered, may_follow};
@@ -26,7 +28,8 @@ ghost use Rattle.ua_chunk.specs.declared.lane.Lane.{Lane};
 /// Where no message is unfinished, an assembler is as a new one: further chunks deliver what they
 /// deliver alone, and are refused as they are alone.
 pub fn fresh()
-    ensures stands { (assembler : Assembler) (cs : List Chunk) → Stands assembler cs → open_ids cs ≡ [] → Stands assembler [] }
+    ensures stands { (assembler : Assembler) (cs : List Chunk) → Stands assembler cs → open_ids cs ≡ []
+        → Stands assembler [] }
     ensures delivered { (cs ds : List Chunk) → open_ids cs ≡ [] → delivered (cs ++ ds) ≡ delivered cs ++ delivered ds }
     ensures refused { (octets chunks : ℕ) (last : Option ℕ) (cs ds : List Chunk) (c : Chunk) → open_ids cs ≡ [] →
         refusal octets chunks last (cs ++ ds) c ≡ refusal octets chunks last ds c }
@@ -38,7 +41,8 @@ pub fn fresh()
 /// numbers continue and whose messages are accepted are accepted.
 pub fn numbers_apart()
     ensures one { (octets chunks : ℕ) (last : Option ℕ) (cs : List Chunk) (c : Chunk) →
-        (refusal octets chunks last cs c ≡ None) ↔ (IsTrue (may_follow last c.sequence) × (message_refusal octets chunks cs c ≡ None)) }
+        (refusal octets chunks last cs c ≡ None) ↔ (IsTrue (may_follow last c.sequence)
+        × (message_refusal octets chunks cs c ≡ None)) }
     ensures all { (octets chunks : ℕ) (last : Option ℕ) (before cs : List Chunk) →
         IsTrue (ordered last cs) → TakesMessages octets chunks before cs → TakesAll octets chunks last before cs }
 {}
@@ -46,7 +50,8 @@ pub fn numbers_apart()
 /// Chunks within a limit of message bytes leave at most 4 times that many bytes of unfinished
 /// messages.
 pub fn held_is_bounded()
-    ensures { (octets chunks : ℕ) (cs : List Chunk) → 0 < octets → TakesMessages octets chunks [] cs → open_octets cs ≤ 4 * octets }
+    ensures { (octets chunks : ℕ) (cs : List Chunk) → 0 < octets → TakesMessages octets chunks [] cs
+        → open_octets cs ≤ 4 * octets }
 {}
 
 /// Of accepted chunks, each one that ends a message delivers one item, under its RequestId, and no
@@ -59,7 +64,8 @@ pub fn delivered_at_ends()
 /// An interleaving of messages with distinct RequestIds has, under each RequestId, exactly the
 /// chunks of that message, in order.
 pub fn merge_by_request()
-    ensures { (ms : List Sent) (cs : List Chunk) → HaveOwnIds ms → Merges (map parts_of ms) (map part_of cs) → IsMerge ms cs }
+    ensures { (ms : List Sent) (cs : List Chunk) → HaveOwnIds ms → Merges (map parts_of ms) (map part_of cs)
+        → IsMerge ms cs }
 {}
 
 /// Messages with distinct RequestIds, each within the limits and ending in an F or a decodable A,
@@ -98,14 +104,16 @@ pub fn cut_is_delivered()
 
 /// The fragments of a body, joined, are the body, and each one but the last has the maximum size.
 pub fn pieces_are_full()
-    ensures joined { (room : ℕ) (body : List ℕ) → 0 < room → 0 < length body → flat_map (λ piece. piece) (pieces room body) ≡ body }
+    ensures joined { (room : ℕ) (body : List ℕ) → 0 < room → 0 < length body
+        → flat_map (λ piece. piece) (pieces room body) ≡ body }
     ensures full { (room : ℕ) (body : List ℕ) → 0 < room → 0 < length body → AreFull room (pieces room body) }
 {}
 
 /// The RequestIds of unfinished messages are those with a C after their last F or A, each listed
 /// once.
 pub fn open_is_unfinished()
-    ensures unfinished { (id : ℕ) (cs : List Chunk) → IsFalse (list_any (λ j. j == id) (open_ids cs)) ↔ (unfinished id cs ≡ []) }
+    ensures unfinished { (id : ℕ) (cs : List Chunk)
+        → IsFalse (list_any (λ j. j == id) (open_ids cs)) ↔ (unfinished id cs ≡ []) }
     ensures once { (cs : List Chunk) → IsDistinct nat_eq (open_ids cs) }
 {}
 
@@ -129,5 +137,6 @@ pub fn one_opening()
 pub fn abort_is_encoded()
     ensures encoded { (body : List ℕ) (abort : StatusCode × Option (List ℕ)) →
         (abort_of body ≡ Some abort) ↔ abort_body.encodes abort body }
-    ensures written { (code : StatusCode) → code.code < 2 ^ 32 → abort_of (abort_body.canonical (code, None)) ≡ Some (code, None) }
+    ensures written { (code : StatusCode) → code.code < 2 ^ 32 → abort_of (abort_body.canonical (code, None))
+        ≡ Some (code, None) }
 {}

@@ -1,7 +1,8 @@
 //! Chunks of OPN frames.
 
 ghost use Rattle.std.specs.Prelude.{◌≡◌, ◌++◌, Some, None, MatchOption, MatchResult, IfOk, option_map};
-ghost use Rattle.ua_chunk.specs.Opening.{policy_header, is_none_policy, HeadersAt, IsOpenChunkOf, opening_in, open_refusal};
+ghost use Rattle.ua_chunk.specs.Opening.{policy_header, is_none_policy, HeadersAt};
+ghost use Rattle.ua_chunk.specs.Opening.{IsOpenChunkOf, opening_in, open_refusal};
 
 use crate::fault::OpenFault;
 use crate::fields::split_sequence;
@@ -37,7 +38,17 @@ struct PolicyHeader<'a> {
 /// The policy header, and the bytes after it.
 fn split_policy(octets: &[u8]) -> Option<(PolicyHeader<'_>, &[u8])>
     ensures { MatchOption result (policy_header.decode octets.now ≡ None)
-        (λ r. policy_header.decode octets.now ≡ Some ((r.0.channel, (option_map (λ o. o.now) r.0.policy, (option_map (λ o. o.now) r.0.certificate, option_map (λ o. o.now) r.0.thumbprint))), r.1.now)) }
+        (λ r. policy_header.decode octets.now
+        ≡ Some (
+          (
+            r.0.channel,
+            (
+              option_map (λ o. o.now) r.0.policy,
+              (option_map (λ o. o.now) r.0.certificate, option_map (λ o. o.now) r.0.thumbprint),
+            ),
+          ),
+          r.1.now,
+        )) }
 {
     let (channel, rest) = split_number(octets)?;
     let (policy, rest) = split_counted(rest)?;

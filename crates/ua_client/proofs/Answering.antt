@@ -27,18 +27,23 @@ use Rattle.ua_client.proofs.Fronts.{front-lacking}
 of-none : (first count id : ℕ) → IsPlace first id count None → (n : ℕ) → n < count → eqb id (first + n) ≡ false
 of-none first count id h n few = eqb-other id (first + n) (h n few)
 
-pub answered_none : (requests : List Request) (first id : ℕ) (octets : List ℕ) → IsPlace first id (length requests) None → PlacesReply requests first (Answered id octets) (Ok None)
+pub answered_none : (requests : List Request) (first id : ℕ) (octets : List ℕ) → IsPlace first id (length requests) None
+    → PlacesReply requests first (Answered id octets) (Ok None)
 answered_none requests first id octets h = of-none first (length requests) id h
 
-pub gave_up_none : (requests : List Request) (first id : ℕ) (code : StatusCode) → IsPlace first id (length requests) None → PlacesReply requests first (GaveUp id code) (Ok None)
+pub gave_up_none : (requests : List Request) (first id : ℕ) (code : StatusCode) → IsPlace first id (length requests) None
+    → PlacesReply requests first (GaveUp id code) (Ok None)
 gave_up_none requests first id code h = of-none first (length requests) id h
 
-pub answered_at : (requests : List Request) (first id : ℕ) (octets : List ℕ) (n : ℕ) (request d : Request) (kind : RequestKind) (m : Response) → IsPlace first id (length requests) (Some n)
-    → request ≡ get_or requests n d → kind ≡ kind_of request → IsAnswer kind octets m → PlacesReply requests first (Answered id octets) (Ok (Some (n, Responds m)))
+pub answered_at : (requests : List Request) (first id : ℕ) (octets : List ℕ) (n : ℕ) (request d : Request) (kind : RequestKind) (m : Response)
+    → IsPlace first id (length requests) (Some n)
+    → request ≡ get_or requests n d → kind ≡ kind_of request → IsAnswer kind octets m
+    → PlacesReply requests first (Answered id octets) (Ok (Some (n, Responds m)))
 answered_at requests first id octets n request d kind m h e k a =
     (request, is-at requests n request d h.0 e, (octets, ap (λ (i : ℕ). Answered i octets) h.1, subst (λ (q : RequestKind). IsAnswer q octets m) k a))
 
-pub misanswered_by : (requests : List Request) (first id : ℕ) (octets : List ℕ) (n : ℕ) (request d : Request) (kind : RequestKind) (x : ClientFault) → IsPlace first id (length requests) (Some n)
+pub misanswered_by : (requests : List Request) (first id : ℕ) (octets : List ℕ) (n : ℕ) (request d : Request) (kind : RequestKind) (x : ClientFault)
+    → IsPlace first id (length requests) (Some n)
     → request ≡ get_or requests n d → kind ≡ kind_of request → ReadsAnswer kind octets (Err x) → PlacesReply requests first (Answered id octets) (Err x)
 misanswered_by requests first id octets n request d kind fault.UnknownResponse h e k a =
     (n, request, is-at requests n request d h.0 e, (octets, ap (λ (i : ℕ). Answered i octets) h.1, subst (λ (q : RequestKind). IsNoAnswer q octets) k a))
@@ -62,17 +67,20 @@ request-at [] n few = absurd (omega (arith, few))
 request-at (r ∷ rs) zero few = (r, refl)
 request-at (r ∷ rs) (suc n) few = request-at rs n (omega (arith, few))
 
-pub gave_up_at : (requests : List Request) (first id : ℕ) (code : StatusCode) (n : ℕ) → IsPlace first id (length requests) (Some n) → PlacesReply requests first (GaveUp id code) (Ok (Some (n, Aborted code)))
+pub gave_up_at : (requests : List Request) (first id : ℕ) (code : StatusCode) (n : ℕ) → IsPlace first id (length requests) (Some n)
+    → PlacesReply requests first (GaveUp id code) (Ok (Some (n, Aborted code)))
 gave_up_at requests first id code n h =
     let r = request-at requests n h.0 in
     (r.0, r.1, ap (λ (i : ℕ). GaveUp i code) h.1)
 
 -- ---- what an event brings
 
-of-no-call : (requests : List Request) (first : ℕ) (t other : ClientTold) → t ≡ other → ((n : ℕ) → is_told_of n other ≡ false) → PlacesReply requests first t (Ok None)
+of-no-call : (requests : List Request) (first : ℕ) (t other : ClientTold) → t ≡ other → ((n : ℕ) → is_told_of n other ≡ false)
+    → PlacesReply requests first t (Ok None)
 of-no-call requests first t other e h = λ n few. ap (is_told_of (first + n)) e ∙ h (first + n)
 
-pub placed_other : (requests : List Request) (first : ℕ) (e : ClientEvent) → ((id : ℕ) (message : List (List ℕ)) → e ≡ event.Answered id message → ⊥) → ((id : ℕ) (code : StatusCode) → e ≡ event.Aborted id code → ⊥)
+pub placed_other : (requests : List Request) (first : ℕ) (e : ClientEvent) → ((id : ℕ) (message : List (List ℕ)) → e ≡ event.Answered id message → ⊥)
+    → ((id : ℕ) (code : StatusCode) → e ≡ event.Aborted id code → ⊥)
     → (m : DateTime) (t : ClientTold) → Says m e t → PlacesReply requests first t (Ok None)
 placed_other requests first event.NeedMore answered aborted m t h = absurd h
 placed_other requests first (event.Send sent) answered aborted m t h = of-no-call requests first t (Agreed h.1.0) h.1.1 (λ n. refl)
@@ -82,29 +90,35 @@ placed_other requests first (event.Aborted id code) answered aborted m t h = abs
 placed_other requests first (event.Failed code peer) answered aborted m t h = absurd h
 placed_other requests first (event.Renewed token) answered aborted m t h = of-no-call requests first t (Renewed token) h (λ n. refl)
 
-pub placed_answered : (requests : List Request) (first id : ℕ) (message : List (List ℕ)) (e : ClientEvent) (result : Result (Option (ℕ × Reply)) ClientFault) → e ≡ event.Answered id message
+pub placed_answered : (requests : List Request) (first id : ℕ) (message : List (List ℕ)) (e : ClientEvent) (result : Result (Option (ℕ × Reply)) ClientFault)
+    → e ≡ event.Answered id message
     → PlacesReply requests first (Answered id (concat message)) result → (m : DateTime) (t : ClientTold) → Says m e t → PlacesReply requests first t result
 placed_answered requests first id message e result is h m t says =
     subst (λ (o : ClientTold). PlacesReply requests first o result) (sym (subst (λ (x : ClientEvent). Says m x t) is says)) h
 
-pub placed_aborted : (requests : List Request) (first id : ℕ) (code : StatusCode) (e : ClientEvent) (result : Result (Option (ℕ × Reply)) ClientFault) → e ≡ event.Aborted id code
+pub placed_aborted : (requests : List Request) (first id : ℕ) (code : StatusCode) (e : ClientEvent) (result : Result (Option (ℕ × Reply)) ClientFault)
+    → e ≡ event.Aborted id code
     → PlacesReply requests first (GaveUp id code) result → (m : DateTime) (t : ClientTold) → Says m e t → PlacesReply requests first t result
 placed_aborted requests first id code e result is h m t says =
     subst (λ (o : ClientTold). PlacesReply requests first o result) (sym (subst (λ (x : ClientEvent). Says m x t) is says)) h
 
 -- ---- slots
 
-pub fills_none : (requests : List Request) (first : ℕ) (told : List ClientTold) (t : ClientTold) (slots : List (Option Reply)) → PlacesReply requests first t (Ok None) → AreSlots requests first told slots
+pub fills_none : (requests : List Request) (first : ℕ) (told : List ClientTold) (t : ClientTold) (slots : List (Option Reply))
+    → PlacesReply requests first t (Ok None) → AreSlots requests first told slots
     → FillsSlots requests first (told ++ t ∷ []) slots (Ok tt)
 fills_none requests first told t slots h s = slots-other requests first told t slots h s
 
-pub fills_some : (requests : List Request) (first : ℕ) (told : List ClientTold) (t : ClientTold) (slots : List (Option Reply)) (n : ℕ) (reply : Reply) → PlacesReply requests first t (Ok (Some (n, reply))) → IsFirstOf told t
+pub fills_some : (requests : List Request) (first : ℕ) (told : List ClientTold) (t : ClientTold) (slots : List (Option Reply)) (n : ℕ) (reply : Reply)
+    → PlacesReply requests first t (Ok (Some (n, reply))) → IsFirstOf told t
     → AreSlots requests first told slots → FillsSlots requests first (told ++ t ∷ []) (set slots n (Some reply)) (Ok tt)
 fills_some requests first told t slots n reply h once s = slots-set requests first told t slots n h.0 reply s h.1 once h.2
 
-pub fills_fault : (requests : List Request) (first : ℕ) (told : List ClientTold) (t : ClientTold) (slots : List (Option Reply)) (x : ClientFault) → PlacesReply requests first t (Err x) → IsFirstOf told t
+pub fills_fault : (requests : List Request) (first : ℕ) (told : List ClientTold) (t : ClientTold) (slots : List (Option Reply)) (x : ClientFault)
+    → PlacesReply requests first t (Err x) → IsFirstOf told t
     → AreSlots requests first told slots → FillsSlots requests first (told ++ t ∷ []) slots (Err x)
-fills_fault requests first told t slots fault.UnknownResponse h once s = (misanswered-at requests first told t slots h.0 h.1 h.2 once s h.3, front-lacking requests first told t slots h.0 h.1 once s h.2 h.3)
+fills_fault requests first told t slots fault.UnknownResponse h once s =
+    (misanswered-at requests first told t slots h.0 h.1 h.2 once s h.3, front-lacking requests first told t slots h.0 h.1 once s h.2 h.3)
 fills_fault requests first told t slots fault.OutOfMemory h once s = tt
 fills_fault requests first told t slots fault.Read h once s = absurd h
 fills_fault requests first told t slots fault.Write h once s = absurd h

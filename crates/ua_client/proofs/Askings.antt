@@ -37,32 +37,40 @@ sends-in limits (Open t) before asked number body id out next h s = record {
 }
 sends-in limits Done before asked number body id out next h s = absurd s
 
-pub sends-call : (x : ClientChannel) (asks : List Placed) (octets : List ℕ) (frames : List Frame) (rest : List ℕ) (number : ℕ) (body : List ℕ) (id : ℕ) (out : List ℕ) (next : ℕ)
+pub sends-call : (x : ClientChannel) (asks : List Placed) (octets : List ℕ) (frames : List Frame) (rest : List ℕ) (number : ℕ) (body : List ℕ) (id : ℕ)
+    (out : List ℕ) (next : ℕ)
     → ClientStands x asks octets frames rest → IsCall (phase_of x) number body id out next → SendsCall (received frames) (asked_in asks) number body id out next
-sends-call x asks octets frames rest number body id out next s h = sends-in (client_limits x) (phase_of x) (received frames) (asked_in asks) number body id out next s.phase_is h
+sends-call x asks octets frames rest number body id out next s h = sends-in (client_limits x) (phase_of x) (received frames) (asked_in asks) number body id out
+    next s.phase_is h
 
 -- ---- one call more
 
-calls-push : (place id : ℕ) (bodies : List (List ℕ)) (body : List ℕ) → calls_at place id (bodies ++ body ∷ []) ≡ calls_at place id bodies ++ (place, Call (id + length bodies)) ∷ []
+calls-push : (place id : ℕ) (bodies : List (List ℕ)) (body : List ℕ) → calls_at place id (bodies ++ body ∷ []) ≡ calls_at place id bodies
+    ++ (place, Call (id + length bodies)) ∷ []
 calls-push place id [] body = ap (λ (n : ℕ). (place, Call n) ∷ []) (sym (add-zero id))
 calls-push place id (b ∷ bodies) body =
-    ap (λ (xs : List Placed). (place, Call id) ∷ xs) (calls-push place (id + 1) bodies body ∙ ap (λ (n : ℕ). calls_at place (id + 1) bodies ++ (place, Call n) ∷ []) (on id (length bodies)))
+    ap (λ (xs : List Placed). (place, Call id) ∷ xs) (calls-push place (id + 1) bodies body
+    ∙ ap (λ (n : ℕ). calls_at place (id + 1) bodies ++ (place, Call n) ∷ []) (on id (length bodies)))
   where
     on : (a b : ℕ) → (a + 1) + b ≡ a + suc b
     on a b = omega arith
 
-numbers-push : (lane : Option Lane) (number : ℕ) (bodies : List (List ℕ)) (body : List ℕ) → numbers_behind lane number (bodies ++ body ∷ []) ≡ number_behind lane (numbers_behind lane number bodies) body
+numbers-push : (lane : Option Lane) (number : ℕ) (bodies : List (List ℕ)) (body : List ℕ) → numbers_behind lane number (bodies ++ body ∷ [])
+    ≡ number_behind lane (numbers_behind lane number bodies) body
 numbers-push lane number [] body = refl
 numbers-push lane number (b ∷ bodies) body = numbers-push lane (number_behind lane number b) bodies body
 
 octets-push : (lane : Option Lane) (number id : ℕ) (bodies : List (List ℕ)) (body : List ℕ)
-    → calls_octets lane number id (bodies ++ body ∷ []) ≡ calls_octets lane number id bodies ++ call_octets lane (numbers_behind lane number bodies) (id + length bodies) body
+    → calls_octets lane number id (bodies ++ body ∷ []) ≡ calls_octets lane number id bodies ++ call_octets lane (numbers_behind lane number bodies)
+    (id + length bodies) body
 octets-push lane number id [] body = append-nil (call_octets lane number id body) ∙ ap (λ (n : ℕ). call_octets lane number n body) (sym (add-zero id))
 octets-push lane number id (b ∷ bodies) body =
     ap (λ (o : List ℕ). call_octets lane number id b ++ o)
     (octets-push lane (number_behind lane number b) (id + 1) bodies body
-    ∙ ap (λ (n : ℕ). calls_octets lane (number_behind lane number b) (id + 1) bodies ++ call_octets lane (numbers_behind lane (number_behind lane number b) bodies) n body) (on id (length bodies)))
-    ∙ sym (append_assoc (call_octets lane number id b) (calls_octets lane (number_behind lane number b) (id + 1) bodies) (call_octets lane (numbers_behind lane (number_behind lane number b) bodies) (id + suc (length bodies)) body))
+    ∙ ap (λ (n : ℕ). calls_octets lane (number_behind lane number b) (id + 1) bodies
+    ++ call_octets lane (numbers_behind lane (number_behind lane number b) bodies) n body) (on id (length bodies)))
+    ∙ sym (append_assoc (call_octets lane number id b) (calls_octets lane (number_behind lane number b) (id + 1) bodies)
+    (call_octets lane (numbers_behind lane (number_behind lane number b) bodies) (id + suc (length bodies)) body))
   where
     on : (a b : ℕ) → (a + 1) + b ≡ a + suc b
     on a b = omega arith
@@ -76,7 +84,8 @@ unfolding asked_in
 length-asked [] = refl
 length-asked (a ∷ asks) = ap suc (length-asked asks)
 
-pub next-calls : (asks : List Placed) (place id : ℕ) (bodies : List (List ℕ)) → next_id (asked_in (asks ++ calls_at place id bodies)) ≡ next_id (asked_in asks) + length bodies
+pub next-calls : (asks : List Placed) (place id : ℕ) (bodies : List (List ℕ)) → next_id (asked_in (asks ++ calls_at place id bodies)) ≡ next_id (asked_in asks)
+    + length bodies
 next-calls asks place id bodies =
     let all = length-asked (asks ++ calls_at place id bodies) in
     let sum = length-append asks (calls_at place id bodies) in
@@ -84,10 +93,16 @@ next-calls asks place id bodies =
     let some = length-asked asks in
     omega (arith, all, sum, more, some)
 
-pub asks-nothing : (x : ClientChannel) (asks : List Placed) (octets : List ℕ) (frames : List Frame) (rest : List ℕ) → ClientStands x asks octets frames rest → AsksGroup [] x x asks octets frames rest []
-asks-nothing x asks octets frames rest s = record { stands = subst (λ (xs : List Placed). ClientStands x xs octets frames rest) (sym (append-nil asks)) s; out_is = refl; next_is = refl }
+pub asks-nothing : (x : ClientChannel) (asks : List Placed) (octets : List ℕ) (frames : List Frame) (rest : List ℕ) → ClientStands x asks octets frames rest
+    → AsksGroup [] x x asks octets frames rest []
+asks-nothing x asks octets frames rest s = record {
+  stands = subst (λ (xs : List Placed). ClientStands x xs octets frames rest) (sym (append-nil asks)) s;
+  out_is = refl;
+  next_is = refl;
+}
 
-pub asks-more : (bodies : List (List ℕ)) (body : List ℕ) (old mid new : ClientChannel) (asks : List Placed) (octets : List ℕ) (frames : List Frame) (rest out : List ℕ) (id : ℕ) (more : List ℕ)
+pub asks-more : (bodies : List (List ℕ)) (body : List ℕ) (old mid new : ClientChannel) (asks : List Placed) (octets : List ℕ) (frames : List Frame)
+    (rest out : List ℕ) (id : ℕ) (more : List ℕ)
     → AsksGroup bodies old mid asks octets frames rest out
     → ((xs : List Placed) (o : List ℕ) (fs : List Frame) (r : List ℕ) → ClientStands mid xs o fs r → ClientStands new (xs ++ (length o, Call id) ∷ []) o fs r)
     → IsCall (phase_of mid) (client_next mid) body id more (client_next new)
@@ -101,17 +116,21 @@ asks-more bodies body old mid new asks octets frames rest out id more g stands s
     record {
       stands = subst (λ (xs : List Placed). ClientStands new xs octets frames rest)
           (append_assoc asks here ((length octets, Call id) ∷ [])
-          ∙ ap (λ (xs : List Placed). asks ++ xs) (ap (λ (n : ℕ). here ++ (length octets, Call n) ∷ []) id_is ∙ sym (calls-push (length octets) first bodies body)))
+          ∙ ap (λ (xs : List Placed). asks ++ xs) (ap (λ (n : ℕ). here ++ (length octets, Call n) ∷ []) id_is
+          ∙ sym (calls-push (length octets) first bodies body)))
           (stands (asks ++ here) octets frames rest g.stands);
       out_is = ap (λ (o : List ℕ). o ++ more) g.out_is
           ∙ (ap (λ (o : List ℕ). calls_octets lane (client_next old) first bodies ++ o)
-          (s.out_is ∙ (ap (λ (n : ℕ). call_octets lane n id body) g.next_is ∙ ap (λ (n : ℕ). call_octets lane (numbers_behind lane (client_next old) bodies) n body) id_is))
+          (s.out_is
+          ∙ (ap (λ (n : ℕ). call_octets lane n id body) g.next_is
+          ∙ ap (λ (n : ℕ). call_octets lane (numbers_behind lane (client_next old) bodies) n body) id_is))
           ∙ sym (octets-push lane (client_next old) first bodies body));
       next_is = s.next_is ∙ (ap (λ (n : ℕ). number_behind lane n body) g.next_is ∙ sym (numbers-push lane (client_next old) bodies body));
     }
 
 -- the request id of the first
-pub first-id : (bodies : List (List ℕ)) (old mid : ClientChannel) (asks : List Placed) (octets : List ℕ) (frames : List Frame) (rest out : List ℕ) (number : ℕ) (body : List ℕ) (id : ℕ) (more : List ℕ) (next : ℕ)
+pub first-id : (bodies : List (List ℕ)) (old mid : ClientChannel) (asks : List Placed) (octets : List ℕ) (frames : List Frame) (rest out : List ℕ) (number : ℕ)
+    (body : List ℕ) (id : ℕ) (more : List ℕ) (next : ℕ)
     → AsksGroup bodies old mid asks octets frames rest out → length bodies ≡ 0 → IsCall (phase_of mid) number body id more next → id ≡ next_id (asked_in asks)
 first-id bodies old mid asks octets frames rest out number body id more next g none sent =
     let s = sends-call mid (asks ++ calls_at (length octets) (next_id (asked_in asks)) bodies) octets frames rest number body id more next g.stands sent in
@@ -126,26 +145,32 @@ abbrev pub IsFirst : Option ℕ → ℕ → List (List ℕ) → Type 0
 IsFirst first id [] = first ≡ None
 IsFirst first id (body ∷ bodies) = first ≡ Some id
 
-first-more : (bodies : List (List ℕ)) (body : List ℕ) (first : Option ℕ) (id next : ℕ) → IsFirst first next bodies → (length bodies ≡ 0 → id ≡ next) → IsFirst (Some (unwrap_or first id)) next (bodies ++ body ∷ [])
+first-more : (bodies : List (List ℕ)) (body : List ℕ) (first : Option ℕ) (id next : ℕ) → IsFirst first next bodies → (length bodies ≡ 0 → id ≡ next)
+    → IsFirst (Some (unwrap_or first id)) next (bodies ++ body ∷ [])
 first-more [] body first id next h k = ap (λ (o : Option ℕ). Some (unwrap_or o id)) h ∙ ap (λ (n : ℕ). Some n) (k refl)
 first-more (b ∷ bodies) body first id next h k = ap (λ (o : Option ℕ). Some (unwrap_or o id)) h
 
 -- these bodies are asked
 pub record Asked (bodies : List (List ℕ)) (old now : ClientChannel) (out : List ℕ) (first : Option ℕ) : Type 0 where
-  pub asks : (xs : List Placed) (os : List ℕ) (fs : List Frame) (r : List ℕ) → ClientStands old xs os fs r → AsksGroup bodies old now xs os fs r out × IsFirst first (next_id (asked_in xs)) bodies
+  pub asks : (xs : List Placed) (os : List ℕ) (fs : List Frame) (r : List ℕ) → ClientStands old xs os fs r → AsksGroup bodies old now xs os fs r out
+      × IsFirst first (next_id (asked_in xs)) bodies
   pub same : SameClient old now
 
 pub asked-nothing : (x : ClientChannel) → Asked [] x x [] None
 asked-nothing x = record { asks = λ xs os fs r s. (asks-nothing x xs os fs r s, refl); same = record { limits = refl; url = refl } }
 
-pub asked-more : (bodies : List (List ℕ)) (body : List ℕ) (old mid new : ClientChannel) (out : List ℕ) (first : Option ℕ) (id : ℕ) (more : List ℕ) → Asked bodies old mid out first
-    → ((xs : List Placed) (os : List ℕ) (fs : List Frame) (r : List ℕ) → ClientStands mid xs os fs r → ClientStands new (xs ++ (length os, Call id) ∷ []) os fs r)
-    → IsCall (phase_of mid) (client_next mid) body id more (client_next new) → SameClient mid new → Asked (bodies ++ body ∷ []) old new (out ++ more) (Some (unwrap_or first id))
+pub asked-more : (bodies : List (List ℕ)) (body : List ℕ) (old mid new : ClientChannel) (out : List ℕ) (first : Option ℕ) (id : ℕ) (more : List ℕ)
+    → Asked bodies old mid out first
+    → ((xs : List Placed) (os : List ℕ) (fs : List Frame) (r : List ℕ) → ClientStands mid xs os fs r
+    → ClientStands new (xs ++ (length os, Call id) ∷ []) os fs r)
+    → IsCall (phase_of mid) (client_next mid) body id more (client_next new) → SameClient mid new
+    → Asked (bodies ++ body ∷ []) old new (out ++ more) (Some (unwrap_or first id))
 asked-more bodies body old mid new out first id more a stands sent same = record {
   asks = λ xs os fs r s.
       let g = a.asks xs os fs r s in (
         asks-more bodies body old mid new xs os fs r out id more g.0 stands sent,
-        first-more bodies body first id (next_id (asked_in xs)) g.1 (λ none. first-id bodies old mid xs os fs r out (client_next mid) body id more (client_next new) g.0 none sent),
+        first-more bodies body first id (next_id (asked_in xs)) g.1
+            (λ none. first-id bodies old mid xs os fs r out (client_next mid) body id more (client_next new) g.0 none sent),
       );
   same = record { limits = a.same.limits ∙ same.limits; url = a.same.url ∙ same.url };
 }
@@ -160,9 +185,11 @@ asked-all bodies all old now out first a e xs os fs r s =
     let g = a.asks xs os fs r s in
     subst (λ (bs : List (List ℕ)). AsksFrom bs old now xs os fs r (unwrap_or first 0, out)) e (first-is bodies first (next_id (asked_in xs)) g.1, g.0)
 
-pub asked-as : (bodies others : List (List ℕ)) (old now : ClientChannel) (out more : List ℕ) (first start : Option ℕ) → Asked bodies old now out first → bodies ≡ others → out ≡ more → first ≡ start → Asked others old now more start
+pub asked-as : (bodies others : List (List ℕ)) (old now : ClientChannel) (out more : List ℕ) (first start : Option ℕ) → Asked bodies old now out first
+    → bodies ≡ others → out ≡ more → first ≡ start → Asked others old now more start
 asked-as bodies others old now out more first start a p q r =
-    subst (λ (bs : List (List ℕ)). Asked bs old now more start) p (subst (λ (o : List ℕ). Asked bodies old now o start) q (subst (λ (f : Option ℕ). Asked bodies old now out f) r a))
+    subst (λ (bs : List (List ℕ)). Asked bs old now more start) p
+    (subst (λ (o : List ℕ). Asked bodies old now o start) q (subst (λ (f : Option ℕ). Asked bodies old now out f) r a))
 
 -- ---- lists
 
@@ -184,7 +211,8 @@ take-whole {A} (y ∷ ys) (suc n) few = ap (λ (zs : List A). y ∷ zs) (take-wh
 
 pub asked-octets-push : (calls : List AskedCall) (call : AskedCall) → asked_octets calls ++ call.octets.items ≡ asked_octets (calls ++ call ∷ [])
 asked-octets-push [] call = sym (append-nil call.octets.items)
-asked-octets-push (c ∷ calls) call = append_assoc c.octets.items (asked_octets calls) call.octets.items ∙ ap (λ (o : List ℕ). c.octets.items ++ o) (asked-octets-push calls call)
+asked-octets-push (c ∷ calls) call = append_assoc c.octets.items (asked_octets calls) call.octets.items
+    ∙ ap (λ (o : List ℕ). c.octets.items ++ o) (asked-octets-push calls call)
 
 -- those before one of them, its own, and those behind it
 pub asked-octets-at : (calls : List AskedCall) (i : ℕ) (call d : AskedCall) → i < length calls → call ≡ get_or calls i d

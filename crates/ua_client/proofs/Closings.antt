@@ -29,17 +29,20 @@ closing-in limits (Open t) before asked number moment out h s =
     ∙ ap (λ (l : Option Lane). closing_by l number (next_id asked) moment) (sym (lane-talks limits t before asked h)))
 closing-in limits Done before asked number moment out h s = absurd s
 
-closing-is : (x : ClientChannel) (s : ClientPlace) (moment : DateTime) (out : List ℕ) → StandsAt x s → IsClosing (phase_of x) (client_next x) moment out → out ≡ closing_at s moment
+closing-is : (x : ClientChannel) (s : ClientPlace) (moment : DateTime) (out : List ℕ) → StandsAt x s → IsClosing (phase_of x) (client_next x) moment out
+    → out ≡ closing_at s moment
 closing-is x s moment out at h =
     closing-in (client_limits x) (phase_of x) (received at.goes.frames) (asked_in s.asks) (client_next x) moment out at.goes.stands.phase_is h
     ∙ (ap (λ (b : Received). closing_by (lane_behind b) (client_next x) (id_at s) moment) at.before_is
     ∙ ap (λ (n : ℕ). closing_by (lane_behind s.before) n (id_at s) moment) at.number_is)
 
-pub closes-whole : {A : Type 0} (x : ClientChannel) (moment : DateTime) (out : List ℕ) (before after : Option Traffic) (done : A) → IsClosing (phase_of x) (client_next x) moment out → IfTrafficKnown (Carries [] out) before after
+pub closes-whole : {A : Type 0} (x : ClientChannel) (moment : DateTime) (out : List ℕ) (before after : Option Traffic) (done : A)
+    → IsClosing (phase_of x) (client_next x) moment out → IfTrafficKnown (Carries [] out) before after
     → Closes moment x before after (Ok done)
 closes-whole x moment out before after done h w = record { sent = out; carried = w; answers = λ s at. closing-is x s moment out at h }
 
-pub closes-front : {A : Type 0} (x : ClientChannel) (moment : DateTime) (out : List ℕ) (before after : Option Traffic) → IsClosing (phase_of x) (client_next x) moment out → 0 < length out → IfTrafficKnown (WritesFront out) before after
+pub closes-front : {A : Type 0} (x : ClientChannel) (moment : DateTime) (out : List ℕ) (before after : Option Traffic)
+    → IsClosing (phase_of x) (client_next x) moment out → 0 < length out → IfTrafficKnown (WritesFront out) before after
     → Closes {A = A} moment x before after (Err fault.Write)
 closes-front x moment out before after h some w =
     let front = sends-part out before after some w in

@@ -26,11 +26,13 @@ told-own id told t own none =
 
 -- ---- slots
 
-slot-other : (request : Request) (id : ℕ) (told : List ClientTold) (t : ClientTold) (slot : Option Reply) → is_told_of id t ≡ false → IsSlot request id told slot → IsSlot request id (told ++ t ∷ []) slot
+slot-other : (request : Request) (id : ℕ) (told : List ClientTold) (t : ClientTold) (slot : Option Reply) → is_told_of id t ≡ false
+    → IsSlot request id told slot → IsSlot request id (told ++ t ∷ []) slot
 slot-other request id told t None other h = told-other id told t other ∙ h
 slot-other request id told t (Some reply) other h = (h.0, told-other id told t other ∙ h.1, h.2)
 
-pub slots-other : (requests : List Request) (id : ℕ) (told : List ClientTold) (t : ClientTold) (slots : List (Option Reply)) → IsOfNone id (length requests) t → AreSlots requests id told slots → AreSlots requests id (told ++ t ∷ []) slots
+pub slots-other : (requests : List Request) (id : ℕ) (told : List ClientTold) (t : ClientTold) (slots : List (Option Reply)) → IsOfNone id (length requests) t
+    → AreSlots requests id told slots → AreSlots requests id (told ++ t ∷ []) slots
 slots-other [] id told t [] other h = tt
 slots-other [] id told t (slot ∷ slots) other h = h
 slots-other (r ∷ rs) id told t [] other h = h
@@ -64,15 +66,19 @@ eqb-other a b h = by (eqb a b) refl
     by true e = absurd (h (eqb-true a b e))
     by false e = e
 
-pub slots-set : (requests : List Request) (id : ℕ) (told : List ClientTold) (t : ClientTold) (slots : List (Option Reply)) (n : ℕ) (request : Request) (reply : Reply)
-    → AreSlots requests id told slots → IsAt requests n request → IsFirstOf told t → IsReplyBy (kind_of request) (id + n) t reply → AreSlots requests id (told ++ t ∷ []) (set slots n (Some reply))
+pub slots-set : (requests : List Request) (id : ℕ) (told : List ClientTold) (t : ClientTold) (slots : List (Option Reply)) (n : ℕ) (request : Request)
+    (reply : Reply)
+    → AreSlots requests id told slots → IsAt requests n request → IsFirstOf told t → IsReplyBy (kind_of request) (id + n) t reply
+    → AreSlots requests id (told ++ t ∷ []) (set slots n (Some reply))
 slots-set [] id told t slots n request reply h at first by = absurd at
 slots-set (r ∷ rs) id told t [] n request reply h at first by = absurd h
 slots-set (r ∷ rs) id told t (slot ∷ slots) zero request reply h at first by =
-    let own : IsReplyBy (kind_of r) id t reply = subst (λ (q : Request). IsReplyBy (kind_of q) id t reply) at (subst (λ (m : ℕ). IsReplyBy (kind_of request) m t reply) (add-zero id) by) in
+    let own : IsReplyBy (kind_of r) id t reply = subst (λ (q : Request). IsReplyBy (kind_of q) id t reply) at
+    (subst (λ (m : ℕ). IsReplyBy (kind_of request) m t reply) (add-zero id) by) in
     let mine : is_told_of id t ≡ true = own-one (kind_of r) id t reply own in (
       (t, told-own id told t mine (first id mine), own),
-      slots-other rs (id + 1) told t slots (λ k few. of-one (kind_of r) id ((id + 1) + k) t reply own (eqb-other id ((id + 1) + k) (λ e. omega (arith, e)))) h.1,
+      slots-other rs (id + 1) told t slots (λ k few. of-one (kind_of r) id ((id + 1) + k) t reply own (eqb-other id ((id + 1) + k) (λ e. omega (arith, e))))
+          h.1,
     )
 slots-set (r ∷ rs) id told t (slot ∷ slots) (suc n) request reply h at first by = (
   slot-other r id told t slot (of-one (kind_of request) (id + suc n) id t reply by (eqb-other (id + suc n) id (λ e. omega (arith, e)))) h.0,
@@ -82,7 +88,8 @@ slots-set (r ∷ rs) id told t (slot ∷ slots) (suc n) request reply h at first
     one-on : (a b : ℕ) → a + suc b ≡ (a + 1) + b
     one-on a b = omega arith
 
-pub misanswered-at : (requests : List Request) (id : ℕ) (told : List ClientTold) (t : ClientTold) (slots : List (Option Reply)) (n : ℕ) (request : Request) → IsAt requests n request → IsFirstOf told t → AreSlots requests id told slots
+pub misanswered-at : (requests : List Request) (id : ℕ) (told : List ClientTold) (t : ClientTold) (slots : List (Option Reply)) (n : ℕ) (request : Request)
+    → IsAt requests n request → IsFirstOf told t → AreSlots requests id told slots
     → IsMisanswer (kind_of request) (id + n) t → IsMisanswered requests id (told ++ t ∷ [])
 misanswered-at requests id told t slots n request at first h by = record {
   before = told;

@@ -13,27 +13,31 @@ use Rattle.ua_client.proofs.Filling.{eqb-other, told-other, told-own}
 
 -- ---- where nothing was told of the next call
 
-pub front-untold : (requests : List Request) (id : ℕ) (told : List ClientTold) (slots : List (Option Reply)) → AreSlots requests id told slots → list_any is_none slots ≡ true → IsFront IsUntold (front_of slots) requests id told
+pub front-untold : (requests : List Request) (id : ℕ) (told : List ClientTold) (slots : List (Option Reply)) → AreSlots requests id told slots
+    → list_any is_none slots ≡ true → IsFront IsUntold (front_of slots) requests id told
 front-untold [] id told [] h e = absurd cc
 front-untold [] id told (slot ∷ slots) h e = absurd h
 front-untold (r ∷ rs) id told [] h e = absurd h
 front-untold (r ∷ rs) id told (None ∷ slots) h e = h.0
 front-untold (r ∷ rs) id told (Some reply ∷ slots) h e = (h.0, front-untold rs (id + 1) told slots h.1 e)
 
-pub front-before : (requests : List Request) (id : ℕ) (told : List ClientTold) (kept : List Reply) → IsFront IsUntold kept requests id told → IsFront IsUntoldBefore kept requests id told
+pub front-before : (requests : List Request) (id : ℕ) (told : List ClientTold) (kept : List Reply) → IsFront IsUntold kept requests id told
+    → IsFront IsUntoldBefore kept requests id told
 front-before [] id told kept h = absurd h
 front-before (r ∷ rs) id told [] h = inl h
 front-before (r ∷ rs) id told (reply ∷ kept) h = (h.0, front-before rs (id + 1) told kept h.1)
 
 -- before anything was told of the calls
-pub front-first : (requests : List Request) (id : ℕ) (told : List ClientTold) → 0 < length requests → AreUntold requests id told → IsFront IsUntoldBefore (front_of (none_for requests)) requests id told
+pub front-first : (requests : List Request) (id : ℕ) (told : List ClientTold) → 0 < length requests → AreUntold requests id told
+    → IsFront IsUntoldBefore (front_of (none_for requests)) requests id told
 front-first [] id told some h = absurd (omega (arith, some))
 front-first (r ∷ rs) id told some h = inl h.0
 
 -- ---- one thing more that was told
 
 -- what is told of a call is told once, so that a reply stays one
-reply-stays : (r : Request) (id : ℕ) (told : List ClientTold) (t : ClientTold) (reply : Reply) → IsFirstOf told t → IsReply r id told reply → IsReply r id (told ++ t ∷ []) reply
+reply-stays : (r : Request) (id : ℕ) (told : List ClientTold) (t : ClientTold) (reply : Reply) → IsFirstOf told t → IsReply r id told reply
+    → IsReply r id (told ++ t ∷ []) reply
 reply-stays r id told t reply once h = by (is_told_of id t) refl
   where
     by : (b : Bool) → is_told_of id t ≡ b → IsReply r id (told ++ t ∷ []) reply
@@ -41,7 +45,8 @@ reply-stays r id told t reply once h = by (is_told_of id t) refl
     by true e = let no : ◌≡◌ {A = List ClientTold} [] (h.0 ∷ []) = sym (once id e) ∙ h.1 in absurd cc
 
 -- it was not read
-pub front-unread : (requests : List Request) (id : ℕ) (told : List ClientTold) (t : ClientTold) (slots : List (Option Reply)) → IsFirstOf told t → AreSlots requests id told slots → list_any is_none slots ≡ true
+pub front-unread : (requests : List Request) (id : ℕ) (told : List ClientTold) (t : ClientTold) (slots : List (Option Reply)) → IsFirstOf told t
+    → AreSlots requests id told slots → list_any is_none slots ≡ true
     → IsFront IsUntoldBefore (front_of slots) requests id (told ++ t ∷ [])
 front-unread [] id told t [] once h e = absurd cc
 front-unread [] id told t (slot ∷ slots) once h e = absurd h
@@ -54,7 +59,8 @@ misanswer-other : (request : Request) (id n : ℕ) (t : ClientTold) → IsMisans
 misanswer-other request id n t by = ap (is_told_of id) by.1 ∙ eqb-other (id + suc n) id (λ e. omega (arith, e))
 
 misanswer-own : (r request : Request) (id : ℕ) (t : ClientTold) → request ≡ r → IsMisanswer (kind_of request) (id + 0) t → IsMisanswer (kind_of r) id t
-misanswer-own r request id t at by = subst (λ (q : Request). IsMisanswer (kind_of q) id t) at (subst (λ (m : ℕ). IsMisanswer (kind_of request) m t) (add-zero id) by)
+misanswer-own r request id t at by = subst (λ (q : Request). IsMisanswer (kind_of q) id t) at
+    (subst (λ (m : ℕ). IsMisanswer (kind_of request) m t) (add-zero id) by)
 
 misanswer-told : (r : Request) (id : ℕ) (t : ClientTold) → IsMisanswer (kind_of r) id t → is_told_of id t ≡ true
 misanswer-told r id t own = ap (is_told_of id) own.1 ∙ same id
@@ -63,7 +69,8 @@ misanswer-told r id t own = ap (is_told_of id) own.1 ∙ same id
     same n = search rules
 
 -- it is no answer to the request at a place
-pub front-lacking : (requests : List Request) (id : ℕ) (told : List ClientTold) (t : ClientTold) (slots : List (Option Reply)) (n : ℕ) (request : Request) → IsFirstOf told t → AreSlots requests id told slots → IsAt requests n request
+pub front-lacking : (requests : List Request) (id : ℕ) (told : List ClientTold) (t : ClientTold) (slots : List (Option Reply)) (n : ℕ) (request : Request)
+    → IsFirstOf told t → AreSlots requests id told slots → IsAt requests n request
     → IsMisanswer (kind_of request) (id + n) t → IsFront LacksAnswer (front_of slots) requests id (told ++ t ∷ [])
 front-lacking [] id told t slots n request once h at by = absurd at
 front-lacking (r ∷ rs) id told t [] n request once h at by = absurd h
@@ -85,7 +92,8 @@ front-lacking (r ∷ rs) id told t (Some reply ∷ slots) (suc n) request once h
 
 -- ---- where none is missing
 
-pub front-all : (requests : List Request) (id : ℕ) (told : List ClientTold) (slots : List (Option Reply)) → AreSlots requests id told slots → list_any is_none slots ≡ false → AreReplies requests id told (front_of slots)
+pub front-all : (requests : List Request) (id : ℕ) (told : List ClientTold) (slots : List (Option Reply)) → AreSlots requests id told slots
+    → list_any is_none slots ≡ false → AreReplies requests id told (front_of slots)
 front-all [] id told [] h e = tt
 front-all [] id told (slot ∷ slots) h e = absurd h
 front-all (r ∷ rs) id told [] h e = absurd h

@@ -81,7 +81,8 @@ response-in None h k = absurd cc
 response-in (Some (Open r)) h k = (r, refl)
 response-in (Some (Fault f)) h k = absurd cc
 
-response-read : (limits : Limits) (before : Received) (asked : List Asking) (o : Opening) → Accepts limits before asked (Opens o) → (r : OpenResponse) × (answer_in o ≡ Some (Open r))
+response-read : (limits : Limits) (before : Received) (asked : List Asking) (o : Opening) → Accepts limits before asked (Opens o)
+    → (r : OpenResponse) × (answer_in o ≡ Some (Open r))
 response-read limits before asked o e =
     let all = none-holds (client_reasons limits before asked (Opens o)) e in
     response-in (answer_in o) all.1.1.1.0 all.1.1.1.1.0
@@ -92,7 +93,8 @@ kind-of : (f : Frame) (k : Kind) → f.kind ≡ k → content f ≡ content_by k
 unfolding content
 kind-of f k is = ap (λ (j : Kind). content_by j f) is
 
-first-frame : (limits : Limits) (before : Received) (asked : List Asking) (f : Frame) → before ≡ nothing_received → IsTrue (lets_in (client_gate before) f.kind) → Accepts limits before asked (content f)
+first-frame : (limits : Limits) (before : Received) (asked : List Asking) (f : Frame) → before ≡ nothing_received → IsTrue (lets_in (client_gate before) f.kind)
+    → Accepts limits before asked (content f)
     → (a : Ack) × (content f ≡ Acks (Some a))
 unfolding responses
 first-frame limits before asked f none place e = by (greets-by f.kind (subst (λ (b : Received). IsTrue (lets_in (client_gate b) f.kind)) none place))
@@ -104,10 +106,12 @@ first-frame limits before asked f none place e = by (greets-by f.kind (subst (λ
         (a.0, carries ∙ ap Acks a.1)
     by (inr is) = absurd (error-refused limits before asked (whole_of error_format f.body) (subst (Accepts limits before asked) (kind-of f kind.Err is) e))
 
-second-frame : (limits : Limits) (before : Received) (asked : List Asking) (f : Frame) (a : Ack) → before ≡ record nothing_received { ack = Some a } → IsTrue (lets_in (client_gate before) f.kind) → Accepts limits before asked (content f)
+second-frame : (limits : Limits) (before : Received) (asked : List Asking) (f : Frame) (a : Ack) → before ≡ record nothing_received { ack = Some a }
+    → IsTrue (lets_in (client_gate before) f.kind) → Accepts limits before asked (content f)
     → (o : Opening) × (r : OpenResponse) × (content f ≡ Opens o) × (answer_in o ≡ Some (Open r))
 unfolding responses
-second-frame limits before asked f a greeted place e = by (opens-by a.send_buffer_size f.kind (subst (λ (b : Received). IsTrue (lets_in (client_gate b) f.kind)) greeted place))
+second-frame limits before asked f a greeted place e =
+    by (opens-by a.send_buffer_size f.kind (subst (λ (b : Received). IsTrue (lets_in (client_gate b) f.kind)) greeted place))
   where
     by : (f.kind ≡ Opn) ⊎ (f.kind ≡ kind.Err) → (o : Opening) × (r : OpenResponse) × (content f ≡ Opens o) × (answer_in o ≡ Some (Open r))
     by (inl is) =
@@ -118,7 +122,8 @@ second-frame limits before asked f a greeted place e = by (opens-by a.send_buffe
 
 -- ---- all frames
 
-opening-told : (before : Received) (a : Ack) (c : Content) (o : Opening) (r : OpenResponse) (more : List ClientTold) → before ≡ record nothing_received { ack = Some a } → c ≡ Opens o → answer_in o ≡ Some (Open r)
+opening-told : (before : Received) (a : Ack) (c : Content) (o : Opening) (r : OpenResponse) (more : List ClientTold)
+    → before ≡ record nothing_received { ack = Some a } → c ≡ Opens o → answer_in o ≡ Some (Open r)
     → IsOpening (client_tells before c ++ more)
 unfolding responses
 opening-told before a c o r more greeted carries answer =
@@ -126,22 +131,26 @@ opening-told before a c o r more greeted carries answer =
     (subst (λ (d : Content). IsOpening (client_tells (record nothing_received { ack = Some a }) d ++ more)) (sym carries)
     (subst (λ (x : Option OpenAnswer). IsOpening (map (told_response []) (response_listed x) ++ more)) (sym answer) refl))
 
-opening-from : (limits : Limits) (asks : List Placed) (start fs : List Frame) (a : Ack) → received start ≡ record nothing_received { ack = Some a } → AllFrom (Fits (client_rules limits asks)) start fs
+opening-from : (limits : Limits) (asks : List Placed) (start fs : List Frame) (a : Ack) → received start ≡ record nothing_received { ack = Some a }
+    → AllFrom (Fits (client_rules limits asks)) start fs
     → IsOpening (each_from (client_rules limits asks).tells start fs)
 opening-from limits asks start [] a greeted fits = tt
 opening-from limits asks start (f ∷ fs) a greeted fits =
     let found = second-frame limits (received start) (asked_before (end_of start f) asks) f a greeted fits.0.let_in.kind fits.0.accepted in
     opening-told (received start) a (content f) found.0 found.1 (each_from (client_rules limits asks).tells (start ++ f ∷ []) fs) greeted found.2 found.3
 
-greeting-from : (limits : Limits) (asks : List Placed) (frames : List Frame) → AllFrom (Fits (client_rules limits asks)) [] frames → IsGreeting (each_from (client_rules limits asks).tells [] frames)
+greeting-from : (limits : Limits) (asks : List Placed) (frames : List Frame) → AllFrom (Fits (client_rules limits asks)) [] frames
+    → IsGreeting (each_from (client_rules limits asks).tells [] frames)
 greeting-from limits asks [] fits = tt
 greeting-from limits asks (f ∷ fs) fits =
     let found = first-frame limits (received []) (asked_before (end_of [] f) asks) f received-nil fits.0.let_in.kind fits.0.accepted in
-    let later : received (f ∷ []) ≡ record nothing_received { ack = Some found.0 } = received-push [] f ∙ (ap (λ (b : Received). after b (content f)) received-nil ∙ ap (after nothing_received) found.1) in
+    let later : received (f ∷ []) ≡ record nothing_received { ack = Some found.0 } = received-push [] f
+    ∙ (ap (λ (b : Received). after b (content f)) received-nil ∙ ap (after nothing_received) found.1) in
     subst (λ (c : Content). IsGreeting (client_tells (received []) c ++ each_from (client_rules limits asks).tells (f ∷ []) fs)) (sym found.1)
     (refl, opening-from limits asks (f ∷ []) fs found.0 later fits.1)
 
 -- what frames tell that a client takes
-pub greeting : (limits : Limits) (asks : List Placed) (frames : List Frame) → AllAfter (Fits (client_rules limits asks)) frames → IsGreeting (events (client_rules limits asks) frames)
+pub greeting : (limits : Limits) (asks : List Placed) (frames : List Frame) → AllAfter (Fits (client_rules limits asks)) frames
+    → IsGreeting (events (client_rules limits asks) frames)
 unfolding AllAfter each_after
 greeting limits asks frames fits = greeting-from limits asks frames fits

@@ -1,5 +1,6 @@
 -- What becomes of groups of calls.
-use Rattle.std.specs.Prelude.{◌≡◌, ℕ, ◌+◌, ◌-◌, ◌≤◌, ◌<◌, Bool, true, false, cond, is_none, OnOk, OnErr, List, [], ◌∷◌, ◌++◌, length, take, Option, Some, None, Result, Ok, Err}
+use Rattle.std.specs.Prelude.{◌≡◌, ℕ, ◌+◌, ◌-◌, ◌≤◌, ◌<◌, Bool, true, false, cond, is_none, OnOk, OnErr}
+use Rattle.std.specs.Prelude.{List, [], ◌∷◌, ◌++◌, length, take, Option, Some, None, Result, Ok, Err}
 use Rattle.std.proofs.Common.{refl, sym, ◌∙◌, ap, subst, inl, inr, append-nil, arith, zero, suc, add-zero}
 use Rattle.std.proofs.lemmas.List.{length-append}
 use Rattle.std.specs.List.{list_any}
@@ -92,7 +93,8 @@ by-request false phase more body x e = ap taken (sym e)
     taken None = true
     taken (Some y) = is_asking_fault y
 
-by-either : (a b : Option ClientFault) (x : ClientFault) → ((y : ClientFault) → a ≡ Some y → is_asking_fault y ≡ true) → (b ≡ Some x → is_asking_fault x ≡ true) → or_else a b ≡ Some x → is_asking_fault x ≡ true
+by-either : (a b : Option ClientFault) (x : ClientFault) → ((y : ClientFault) → a ≡ Some y → is_asking_fault y ≡ true) → (b ≡ Some x → is_asking_fault x ≡ true)
+    → or_else a b ≡ Some x → is_asking_fault x ≡ true
 by-either None b x h k e = k e
 by-either (Some y) b x h k e = h x e
 
@@ -116,7 +118,8 @@ untold-from (r ∷ rs) id told h = (
 
 -- the law of what is told of calls that are not asked yet
 abbrev pub ToldBehind : Type 0
-ToldBehind = (x : ClientChannel) (asks : List Placed) (octets : List ℕ) (told : List ClientTold) (n : ℕ) → ClientGoes x asks octets told → told_of (next_id (asked_in asks) + n) told ≡ []
+ToldBehind = (x : ClientChannel) (asks : List Placed) (octets : List ℕ) (told : List ClientTold) (n : ℕ) → ClientGoes x asks octets told
+    → told_of (next_id (asked_in asks) + n) told ≡ []
 
 -- nothing moved
 abbrev pub moves-nothing : (x y : Connection) (t : Option Traffic) → untaken_of y ≡ untaken_of x → MovesConnection x y [] t t
@@ -130,8 +133,10 @@ few-taken (suc n) [] = omega arith
 few-taken (suc n) (m ∷ ms) = let h = few-taken n ms in omega (arith, h)
 
 -- before anything is asked
-pub group-refused : {A : Type 0} → (requests : List Request) → length requests ≤ 64 → (x : Connection) (t : Option Traffic) (reads : ℕ) (c : CallsFault) (replies : List Reply)
-    → AnswersBy {A = Unit {0}} (group_refusal (phase_of (channel_of x)) 0 requests) (Err c.fault) → RefusesBy (phase_of (channel_of x)) requests c.request c.fault
+pub group-refused : {A : Type 0} → (requests : List Request) → length requests ≤ 64
+    → (x : Connection) (t : Option Traffic) (reads : ℕ) (c : CallsFault) (replies : List Reply)
+    → AnswersBy {A = Unit {0}} (group_refusal (phase_of (channel_of x)) 0 requests) (Err c.fault)
+    → RefusesBy (phase_of (channel_of x)) requests c.request c.fault
     → CallsGroup {A = A} requests x x t t reads reads (Err c) replies replies
 group-refused {A} requests few x t reads c replies h place = record {
   sent = [];
@@ -144,7 +149,8 @@ group-refused {A} requests few x t reads c replies h place = record {
 }
   where
     refused : (y : ClientFault) (n : ℕ) (s : ClientPlace) → StandsAt (channel_of x) s → IsIdle (channel_of x) s
-        → (group_refusal (phase_of (channel_of x)) 0 (take n requests) ≡ None) × (group_refusal (phase_of (channel_of x)) 0 (take (n + 1) requests) ≡ Some y) → IsRefusedFor requests s y n
+        → (group_refusal (phase_of (channel_of x)) 0 (take n requests) ≡ None) × (group_refusal (phase_of (channel_of x)) 0 (take (n + 1) requests) ≡ Some y)
+        → IsRefusedFor requests s y n
     refused y n s at idle k =
         let before = few-taken n requests in
         let with = few-taken (n + 1) requests in (
@@ -152,7 +158,8 @@ group-refused {A} requests few x t reads c replies h place = record {
           sym (group-judged (channel_of x) (take (n + 1) requests) (omega (arith, with, few)) s at idle) ∙ k.1,
         )
 
-    breaks : (y : ClientFault) → AnswersBy {A = Unit {0}} (group_refusal (phase_of (channel_of x)) 0 requests) (Err y) → (s : ClientPlace) → StandsAt (channel_of x) s
+    breaks : (y : ClientFault) → AnswersBy {A = Unit {0}} (group_refusal (phase_of (channel_of x)) 0 requests) (Err y) → (s : ClientPlace)
+        → StandsAt (channel_of x) s
         → group_refusal (phase_of (channel_of x)) 0 requests ≡ refusal_at s requests → BreaksAt requests s x [] [] y
     breaks fault.TooLarge e s at there = (refl, refl, at, sym there ∙ e)
     breaks fault.NotWritable e s at there = (refl, refl, at, sym there ∙ e)
@@ -162,31 +169,46 @@ group-refused {A} requests few x t reads c replies h place = record {
     breaks fault.Read e s at there = let no : is_asking_fault fault.Read ≡ true = by-group (phase_of (channel_of x)) 0 requests fault.Read e in absurd cc
     breaks fault.Write e s at there = let no : is_asking_fault fault.Write ≡ true = by-group (phase_of (channel_of x)) 0 requests fault.Write e in absurd cc
     breaks fault.Ended e s at there = let no : is_asking_fault fault.Ended ≡ true = by-group (phase_of (channel_of x)) 0 requests fault.Ended e in absurd cc
-    breaks (fault.Peer code) e s at there = let no : is_asking_fault (fault.Peer code) ≡ true = by-group (phase_of (channel_of x)) 0 requests (fault.Peer code) e in absurd cc
-    breaks (fault.Refused code) e s at there = let no : is_asking_fault (fault.Refused code) ≡ true = by-group (phase_of (channel_of x)) 0 requests (fault.Refused code) e in absurd cc
-    breaks fault.UnknownResponse e s at there = let no : is_asking_fault fault.UnknownResponse ≡ true = by-group (phase_of (channel_of x)) 0 requests fault.UnknownResponse e in absurd cc
-    breaks (fault.Service code) e s at there = let no : is_asking_fault (fault.Service code) ≡ true = by-group (phase_of (channel_of x)) 0 requests (fault.Service code) e in absurd cc
-    breaks fault.TooLong e s at there = let no : is_asking_fault fault.TooLong ≡ true = by-group (phase_of (channel_of x)) 0 requests fault.TooLong e in absurd cc
-    breaks fault.TooManyTokens e s at there = let no : is_asking_fault fault.TooManyTokens ≡ true = by-group (phase_of (channel_of x)) 0 requests fault.TooManyTokens e in absurd cc
+    breaks (fault.Peer code) e s at there = let no : is_asking_fault (fault.Peer code) ≡ true =
+        by-group (phase_of (channel_of x)) 0 requests (fault.Peer code) e in absurd cc
+    breaks (fault.Refused code) e s at there = let no : is_asking_fault (fault.Refused code) ≡ true =
+        by-group (phase_of (channel_of x)) 0 requests (fault.Refused code) e in absurd cc
+    breaks fault.UnknownResponse e s at there = let no : is_asking_fault fault.UnknownResponse ≡ true =
+        by-group (phase_of (channel_of x)) 0 requests fault.UnknownResponse e in absurd cc
+    breaks (fault.Service code) e s at there = let no : is_asking_fault (fault.Service code) ≡ true =
+        by-group (phase_of (channel_of x)) 0 requests (fault.Service code) e in absurd cc
+    breaks fault.TooLong e s at there = let no : is_asking_fault fault.TooLong ≡ true =
+        by-group (phase_of (channel_of x)) 0 requests fault.TooLong e in absurd cc
+    breaks fault.TooManyTokens e s at there = let no : is_asking_fault fault.TooManyTokens ≡ true =
+        by-group (phase_of (channel_of x)) 0 requests fault.TooManyTokens e in absurd cc
 
-    keeps : (y : ClientFault) (n : ℕ) → AnswersBy {A = Unit {0}} (group_refusal (phase_of (channel_of x)) 0 requests) (Err y) → RefusesBy (phase_of (channel_of x)) requests n y → (s : ClientPlace) → StandsAt (channel_of x) s → IsIdle (channel_of x) s
+    keeps : (y : ClientFault) (n : ℕ) → AnswersBy {A = Unit {0}} (group_refusal (phase_of (channel_of x)) 0 requests) (Err y)
+        → RefusesBy (phase_of (channel_of x)) requests n y → (s : ClientPlace) → StandsAt (channel_of x) s → IsIdle (channel_of x) s
         → KeepsAt requests s x [] y n []
     keeps fault.TooLarge n e k s at idle = (refused fault.TooLarge n s at idle k, refl)
     keeps fault.NotWritable n e k s at idle = (refused fault.NotWritable n s at idle k, refl)
     keeps fault.Exhausted n e k s at idle = (refused fault.Exhausted n s at idle k, refl)
-    keeps fault.Closed n e k s at idle = let no : is_reason fault.Closed ≡ true = refused-for s requests fault.Closed (sym (group-judged (channel_of x) requests few s at idle) ∙ e) in absurd cc
+    keeps fault.Closed n e k s at idle = let no : is_reason fault.Closed ≡ true =
+        refused-for s requests fault.Closed (sym (group-judged (channel_of x) requests few s at idle) ∙ e) in absurd cc
     keeps fault.OutOfMemory n e k s at idle = (k, inl (refl, refl))
     keeps fault.Read n e k s at idle = let no : is_asking_fault fault.Read ≡ true = by-group (phase_of (channel_of x)) 0 requests fault.Read e in absurd cc
     keeps fault.Write n e k s at idle = let no : is_asking_fault fault.Write ≡ true = by-group (phase_of (channel_of x)) 0 requests fault.Write e in absurd cc
     keeps fault.Ended n e k s at idle = let no : is_asking_fault fault.Ended ≡ true = by-group (phase_of (channel_of x)) 0 requests fault.Ended e in absurd cc
-    keeps (fault.Peer code) n e k s at idle = let no : is_asking_fault (fault.Peer code) ≡ true = by-group (phase_of (channel_of x)) 0 requests (fault.Peer code) e in absurd cc
-    keeps (fault.Refused code) n e k s at idle = let no : is_asking_fault (fault.Refused code) ≡ true = by-group (phase_of (channel_of x)) 0 requests (fault.Refused code) e in absurd cc
-    keeps fault.UnknownResponse n e k s at idle = let no : is_asking_fault fault.UnknownResponse ≡ true = by-group (phase_of (channel_of x)) 0 requests fault.UnknownResponse e in absurd cc
-    keeps (fault.Service code) n e k s at idle = let no : is_asking_fault (fault.Service code) ≡ true = by-group (phase_of (channel_of x)) 0 requests (fault.Service code) e in absurd cc
-    keeps fault.TooLong n e k s at idle = let no : is_asking_fault fault.TooLong ≡ true = by-group (phase_of (channel_of x)) 0 requests fault.TooLong e in absurd cc
-    keeps fault.TooManyTokens n e k s at idle = let no : is_asking_fault fault.TooManyTokens ≡ true = by-group (phase_of (channel_of x)) 0 requests fault.TooManyTokens e in absurd cc
+    keeps (fault.Peer code) n e k s at idle = let no : is_asking_fault (fault.Peer code) ≡ true =
+        by-group (phase_of (channel_of x)) 0 requests (fault.Peer code) e in absurd cc
+    keeps (fault.Refused code) n e k s at idle = let no : is_asking_fault (fault.Refused code) ≡ true =
+        by-group (phase_of (channel_of x)) 0 requests (fault.Refused code) e in absurd cc
+    keeps fault.UnknownResponse n e k s at idle = let no : is_asking_fault fault.UnknownResponse ≡ true =
+        by-group (phase_of (channel_of x)) 0 requests fault.UnknownResponse e in absurd cc
+    keeps (fault.Service code) n e k s at idle = let no : is_asking_fault (fault.Service code) ≡ true =
+        by-group (phase_of (channel_of x)) 0 requests (fault.Service code) e in absurd cc
+    keeps fault.TooLong n e k s at idle = let no : is_asking_fault fault.TooLong ≡ true =
+        by-group (phase_of (channel_of x)) 0 requests fault.TooLong e in absurd cc
+    keeps fault.TooManyTokens n e k s at idle = let no : is_asking_fault fault.TooManyTokens ≡ true =
+        by-group (phase_of (channel_of x)) 0 requests fault.TooManyTokens e in absurd cc
 
-    stops : (y : ClientFault) → AnswersBy {A = Unit {0}} (group_refusal (phase_of (channel_of x)) 0 requests) (Err y) → StopsAt {A = A} reads reads [] x t (Err y)
+    stops : (y : ClientFault) → AnswersBy {A = Unit {0}} (group_refusal (phase_of (channel_of x)) 0 requests) (Err y)
+        → StopsAt {A = A} reads reads [] x t (Err y)
     stops fault.TooLarge e = tt
     stops fault.NotWritable e = tt
     stops fault.Exhausted e = tt
@@ -203,7 +225,8 @@ group-refused {A} requests few x t reads c replies h place = record {
     stops fault.TooManyTokens e = tt
 
 -- a refusal to ask is no fault of the line
-pub refused-failures : (requests : List Request) (phase : Phase) (x : ClientFault) → AnswersBy {A = Unit {0}} (group_refusal phase 0 requests) (Err x) → (n : ℕ) → cond (is_line_fault x) (one_more n) n ≡ n
+pub refused-failures : (requests : List Request) (phase : Phase) (x : ClientFault) → AnswersBy {A = Unit {0}} (group_refusal phase 0 requests) (Err x) → (n : ℕ)
+    → cond (is_line_fault x) (one_more n) n ≡ n
 refused-failures requests phase fault.Read e n = let no : is_asking_fault fault.Read ≡ true = by-group phase 0 requests fault.Read e in absurd cc
 refused-failures requests phase fault.Write e n = let no : is_asking_fault fault.Write ≡ true = by-group phase 0 requests fault.Write e in absurd cc
 refused-failures requests phase fault.Ended e n = refl
@@ -229,19 +252,22 @@ first_unkept f had have = record { request = length have - length had; fault = f
 
 -- no memory to ask
 pub group-unasked : {A : Type 0} (requests : List Request) (old new : Connection) (t : Option Traffic) (reads : ℕ) (had have : List Reply) (f : ClientFault)
-    → have ≡ had → untaken_of new ≡ untaken_of old → SameClient (channel_of old) (channel_of new) → f ≡ fault.OutOfMemory → CallsGroup {A = A} requests old new t t reads reads (Err (first_unkept f had have)) had have
-group-unasked {A} requests old new t reads had have f none piece same e = subst (λ (x : ClientFault). CallsGroup {A = A} requests old new t t reads reads (Err (first_unkept x had have)) had have) (sym e) (record {
-  sent = [];
-  moves = moves-nothing old new t piece;
-  same = same;
-  added = [];
-  have_is = none ∙ sym (append-nil had);
-  answers = λ s at idle. (inl (refl, refl), (added-count had have [] (none ∙ sym (append-nil had)), inl (refl, refl)));
-  stops = tt;
-})
+    → have ≡ had → untaken_of new ≡ untaken_of old → SameClient (channel_of old) (channel_of new) → f ≡ fault.OutOfMemory
+    → CallsGroup {A = A} requests old new t t reads reads (Err (first_unkept f had have)) had have
+group-unasked {A} requests old new t reads had have f none piece same e =
+    subst (λ (x : ClientFault). CallsGroup {A = A} requests old new t t reads reads (Err (first_unkept x had have)) had have) (sym e) (record {
+      sent = [];
+      moves = moves-nothing old new t piece;
+      same = same;
+      added = [];
+      have_is = none ∙ sym (append-nil had);
+      answers = λ s at idle. (inl (refl, refl), (added-count had have [] (none ∙ sym (append-nil had)), inl (refl, refl)));
+      stops = tt;
+    })
 
 -- nothing was against a group that a channel would ask
-pub none-refused : (requests : List Request) → length requests ≤ 64 → (x : ClientChannel) → group_refusal (phase_of x) 0 requests ≡ None → (s : ClientPlace) → StandsAt x s → IsIdle x s → refusal_at s requests ≡ None
+pub none-refused : (requests : List Request) → length requests ≤ 64 → (x : ClientChannel) → group_refusal (phase_of x) 0 requests ≡ None → (s : ClientPlace)
+    → StandsAt x s → IsIdle x s → refusal_at s requests ≡ None
 none-refused requests few x none s at idle = sym (group-judged x requests few s at idle) ∙ none
 
 -- these requests were asked: the channel then, the request id of the first, and what is to be sent
@@ -252,7 +278,8 @@ pub record IsAsked (requests : List Request) (old mid : Connection) (first : ℕ
   pub piece : untaken_of mid ≡ untaken_of old
   pub same : SameClient (channel_of old) (channel_of mid)
   pub some : 0 < length requests
-  pub asks : (xs : List Placed) (os : List ℕ) (fs : List Frame) (r : List ℕ) → ClientStands (channel_of old) xs os fs r → AsksFrom bodies (channel_of old) (channel_of mid) xs os fs r (first, out)
+  pub asks : (xs : List Placed) (os : List ℕ) (fs : List Frame) (r : List ℕ) → ClientStands (channel_of old) xs os fs r
+      → AsksFrom bodies (channel_of old) (channel_of mid) xs os fs r (first, out)
 
 module _ (requests : List Request) (old mid : Connection) (first : ℕ) (out : List ℕ) (q : IsAsked requests old mid first out) where
   module _ (s : ClientPlace) (at : StandsAt (channel_of old) s) where
@@ -286,10 +313,12 @@ module _ (requests : List Request) (old mid : Connection) (first : ℕ) (out : L
     first-asked = let n = length-bodies in asked.0 (let some = q.some in omega (arith, n, some))
 
     untold-asked : ToldBehind → AreUntold requests first s.told
-    untold-asked law = subst (λ (n : ℕ). AreUntold requests n s.told) (sym first-asked) (untold-from requests (id_at s) s.told (λ n. law (channel_of old) s.asks s.octets s.told n at.goes))
+    untold-asked law = subst (λ (n : ℕ). AreUntold requests n s.told) (sym first-asked)
+        (untold-from requests (id_at s) s.told (λ n. law (channel_of old) s.asks s.octets s.told n at.goes))
 
   -- a write that failed
-  pub group-unwritten : {A : Type 0} (before after : Option Traffic) (reads : ℕ) (had have : List Reply) → have ≡ had → 0 < length out → IfTrafficKnown (WritesFront out) before after
+  pub group-unwritten : {A : Type 0} (before after : Option Traffic) (reads : ℕ) (had have : List Reply) → have ≡ had → 0 < length out
+      → IfTrafficKnown (WritesFront out) before after
       → CallsGroup {A = A} requests old mid before after reads reads (Err (first_unkept fault.Write had have)) had have
   group-unwritten before after reads had have none some h =
       let front = sends-front out before after h in
@@ -300,20 +329,31 @@ module _ (requests : List Request) (old mid : Connection) (first : ℕ) (out : L
         same = q.same;
         added = [];
         have_is = kept;
-        answers = λ s at idle. ((q.judged s at idle, record { more = front.1.more; parts = sym (sent-asked s at) ∙ front.1.parts }, refl, subst (λ (o : List ℕ). length front.0 < length o) (sent-asked s at) (front.3 some)), (added-count had have [] kept, refl));
+        answers = λ s at idle. (
+          (
+            q.judged s at idle,
+            record { more = front.1.more; parts = sym (sent-asked s at) ∙ front.1.parts },
+            refl,
+            subst (λ (o : List ℕ). length front.0 < length o) (sent-asked s at) (front.3 some),
+          ),
+          (added-count had have [] kept, refl),
+        );
         stops = tt;
       }
 
-  module _ (law : ToldBehind) (new : Connection) (before written after : Option Traffic) (reads left : ℕ) (w : IfTrafficKnown (Carries [] out) before written) where
+  module _ (law : ToldBehind) (new : Connection) (before written after : Option Traffic) (reads left : ℕ)
+      (w : IfTrafficKnown (Carries [] out) before written) where
     abbrev written-moves : MovesConnection mid new [] written after → MovesConnection old new out before after
     written-moves m =
-        moves-from old mid new out [] before written after after q.piece m (carried-as m.got (out ++ []) m.got out before after refl (append-nil out) (carried-then [] out m.got [] before written after w m.carried))
+        moves-from old mid new out [] before written after after q.piece m
+        (carried-as m.got (out ++ []) m.got out before after refl (append-nil out) (carried-then [] out m.got [] before written after w m.carried))
 
     same-then : SameClient (channel_of mid) (channel_of new) → SameClient (channel_of old) (channel_of new)
     same-then k = record { limits = q.same.limits ∙ k.limits; url = q.same.url ∙ k.url }
 
     module _ (slots : List (Option Reply)) (had have : List Reply) (kept : have ≡ had ++ front_of slots) where
-      collected : {A : Type 0} (result : Result A ClientFault) (c : Collects slots requests first mid new written after reads left result) (s : ClientPlace) (at : StandsAt (channel_of old) s)
+      collected : {A : Type 0} (result : Result A ClientFault) (c : Collects slots requests first mid new written after reads left result) (s : ClientPlace)
+          (at : StandsAt (channel_of old) s)
           → CollectsAt slots requests (id_at s) new after result (asked_at s requests) (s.octets ++ c.moves.taken) s.told
       collected result c s at =
           subst (λ (n : ℕ). CollectsAt slots requests n new after result (asked_at s requests) (s.octets ++ c.moves.taken) s.told) (first-asked s at)
@@ -339,7 +379,9 @@ module _ (requests : List Request) (old mid : Connection) (first : ℕ) (out : L
           count : length have - length had ≡ length (front_of slots)
           count = added-count had have (front_of slots) kept
 
-          breaks : (y : ClientFault) (s : ClientPlace) → IsSentAt requests s out → CollectsAt {A = B} slots requests (id_at s) new after (Err y) (asked_at s requests) (s.octets ++ c.moves.taken) s.told → BreaksAt requests s new out c.moves.taken y
+          breaks : (y : ClientFault) (s : ClientPlace) → IsSentAt requests s out
+              → CollectsAt {A = B} slots requests (id_at s) new after (Err y) (asked_at s requests) (s.octets ++ c.moves.taken) s.told
+              → BreaksAt requests s new out c.moves.taken y
           breaks (fault.Peer code) s sent h = (sent, (h.0, h.1, record { slots = slots; slots_are = h.2.0; missing = h.2.1 }))
           breaks (fault.Refused code) s sent h = (sent, (h.0, h.1, record { slots = slots; slots_are = h.2.0; missing = h.2.1 }))
           breaks fault.Ended s sent h = (sent, (h.0, h.1, record { slots = slots; slots_are = h.2.0; missing = h.2.1 }))
@@ -355,7 +397,8 @@ module _ (requests : List Request) (old mid : Connection) (first : ℕ) (out : L
           breaks fault.TooManyTokens s sent h = absurd h
           breaks (fault.Service code) s sent h = absurd h
 
-          keeps : (y : ClientFault) (s : ClientPlace) → CollectsAt {A = B} slots requests (id_at s) new after (Err y) (asked_at s requests) (s.octets ++ c.moves.taken) s.told
+          keeps : (y : ClientFault) (s : ClientPlace) → CollectsAt {A = B} slots requests (id_at s) new after (Err y) (asked_at s requests)
+              (s.octets ++ c.moves.taken) s.told
               → KeepsAt requests s new c.moves.taken y (length have - length had) (front_of slots)
           keeps (fault.Peer code) s h = (count, (h.0, h.1, front-untold requests (id_at s) (s.told ++ h.0) slots h.2.0 h.2.1))
           keeps (fault.Refused code) s h = (count, (h.0, h.1, front-untold requests (id_at s) (s.told ++ h.0) slots h.2.0 h.2.1))
@@ -401,7 +444,13 @@ module _ (requests : List Request) (old mid : Connection) (first : ℕ) (out : L
             let h = collected (Ok done) c s at in (
               sent-asked s at,
               (
-                record { asks = asked_at s requests; octets = s.octets ++ c.moves.taken; before = received h.1.frames; told = s.told ++ h.0; number = client_next (channel_of new) },
+                record {
+                  asks = asked_at s requests;
+                  octets = s.octets ++ c.moves.taken;
+                  before = received h.1.frames;
+                  told = s.told ++ h.0;
+                  number = client_next (channel_of new);
+                },
                 record { goes = h.1; before_is = refl; number_is = refl },
                 h.2.2,
                 record {
@@ -426,11 +475,14 @@ module _ (requests : List Request) (old mid : Connection) (first : ℕ) (out : L
       group-kept (Err f) c = group-broken f c
 
 -- no memory for the slots of the replies
-pub group-unslotted : {A : Type 0} (requests : List Request) (old mid : Connection) (first : ℕ) (out : List ℕ) → IsAsked requests old mid first out → ToldBehind → (before after : Option Traffic) (reads : ℕ)
-    → IfTrafficKnown (Carries [] out) before after → (f : ClientFault) (had have : List Reply) → have ≡ had → f ≡ fault.OutOfMemory → CallsGroup {A = A} requests old mid before after reads reads (Err (first_unkept f had have)) had have
+pub group-unslotted : {A : Type 0} (requests : List Request) (old mid : Connection) (first : ℕ) (out : List ℕ) → IsAsked requests old mid first out → ToldBehind
+    → (before after : Option Traffic) (reads : ℕ)
+    → IfTrafficKnown (Carries [] out) before after → (f : ClientFault) (had have : List Reply) → have ≡ had → f ≡ fault.OutOfMemory
+    → CallsGroup {A = A} requests old mid before after reads reads (Err (first_unkept f had have)) had have
 group-unslotted {A} requests old mid first out q law before after reads w f had have none e =
     subst (λ (x : ClientFault). CallsGroup {A = A} requests old mid before after reads reads (Err (first_unkept x had have)) had have) (sym e)
-    (group-broken requests old mid first out q law mid before after after reads reads w (none_for requests) had have (none ∙ (sym (append-nil had) ∙ ap (λ (rs : List Reply). had ++ rs) (sym (no-front requests))))
+    (group-broken requests old mid first out q law mid before after after reads reads w (none_for requests) had have
+    (none ∙ (sym (append-nil had) ∙ ap (λ (rs : List Reply). had ++ rs) (sym (no-front requests))))
     fault.OutOfMemory (collects-none {A = Unit {0}} requests first mid after reads q.some))
   where
     no-front : (ms : List Request) → front_of (none_for ms) ≡ []
@@ -438,16 +490,20 @@ group-unslotted {A} requests old mid first out q law before after reads w f had 
     no-front (m ∷ ms) = refl
 
 -- so many replies more
-pub kept-count : (result : Result (Unit {0}) ClientFault) (had have : List Reply) (slots : List (Option Reply)) (n : ℕ) → have ≡ had ++ front_of slots → OnOk result (list_any is_none slots ≡ false) → length slots ≡ n
+pub kept-count : (result : Result (Unit {0}) ClientFault) (had have : List Reply) (slots : List (Option Reply)) (n : ℕ) → have ≡ had ++ front_of slots
+    → OnOk result (list_any is_none slots ≡ false) → length slots ≡ n
     → OnOk result (length have ≡ length had + n)
-kept-count (Ok done) had have slots n kept none count = ap length kept ∙ (length-append had (front_of slots) ∙ ap (λ (k : ℕ). length had + k) (front-whole slots none ∙ count))
+kept-count (Ok done) had have slots n kept none count = ap length kept
+    ∙ (length-append had (front_of slots) ∙ ap (λ (k : ℕ). length had + k) (front-whole slots none ∙ count))
 kept-count (Err f) had have slots n kept none count = tt
 
 -- and fewer where one is missing
-pub kept-fewer : (result : Result (Unit {0}) ClientFault) (had have : List Reply) (slots : List (Option Reply)) (n : ℕ) → have ≡ had ++ front_of slots → OnErr result (list_any is_none slots ≡ true) → length slots ≡ n
+pub kept-fewer : (result : Result (Unit {0}) ClientFault) (had have : List Reply) (slots : List (Option Reply)) (n : ℕ) → have ≡ had ++ front_of slots
+    → OnErr result (list_any is_none slots ≡ true) → length slots ≡ n
     → OnErr result (length have < length had + n)
 kept-fewer (Ok done) had have slots n kept missing count = tt
-kept-fewer (Err f) had have slots n kept missing count = let l = ap length kept in let m = length-append had (front_of slots) in let fewer = front-fewer slots missing in omega (arith, l, m, fewer, count)
+kept-fewer (Err f) had have slots n kept missing count = let l = ap length kept in let m = length-append had (front_of slots) in let fewer =
+    front-fewer slots missing in omega (arith, l, m, fewer, count)
 
 pub kept-more : (had have : List Reply) (slots : List (Option Reply)) → have ≡ had ++ front_of slots → length had ≤ length have
 kept-more had have slots kept = let l = ap length kept in let m = length-append had (front_of slots) in omega (arith, l, m)

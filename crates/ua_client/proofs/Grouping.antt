@@ -72,14 +72,17 @@ same-behind : (x y z : ClientChannel) → SameClient x y → SameClient y z → 
 same-behind x y z h k = record { limits = h.limits ∙ k.limits; url = h.url ∙ k.url }
 
 -- rounds of a client are rounds of each that has the same limits and URL
-pub rounds-same : (x y : ClientChannel) → SameClient x y → {s t : ClientPlace} {groups : List (List Request)} {sent taken : List ℕ} {replies : List Reply} → Rounds x s groups t sent taken replies → Rounds y s groups t sent taken replies
+pub rounds-same : (x y : ClientChannel) → SameClient x y → {s t : ClientPlace} {groups : List (List Request)} {sent taken : List ℕ} {replies : List Reply}
+    → Rounds x s groups t sent taken replies → Rounds y s groups t sent taken replies
 rounds-same x y same NoRound = NoRound
-rounds-same x y same (OneRound group z r b a) = OneRound group z (rounds-same x y same r) (record { same = same-behind z x y b.same same; at = b.at; came = b.came }) a
+rounds-same x y same (OneRound group z r b a) =
+    OneRound group z (rounds-same x y same r) (record { same = same-behind z x y b.same same; at = b.at; came = b.came }) a
 
 -- ---- one group more
 
 -- these requests are answered, in groups that are full where there are more
-pub record Called (requests : List Request) (more : Type 0) (old now : Connection) (before at : Option Traffic) (left : ℕ) (had have : List Reply) : Type 0 where
+pub record Called (requests : List Request) (more : Type 0) (old now : Connection) (before at : Option Traffic) (left : ℕ) (had have : List Reply) : Type
+    0 where
   pub sent : List ℕ
   pub moves : MovesConnection old now sent before at
   pub same : SameClient (channel_of old) (channel_of now)
@@ -88,10 +91,12 @@ pub record Called (requests : List Request) (more : Type 0) (old now : Connectio
   pub have_is : have ≡ had ++ added
   -- it may be called again
   pub settled : StandsSettled (channel_of now)
-  pub answers : (s : ClientPlace) → StandsAt (channel_of old) s → (a : AnsweredAll requests s (channel_of now) sent moves.taken added) × (more → AreFull a.groups)
+  pub answers : (s : ClientPlace) → StandsAt (channel_of old) s → (a : AnsweredAll requests s (channel_of now) sent moves.taken added)
+      × (more → AreFull a.groups)
   pub spent : most_reads ≤ left + length moves.got
 
-pub called-nothing : (more : Type 0) (x : Connection) (t : Option Traffic) (had : List Reply) → StandsSettled (channel_of x) → Called [] more x x t t most_reads had had
+pub called-nothing : (more : Type 0) (x : Connection) (t : Option Traffic) (had : List Reply) → StandsSettled (channel_of x)
+    → Called [] more x x t t most_reads had had
 called-nothing more x t had settled = record {
   sent = [];
   moves = moves-nothing x x t refl;
@@ -104,7 +109,8 @@ called-nothing more x t had settled = record {
 }
 
 module _ (requests group : List Request) (old now new : Connection) (before at then : Option Traffic) (left less : ℕ) (had replies next : List Reply)
-    (some : 0 < length group) (few : length group ≤ 64) (more : Type 0) (goes : more) (idle : IdleStanding) (c : Called requests more old now before at left had replies) where
+    (some : 0 < length group) (few : length group ≤ 64) (more : Type 0) (goes : more) (idle : IdleStanding)
+    (c : Called requests more old now before at left had replies) where
   same-then : SameClient (channel_of now) (channel_of new) → SameClient (channel_of old) (channel_of new)
   same-then k = record { limits = c.same.limits ∙ k.limits; url = c.same.url ∙ k.url }
 
@@ -115,7 +121,8 @@ module _ (requests group : List Request) (old now new : Connection) (before at t
   added-then : (added : List Reply) → next ≡ replies ++ added → next ≡ had ++ (c.added ++ added)
   added-then added e = e ∙ (ap (λ (rs : List Reply). rs ++ added) c.have_is ∙ append_assoc had c.added added)
 
-  pub called-more : {A : Type 0} (done : A) (later : Type 0) → (later → length group ≡ 64) → CallsGroup {A = A} group now new at then left less (Ok done) replies next → Called (requests ++ group) later old new before then less had next
+  pub called-more : {A : Type 0} (done : A) (later : Type 0) → (later → length group ≡ 64)
+      → CallsGroup {A = A} group now new at then left less (Ok done) replies next → Called (requests ++ group) later old new before then less had next
   called-more done later full g = record {
     sent = c.sent ++ g.sent;
     moves = moves-behind old now new c.sent g.sent before at then c.moves g.moves;
@@ -136,56 +143,64 @@ module _ (requests group : List Request) (old now new : Connection) (before at t
             behind = b.1.0;
             at = b.1.1;
             settled = λ settled. answered-settled group a.behind b.1.0 g.moves.taken g.added (a.settled settled) b.1.3;
-            rounds = subst (λ (o : List ℕ). Rounds (channel_of new) s (a.groups ++ group ∷ []) b.1.0 (c.sent ++ o) (c.moves.taken ++ g.moves.taken) (c.added ++ g.added)) (sym b.0)
-                (OneRound group (channel_of new) (rounds-same (channel_of now) (channel_of new) g.same a.rounds) (record { same = record { limits = refl; url = refl }; at = b.1.1; came = b.1.2 }) b.1.3);
+            rounds =
+                subst (λ (o : List ℕ). Rounds (channel_of new) s (a.groups ++ group ∷ []) b.1.0 (c.sent ++ o) (c.moves.taken ++ g.moves.taken)
+                (c.added ++ g.added)) (sym b.0)
+                (OneRound group (channel_of new) (rounds-same (channel_of now) (channel_of new) g.same a.rounds)
+                (record { same = record { limits = refl; url = refl }; at = b.1.1; came = b.1.2 }) b.1.3);
           },
           λ l. full-push a.groups group (known.1 goes) (full l),
         );
     spent = spent-then g.moves.got g.stops;
   }
 
-  pub calls-broken : {A B : Type 0} (all behind : List Request) (f d : CallsFault) → all ≡ requests ++ (group ++ behind) → (0 < length behind → length group ≡ 64)
-      → d.request ≡ length requests + f.request → d.fault ≡ f.fault → CallsGroup {A = A} group now new at then left less (Err f) replies next → CallsInto {A = B} all old new before then (Err d) had next
-  calls-broken {A} {B} all behind f d parts full place same_fault g = subst (λ (y : ClientFault). CallsInto {A = B} all old new before then (Err (record { request = d.request; fault = y })) had next) (sym same_fault) (record {
-    sent = c.sent ++ g.sent;
-    moves = moves-behind old now new c.sent g.sent before at then c.moves g.moves;
-    same = same-then g.same;
-    added = c.added ++ g.added;
-    have_is = added-then g.added g.have_is;
-    answers = λ s h.
-        let known = c.answers s h in
-        let a = known.0 in
-        let b = g.answers a.behind a.at (idle (channel_of now) a.behind c.settled a.at) in
-        record {
-          broken = record {
-            groups = a.groups;
-            group = group;
-            others = behind;
-            parts = parts ∙ ap (λ (ms : List Request). ms ++ (group ++ behind)) a.parts;
-            sized = groups-push a.groups group (known.1 goes) some few;
-            full = full;
-            behind = a.behind;
-            settled = a.settled;
-            sent_before = c.sent;
-            sent_then = g.sent;
-            sent_parts = refl;
-            taken_before = c.moves.taken;
-            taken_then = g.moves.taken;
-            taken_parts = refl;
-            replies = c.added;
-            rounds = rounds-same (channel_of now) (channel_of new) g.same a.rounds;
-            breaks = b.0;
-          };
-          kept = g.added;
-          place = f.request;
-          keeps = b.1;
-          added_is = refl;
-          request_is = place ∙ ap (λ (ms : List Request). length ms + f.request) a.parts;
-        };
-    stops = stops f.fault g.stops;
-  })
+  pub calls-broken : {A B : Type 0} (all behind : List Request) (f d : CallsFault) → all ≡ requests ++ (group ++ behind)
+      → (0 < length behind → length group ≡ 64)
+      → d.request ≡ length requests + f.request → d.fault ≡ f.fault → CallsGroup {A = A} group now new at then left less (Err f) replies next
+      → CallsInto {A = B} all old new before then (Err d) had next
+  calls-broken {A} {B} all behind f d parts full place same_fault g =
+      subst (λ (y : ClientFault). CallsInto {A = B} all old new before then (Err (record { request = d.request; fault = y })) had next) (sym same_fault)
+      (record {
+        sent = c.sent ++ g.sent;
+        moves = moves-behind old now new c.sent g.sent before at then c.moves g.moves;
+        same = same-then g.same;
+        added = c.added ++ g.added;
+        have_is = added-then g.added g.have_is;
+        answers = λ s h.
+            let known = c.answers s h in
+            let a = known.0 in
+            let b = g.answers a.behind a.at (idle (channel_of now) a.behind c.settled a.at) in
+            record {
+              broken = record {
+                groups = a.groups;
+                group = group;
+                others = behind;
+                parts = parts ∙ ap (λ (ms : List Request). ms ++ (group ++ behind)) a.parts;
+                sized = groups-push a.groups group (known.1 goes) some few;
+                full = full;
+                behind = a.behind;
+                settled = a.settled;
+                sent_before = c.sent;
+                sent_then = g.sent;
+                sent_parts = refl;
+                taken_before = c.moves.taken;
+                taken_then = g.moves.taken;
+                taken_parts = refl;
+                replies = c.added;
+                rounds = rounds-same (channel_of now) (channel_of new) g.same a.rounds;
+                breaks = b.0;
+              };
+              kept = g.added;
+              place = f.request;
+              keeps = b.1;
+              added_is = refl;
+              request_is = place ∙ ap (λ (ms : List Request). length ms + f.request) a.parts;
+            };
+        stops = stops f.fault g.stops;
+      })
     where
-      stops : (y : ClientFault) → StopsAt {A = A} left less g.moves.got new then (Err y) → StopsAt {A = B} most_reads most_reads (c.moves.got ++ g.moves.got) new then (Err y)
+      stops : (y : ClientFault) → StopsAt {A = A} left less g.moves.got new then (Err y)
+          → StopsAt {A = B} most_reads most_reads (c.moves.got ++ g.moves.got) new then (Err y)
       stops fault.TooLong h = (h.0, let l = length-append c.moves.got g.moves.got in let s = c.spent in let few = h.1 in omega (arith, l, s, few))
       stops fault.Ended h = h
       stops (fault.Peer code) h = tt
@@ -201,7 +216,8 @@ module _ (requests group : List Request) (old now new : Connection) (before at t
       stops fault.TooManyTokens h = tt
       stops (fault.Service code) h = tt
 
-pub calls-all : {A : Type 0} (requests done : List Request) (more : Type 0) (old now : Connection) (before at : Option Traffic) (left : ℕ) (had have : List Reply) (found : A)
+pub calls-all : {A : Type 0} (requests done : List Request) (more : Type 0) (old now : Connection) (before at : Option Traffic) (left : ℕ)
+    (had have : List Reply) (found : A)
     → Called done more old now before at left had have → done ≡ requests → CallsInto requests old now before at (Ok found) had have
 calls-all requests done more old now before at left had have found c e = record {
   sent = c.sent;
@@ -221,9 +237,12 @@ all-taken (r ∷ rs) (suc n) few = ap (λ (ms : List Request). r ∷ ms) (all-ta
 
 -- ---- places
 
-pub called-to : (requests : List Request) (start end : ℕ) (more : Type 0) (old now : Connection) (before at : Option Traffic) (left : ℕ) (had have : List Reply) → start ≤ end
-    → Called (take start requests ++ between requests start end) more old now before at left had have → Called (take end requests) more old now before at left had have
-called-to requests start end more old now before at left had have h c = subst (λ (ms : List Request). Called ms more old now before at left had have) (up-to requests start end h) c
+pub called-to : (requests : List Request) (start end : ℕ) (more : Type 0) (old now : Connection) (before at : Option Traffic) (left : ℕ) (had have : List Reply)
+    → start ≤ end
+    → Called (take start requests ++ between requests start end) more old now before at left had have
+    → Called (take end requests) more old now before at left had have
+called-to requests start end more old now before at left had have h c = subst (λ (ms : List Request). Called ms more old now before at left had have)
+    (up-to requests start end h) c
 
 -- so many requests stand before a place
 pub taken-count : (requests : List Request) (start : ℕ) → start ≤ length requests → length (take start requests) ≡ start
@@ -243,7 +262,8 @@ group-some requests start end h k = let l = length-between requests start end (o
 pub group-few : (requests : List Request) (start end : ℕ) → start ≤ end → end ≤ length requests → end ≤ start + 64 → length (between requests start end) ≤ 64
 group-few requests start end h k most = let l = length-between requests start end h k in omega (arith, l, most)
 
-pub group-full : (requests : List Request) (start end : ℕ) → start ≤ end → end ≤ length requests → (end < length requests → end ≡ start + 64) → end < length requests → length (between requests start end) ≡ 64
+pub group-full : (requests : List Request) (start end : ℕ) → start ≤ end → end ≤ length requests → (end < length requests → end ≡ start + 64)
+    → end < length requests → length (between requests start end) ≡ 64
 group-full requests start end h k full more = let l = length-between requests start end h k in let e = full more in omega (arith, l, e)
 
 pub more-behind : (requests : List Request) (end : ℕ) → 0 < length (drop end requests) → end < length requests

@@ -1,5 +1,6 @@
 -- What is heard, one read and one call of the channel behind another.
-use Rattle.std.specs.Prelude.{◌≡◌, ◌⊎◌, ℕ, ◌+◌, ◌-◌, ◌*◌, ◌≤◌, ◌<◌, Bool, true, false, List, [], ◌∷◌, ◌++◌, length, take, drop, Option, Some, None, Result, Ok, Err}
+use Rattle.std.specs.Prelude.{◌≡◌, ◌⊎◌, ℕ, ◌+◌, ◌-◌, ◌*◌, ◌≤◌, ◌<◌, Bool, true, false, List, []}
+use Rattle.std.specs.Prelude.{◌∷◌, ◌++◌, length, take, drop, Option, Some, None, Result, Ok, Err}
 use Rattle.std.proofs.Common.{refl, sym, ◌∙◌, ap, subst, inl, inr, append_assoc, append-nil, arith}
 use Rattle.std.proofs.lemmas.List.{length-append, length-drop, take-append-drop}
 use Rattle.std.specs.List.{concat}
@@ -21,7 +22,8 @@ use Rattle.ua_channel.specs.declared.client.event.ClientEvent.TheVariants as eve
 use Rattle.ua_channel.specs.declared.client.fault.ClientTakeFault.{ClientTakeFault}
 use Rattle.ua_channel.specs.declared.client.fault.ClientTakeFault.TheVariants as take_fault
 use Rattle.ua_client.specs.Carried.{Carries}
-use Rattle.ua_client.specs.Hearing.{channel_of, untaken_of, most_octets, failure_of, effort, Keeps, TellsEvent, MovesConnection, Starved, Listens, ListensAt, is_channel_fault, of_take_fault, failures_behind, Fills, FillsAt, Hears, HearsAt, is_hearing_fault, StopsAt}
+use Rattle.ua_client.specs.Hearing.{channel_of, untaken_of, most_octets, failure_of, effort, Keeps, TellsEvent, MovesConnection, Starved, Listens}
+use Rattle.ua_client.specs.Hearing.{ListensAt, is_channel_fault, of_take_fault, failures_behind, Fills, FillsAt, Hears, HearsAt, is_hearing_fault, StopsAt}
 use Rattle.ua_client.specs.declared.connection.Connection.{Connection}
 use Rattle.ua_client.specs.declared.fault.ClientFault.{ClientFault}
 use Rattle.ua_client.specs.declared.fault.ClientFault.TheVariants as fault
@@ -30,7 +32,8 @@ use Rattle.ua_client.proofs.Carrying.{carried-nothing, carried-then}
 -- ---- one call of the channel
 
 told-at : (moment : DateTime) (piece : List ℕ) (n : ℕ) (e : ClientEvent) (new : ClientChannel) (asks : List Placed) (octets : List ℕ) (told : List ClientTold)
-    → (e ≡ event.NeedMore → ⊥) → ((code : StatusCode) (peer : Bool) → e ≡ event.Failed code peer → ⊥) → ClientAnswers moment piece (Ok (n, e)) new asks octets told → TellsEvent moment e new asks (octets ++ take n piece) told
+    → (e ≡ event.NeedMore → ⊥) → ((code : StatusCode) (peer : Bool) → e ≡ event.Failed code peer → ⊥)
+    → ClientAnswers moment piece (Ok (n, e)) new asks octets told → TellsEvent moment e new asks (octets ++ take n piece) told
 told-at moment piece n event.NeedMore new asks octets told not good h = absurd (not refl)
 told-at moment piece n (event.Send sent) new asks octets told not good h = (Agreed h.ack, (h.sent_is, (h.ack, refl)), h.goes)
 told-at moment piece n event.Open new asks octets told not good h = (Opened h.channel h.token, (h.channel, (h.token, refl)), h.goes)
@@ -41,17 +44,24 @@ told-at moment piece n (event.Renewed token) new asks octets told not good h = (
 
 -- a channel took this of what was untaken
 abbrev pub Took : Connection → DateTime → ClientChannel → Result (ℕ × ClientEvent) ClientTakeFault → Type 0
-Took old moment new found = (asks : List Placed) (octets : List ℕ) (told : List ClientTold) → ClientGoes (channel_of old) asks octets told → ClientAnswers moment (untaken_of old) found new asks octets told
+Took old moment new found = (asks : List Placed) (octets : List ℕ) (told : List ClientTold) → ClientGoes (channel_of old) asks octets told
+    → ClientAnswers moment (untaken_of old) found new asks octets told
 
 -- the same by what was given to the channel, and by its event
-pub took-as : (old : Connection) (moment : DateTime) (new : ClientChannel) (piece : List ℕ) (found : Result (ℕ × ClientEvent) ClientTakeFault) → piece ≡ untaken_of old
-    → ((asks : List Placed) (octets : List ℕ) (told : List ClientTold) → ClientGoes (channel_of old) asks octets told → ClientAnswers moment piece found new asks octets told) → Took old moment new found
-took-as old moment new piece found e h = λ asks octets told g. subst (λ (p : List ℕ). ClientAnswers moment p found new asks octets told) e (h asks octets told g)
+pub took-as : (old : Connection) (moment : DateTime) (new : ClientChannel) (piece : List ℕ) (found : Result (ℕ × ClientEvent) ClientTakeFault)
+    → piece ≡ untaken_of old
+    → ((asks : List Placed) (octets : List ℕ) (told : List ClientTold) → ClientGoes (channel_of old) asks octets told
+    → ClientAnswers moment piece found new asks octets told) → Took old moment new found
+took-as old moment new piece found e h = λ asks octets told g. subst (λ (p : List ℕ). ClientAnswers moment p found new asks octets told) e
+    (h asks octets told g)
 
-pub took-event : (old : Connection) (moment : DateTime) (new : ClientChannel) (n : ℕ) (e f : ClientEvent) → e ≡ f → Took old moment new (Ok (n, e)) → Took old moment new (Ok (n, f))
-took-event old moment new n e f same h = λ asks octets told g. subst (λ (x : ClientEvent). ClientAnswers moment (untaken_of old) (Ok (n, x)) new asks octets told) same (h asks octets told g)
+pub took-event : (old : Connection) (moment : DateTime) (new : ClientChannel) (n : ℕ) (e f : ClientEvent) → e ≡ f → Took old moment new (Ok (n, e))
+    → Took old moment new (Ok (n, f))
+took-event old moment new n e f same h = λ asks octets told g.
+    subst (λ (x : ClientEvent). ClientAnswers moment (untaken_of old) (Ok (n, x)) new asks octets told) same (h asks octets told g)
 
-pub listens-none : (old new : Connection) (moment : DateTime) (n : ℕ) → Keeps old new → untaken_of new ≡ [] → Took old moment (channel_of new) (Ok (n, event.NeedMore)) → Listens old new moment (Ok None)
+pub listens-none : (old new : Connection) (moment : DateTime) (n : ℕ) → Keeps old new → untaken_of new ≡ []
+    → Took old moment (channel_of new) (Ok (n, event.NeedMore)) → Listens old new moment (Ok None)
 listens-none old new moment n keeps none h = record {
   keeps = keeps;
   taken = untaken_of old;
@@ -64,13 +74,16 @@ listens-none old new moment n keeps none h = record {
 less-left : (n l : ℕ) → n ≤ l → (0 < l → 0 < n) → 0 < l → l - n < l
 less-left n l few some more = let k = some more in omega (arith, few, k, more)
 
-pub listens-some : (old new : Connection) (moment : DateTime) (n : ℕ) (e : ClientEvent) → Keeps old new → (e ≡ event.NeedMore → ⊥) → ((code : StatusCode) (peer : Bool) → e ≡ event.Failed code peer → ⊥) → ClientProgress {A = ClientEvent} (untaken_of old) (Ok (n, e)) → untaken_of new ≡ drop n (untaken_of old)
+pub listens-some : (old new : Connection) (moment : DateTime) (n : ℕ) (e : ClientEvent) → Keeps old new → (e ≡ event.NeedMore → ⊥)
+    → ((code : StatusCode) (peer : Bool) → e ≡ event.Failed code peer → ⊥) → ClientProgress {A = ClientEvent} (untaken_of old) (Ok (n, e))
+    → untaken_of new ≡ drop n (untaken_of old)
     → Took old moment (channel_of new) (Ok (n, e)) → Listens old new moment (Ok (Some e))
 listens-some old new moment n e keeps not good few rest h = record {
   keeps = keeps;
   taken = take n (untaken_of old);
   parts = sym (ap (λ (t : List ℕ). take n (untaken_of old) ++ t) rest ∙ take-append-drop n (untaken_of old));
-  left = λ some. subst (λ (k : ℕ). k < length (untaken_of old)) (sym (ap length rest ∙ length-drop n (untaken_of old))) (less-left n (length (untaken_of old)) few.0 few.1 some);
+  left = λ some. subst (λ (k : ℕ). k < length (untaken_of old)) (sym (ap length rest ∙ length-drop n (untaken_of old)))
+      (less-left n (length (untaken_of old)) few.0 few.1 some);
   faults = tt;
   answers = λ asks octets told g. told-at moment (untaken_of old) n e (channel_of new) asks octets told not good (h asks octets told g);
 }
@@ -84,7 +97,8 @@ failure-faults : (code : StatusCode) (peer : Bool) → is_channel_fault (failure
 failure-faults code true = refl
 failure-faults code false = refl
 
-pub listens-failed : (old new : Connection) (moment : DateTime) (n : ℕ) (code : StatusCode) (peer : Bool) → Keeps old new → untaken_of new ≡ drop n (untaken_of old)
+pub listens-failed : (old new : Connection) (moment : DateTime) (n : ℕ) (code : StatusCode) (peer : Bool) → Keeps old new
+    → untaken_of new ≡ drop n (untaken_of old)
     → Took old moment (channel_of new) (Ok (n, event.Failed code peer)) → Listens old new moment (Err (failure_of code peer))
 listens-failed old new moment n code peer keeps rest h = record {
   keeps = keeps;
@@ -96,7 +110,8 @@ listens-failed old new moment n code peer keeps rest h = record {
 }
 
 -- memory was refused where a channel went on
-starves : (x y : ClientChannel) (asks : List Placed) (octets : List ℕ) (told : List ClientTold) → SameClient x y → ClientGoes x asks octets told → IsClientDone y → Starved y asks (octets ++ []) told
+starves : (x y : ClientChannel) (asks : List Placed) (octets : List ℕ) (told : List ClientTold) → SameClient x y → ClientGoes x asks octets told
+    → IsClientDone y → Starved y asks (octets ++ []) told
 starves x y asks octets told same g done = record {
   done = done;
   frames = g.frames;
@@ -106,8 +121,10 @@ starves x y asks octets told same g done = record {
   told_is = subst (λ (l : Limits). events (client_rules l asks) g.frames ≡ told) same.limits g.told_is;
 }
 
-fault-at : (f : ClientTakeFault) (old new : Connection) (moment : DateTime) (asks : List Placed) (octets : List ℕ) (told : List ClientTold) → Keeps old new → ClientGoes (channel_of old) asks octets told
-    → ClientAnswers moment (untaken_of old) (Err f) (channel_of new) asks octets told → ListensAt moment (Err (of_take_fault f)) (channel_of new) asks (octets ++ []) told
+fault-at : (f : ClientTakeFault) (old new : Connection) (moment : DateTime) (asks : List Placed) (octets : List ℕ) (told : List ClientTold) → Keeps old new
+    → ClientGoes (channel_of old) asks octets told
+    → ClientAnswers moment (untaken_of old) (Err f) (channel_of new) asks octets told
+    → ListensAt moment (Err (of_take_fault f)) (channel_of new) asks (octets ++ []) told
 fault-at take_fault.Closed old new moment asks octets told keeps g h = h
 fault-at take_fault.OutOfMemory old new moment asks octets told keeps g h = starves (channel_of old) (channel_of new) asks octets told keeps.same g h
 
@@ -115,7 +132,8 @@ of-channel : (f : ClientTakeFault) → is_channel_fault (of_take_fault f) ≡ tr
 of-channel take_fault.Closed = refl
 of-channel take_fault.OutOfMemory = refl
 
-pub listens-fault : (old new : Connection) (moment : DateTime) (f : ClientTakeFault) → Keeps old new → untaken_of new ≡ untaken_of old → Took old moment (channel_of new) (Err f) → Listens old new moment (Err (of_take_fault f))
+pub listens-fault : (old new : Connection) (moment : DateTime) (f : ClientTakeFault) → Keeps old new → untaken_of new ≡ untaken_of old
+    → Took old moment (channel_of new) (Err f) → Listens old new moment (Err (of_take_fault f))
 listens-fault old new moment f keeps same h = record {
   taken = [];
   parts = sym same;
@@ -135,8 +153,10 @@ parts-behind u got taken v more part w h k =
     ∙ (ap (λ (t : List ℕ). taken ++ t) k
     ∙ sym (append_assoc taken part w))))
 
-pub first-behind : (u got taken v more part : List ℕ) → u ++ got ≡ taken ++ v → (got ≡ []) ⊎ Extends u taken → (more ≡ []) ⊎ Extends v part → (got ++ more ≡ []) ⊎ Extends u (taken ++ part)
-first-behind u got taken v more part h (inr e) k = inr (record { more = e.more ++ part; parts = ap (λ (t : List ℕ). t ++ part) e.parts ∙ append_assoc u e.more part })
+pub first-behind : (u got taken v more part : List ℕ) → u ++ got ≡ taken ++ v → (got ≡ []) ⊎ Extends u taken → (more ≡ []) ⊎ Extends v part
+    → (got ++ more ≡ []) ⊎ Extends u (taken ++ part)
+first-behind u got taken v more part h (inr e) k =
+    inr (record { more = e.more ++ part; parts = ap (λ (t : List ℕ). t ++ part) e.parts ∙ append_assoc u e.more part })
 first-behind u got taken v more part h (inl e) (inl f) = inl (ap (λ (t : List ℕ). t ++ more) e ∙ f)
 first-behind u got taken v more part h (inl e) (inr f) = inr (record {
   more = f.more;
@@ -146,7 +166,8 @@ first-behind u got taken v more part h (inl e) (inr f) = inr (record {
       ∙ ap (λ (t : List ℕ). t ++ f.more) (ap (λ (g : List ℕ). u ++ g) e ∙ append-nil u)));
 })
 
-abbrev pub moves-behind : (a b c : Connection) (sent out : List ℕ) (before at then : Option Traffic) → MovesConnection a b sent before at → MovesConnection b c out at then → MovesConnection a c (sent ++ out) before then
+abbrev pub moves-behind : (a b c : Connection) (sent out : List ℕ) (before at then : Option Traffic) → MovesConnection a b sent before at
+    → MovesConnection b c out at then → MovesConnection a c (sent ++ out) before then
 moves-behind a b c sent out before at then m n = record {
   got = m.got ++ n.got;
   taken = m.taken ++ n.taken;
@@ -157,7 +178,8 @@ moves-behind a b c sent out before at then m n = record {
 }
 
 -- nothing was read and taken
-abbrev pub moves-writing : (x y : Connection) (sent : List ℕ) (a b : Option Traffic) → untaken_of y ≡ untaken_of x → IfTrafficKnown (Carries [] sent) a b → MovesConnection x y sent a b
+abbrev pub moves-writing : (x y : Connection) (sent : List ℕ) (a b : Option Traffic) → untaken_of y ≡ untaken_of x → IfTrafficKnown (Carries [] sent) a b
+    → MovesConnection x y sent a b
 moves-writing x y sent a b same carried = record {
   got = [];
   taken = [];
@@ -168,7 +190,8 @@ moves-writing x y sent a b same carried = record {
 }
 
 -- the same octets were untaken before, and more was written
-abbrev pub moves-from : (x mid new : Connection) (sent out : List ℕ) (a b c d : Option Traffic) → untaken_of mid ≡ untaken_of x → (m : MovesConnection mid new out b c) → IfTrafficKnown (Carries m.got sent) a d → MovesConnection x new sent a d
+abbrev pub moves-from : (x mid new : Connection) (sent out : List ℕ) (a b c d : Option Traffic) → untaken_of mid ≡ untaken_of x
+    → (m : MovesConnection mid new out b c) → IfTrafficKnown (Carries m.got sent) a d → MovesConnection x new sent a d
 moves-from x mid new sent out a b c d same m carried = record {
   got = m.got;
   taken = m.taken;
@@ -187,7 +210,8 @@ fewer-left : (part rest all : List ℕ) → all ≡ part ++ rest → length all 
 fewer-left part rest all e few = let l = ap length e ∙ length-append part rest in omega (arith, l, few)
 
 -- a read, and what the channel took of it
-abbrev moves-reading : {A : Type 0} (now mid new : Connection) (at then : Option Traffic) (left less : ℕ) (result : Result A ClientFault) (part : List ℕ) → Fills now mid at then left less result → untaken_of mid ≡ part ++ untaken_of new → MovesConnection now new [] at then
+abbrev moves-reading : {A : Type 0} (now mid new : Connection) (at then : Option Traffic) (left less : ℕ) (result : Result A ClientFault) (part : List ℕ)
+    → Fills now mid at then left less result → untaken_of mid ≡ part ++ untaken_of new → MovesConnection now new [] at then
 moves-reading now mid new at then left less result part f l = record {
   got = f.got;
   taken = part;
@@ -213,7 +237,8 @@ keeps-channel a b e = record { same = record { limits = ap client_limits (sym e)
 pub record Quiet (old now : Connection) (before at : Option Traffic) (reads left : ℕ) : Type 0 where
   pub moves : MovesConnection old now [] before at
   pub keeps : Keeps old now
-  pub goes : (asks : List Placed) (octets : List ℕ) (told : List ClientTold) → ClientGoes (channel_of old) asks octets told → ClientGoes (channel_of now) asks (octets ++ moves.taken) told
+  pub goes : (asks : List Placed) (octets : List ℕ) (told : List ClientTold) → ClientGoes (channel_of old) asks octets told
+      → ClientGoes (channel_of now) asks (octets ++ moves.taken) told
   pub no_more : effort left now ≤ effort reads old
   pub spent : reads ≤ left + length moves.got
 
@@ -226,16 +251,21 @@ quiet-nothing x t reads = record {
   spent = omega arith;
 }
 
-pub less-effort : (left reads more : ℕ) (v w : List ℕ) → 4097 * left + length w ≤ 4097 * reads + length v → 0 < length w → more ≡ 0 → 4097 * left + more < 4097 * reads + length v
+pub less-effort : (left reads more : ℕ) (v w : List ℕ) → 4097 * left + length w ≤ 4097 * reads + length v → 0 < length w → more ≡ 0
+    → 4097 * left + more < 4097 * reads + length v
 less-effort left reads more v w h some none = omega (arith, h, some, none)
 
 module _ (old now mid : Connection) (before at then : Option Traffic) (reads left less : ℕ) (q : Quiet old now before at reads left) where
   -- a read, and what the channel took of it
-  abbrev moves-then : {A : Type 0} (result : Result A ClientFault) (new : Connection) (part : List ℕ) → Fills now mid at then left less result → untaken_of mid ≡ part ++ untaken_of new → MovesConnection old new [] before then
+  abbrev moves-then : {A : Type 0} (result : Result A ClientFault) (new : Connection) (part : List ℕ) → Fills now mid at then left less result
+      → untaken_of mid ≡ part ++ untaken_of new → MovesConnection old new [] before then
   moves-then result new part f l = moves-behind old now new [] [] before at then q.moves (moves-reading now mid new at then left less result part f l)
 
-  goes-then : {A : Type 0} (result : Result A ClientFault) → Fills now mid at then left less result → (asks : List Placed) (octets : List ℕ) (told : List ClientTold) → ClientGoes (channel_of old) asks octets told → ClientGoes (channel_of mid) asks (octets ++ q.moves.taken) told
-  goes-then result f asks octets told g = subst (λ (c : ClientChannel). ClientGoes c asks (octets ++ q.moves.taken) told) (sym f.channel) (q.goes asks octets told g)
+  goes-then : {A : Type 0} (result : Result A ClientFault) → Fills now mid at then left less result
+      → (asks : List Placed) (octets : List ℕ) (told : List ClientTold) → ClientGoes (channel_of old) asks octets told
+      → ClientGoes (channel_of mid) asks (octets ++ q.moves.taken) told
+  goes-then result f asks octets told g = subst (λ (c : ClientChannel). ClientGoes c asks (octets ++ q.moves.taken) told) (sym f.channel)
+      (q.goes asks octets told g)
 
   keeps-here : {A : Type 0} (result : Result A ClientFault) → Fills now mid at then left less result → (new : Connection) → Keeps mid new → Keeps old new
   keeps-here result f new k = keeps-then old mid new (keeps-then old now mid q.keeps (keeps-channel now mid f.channel)) k
@@ -244,7 +274,8 @@ module _ (old now mid : Connection) (before at then : Option Traffic) (reads lef
   spent-then more h = let l = length-append q.moves.got more in let s = q.spent in omega (arith, l, s, h)
 
   module _ {A : Type 0} (done : A) (f : Fills now mid at then left less (Ok done)) (new : Connection) (moment : DateTime) where
-    listened : (result : Result (Option ClientEvent) ClientFault) (l : Listens mid new moment result) (asks : List Placed) (octets : List ℕ) (told : List ClientTold) → ClientGoes (channel_of old) asks octets told
+    listened : (result : Result (Option ClientEvent) ClientFault) (l : Listens mid new moment result) (asks : List Placed) (octets : List ℕ)
+        (told : List ClientTold) → ClientGoes (channel_of old) asks octets told
         → ListensAt moment result (channel_of new) asks (octets ++ (q.moves.taken ++ l.taken)) told
     listened result l asks octets told g =
         subst (λ (o : List ℕ). ListensAt moment result (channel_of new) asks o told) (append_assoc octets q.moves.taken l.taken)
@@ -280,7 +311,8 @@ module _ (old now mid : Connection) (before at then : Option Traffic) (reads lef
           stops = spent-then f.got f.found.1;
         }
 
-    listen-fault : (x : ClientFault) (asks : List Placed) (octets : List ℕ) (told : List ClientTold) → ListensAt moment (Err x) (channel_of new) asks octets told → HearsAt moment (Err x) (channel_of new) asks octets told
+    listen-fault : (x : ClientFault) (asks : List Placed) (octets : List ℕ) (told : List ClientTold)
+        → ListensAt moment (Err x) (channel_of new) asks octets told → HearsAt moment (Err x) (channel_of new) asks octets told
     listen-fault (fault.Peer code) asks octets told h = h
     listen-fault (fault.Refused code) asks octets told h = h
     listen-fault fault.OutOfMemory asks octets told h = h
@@ -338,7 +370,9 @@ module _ (old now mid : Connection) (before at then : Option Traffic) (reads lef
       stops = channel-stops x (q.moves.got ++ f.got) l.faults;
     }
 
-  moment-free : (moment : DateTime) (x : ClientFault) (got : List ℕ) → FillsAt {A = Unit {0}} left less got mid then (Err x) → (asks : List Placed) (octets : List ℕ) (told : List ClientTold) → ClientGoes (channel_of mid) asks octets told → HearsAt moment (Err x) (channel_of mid) asks octets told
+  moment-free : (moment : DateTime) (x : ClientFault) (got : List ℕ) → FillsAt {A = Unit {0}} left less got mid then (Err x)
+      → (asks : List Placed) (octets : List ℕ) (told : List ClientTold) → ClientGoes (channel_of mid) asks octets told
+      → HearsAt moment (Err x) (channel_of mid) asks octets told
   moment-free moment fault.TooLong got h asks octets told g = g
   moment-free moment fault.Ended got h asks octets told g = g
   moment-free moment fault.Read got h asks octets told g = g
@@ -354,7 +388,8 @@ module _ (old now mid : Connection) (before at then : Option Traffic) (reads lef
   moment-free moment fault.Closed got h asks octets told g = absurd h
   moment-free moment fault.OutOfMemory got h asks octets told g = absurd h
 
-  read-stops : (x : ClientFault) (got : List ℕ) → FillsAt {A = Unit {0}} left less got mid then (Err x) → StopsAt {A = ClientEvent} reads less (q.moves.got ++ got) mid then (Err x)
+  read-stops : (x : ClientFault) (got : List ℕ) → FillsAt {A = Unit {0}} left less got mid then (Err x)
+      → StopsAt {A = ClientEvent} reads less (q.moves.got ++ got) mid then (Err x)
   read-stops fault.TooLong got h = (h.0, let l = length-append q.moves.got got in let s = q.spent in let few = h.1 in omega (arith, l, s, few))
   read-stops fault.Ended got h = h
   read-stops fault.Read got h = h
@@ -386,7 +421,8 @@ module _ (old now mid : Connection) (before at then : Option Traffic) (reads lef
   read-heard fault.TooManyTokens got h = absurd h
   read-heard fault.TooLong got h = refl
 
-  pub hears-read : (moment : DateTime) (x : ClientFault) → Fills {A = Unit {0}} now mid at then left less (Err x) → Hears old mid moment before then reads less (Err x)
+  pub hears-read : (moment : DateTime) (x : ClientFault) → Fills {A = Unit {0}} now mid at then left less (Err x)
+      → Hears old mid moment before then reads less (Err x)
   hears-read moment x f = record {
     moves = moves-then (Err x) mid [] f refl;
     keeps = keeps-here (Err x) f mid (keeps-all mid);
@@ -401,7 +437,8 @@ module _ (old now mid : Connection) (before at then : Option Traffic) (reads lef
 
 -- behind a frame that tells something a channel goes on
 abbrev pub GoesOnBehind : Type 0
-GoesOnBehind = (x : ClientChannel) (asks : List Placed) (octets : List ℕ) (told : List ClientTold) (e : ClientTold) → ClientGoesTelling x asks octets told e → ClientGoes x asks octets (told ++ e ∷ [])
+GoesOnBehind = (x : ClientChannel) (asks : List Placed) (octets : List ℕ) (told : List ClientTold) (e : ClientTold) → ClientGoesTelling x asks octets told e
+    → ClientGoes x asks octets (told ++ e ∷ [])
 
 -- a fault of the channel is none of the line
 pub channel-failures : (A : Type 0) (x : ClientFault) → is_channel_fault x ≡ true → (n : ℕ) → failures_behind {A = A} n (Err x) ≡ n

@@ -25,7 +25,8 @@ IdleStanding = (x : ClientChannel) (s : ClientPlace) → StandsSettled x → Sta
 
 -- ---- what is pending is the same wherever a channel stands
 
-same-calls : (limits : Limits) (p : Phase) (a b : Received) (xs ys : List Asking) → (IsNotOpen p → ⊥) → InPhase limits p a xs → InPhase limits p b ys → pending_calls a.messages xs ≡ [] → pending_calls b.messages ys ≡ []
+same-calls : (limits : Limits) (p : Phase) (a b : Received) (xs ys : List Asking) → (IsNotOpen p → ⊥) → InPhase limits p a xs → InPhase limits p b ys
+    → pending_calls a.messages xs ≡ [] → pending_calls b.messages ys ≡ []
 same-calls limits phase.Waiting a b xs ys some h k none = absurd (some tt)
 same-calls limits (phase.Agreed ack) a b xs ys some h k none = absurd (some tt)
 same-calls limits (phase.Open t) a b xs ys some h k none = sym k.pending_are ∙ (h.pending_are ∙ none)
@@ -62,7 +63,9 @@ module _ (tells : TellsDelivered) (x : ClientChannel) (t : ClientPlace) (stands 
   idle-standing = record {
     opened = is-open-standing;
     calls_answered = ∥∥₁_elim stands (Coded-set (coded_list coded_ℕ) _ _) (λ (w : (s : ClientPlace) × StandsAt x s × IsSettled s).
-        same-calls (client_limits x) (phase_of x) w.0.before t.before (asked_in w.0.asks) (asked_in t.asks) is-open-standing (phase-there x w.0 w.1) (phase-there x t there) (none-pending x w.0 w.1 w.2 tells));
+        same-calls (client_limits x) (phase_of x) w.0.before t.before (asked_in w.0.asks) (asked_in t.asks) is-open-standing (phase-there x w.0 w.1)
+        (phase-there x t there) (none-pending x w.0 w.1 w.2 tells));
     renewals_answered = ∥∥₁_elim stands (Coded-set (coded_list coded_ℕ) _ _) (λ (w : (s : ClientPlace) × StandsAt x s × IsSettled s).
-        same-renewals (client_limits x) (phase_of x) w.0.before t.before (asked_in w.0.asks) (asked_in t.asks) is-open-standing (phase-there x w.0 w.1) (phase-there x t there) (none-renewing x w.0 w.1 w.2));
+        same-renewals (client_limits x) (phase_of x) w.0.before t.before (asked_in w.0.asks) (asked_in t.asks) is-open-standing (phase-there x w.0 w.1)
+        (phase-there x t there) (none-renewing x w.0 w.1 w.2));
   }

@@ -37,12 +37,14 @@ untold-slots (r ∷ rs) first told h = (h.0, untold-slots rs (first + 1) told h.
 pub none-more : (requests : List Request) (n : ℕ) → n < length requests → none_for (take n requests) ++ None ∷ [] ≡ none_for (take (n + 1) requests)
 none-more [] n few = absurd (omega (arith, few))
 none-more (r ∷ rs) zero few = refl
-none-more (r ∷ rs) (suc n) few = ap (λ (slots : List (Option Reply)). None ∷ slots) (none-more rs n (omega (arith, few))) ∙ ap (λ (k : ℕ). none_for (take k (r ∷ rs))) (on n)
+none-more (r ∷ rs) (suc n) few = ap (λ (slots : List (Option Reply)). None ∷ slots) (none-more rs n (omega (arith, few)))
+    ∙ ap (λ (k : ℕ). none_for (take k (r ∷ rs))) (on n)
   where
     on : (a : ℕ) → suc (a + 1) ≡ suc a + 1
     on a = omega arith
 
-pub slot-more : (requests : List Request) (slots : List (Option Reply)) → slots ≡ none_for (take (length slots) requests) → length slots < length requests → slots ++ None ∷ [] ≡ none_for (take (length (slots ++ None ∷ [])) requests)
+pub slot-more : (requests : List Request) (slots : List (Option Reply)) → slots ≡ none_for (take (length slots) requests) → length slots < length requests
+    → slots ++ None ∷ [] ≡ none_for (take (length (slots ++ None ∷ [])) requests)
 slot-more requests slots e few =
     ap (λ (ss : List (Option Reply)). ss ++ None ∷ []) e
     ∙ (none-more requests (length slots) few
@@ -72,11 +74,13 @@ abbrev pub IsLast : List Request → ℕ → Connection → List Placed → List
 IsLast requests first now asks octets slots all = (slots ≡ none_for requests) ⊎ LastCame (channel_of now) requests first asks octets all
 
 -- so far these replies came
-pub record Waiting (requests : List Request) (first : ℕ) (old now : Connection) (before at : Option Traffic) (reads left : ℕ) (slots : List (Option Reply)) : Type 0 where
+pub record Waiting (requests : List Request) (first : ℕ) (old now : Connection) (before at : Option Traffic) (reads left : ℕ)
+    (slots : List (Option Reply)) : Type 0 where
   pub moves : MovesConnection old now [] before at
   pub keeps : Keeps old now
   pub goes : (asks : List Placed) (octets : List ℕ) (told : List ClientTold) → ClientGoes (channel_of old) asks octets told → AreUntold requests first told
-      → ClientGoesOn (channel_of now) asks (octets ++ moves.taken) told (λ all. AreSlots requests first all slots × IsLast requests first now asks (octets ++ moves.taken) slots all)
+      → ClientGoesOn (channel_of now) asks (octets ++ moves.taken) told (λ all. AreSlots requests first all slots
+      × IsLast requests first now asks (octets ++ moves.taken) slots all)
   pub spent : reads ≤ left + length moves.got
   pub count : length slots ≡ length requests
 
@@ -84,14 +88,20 @@ length-none : (requests : List Request) → length (none_for requests) ≡ lengt
 length-none [] = refl
 length-none (r ∷ rs) = ap suc (length-none rs)
 
-pub waits-first : (requests : List Request) (first : ℕ) (x : Connection) (t : Option Traffic) (reads : ℕ) (slots : List (Option Reply)) → slots ≡ none_for requests → Waiting requests first x x t t reads reads slots
+pub waits-first : (requests : List Request) (first : ℕ) (x : Connection) (t : Option Traffic) (reads : ℕ) (slots : List (Option Reply))
+    → slots ≡ none_for requests → Waiting requests first x x t t reads reads slots
 waits-first requests first x t reads slots e = record {
   moves = moves-writing x x [] t t refl (carried-nothing t);
   keeps = keeps-all x;
   goes = λ asks octets told g none. (
     [],
-    subst (λ (o : List ℕ). ClientGoes (channel_of x) asks o (told ++ [])) (sym (append-nil octets)) (subst (λ (h : List ClientTold). ClientGoes (channel_of x) asks octets h) (sym (append-nil told)) g),
-    (subst (λ (h : List ClientTold). AreSlots requests first h slots) (sym (append-nil told)) (subst (λ (ss : List (Option Reply)). AreSlots requests first told ss) (sym e) (untold-slots requests first told none)), inl e),
+    subst (λ (o : List ℕ). ClientGoes (channel_of x) asks o (told ++ [])) (sym (append-nil octets))
+        (subst (λ (h : List ClientTold). ClientGoes (channel_of x) asks octets h) (sym (append-nil told)) g),
+    (
+      subst (λ (h : List ClientTold). AreSlots requests first h slots) (sym (append-nil told))
+          (subst (λ (ss : List (Option Reply)). AreSlots requests first told ss) (sym e) (untold-slots requests first told none)),
+      inl e,
+    ),
   );
   spent = omega arith;
   count = ap length e ∙ length-none requests;
@@ -106,7 +116,8 @@ sized-all : {E X : Type 0} (R : Rules E X) (frames : List Frame) → AllAfter (F
 unfolding AllAfter
 sized-all R frames h = sized-from R [] frames h
 
-pub told-whole : (x : ClientChannel) (asks : List Placed) (octets : List ℕ) (told : List ClientTold) (t : ClientTold) → ClientGoesTelling x asks octets told t → AreFrames octets
+pub told-whole : (x : ClientChannel) (asks : List Placed) (octets : List ℕ) (told : List ClientTold) (t : ClientTold) → ClientGoesTelling x asks octets told t
+    → AreFrames octets
 told-whole x asks octets told t g = (
   g.frames ++ g.frame ∷ [],
   g.stands.run.whole ∙ append-nil (frames_octets (g.frames ++ g.frame ∷ [])),
@@ -118,23 +129,30 @@ none-missing [] some e = absurd (omega (arith, some))
 none-missing (r ∷ rs) some e = absurd cc
 
 -- where no reply is missing, the last of them came
-last-came : (requests : List Request) (first : ℕ) (now : Connection) (asks : List Placed) (octets : List ℕ) (slots : List (Option Reply)) (all : List ClientTold) → 0 < length requests → list_any is_none slots ≡ false
+last-came : (requests : List Request) (first : ℕ) (now : Connection) (asks : List Placed) (octets : List ℕ) (slots : List (Option Reply))
+    (all : List ClientTold) → 0 < length requests → list_any is_none slots ≡ false
     → IsLast requests first now asks octets slots all → LastCame (channel_of now) requests first asks octets all
-last-came requests first now asks octets slots all some none (inl e) = absurd (none-missing requests some (subst (λ (ss : List (Option Reply)). list_any is_none ss ≡ false) e none))
+last-came requests first now asks octets slots all some none (inl e) =
+    absurd (none-missing requests some (subst (λ (ss : List (Option Reply)). list_any is_none ss ≡ false) e none))
 last-came requests first now asks octets slots all some none (inr k) = k
 
 abbrev pub ToldOnce : Type 0
-ToldOnce = (x : ClientChannel) (asks : List Placed) (octets : List ℕ) (told : List ClientTold) (t : ClientTold) → ClientGoesTelling x asks octets told t → IsFirstOf told t
+ToldOnce = (x : ClientChannel) (asks : List Placed) (octets : List ℕ) (told : List ClientTold) (t : ClientTold) → ClientGoesTelling x asks octets told t
+    → IsFirstOf told t
 
-module _ (requests : List Request) (first : ℕ) (old now new : Connection) (before at then : Option Traffic) (reads left less : ℕ) (slots : List (Option Reply)) (moment : DateTime)
+module _ (requests : List Request) (first : ℕ) (old now new : Connection) (before at then : Option Traffic) (reads left less : ℕ) (slots : List (Option Reply))
+    (moment : DateTime)
     (w : Waiting requests first old now before at reads left slots) where
   spent-more : (more : List ℕ) → left ≤ less + length more → reads ≤ less + length (w.moves.got ++ more)
   spent-more more h = let l = length-append w.moves.got more in let s = w.spent in omega (arith, l, s, h)
 
   module _ (e : ClientEvent) (h : Hears now new moment at then left less (Ok e)) (goes_on : GoesOnBehind) (once : ToldOnce) where
     -- the history behind an event
-    behind : (P : List ClientTold → Type 0) (asks : List Placed) (octets : List ℕ) (told : List ClientTold) → ClientGoes (channel_of old) asks octets told → AreUntold requests first told
-        → ((all : List ClientTold) (t : ClientTold) → Says moment e t → ClientGoesTelling (channel_of new) asks (octets ++ (w.moves.taken ++ h.moves.taken)) all t → AreSlots requests first all slots → P (all ++ t ∷ []))
+    behind : (P : List ClientTold → Type 0) (asks : List Placed) (octets : List ℕ) (told : List ClientTold) → ClientGoes (channel_of old) asks octets told
+        → AreUntold requests first told
+        → ((all : List ClientTold) (t : ClientTold) → Says moment e t
+        → ClientGoesTelling (channel_of new) asks (octets ++ (w.moves.taken ++ h.moves.taken)) all t → AreSlots requests first all slots
+        → P (all ++ t ∷ []))
         → ClientGoesOn (channel_of new) asks (octets ++ (w.moves.taken ++ h.moves.taken)) told P
     behind P asks octets told g none filled =
         let on = w.goes asks octets told g none in
@@ -146,17 +164,21 @@ module _ (requests : List Request) (first : ℕ) (old now new : Connection) (bef
         subst (λ (o : List ℕ). ClientGoesTelling (channel_of new) asks o (told ++ heard) t) (append_assoc octets w.moves.taken h.moves.taken) says.2 in
         let is : P ((told ++ heard) ++ t ∷ []) = filled (told ++ heard) t says.1 tells on.2.0 in (
           heard ++ t ∷ [],
-          subst (λ (all : List ClientTold). ClientGoes (channel_of new) asks whole all) (append_assoc told heard (t ∷ [])) (goes_on (channel_of new) asks whole (told ++ heard) t tells),
+          subst (λ (all : List ClientTold). ClientGoes (channel_of new) asks whole all) (append_assoc told heard (t ∷ []))
+              (goes_on (channel_of new) asks whole (told ++ heard) t tells),
           subst P (append_assoc told heard (t ∷ [])) is,
         )
 
     -- what is told is the first that is told of its call
-    first-filled : (P : List ClientTold → Type 0) → ((m : DateTime) (all : List ClientTold) (t : ClientTold) → Says m e t → IsFirstOf all t → AreSlots requests first all slots → P (all ++ t ∷ []))
-        → (asks : List Placed) (octets : List ℕ) (all : List ClientTold) (t : ClientTold) → Says moment e t → ClientGoesTelling (channel_of new) asks octets all t → AreSlots requests first all slots → P (all ++ t ∷ [])
+    first-filled : (P : List ClientTold → Type 0)
+        → ((m : DateTime) (all : List ClientTold) (t : ClientTold) → Says m e t → IsFirstOf all t → AreSlots requests first all slots → P (all ++ t ∷ []))
+        → (asks : List Placed) (octets : List ℕ) (all : List ClientTold) (t : ClientTold) → Says moment e t
+        → ClientGoesTelling (channel_of new) asks octets all t → AreSlots requests first all slots → P (all ++ t ∷ [])
     first-filled P filled asks octets all t says tells s = filled moment all t says (once (channel_of new) asks octets all t tells) s
 
     pub waits-more : (next : List (Option Reply)) → length next ≡ length slots → list_any is_none slots ≡ true
-        → ((m : DateTime) (all : List ClientTold) (t : ClientTold) → Says m e t → IsFirstOf all t → AreSlots requests first all slots → AreSlots requests first (all ++ t ∷ []) next)
+        → ((m : DateTime) (all : List ClientTold) (t : ClientTold) → Says m e t → IsFirstOf all t → AreSlots requests first all slots
+        → AreSlots requests first (all ++ t ∷ []) next)
         → Waiting requests first old new before then reads less next
     waits-more next same missing filled = record {
       moves = moves-behind old now new [] [] before at then w.moves h.moves;
@@ -172,17 +194,21 @@ module _ (requests : List Request) (first : ℕ) (old now new : Connection) (bef
       count = same ∙ w.count;
     }
 
-    no-filling : ((m : DateTime) (all : List ClientTold) (t : ClientTold) → Says m e t → IsFirstOf all t → AreSlots requests first all slots → ⊥) → (asks : List Placed) (octets : List ℕ) (told : List ClientTold)
+    no-filling : ((m : DateTime) (all : List ClientTold) (t : ClientTold) → Says m e t → IsFirstOf all t → AreSlots requests first all slots → ⊥)
+        → (asks : List Placed) (octets : List ℕ) (told : List ClientTold)
         → ClientGoes (channel_of old) asks octets told → AreUntold requests first told → ⊥
-    no-filling filled asks octets told g none = (behind (λ all. ⊥) asks octets told g none (first-filled (λ all. ⊥) filled asks (octets ++ (w.moves.taken ++ h.moves.taken)))).2
+    no-filling filled asks octets told g none =
+        (behind (λ all. ⊥) asks octets told g none (first-filled (λ all. ⊥) filled asks (octets ++ (w.moves.taken ++ h.moves.taken)))).2
 
     misread-by : (A : Type 0) (x : ClientFault) (next : List (Option Reply)) → next ≡ slots → list_any is_none slots ≡ true
-        → ((m : DateTime) (all : List ClientTold) (t : ClientTold) → Says m e t → IsFirstOf all t → AreSlots requests first all slots → FillsSlots requests first (all ++ t ∷ []) next (Err x))
+        → ((m : DateTime) (all : List ClientTold) (t : ClientTold) → Says m e t → IsFirstOf all t → AreSlots requests first all slots
+        → FillsSlots requests first (all ++ t ∷ []) next (Err x))
         → (asks : List Placed) (octets : List ℕ) (told : List ClientTold) → ClientGoes (channel_of old) asks octets told → AreUntold requests first told
         → CollectsAt {A = A} next requests first new then (Err x) asks (octets ++ (w.moves.taken ++ h.moves.taken)) told
     misread-by A fault.UnknownResponse next same missing filled asks octets told g none =
         behind (λ all. IsMisanswered requests first all × IsFront LacksAnswer (front_of next) requests first all) asks octets told g none
-        (first-filled (λ all. IsMisanswered requests first all × IsFront LacksAnswer (front_of next) requests first all) filled asks (octets ++ (w.moves.taken ++ h.moves.taken)))
+        (first-filled (λ all. IsMisanswered requests first all × IsFront LacksAnswer (front_of next) requests first all) filled asks
+        (octets ++ (w.moves.taken ++ h.moves.taken)))
     misread-by A fault.OutOfMemory next same missing filled asks octets told g none =
         let on = behind (IsFront IsUntoldBefore (front_of next) requests first) asks octets told g none
         (λ all t says tells s. subst (λ (ss : List (Option Reply)). IsFront IsUntoldBefore (front_of ss) requests first (all ++ t ∷ [])) (sym same)
@@ -205,21 +231,26 @@ module _ (requests : List Request) (first : ℕ) (old now new : Connection) (bef
   heard-fault : (A : Type 0) (x : ClientFault) (h : Hears now new moment at then left less (Err x)) → list_any is_none slots ≡ true
       → (asks : List Placed) (octets : List ℕ) (told : List ClientTold) → ClientGoes (channel_of old) asks octets told → AreUntold requests first told
       → CollectsAt {A = A} slots requests first new then (Err x) asks (octets ++ (w.moves.taken ++ h.moves.taken)) told
-  heard-fault A x h missing asks octets told g none = by x (subst (λ (o : List ℕ). HearsAt moment (Err x) (channel_of new) asks o (told ++ on.0)) (append_assoc octets w.moves.taken h.moves.taken) (h.answers asks (octets ++ w.moves.taken) (told ++ on.0) on.1))
+  heard-fault A x h missing asks octets told g none =
+      by x (subst (λ (o : List ℕ). HearsAt moment (Err x) (channel_of new) asks o (told ++ on.0)) (append_assoc octets w.moves.taken h.moves.taken)
+      (h.answers asks (octets ++ w.moves.taken) (told ++ on.0) on.1))
     where
-      on : ClientGoesOn (channel_of now) asks (octets ++ w.moves.taken) told (λ all. AreSlots requests first all slots × IsLast requests first now asks (octets ++ w.moves.taken) slots all)
+      on : ClientGoesOn (channel_of now) asks (octets ++ w.moves.taken) told (λ all. AreSlots requests first all slots
+          × IsLast requests first now asks (octets ++ w.moves.taken) slots all)
       on = w.goes asks octets told g none
 
       some : AreSlots requests first (told ++ on.0) slots × (list_any is_none slots ≡ true)
       some = (on.2.0, missing)
 
-      by : (y : ClientFault) → HearsAt moment (Err y) (channel_of new) asks (octets ++ (w.moves.taken ++ h.moves.taken)) (told ++ on.0) → CollectsAt {A = A} slots requests first new then (Err y) asks (octets ++ (w.moves.taken ++ h.moves.taken)) told
+      by : (y : ClientFault) → HearsAt moment (Err y) (channel_of new) asks (octets ++ (w.moves.taken ++ h.moves.taken)) (told ++ on.0)
+          → CollectsAt {A = A} slots requests first new then (Err y) asks (octets ++ (w.moves.taken ++ h.moves.taken)) told
       by (fault.Peer code) k = (on.0, k, some)
       by (fault.Refused code) k = (on.0, k, some)
       by fault.Ended k = (on.0, k, some)
       by fault.Read k = (on.0, k, some)
       by fault.TooLong k = (on.0, k, some)
-      by fault.OutOfMemory k = (on.0, inl k, front-before requests first (told ++ on.0) (front_of slots) (front-untold requests first (told ++ on.0) slots on.2.0 missing))
+      by fault.OutOfMemory k =
+          (on.0, inl k, front-before requests first (told ++ on.0) (front_of slots) (front-untold requests first (told ++ on.0) slots on.2.0 missing))
       by fault.UnknownResponse k = absurd k
       by fault.Write k = absurd k
       by (fault.Service code) k = absurd k
@@ -229,7 +260,8 @@ module _ (requests : List Request) (first : ℕ) (old now new : Connection) (bef
       by fault.Closed k = absurd k
       by fault.TooManyTokens k = absurd k
 
-  stops-behind : (A : Type 0) (x : ClientFault) (got : List ℕ) → StopsAt {A = ClientEvent} left less got new then (Err x) → StopsAt {A = A} reads less (w.moves.got ++ got) new then (Err x)
+  stops-behind : (A : Type 0) (x : ClientFault) (got : List ℕ) → StopsAt {A = ClientEvent} left less got new then (Err x)
+      → StopsAt {A = A} reads less (w.moves.got ++ got) new then (Err x)
   stops-behind A fault.TooLong got h = (h.0, let l = length-append w.moves.got got in let s = w.spent in let few = h.1 in omega (arith, l, s, few))
   stops-behind A fault.Ended got h = h
   stops-behind A fault.Read got h = h
@@ -254,8 +286,10 @@ module _ (requests : List Request) (first : ℕ) (old now new : Connection) (bef
     stops = stops-behind A x h.moves.got h.stops;
   }
 
-  pub collects-misread : {A : Type 0} (e : ClientEvent) (x : ClientFault) (next : List (Option Reply)) → next ≡ slots → list_any is_none slots ≡ true → Hears now new moment at then left less (Ok e) → GoesOnBehind → ToldOnce
-      → ((m : DateTime) (all : List ClientTold) (t : ClientTold) → Says m e t → IsFirstOf all t → AreSlots requests first all slots → FillsSlots requests first (all ++ t ∷ []) next (Err x))
+  pub collects-misread : {A : Type 0} (e : ClientEvent) (x : ClientFault) (next : List (Option Reply)) → next ≡ slots → list_any is_none slots ≡ true
+      → Hears now new moment at then left less (Ok e) → GoesOnBehind → ToldOnce
+      → ((m : DateTime) (all : List ClientTold) (t : ClientTold) → Says m e t → IsFirstOf all t → AreSlots requests first all slots
+      → FillsSlots requests first (all ++ t ∷ []) next (Err x))
       → is_reading_fault x ≡ true → Collects {A = A} next requests first old new before then reads less (Err x)
   collects-misread {A} e x next same missing h goes_on once filled few = record {
     moves = moves-behind old now new [] [] before at then w.moves h.moves;
@@ -280,7 +314,8 @@ module _ (requests : List Request) (first : ℕ) (old now new : Connection) (bef
       reading-stops B fault.Closed got f = tt
       reading-stops B fault.TooManyTokens got f = tt
 
-  pub collects-all : {A : Type 0} (found : A) → list_any is_none slots ≡ false → 0 < length requests → Collects slots requests first old now before at reads left (Ok found)
+  pub collects-all : {A : Type 0} (found : A) → list_any is_none slots ≡ false → 0 < length requests
+      → Collects slots requests first old now before at reads left (Ok found)
   collects-all found none some = record {
     moves = w.moves;
     keeps = w.keeps;
@@ -291,13 +326,15 @@ module _ (requests : List Request) (first : ℕ) (old now new : Connection) (bef
   }
 
 -- no memory to wait for any reply
-pub collects-none : {A : Type 0} (requests : List Request) (first : ℕ) (x : Connection) (t : Option Traffic) (reads : ℕ) → 0 < length requests → Collects {A = A} (none_for requests) requests first x x t t reads reads (Err fault.OutOfMemory)
+pub collects-none : {A : Type 0} (requests : List Request) (first : ℕ) (x : Connection) (t : Option Traffic) (reads : ℕ) → 0 < length requests
+    → Collects {A = A} (none_for requests) requests first x x t t reads reads (Err fault.OutOfMemory)
 collects-none requests first x t reads some = record {
   moves = moves-writing x x [] t t refl (carried-nothing t);
   keeps = keeps-all x;
   answers = λ asks octets told g n. (
     [],
-    inr (subst (λ (o : List ℕ). ClientGoes (channel_of x) asks o (told ++ [])) (sym (append-nil octets)) (subst (λ (h : List ClientTold). ClientGoes (channel_of x) asks octets h) (sym (append-nil told)) g)),
+    inr (subst (λ (o : List ℕ). ClientGoes (channel_of x) asks o (told ++ [])) (sym (append-nil octets))
+        (subst (λ (h : List ClientTold). ClientGoes (channel_of x) asks octets h) (sym (append-nil told)) g)),
     subst (IsFront IsUntoldBefore (front_of (none_for requests)) requests first) (sym (append-nil told)) (front-first requests first told some n),
   );
   stops = tt;

@@ -51,7 +51,8 @@ request-judged t more true body few =
 
 -- ---- a group
 
-judged-in : (limits : Limits) (p : Phase) (before : Received) (asked : List Asking) → InPhase limits p before asked → (IsNotOpen p → ⊥) → pending_calls before.messages asked ≡ [] → (requests : List Request) (more : ℕ)
+judged-in : (limits : Limits) (p : Phase) (before : Received) (asked : List Asking) → InPhase limits p before asked → (IsNotOpen p → ⊥)
+    → pending_calls before.messages asked ≡ [] → (requests : List Request) (more : ℕ)
     → more + length requests ≤ 64 → group_refusal p more requests ≡ first_reason (group_reasons before.ack (next_id asked + more) requests)
 judged-in limits phase.Waiting before asked h some none requests more few = absurd (some tt)
 judged-in limits (phase.Agreed a) before asked h some none requests more few = absurd (some tt)
@@ -67,7 +68,8 @@ judged-in limits (phase.Open t) before asked h some none requests more few = by 
     one m n few =
         request-judged t n (request.encodable m) (request.canonical m) (room n few)
         ∙ (ap (λ (id : ℕ). by-site (request.encodable m) (nat_le no_id (id + n)) (is_too_large t.agreed.ack (request.canonical m))) h.next_is
-        ∙ ap (λ (a : Option Ack). by-site (request.encodable m) (nat_le no_id (next_id asked + n)) (of_ack (λ (k : Ack). is_too_large k (request.canonical m)) a)) (sym h.ack_is))
+        ∙ ap (λ (a : Option Ack). by-site (request.encodable m) (nat_le no_id (next_id asked + n))
+        (of_ack (λ (k : Ack). is_too_large k (request.canonical m)) a)) (sym h.ack_is))
 
     on : (a b : ℕ) → a + (b + 1) ≡ (a + b) + 1
     on a b = omega arith
@@ -81,7 +83,8 @@ judged-in limits (phase.Open t) before asked h some none requests more few = by 
         ∙ sym (first_reason-append (request_reasons before.ack (next_id asked + n) m) (group_reasons before.ack ((next_id asked + n) + 1) ms)))
 
 -- a channel refuses a group just for the first reason that holds where the client stands
-pub group-judged : (x : ClientChannel) (requests : List Request) → length requests ≤ 64 → (s : ClientPlace) → StandsAt x s → IsIdle x s → group_refusal (phase_of x) 0 requests ≡ refusal_at s requests
+pub group-judged : (x : ClientChannel) (requests : List Request) → length requests ≤ 64 → (s : ClientPlace) → StandsAt x s → IsIdle x s
+    → group_refusal (phase_of x) 0 requests ≡ refusal_at s requests
 group-judged x requests few s at idle =
     judged-in (client_limits x) (phase_of x) s.before (asked_in s.asks) (phase-there x s at) idle.opened idle.calls_answered requests 0 (omega (arith, few))
     ∙ ap (λ (id : ℕ). first_reason (group_reasons s.before.ack id requests)) (add-zero (id_at s))
@@ -94,12 +97,14 @@ is_reason fault.Exhausted = true
 is_reason fault.TooLarge = true
 is_reason other = false
 
-among : (test : ClientFault → Bool) (rs : List (ClientFault × Bool)) (x : ClientFault) → AllByRecursion (λ (r : ClientFault × Bool). test r.0 ≡ true) rs → first_reason rs ≡ Some x → test x ≡ true
+among : (test : ClientFault → Bool) (rs : List (ClientFault × Bool)) (x : ClientFault) → AllByRecursion (λ (r : ClientFault × Bool). test r.0 ≡ true) rs
+    → first_reason rs ≡ Some x → test x ≡ true
 among test [] x h e = absurd cc
 among test ((f, true) ∷ rs) x h e = let same : f ≡ x = cc in subst (λ (y : ClientFault). test y ≡ true) same h.0
 among test ((f, false) ∷ rs) x h e = among test rs x h.1 e
 
-are-reasons : (ack : Option Ack) (id : ℕ) (requests : List Request) → AllByRecursion (λ (r : ClientFault × Bool). is_reason r.0 ≡ true) (group_reasons ack id requests)
+are-reasons : (ack : Option Ack) (id : ℕ) (requests : List Request)
+    → AllByRecursion (λ (r : ClientFault × Bool). is_reason r.0 ≡ true) (group_reasons ack id requests)
 are-reasons ack id [] = tt
 are-reasons ack id (m ∷ ms) = (refl, (refl, (refl, are-reasons ack (id + 1) ms)))
 
@@ -114,14 +119,16 @@ or-behind None a b d e h = h e
 or-behind (Some f) a b d e h = absurd cc
 
 -- one request more behind a group that is refused for nothing
-pub group-push : (p : Phase) (more : ℕ) (ms : List Request) (m : Request) → group_refusal p more ms ≡ None → group_refusal p more (ms ++ m ∷ []) ≡ request_refusal p (more + length ms) m
+pub group-push : (p : Phase) (more : ℕ) (ms : List Request) (m : Request) → group_refusal p more ms ≡ None
+    → group_refusal p more (ms ++ m ∷ []) ≡ request_refusal p (more + length ms) m
 group-push p more [] m e = or-none (request_refusal p more m) ∙ ap (λ (n : ℕ). request_refusal p n m) (sym (add-zero more))
   where
     or-none : (o : Option ClientFault) → or_else o None ≡ o
     or-none None = refl
     or-none (Some f) = refl
 group-push p more (r ∷ rs) m e =
-    or-behind (request_refusal p more r) (group_refusal p (more + 1) rs) (group_refusal p (more + 1) (rs ++ m ∷ [])) (request_refusal p (more + suc (length rs)) m) e
+    or-behind (request_refusal p more r) (group_refusal p (more + 1) rs) (group_refusal p (more + 1) (rs ++ m ∷ []))
+    (request_refusal p (more + suc (length rs)) m) e
     (λ none. group-push p (more + 1) rs m none ∙ ap (λ (n : ℕ). request_refusal p n m) (on more (length rs)))
   where
     on : (a b : ℕ) → (a + 1) + b ≡ a + suc b
@@ -134,10 +141,12 @@ group-first p ms m e = group-push p 0 ms m e ∙ ap (λ (n : ℕ). request_refus
     none-before n = omega arith
 
 -- the requests up to the next place
-pub take-next : (requests : List Request) (n : ℕ) (m d : Request) → n < length requests → m ≡ get_or requests n d → take (n + 1) requests ≡ take n requests ++ m ∷ []
+pub take-next : (requests : List Request) (n : ℕ) (m d : Request) → n < length requests → m ≡ get_or requests n d
+    → take (n + 1) requests ≡ take n requests ++ m ∷ []
 take-next [] n m d few e = absurd (omega (arith, few))
 take-next (r ∷ rs) zero m d few e = ap (λ (q : Request). q ∷ []) (sym e)
-take-next (r ∷ rs) (suc n) m d few e = sym (ap (λ (k : ℕ). take k (r ∷ rs)) (on n)) ∙ ap (λ (ms : List Request). r ∷ ms) (take-next rs n m d (omega (arith, few)) e)
+take-next (r ∷ rs) (suc n) m d few e = sym (ap (λ (k : ℕ). take k (r ∷ rs)) (on n))
+    ∙ ap (λ (ms : List Request). r ∷ ms) (take-next rs n m d (omega (arith, few)) e)
   where
     on : (a : ℕ) → suc (a + 1) ≡ suc a + 1
     on a = omega arith
@@ -155,7 +164,8 @@ drop-next (r ∷ rs) (suc n) m d few e = drop-next rs n m d (omega (arith, few))
 pub group-rest : (p : Phase) (requests : List Request) (n : ℕ) (m d : Request) → n < length requests → m ≡ get_or requests n d → request_refusal p n m ≡ None
     → group_refusal p n (drop n requests) ≡ group_refusal p (n + 1) (drop (n + 1) requests)
 group-rest p requests n m d few e none =
-    ap (λ (ms : List Request). group_refusal p n ms) (drop-next requests n m d few e) ∙ ap (λ (o : Option ClientFault). or_else o (group_refusal p (n + 1) (drop (n + 1) requests))) none
+    ap (λ (ms : List Request). group_refusal p n ms) (drop-next requests n m d few e)
+    ∙ ap (λ (o : Option ClientFault). or_else o (group_refusal p (n + 1) (drop (n + 1) requests))) none
 
 -- one body more
 pub bodies-next : (ms : List Request) (m : Request) → bodies_of (ms ++ m ∷ []) ≡ bodies_of ms ++ request.canonical m ∷ []
@@ -169,25 +179,79 @@ take-count (r ∷ rs) zero few = refl
 take-count (r ∷ rs) (suc n) few = ap suc (take-count rs n (omega (arith, few)))
 
 -- one more is refused for nothing
-pub group-more : (p : Phase) (requests : List Request) (n : ℕ) (m : Request) → take (n + 1) requests ≡ take n requests ++ m ∷ [] → length (take n requests) ≡ n → group_refusal p 0 (take n requests) ≡ None
+pub group-more : (p : Phase) (requests : List Request) (n : ℕ) (m : Request) → take (n + 1) requests ≡ take n requests ++ m ∷ [] → length (take n requests) ≡ n
+    → group_refusal p 0 (take n requests) ≡ None
     → request_refusal p n m ≡ None → group_refusal p 0 (take (n + 1) requests) ≡ None
 group-more p requests n m is count before e =
     ap (λ (ms : List Request). group_refusal p 0 ms) is ∙ (group-first p (take n requests) m before ∙ (ap (λ (k : ℕ). request_refusal p k m) count ∙ e))
 
 -- the first that is refused
-pub refuses-at : (p : Phase) (requests : List Request) (n : ℕ) (m : Request) (f : ClientFault) → take (n + 1) requests ≡ take n requests ++ m ∷ [] → length (take n requests) ≡ n → group_refusal p 0 (take n requests) ≡ None
+pub refuses-at : (p : Phase) (requests : List Request) (n : ℕ) (m : Request) (f : ClientFault) → take (n + 1) requests ≡ take n requests ++ m ∷ []
+    → length (take n requests) ≡ n → group_refusal p 0 (take n requests) ≡ None
     → AnswersBy {A = Unit {0}} (request_refusal p n m) (Err f) → RefusesBy p requests (place_by f n) f
 refuses-at p requests n m fault.OutOfMemory is count before e = refl
-refuses-at p requests n m fault.Read is count before e = (before, ap (λ (ms : List Request). group_refusal p 0 ms) is ∙ (group-first p (take n requests) m before ∙ (ap (λ (k : ℕ). request_refusal p k m) count ∙ e)))
-refuses-at p requests n m fault.Write is count before e = (before, ap (λ (ms : List Request). group_refusal p 0 ms) is ∙ (group-first p (take n requests) m before ∙ (ap (λ (k : ℕ). request_refusal p k m) count ∙ e)))
-refuses-at p requests n m fault.Ended is count before e = (before, ap (λ (ms : List Request). group_refusal p 0 ms) is ∙ (group-first p (take n requests) m before ∙ (ap (λ (k : ℕ). request_refusal p k m) count ∙ e)))
-refuses-at p requests n m (fault.Peer code) is count before e = (before, ap (λ (ms : List Request). group_refusal p 0 ms) is ∙ (group-first p (take n requests) m before ∙ (ap (λ (k : ℕ). request_refusal p k m) count ∙ e)))
-refuses-at p requests n m (fault.Refused code) is count before e = (before, ap (λ (ms : List Request). group_refusal p 0 ms) is ∙ (group-first p (take n requests) m before ∙ (ap (λ (k : ℕ). request_refusal p k m) count ∙ e)))
-refuses-at p requests n m fault.UnknownResponse is count before e = (before, ap (λ (ms : List Request). group_refusal p 0 ms) is ∙ (group-first p (take n requests) m before ∙ (ap (λ (k : ℕ). request_refusal p k m) count ∙ e)))
-refuses-at p requests n m (fault.Service code) is count before e = (before, ap (λ (ms : List Request). group_refusal p 0 ms) is ∙ (group-first p (take n requests) m before ∙ (ap (λ (k : ℕ). request_refusal p k m) count ∙ e)))
-refuses-at p requests n m fault.TooLarge is count before e = (before, ap (λ (ms : List Request). group_refusal p 0 ms) is ∙ (group-first p (take n requests) m before ∙ (ap (λ (k : ℕ). request_refusal p k m) count ∙ e)))
-refuses-at p requests n m fault.NotWritable is count before e = (before, ap (λ (ms : List Request). group_refusal p 0 ms) is ∙ (group-first p (take n requests) m before ∙ (ap (λ (k : ℕ). request_refusal p k m) count ∙ e)))
-refuses-at p requests n m fault.Exhausted is count before e = (before, ap (λ (ms : List Request). group_refusal p 0 ms) is ∙ (group-first p (take n requests) m before ∙ (ap (λ (k : ℕ). request_refusal p k m) count ∙ e)))
-refuses-at p requests n m fault.Closed is count before e = (before, ap (λ (ms : List Request). group_refusal p 0 ms) is ∙ (group-first p (take n requests) m before ∙ (ap (λ (k : ℕ). request_refusal p k m) count ∙ e)))
-refuses-at p requests n m fault.TooLong is count before e = (before, ap (λ (ms : List Request). group_refusal p 0 ms) is ∙ (group-first p (take n requests) m before ∙ (ap (λ (k : ℕ). request_refusal p k m) count ∙ e)))
-refuses-at p requests n m fault.TooManyTokens is count before e = (before, ap (λ (ms : List Request). group_refusal p 0 ms) is ∙ (group-first p (take n requests) m before ∙ (ap (λ (k : ℕ). request_refusal p k m) count ∙ e)))
+refuses-at p requests n m fault.Read is count before e = (
+  before,
+  ap (λ (ms : List Request). group_refusal p 0 ms) is
+      ∙ (group-first p (take n requests) m before ∙ (ap (λ (k : ℕ). request_refusal p k m) count ∙ e)),
+)
+refuses-at p requests n m fault.Write is count before e = (
+  before,
+  ap (λ (ms : List Request). group_refusal p 0 ms) is
+      ∙ (group-first p (take n requests) m before ∙ (ap (λ (k : ℕ). request_refusal p k m) count ∙ e)),
+)
+refuses-at p requests n m fault.Ended is count before e = (
+  before,
+  ap (λ (ms : List Request). group_refusal p 0 ms) is
+      ∙ (group-first p (take n requests) m before ∙ (ap (λ (k : ℕ). request_refusal p k m) count ∙ e)),
+)
+refuses-at p requests n m (fault.Peer code) is count before e = (
+  before,
+  ap (λ (ms : List Request). group_refusal p 0 ms) is
+      ∙ (group-first p (take n requests) m before ∙ (ap (λ (k : ℕ). request_refusal p k m) count ∙ e)),
+)
+refuses-at p requests n m (fault.Refused code) is count before e = (
+  before,
+  ap (λ (ms : List Request). group_refusal p 0 ms) is
+      ∙ (group-first p (take n requests) m before ∙ (ap (λ (k : ℕ). request_refusal p k m) count ∙ e)),
+)
+refuses-at p requests n m fault.UnknownResponse is count before e = (
+  before,
+  ap (λ (ms : List Request). group_refusal p 0 ms) is
+      ∙ (group-first p (take n requests) m before ∙ (ap (λ (k : ℕ). request_refusal p k m) count ∙ e)),
+)
+refuses-at p requests n m (fault.Service code) is count before e = (
+  before,
+  ap (λ (ms : List Request). group_refusal p 0 ms) is
+      ∙ (group-first p (take n requests) m before ∙ (ap (λ (k : ℕ). request_refusal p k m) count ∙ e)),
+)
+refuses-at p requests n m fault.TooLarge is count before e = (
+  before,
+  ap (λ (ms : List Request). group_refusal p 0 ms) is
+      ∙ (group-first p (take n requests) m before ∙ (ap (λ (k : ℕ). request_refusal p k m) count ∙ e)),
+)
+refuses-at p requests n m fault.NotWritable is count before e = (
+  before,
+  ap (λ (ms : List Request). group_refusal p 0 ms) is
+      ∙ (group-first p (take n requests) m before ∙ (ap (λ (k : ℕ). request_refusal p k m) count ∙ e)),
+)
+refuses-at p requests n m fault.Exhausted is count before e = (
+  before,
+  ap (λ (ms : List Request). group_refusal p 0 ms) is
+      ∙ (group-first p (take n requests) m before ∙ (ap (λ (k : ℕ). request_refusal p k m) count ∙ e)),
+)
+refuses-at p requests n m fault.Closed is count before e = (
+  before,
+  ap (λ (ms : List Request). group_refusal p 0 ms) is
+      ∙ (group-first p (take n requests) m before ∙ (ap (λ (k : ℕ). request_refusal p k m) count ∙ e)),
+)
+refuses-at p requests n m fault.TooLong is count before e = (
+  before,
+  ap (λ (ms : List Request). group_refusal p 0 ms) is
+      ∙ (group-first p (take n requests) m before ∙ (ap (λ (k : ℕ). request_refusal p k m) count ∙ e)),
+)
+refuses-at p requests n m fault.TooManyTokens is count before e = (
+  before,
+  ap (λ (ms : List Request). group_refusal p 0 ms) is
+      ∙ (group-first p (take n requests) m before ∙ (ap (λ (k : ℕ). request_refusal p k m) count ∙ e)),
+)

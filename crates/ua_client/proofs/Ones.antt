@@ -13,7 +13,8 @@ use Rattle.ua_client.specs.declared.fault.ClientFault.TheVariants as fault
 use Rattle.ua_client.specs.declared.reply.Reply.{Reply}
 
 -- whatever would have been answered
-stops-as : (A B : Type 0) (reads left : ℕ) (got : List ℕ) (new : Connection) (after : Option Traffic) (f : ClientFault) → StopsAt {A = A} reads left got new after (Err f) → StopsAt {A = B} reads left got new after (Err f)
+stops-as : (A B : Type 0) (reads left : ℕ) (got : List ℕ) (new : Connection) (after : Option Traffic) (f : ClientFault)
+    → StopsAt {A = A} reads left got new after (Err f) → StopsAt {A = B} reads left got new after (Err f)
 stops-as A B reads left got new after fault.TooLong h = h
 stops-as A B reads left got new after fault.Ended h = h
 stops-as A B reads left got new after fault.Read h = h
@@ -30,8 +31,10 @@ stops-as A B reads left got new after fault.TooManyTokens h = tt
 stops-as A B reads left got new after fault.OutOfMemory h = tt
 
 -- the reply to one request
-pub calls-one : {A : Type 0} (view : A → List Reply) (requests : List Request) (request : Request) (old new : Connection) (before after : Option Traffic) (found : A) (reply : Reply)
-    → requests ≡ request ∷ [] → view found ≡ reply ∷ [] → CallsAll view requests old new before after (Ok found) → CallsAll (λ (r : Reply). r ∷ []) (request ∷ []) old new before after (Ok reply)
+pub calls-one : {A : Type 0} (view : A → List Reply) (requests : List Request) (request : Request) (old new : Connection) (before after : Option Traffic)
+    (found : A) (reply : Reply)
+    → requests ≡ request ∷ [] → view found ≡ reply ∷ [] → CallsAll view requests old new before after (Ok found)
+    → CallsAll (λ (r : Reply). r ∷ []) (request ∷ []) old new before after (Ok reply)
 calls-one view requests request old new before after found reply e k c = record {
   sent = c.sent;
   moves = c.moves;
@@ -43,7 +46,8 @@ calls-one view requests request old new before after found reply e k c = record 
 }
 
 -- the fault of one request
-pub breaks-one : {A B : Type 0} (view : A → List Reply) (other : B → List Reply) (requests : List Request) (request : Request) (old new : Connection) (before after : Option Traffic) (f : ClientFault)
+pub breaks-one : {A B : Type 0} (view : A → List Reply) (other : B → List Reply) (requests : List Request) (request : Request) (old new : Connection)
+    (before after : Option Traffic) (f : ClientFault)
     → requests ≡ request ∷ [] → CallsAll view requests old new before after (Err f) → CallsAll other (request ∷ []) old new before after (Err f)
 breaks-one {A} {B} view other requests request old new before after f e c = record {
   sent = c.sent;
@@ -68,18 +72,21 @@ found-none found f e = absurd cc
 -- ---- the replies alone
 
 -- where all are answered
-pub all-answered : {A : Type 0} (view : A → List Reply) (requests : List Request) (old new : Connection) (before after : Option Traffic) (done : Unit {0}) (found : A) (had have : List Reply) → had ≡ [] → have ≡ view found
+pub all-answered : {A : Type 0} (view : A → List Reply) (requests : List Request) (old new : Connection) (before after : Option Traffic) (done : Unit {0})
+    (found : A) (had have : List Reply) → had ≡ [] → have ≡ view found
     → CallsInto requests old new before after (Ok done) had have → CallsAll view requests old new before after (Ok found)
 all-answered view requests old new before after done found had have none same c = record {
   sent = c.sent;
   moves = c.moves;
   same = c.same;
-  answers = λ s at. subst (λ (rs : List Reply). AnsweredAll requests s (channel_of new) c.sent c.moves.taken rs) (sym (sym same ∙ (c.have_is ∙ ap (λ (rs : List Reply). rs ++ c.added) none))) (c.answers s at);
+  answers = λ s at. subst (λ (rs : List Reply). AnsweredAll requests s (channel_of new) c.sent c.moves.taken rs)
+      (sym (sym same ∙ (c.have_is ∙ ap (λ (rs : List Reply). rs ++ c.added) none))) (c.answers s at);
   stops = c.stops;
 }
 
 -- where one is not
-pub all-broken : {A : Type 0} (view : A → List Reply) (requests : List Request) (old new : Connection) (before after : Option Traffic) (f : CallsFault) (had have : List Reply)
+pub all-broken : {A : Type 0} (view : A → List Reply) (requests : List Request) (old new : Connection) (before after : Option Traffic) (f : CallsFault)
+    (had have : List Reply)
     → CallsInto {A = Unit {0}} requests old new before after (Err f) had have → CallsAll view requests old new before after (Err f.fault)
 all-broken {A} view requests old new before after f had have c = record {
   sent = c.sent;

@@ -16,7 +16,8 @@ use Rattle.ua_channel.specs.declared.client.event.ClientEvent.{ClientEvent}
 use Rattle.ua_channel.specs.declared.client.event.ClientEvent.TheVariants as event
 use Rattle.ua_client.specs.Carried.{Carries, IsPart, WritesFront}
 use Rattle.ua_client.specs.Hearing.{channel_of, BreaksOff, Keeps, MovesConnection, Says, Starved, Hears, HearsAt, StopsAt, most_reads}
-use Rattle.ua_client.specs.Opening.{is_agreed, is_opened, EndsWithout, GoesWithout, GoesUntil, StarvesWithout, WaitsAt, Waits, any_done, hello_octets, open_octets, BreaksOpening, IsOpened, Opens}
+use Rattle.ua_client.specs.Opening.{is_agreed, is_opened, EndsWithout, GoesWithout, GoesUntil, StarvesWithout, WaitsAt}
+use Rattle.ua_client.specs.Opening.{Waits, any_done, hello_octets, open_octets, BreaksOpening, IsOpened, Opens}
 use Rattle.ua_client.specs.declared.connection.Connection.{Connection}
 use Rattle.ua_client.specs.declared.fault.ClientFault.{ClientFault}
 use Rattle.ua_client.specs.declared.fault.ClientFault.TheVariants as fault
@@ -89,7 +90,8 @@ any-either : (b : Bool) (rest more : Bool) → (b || rest) ≡ false → (rest �
 any-either true rest more h k = absurd cc
 any-either false rest more h k = k h
 
-any-push : (wanted : ClientTold → Bool) (told : List ClientTold) (t : ClientTold) → list_any wanted told ≡ false → wanted t ≡ false → list_any wanted (told ++ t ∷ []) ≡ false
+any-push : (wanted : ClientTold → Bool) (told : List ClientTold) (t : ClientTold) → list_any wanted told ≡ false → wanted t ≡ false
+    → list_any wanted (told ++ t ∷ []) ≡ false
 any-push wanted [] t h k = ap (λ (b : Bool). b || false) k
 any-push wanted (u ∷ told) t h k = any-either (wanted u) (list_any wanted told) (list_any wanted (told ++ t ∷ [])) h (λ e. any-push wanted told t e k)
 
@@ -107,7 +109,8 @@ any-left wanted (y ∷ us) vs i = or-more (wanted y) (list_any wanted us) (list_
 pub record Lacks (wanted : ClientTold → Bool) (old now : Connection) (before at : Option Traffic) (reads left : ℕ) : Type 0 where
   pub moves : MovesConnection old now [] before at
   pub keeps : Keeps old now
-  pub goes : (asks : List Placed) (octets : List ℕ) (told : List ClientTold) → ClientGoes (channel_of old) asks octets told → GoesWithout wanted (channel_of now) asks (octets ++ moves.taken) told
+  pub goes : (asks : List Placed) (octets : List ℕ) (told : List ClientTold) → ClientGoes (channel_of old) asks octets told
+      → GoesWithout wanted (channel_of now) asks (octets ++ moves.taken) told
   pub spent : reads ≤ left + length moves.got
 
 pub lacks-first : (wanted : ClientTold → Bool) (x : Connection) (t : Option Traffic) (reads : ℕ) → Lacks wanted x x t t reads reads
@@ -117,17 +120,20 @@ lacks-first wanted x t reads = record {
   goes = λ asks octets told g. record {
     heard = [];
     none = refl;
-    goes = subst (λ (o : List ℕ). ClientGoes (channel_of x) asks o (told ++ [])) (sym (append-nil octets)) (subst (λ (h : List ClientTold). ClientGoes (channel_of x) asks octets h) (sym (append-nil told)) g);
+    goes = subst (λ (o : List ℕ). ClientGoes (channel_of x) asks o (told ++ [])) (sym (append-nil octets))
+        (subst (λ (h : List ClientTold). ClientGoes (channel_of x) asks octets h) (sym (append-nil told)) g);
   };
   spent = omega arith;
 }
 
-module _ (test : ClientEvent → Bool) (wanted : ClientTold → Bool) (tests : Tests test wanted) (old now new : Connection) (before at then : Option Traffic) (reads left less : ℕ) (moment : DateTime)
+module _ (test : ClientEvent → Bool) (wanted : ClientTold → Bool) (tests : Tests test wanted) (old now new : Connection) (before at then : Option Traffic)
+    (reads left less : ℕ) (moment : DateTime)
     (w : Lacks wanted old now before at reads left) where
   spent-more : (more : List ℕ) → left ≤ less + length more → reads ≤ less + length (w.moves.got ++ more)
   spent-more more h = let l = length-append w.moves.got more in let s = w.spent in omega (arith, l, s, h)
 
-  pub lacks-more : (goes_on : GoesOnBehind) (e : ClientEvent) → test e ≡ false → Hears now new moment at then left less (Ok e) → Lacks wanted old new before then reads less
+  pub lacks-more : (goes_on : GoesOnBehind) (e : ClientEvent) → test e ≡ false → Hears now new moment at then left less (Ok e)
+      → Lacks wanted old new before then reads less
   lacks-more goes_on e other h = record {
     moves = moves-behind old now new [] [] before at then w.moves h.moves;
     keeps = keeps-then old now new w.keeps h.keeps;
@@ -137,8 +143,10 @@ module _ (test : ClientEvent → Bool) (wanted : ClientTold → Bool) (tests : T
         record {
           heard = on.heard ++ says.0 ∷ [];
           none = any-push wanted on.heard says.0 on.none (tests moment e says.0 says.1 ∙ other);
-          goes = subst (λ (o : List ℕ). ClientGoes (channel_of new) asks o (told ++ (on.heard ++ says.0 ∷ []))) (append_assoc octets w.moves.taken h.moves.taken)
-              (subst (λ (all : List ClientTold). ClientGoes (channel_of new) asks ((octets ++ w.moves.taken) ++ h.moves.taken) all) (append_assoc told on.heard (says.0 ∷ []))
+          goes = subst (λ (o : List ℕ). ClientGoes (channel_of new) asks o (told ++ (on.heard ++ says.0 ∷ [])))
+              (append_assoc octets w.moves.taken h.moves.taken)
+              (subst (λ (all : List ClientTold). ClientGoes (channel_of new) asks ((octets ++ w.moves.taken) ++ h.moves.taken) all)
+              (append_assoc told on.heard (says.0 ∷ []))
               (goes_on (channel_of new) asks ((octets ++ w.moves.taken) ++ h.moves.taken) (told ++ on.heard) says.0 says.2));
         };
     spent = spent-more h.moves.got h.stops;
@@ -157,7 +165,8 @@ module _ (test : ClientEvent → Bool) (wanted : ClientTold → Bool) (tests : T
             none = on.none;
             last = says.0;
             is_wanted = tests moment e says.0 says.1 ∙ own;
-            tells = subst (λ (o : List ℕ). ClientGoesTelling (channel_of new) asks o (told ++ on.heard) says.0) (append_assoc octets w.moves.taken h.moves.taken) says.2;
+            tells = subst (λ (o : List ℕ). ClientGoesTelling (channel_of new) asks o (told ++ on.heard) says.0)
+                (append_assoc octets w.moves.taken h.moves.taken) says.2;
           },
           holds says.0 says.1,
         );
@@ -165,19 +174,22 @@ module _ (test : ClientEvent → Bool) (wanted : ClientTold → Bool) (tests : T
     stops = spent-more h.moves.got h.stops;
   }
 
-  pub waits-fault : {A : Type 0} (P : A → Type 0) (x : ClientFault) → Hears now new moment at then left less (Err x) → Waits wanted P old new before then reads less (Err x)
+  pub waits-fault : {A : Type 0} (P : A → Type 0) (x : ClientFault) → Hears now new moment at then left less (Err x)
+      → Waits wanted P old new before then reads less (Err x)
   waits-fault {A} P x h = record {
     moves = moves-behind old now new [] [] before at then w.moves h.moves;
     keeps = keeps-then old now new w.keeps h.keeps;
     answers = λ asks octets told g.
         let on = w.goes asks octets told g in
         by x asks (octets ++ (w.moves.taken ++ h.moves.taken)) told on.heard on.none
-        (subst (λ (o : List ℕ). HearsAt moment (Err x) (channel_of new) asks o (told ++ on.heard)) (append_assoc octets w.moves.taken h.moves.taken) (h.answers asks (octets ++ w.moves.taken) (told ++ on.heard) on.goes));
+        (subst (λ (o : List ℕ). HearsAt moment (Err x) (channel_of new) asks o (told ++ on.heard)) (append_assoc octets w.moves.taken h.moves.taken)
+        (h.answers asks (octets ++ w.moves.taken) (told ++ on.heard) on.goes));
     faults = h.faults;
     stops = stops x h.moves.got h.stops;
   }
     where
-      by : (y : ClientFault) (asks : List Placed) (octets : List ℕ) (told heard : List ClientTold) → list_any wanted heard ≡ false → HearsAt moment (Err y) (channel_of new) asks octets (told ++ heard) → WaitsAt wanted P (Err y) (channel_of new) asks octets told
+      by : (y : ClientFault) (asks : List Placed) (octets : List ℕ) (told heard : List ClientTold) → list_any wanted heard ≡ false
+          → HearsAt moment (Err y) (channel_of new) asks octets (told ++ heard) → WaitsAt wanted P (Err y) (channel_of new) asks octets told
       by (fault.Peer code) asks octets told heard none k = record { heard = heard; none = none; ended = k }
       by (fault.Refused code) asks octets told heard none k = record { heard = heard; none = none; ended = k }
       by fault.Ended asks octets told heard none k = record { heard = heard; none = none; goes = k }
@@ -193,7 +205,8 @@ module _ (test : ClientEvent → Bool) (wanted : ClientTold → Bool) (tests : T
       by fault.TooManyTokens asks octets told heard none k = absurd k
       by fault.Closed asks octets told heard none k = absurd k
 
-      stops : (y : ClientFault) (got : List ℕ) → StopsAt {A = ClientEvent} left less got new then (Err y) → StopsAt {A = A} reads less (w.moves.got ++ got) new then (Err y)
+      stops : (y : ClientFault) (got : List ℕ) → StopsAt {A = ClientEvent} left less got new then (Err y)
+          → StopsAt {A = A} reads less (w.moves.got ++ got) new then (Err y)
       stops fault.TooLong got k = (k.0, let l = length-append w.moves.got got in let s = w.spent in let few = k.1 in omega (arith, l, s, few))
       stops fault.Ended got k = k
       stops fault.Read got k = k
@@ -214,7 +227,8 @@ module _ (test : ClientEvent → Bool) (wanted : ClientTold → Bool) (tests : T
 shape-of : (x : ClientChannel) (asks : List Placed) (octets : List ℕ) (told : List ClientTold) → ClientGoes x asks octets told → IsGreeting told
 shape-of x asks octets told g = subst IsGreeting g.told_is (greeting (client_limits x) asks g.frames g.stands.run.good)
 
-shape-ended : (x : ClientChannel) (asks : List Placed) (octets : List ℕ) (told : List ClientTold) (why : Why) → ClientEnded x asks octets told why → IsGreeting told
+shape-ended : (x : ClientChannel) (asks : List Placed) (octets : List ℕ) (told : List ClientTold) (why : Why) → ClientEnded x asks octets told why
+    → IsGreeting told
 shape-ended x asks octets told why g = subst IsGreeting g.told_is (greeting (client_limits x) asks g.frames g.run.good)
 
 shape-starved : (x : ClientChannel) (asks : List Placed) (octets : List ℕ) (told : List ClientTold) → Starved x asks octets told → IsGreeting told
@@ -240,14 +254,19 @@ the-ack (GaveUp id code) h = absurd cc
 the-ack (Renewed token) h = absurd cc
 
 -- an ACK is the first that is told
-agreed-alone : GoesOnBehind → (x : ClientChannel) (octets : List ℕ) → GoesUntil is_agreed x [] octets [] → (ack : Ack) × ClientGoesTelling x [] octets [] (Agreed ack)
+agreed-alone : GoesOnBehind → (x : ClientChannel) (octets : List ℕ) → GoesUntil is_agreed x [] octets []
+    → (ack : Ack) × ClientGoesTelling x [] octets [] (Agreed ack)
 agreed-alone goes_on x octets u =
     let a = the-ack u.last u.is_wanted in
-    let first : u.heard ≡ [] = none-behind u.heard u.last u.none (shape-of x [] octets (u.heard ++ u.last ∷ []) (goes_on x [] octets u.heard u.last u.tells)) in
-    (a.0, subst (λ (t : ClientTold). ClientGoesTelling x [] octets [] t) a.1 (subst (λ (heard : List ClientTold). ClientGoesTelling x [] octets heard u.last) first u.tells))
+    let first : u.heard ≡ [] = none-behind u.heard u.last u.none (shape-of x [] octets (u.heard ++ u.last ∷ []) (goes_on x [] octets u.heard u.last u.tells)) in (
+      a.0,
+      subst (λ (t : ClientTold). ClientGoesTelling x [] octets [] t) a.1
+          (subst (λ (heard : List ClientTold). ClientGoesTelling x [] octets heard u.last) first u.tells),
+    )
 
 -- that the channel is open is the next
-none-between : (ack : Ack) (heard : List ClientTold) (last : ClientTold) → list_any is_opened heard ≡ false → IsGreeting (Agreed ack ∷ (heard ++ last ∷ [])) → heard ≡ []
+none-between : (ack : Ack) (heard : List ClientTold) (last : ClientTold) → list_any is_opened heard ≡ false → IsGreeting (Agreed ack ∷ (heard ++ last ∷ []))
+    → heard ≡ []
 none-between ack [] last none h = refl
 none-between ack (t ∷ ts) last none h = let e = sym (ap (λ (b : Bool). b || list_any is_opened ts) h.1) ∙ none in absurd cc
 
@@ -262,17 +281,21 @@ opened-next : GoesOnBehind → (x : ClientChannel) (octets : List ℕ) (ack : Ac
 opened-next goes_on x octets ack u =
     let found = the-opening u.last u.is_wanted in
     let next : u.heard ≡ [] =
-    none-between ack u.heard u.last u.none (shape-of x [] octets (Agreed ack ∷ (u.heard ++ u.last ∷ [])) (goes_on x [] octets (Agreed ack ∷ u.heard) u.last u.tells)) in
+    none-between ack u.heard u.last u.none
+    (shape-of x [] octets (Agreed ack ∷ (u.heard ++ u.last ∷ [])) (goes_on x [] octets (Agreed ack ∷ u.heard) u.last u.tells)) in
     record {
       ack = ack;
       channel = found.0;
       token = found.1;
-      tells = subst (λ (t : ClientTold). ClientGoesTelling x [] octets (Agreed ack ∷ []) t) found.2 (subst (λ (heard : List ClientTold). ClientGoesTelling x [] octets (Agreed ack ∷ heard) u.last) next u.tells);
+      tells = subst (λ (t : ClientTold). ClientGoesTelling x [] octets (Agreed ack ∷ []) t) found.2
+          (subst (λ (heard : List ClientTold). ClientGoesTelling x [] octets (Agreed ack ∷ heard) u.last) next u.tells);
     }
 
 -- what is waited for is what would be told next, so where it was not told nothing was
-told-none : {A : Type 0} (wanted : ClientTold → Bool) (P : A → Type 0) (told : List ClientTold) → ((heard : List ClientTold) → list_any wanted heard ≡ false → IsGreeting (told ++ heard) → heard ≡ [])
-    → (x : ClientChannel) (asks : List Placed) (octets : List ℕ) (f : ClientFault) → WaitsAt wanted P (Err f) x asks octets told → BreaksOff f x asks octets told
+told-none : {A : Type 0} (wanted : ClientTold → Bool) (P : A → Type 0) (told : List ClientTold)
+    → ((heard : List ClientTold) → list_any wanted heard ≡ false → IsGreeting (told ++ heard) → heard ≡ [])
+    → (x : ClientChannel) (asks : List Placed) (octets : List ℕ) (f : ClientFault) → WaitsAt wanted P (Err f) x asks octets told
+    → BreaksOff f x asks octets told
 told-none wanted P told next x asks octets f h = by f h
   where
     no-more : (heard : List ClientTold) → list_any wanted heard ≡ false → IsGreeting (told ++ heard) → told ++ heard ≡ told
@@ -282,10 +305,12 @@ told-none wanted P told next x asks octets f h = by f h
     goes k = subst (λ (all : List ClientTold). ClientGoes x asks octets all) (no-more k.heard k.none (shape-of x asks octets (told ++ k.heard) k.goes)) k.goes
 
     ends : (why : Why) → EndsWithout wanted x asks octets told why → ClientEnded x asks octets told why
-    ends why k = subst (λ (all : List ClientTold). ClientEnded x asks octets all why) (no-more k.heard k.none (shape-ended x asks octets (told ++ k.heard) why k.ended)) k.ended
+    ends why k = subst (λ (all : List ClientTold). ClientEnded x asks octets all why)
+        (no-more k.heard k.none (shape-ended x asks octets (told ++ k.heard) why k.ended)) k.ended
 
     starves : StarvesWithout wanted x asks octets told → Starved x asks octets told
-    starves k = subst (λ (all : List ClientTold). Starved x asks octets all) (no-more k.heard k.none (shape-starved x asks octets (told ++ k.heard) k.starved)) k.starved
+    starves k = subst (λ (all : List ClientTold). Starved x asks octets all) (no-more k.heard k.none (shape-starved x asks octets (told ++ k.heard) k.starved))
+        k.starved
 
     by : (y : ClientFault) → WaitsAt wanted P (Err y) x asks octets told → BreaksOff y x asks octets told
     by fault.Read k = goes k
@@ -316,7 +341,8 @@ opens-nothing moment x t = record {
 }
 
 -- the HEL was not written whole
-pub opens-unwritten : {A : Type 0} (moment : DateTime) (x : Connection) (hello : List ℕ) (before after : Option Traffic) → hello ≡ hello_octets (client_limits (channel_of x)) (url_of (channel_of x)) → 0 < length hello → IfTrafficKnown (WritesFront hello) before after
+pub opens-unwritten : {A : Type 0} (moment : DateTime) (x : Connection) (hello : List ℕ) (before after : Option Traffic)
+    → hello ≡ hello_octets (client_limits (channel_of x)) (url_of (channel_of x)) → 0 < length hello → IfTrafficKnown (WritesFront hello) before after
     → Opens {A = A} moment x x before after (Err fault.Write)
 opens-unwritten moment x hello before after is some h =
     let front = sends-part hello before after some h in
@@ -328,13 +354,17 @@ opens-unwritten moment x hello before after is some h =
       stops = tt;
     }
 
-abbrev pub sent-first : (x mid : Connection) (hello : List ℕ) (a b c : Option Traffic) → IfTrafficKnown (Carries [] hello) a b → MovesConnection x mid [] b c → MovesConnection x mid hello a c
+abbrev pub sent-first : (x mid : Connection) (hello : List ℕ) (a b c : Option Traffic) → IfTrafficKnown (Carries [] hello) a b → MovesConnection x mid [] b c
+    → MovesConnection x mid hello a c
 sent-first x mid hello a b c w m =
-    moves-from x x mid hello [] a b c c refl m (carried-as m.got (hello ++ []) m.got hello a c refl (append-nil hello) (carried-then [] hello m.got [] a b c w m.carried))
+    moves-from x x mid hello [] a b c c refl m
+    (carried-as m.got (hello ++ []) m.got hello a c refl (append-nil hello) (carried-then [] hello m.got [] a b c w m.carried))
 
-module _ (moment : DateTime) (x mid : Connection) (hello : List ℕ) (a b c : Option Traffic) (left : ℕ) (is : hello ≡ hello_octets (client_limits (channel_of x)) (url_of (channel_of x))) (w : IfTrafficKnown (Carries [] hello) a b) where
+module _ (moment : DateTime) (x mid : Connection) (hello : List ℕ) (a b c : Option Traffic) (left : ℕ)
+    (is : hello ≡ hello_octets (client_limits (channel_of x)) (url_of (channel_of x))) (w : IfTrafficKnown (Carries [] hello) a b) where
   -- no ACK came
-  pub opens-unagreed : {A B : Type 0} (P : B → Type 0) (f : ClientFault) → Waits is_agreed P x mid b c most_reads left (Err f) → Opens {A = A} moment x mid a c (Err f)
+  pub opens-unagreed : {A B : Type 0} (P : B → Type 0) (f : ClientFault) → Waits is_agreed P x mid b c most_reads left (Err f)
+      → Opens {A = A} moment x mid a c (Err f)
   opens-unagreed {A} {B} P f h = record {
     sent = hello;
     moves = sent-first x mid hello a b c w h.moves;
@@ -343,7 +373,8 @@ module _ (moment : DateTime) (x mid : Connection) (hello : List ℕ) (a b c : Op
     stops = stops f h.stops;
   }
     where
-      by : (y : ClientFault) → WaitsAt is_agreed P (Err y) (channel_of mid) [] h.moves.taken [] → BreaksOpening (hello_octets (client_limits (channel_of x)) (url_of (channel_of x))) (open_octets moment) (channel_of mid) hello h.moves.taken y
+      by : (y : ClientFault) → WaitsAt is_agreed P (Err y) (channel_of mid) [] h.moves.taken []
+          → BreaksOpening (hello_octets (client_limits (channel_of x)) (url_of (channel_of x))) (open_octets moment) (channel_of mid) hello h.moves.taken y
       by fault.Read k = inl (is, told-none is_agreed P [] none-agreed (channel_of mid) [] h.moves.taken fault.Read k)
       by fault.Ended k = inl (is, told-none is_agreed P [] none-agreed (channel_of mid) [] h.moves.taken fault.Ended k)
       by fault.TooLong k = inl (is, told-none is_agreed P [] none-agreed (channel_of mid) [] h.moves.taken fault.TooLong k)
@@ -375,7 +406,8 @@ module _ (moment : DateTime) (x mid : Connection) (hello : List ℕ) (a b c : Op
       stops fault.Closed k = tt
       stops fault.OutOfMemory k = tt
 
-  module _ {B : Type 0} (P : B → Type 0) (found : B) (h : Waits is_agreed P x mid b c most_reads left (Ok found)) (opening : List ℕ) (open_is : P found → opening ≡ open_octets moment) where
+  module _ {B : Type 0} (P : B → Type 0) (found : B) (h : Waits is_agreed P x mid b c most_reads left (Ok found)) (opening : List ℕ) (open_is : P found
+      → opening ≡ open_octets moment) where
     -- the ACK
     agreed-first : GoesOnBehind → ClientGoes (channel_of x) [] [] [] → (ack : Ack) × ClientGoesTelling (channel_of mid) [] h.moves.taken [] (Agreed ack)
     agreed-first goes_on g = agreed-alone goes_on (channel_of mid) h.moves.taken (h.answers [] [] [] g).0
@@ -387,11 +419,14 @@ module _ (moment : DateTime) (x mid : Connection) (hello : List ℕ) (a b c : Op
     opening-is : ClientGoes (channel_of x) [] [] [] → opening ≡ open_octets moment
     opening-is g = open_is (h.answers [] [] [] g).1
 
-    both-sent : ClientGoes (channel_of x) [] [] [] → hello ++ opening ≡ hello_octets (client_limits (channel_of x)) (url_of (channel_of x)) ++ open_octets moment
-    both-sent g = ap (λ (o : List ℕ). o ++ opening) is ∙ ap (λ (o : List ℕ). hello_octets (client_limits (channel_of x)) (url_of (channel_of x)) ++ o) (opening-is g)
+    both-sent : ClientGoes (channel_of x) [] [] [] → hello ++ opening ≡ hello_octets (client_limits (channel_of x)) (url_of (channel_of x))
+        ++ open_octets moment
+    both-sent g = ap (λ (o : List ℕ). o ++ opening) is ∙ ap (λ (o : List ℕ). hello_octets (client_limits (channel_of x)) (url_of (channel_of x)) ++ o)
+        (opening-is g)
 
     -- the OPN was not written whole
-    pub opens-unasked : {A : Type 0} → GoesOnBehind → (d : Option Traffic) → 0 < length opening → IfTrafficKnown (WritesFront opening) c d → Opens {A = A} moment x mid a d (Err fault.Write)
+    pub opens-unasked : {A : Type 0} → GoesOnBehind → (d : Option Traffic) → 0 < length opening → IfTrafficKnown (WritesFront opening) c d
+        → Opens {A = A} moment x mid a d (Err fault.Write)
     opens-unasked goes_on d some k =
         let front = sends-part opening c d some k in
         let m : MovesConnection x mid (hello ++ front.0) a d = moves-behind x mid mid hello front.0 a c d (sent-first x mid hello a b c w h.moves)
@@ -440,14 +475,52 @@ module _ (moment : DateTime) (x mid : Connection) (hello : List ℕ) (a b c : Op
         stops = stops f k.stops;
       }
         where
-          by : (y : ClientFault) → ClientGoes (channel_of x) [] [] [] → (ack : Ack) → WaitsAt is_opened any_done (Err y) (channel_of new) [] (h.moves.taken ++ k.moves.taken) (Agreed ack ∷ [])
-              → BreaksOpening (hello_octets (client_limits (channel_of x)) (url_of (channel_of x))) (open_octets moment) (channel_of new) (hello ++ opening) (h.moves.taken ++ k.moves.taken) y
-          by fault.Read g ack i = inr (both-sent g, (ack, told-none is_opened any_done (Agreed ack ∷ []) (none-opened ack) (channel_of new) [] (h.moves.taken ++ k.moves.taken) fault.Read i))
-          by fault.Ended g ack i = inr (both-sent g, (ack, told-none is_opened any_done (Agreed ack ∷ []) (none-opened ack) (channel_of new) [] (h.moves.taken ++ k.moves.taken) fault.Ended i))
-          by fault.TooLong g ack i = inr (both-sent g, (ack, told-none is_opened any_done (Agreed ack ∷ []) (none-opened ack) (channel_of new) [] (h.moves.taken ++ k.moves.taken) fault.TooLong i))
-          by (fault.Peer code) g ack i = inr (both-sent g, (ack, told-none is_opened any_done (Agreed ack ∷ []) (none-opened ack) (channel_of new) [] (h.moves.taken ++ k.moves.taken) (fault.Peer code) i))
-          by (fault.Refused code) g ack i = inr (both-sent g, (ack, told-none is_opened any_done (Agreed ack ∷ []) (none-opened ack) (channel_of new) [] (h.moves.taken ++ k.moves.taken) (fault.Refused code) i))
-          by fault.OutOfMemory g ack i = inr (inr (both-sent g, (ack, told-none is_opened any_done (Agreed ack ∷ []) (none-opened ack) (channel_of new) [] (h.moves.taken ++ k.moves.taken) fault.OutOfMemory i)))
+          by : (y : ClientFault) → ClientGoes (channel_of x) [] [] [] → (ack : Ack)
+              → WaitsAt is_opened any_done (Err y) (channel_of new) [] (h.moves.taken ++ k.moves.taken) (Agreed ack ∷ [])
+              → BreaksOpening (hello_octets (client_limits (channel_of x)) (url_of (channel_of x))) (open_octets moment) (channel_of new) (hello ++ opening)
+              (h.moves.taken ++ k.moves.taken) y
+          by fault.Read g ack i =
+              inr (
+                both-sent g,
+                (ack, told-none is_opened any_done (Agreed ack ∷ []) (none-opened ack) (channel_of new) [] (h.moves.taken ++ k.moves.taken) fault.Read i),
+              )
+          by fault.Ended g ack i =
+              inr (
+                both-sent g,
+                (ack, told-none is_opened any_done (Agreed ack ∷ []) (none-opened ack) (channel_of new) [] (h.moves.taken ++ k.moves.taken) fault.Ended i),
+              )
+          by fault.TooLong g ack i =
+              inr (
+                both-sent g,
+                (ack, told-none is_opened any_done (Agreed ack ∷ []) (none-opened ack) (channel_of new) [] (h.moves.taken ++ k.moves.taken) fault.TooLong i),
+              )
+          by (fault.Peer code) g ack i =
+              inr (
+                both-sent g,
+                (
+                  ack,
+                  told-none is_opened any_done (Agreed ack ∷ []) (none-opened ack) (channel_of new) [] (h.moves.taken ++ k.moves.taken)
+                      (fault.Peer code) i,
+                ),
+              )
+          by (fault.Refused code) g ack i =
+              inr (
+                both-sent g,
+                (
+                  ack,
+                  told-none is_opened any_done (Agreed ack ∷ []) (none-opened ack) (channel_of new) [] (h.moves.taken ++ k.moves.taken)
+                      (fault.Refused code) i,
+                ),
+              )
+          by fault.OutOfMemory g ack i =
+              inr (inr (
+                both-sent g,
+                (
+                  ack,
+                  told-none is_opened any_done (Agreed ack ∷ []) (none-opened ack) (channel_of new) [] (h.moves.taken ++ k.moves.taken) fault.OutOfMemory
+                      i,
+                ),
+              ))
           by fault.Write g ack i = absurd i
           by fault.UnknownResponse g ack i = absurd i
           by (fault.Service code) g ack i = absurd i
@@ -457,7 +530,8 @@ module _ (moment : DateTime) (x mid : Connection) (hello : List ℕ) (a b c : Op
           by fault.TooManyTokens g ack i = absurd i
           by fault.Closed g ack i = absurd i
 
-          stops : (y : ClientFault) → StopsAt {A = Unit {0}} left less k.moves.got new e (Err y) → StopsAt {A = Unit {0}} most_reads most_reads (h.moves.got ++ k.moves.got) new e (Err y)
+          stops : (y : ClientFault) → StopsAt {A = Unit {0}} left less k.moves.got new e (Err y)
+              → StopsAt {A = Unit {0}} most_reads most_reads (h.moves.got ++ k.moves.got) new e (Err y)
           stops fault.TooLong i = (i.0, let l = length-append h.moves.got k.moves.got in let s = h.stops in let few = i.1 in omega (arith, l, s, few))
           stops fault.Ended i = i
           stops fault.Read i = i
@@ -484,13 +558,16 @@ pub fresh-goes : (x : ClientChannel) → ClientStands x [] [] [] [] → ClientGo
 unfolding each_after
 fresh-goes x s = record { frames = []; rest = []; stands = s; told_is = refl }
 
-pub opens-as : {A B : Type 0} (moment : DateTime) (old new : Connection) (before after : Option Traffic) (done : A) (found : B) → Opens moment old new before after (Ok done) → Opens moment old new before after (Ok found)
+pub opens-as : {A B : Type 0} (moment : DateTime) (old new : Connection) (before after : Option Traffic) (done : A) (found : B)
+    → Opens moment old new before after (Ok done) → Opens moment old new before after (Ok found)
 opens-as moment old new before after done found h = record { sent = h.sent; moves = h.moves; keeps = h.keeps; answers = h.answers; stops = h.stops }
 
-pub breaks-as : {A B : Type 0} (moment : DateTime) (old new : Connection) (before after : Option Traffic) (f : ClientFault) → Opens {A = A} moment old new before after (Err f) → Opens {A = B} moment old new before after (Err f)
+pub breaks-as : {A B : Type 0} (moment : DateTime) (old new : Connection) (before after : Option Traffic) (f : ClientFault)
+    → Opens {A = A} moment old new before after (Err f) → Opens {A = B} moment old new before after (Err f)
 breaks-as {A} {B} moment old new before after f h = record { sent = h.sent; moves = h.moves; keeps = h.keeps; answers = h.answers; stops = stops f h.stops }
   where
-    stops : (y : ClientFault) → StopsAt {A = A} most_reads most_reads h.moves.got new after (Err y) → StopsAt {A = B} most_reads most_reads h.moves.got new after (Err y)
+    stops : (y : ClientFault) → StopsAt {A = A} most_reads most_reads h.moves.got new after (Err y)
+        → StopsAt {A = B} most_reads most_reads h.moves.got new after (Err y)
     stops fault.TooLong i = i
     stops fault.Ended i = i
     stops fault.Read i = i

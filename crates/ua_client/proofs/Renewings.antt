@@ -1,5 +1,6 @@
 -- How the token of a channel is renewed.
-use Rattle.std.specs.Prelude.{◌≡◌, ◌⊎◌, ℕ, ◌<◌, ◌+◌, ◌≤◌, nat_le, Bool, true, false, is_some, List, [], ◌∷◌, ◌++◌, length, Option, Some, None, Result, Ok, Err, IfErr}
+use Rattle.std.specs.Prelude.{◌≡◌, ◌⊎◌, ℕ, ◌<◌, ◌+◌, ◌≤◌, nat_le, Bool, true, false, is_some, List}
+use Rattle.std.specs.Prelude.{[], ◌∷◌, ◌++◌, length, Option, Some, None, Result, Ok, Err, IfErr}
 use Rattle.std.proofs.Common.{refl, sym, ◌∙◌, ap, subst, inl, inr, append_assoc, arith}
 use Rattle.std.proofs.Math.Logic.{∥∥₁_elim}
 use Rattle.std.proofs.lemmas.List.{length-append}
@@ -13,7 +14,8 @@ use Rattle.ua_chunk.specs.Sequence.{next_number}
 use Rattle.ua_chunk.specs.declared.lane.Lane.{Lane}
 use Rattle.ua_channel.specs.Asks.{Asking, Placed, asked_in, calls, next_id, pending_renewals, renewals}
 use Rattle.ua_channel.specs.Asks.Asking.{Renewal}
-use Rattle.ua_channel.specs.Client.{ClientGoes, ClientGoesTelling, HasNoChannel, InPhase, IsNotOpen, IsRenewal, SameClient, SendsRenewal, ClientStands, client_limits, client_next, phase_of, renew_refusal, renewal_refused}
+use Rattle.ua_channel.specs.Client.{ClientGoes, ClientGoesTelling, HasNoChannel, InPhase, IsNotOpen, IsRenewal, SameClient}
+use Rattle.ua_channel.specs.Client.{SendsRenewal, ClientStands, client_limits, client_next, phase_of, renew_refusal, renewal_refused}
 use Rattle.ua_channel.specs.ClientAsks.{IsFor, most_tokens, no_id}
 use Rattle.ua_channel.specs.ClientSends.{renewal_frame}
 use Rattle.ua_channel.specs.ClientTokens.{held_tokens, opened_ids}
@@ -34,7 +36,8 @@ use Rattle.ua_channel_laws.proofs.ClientReadings.{stands_once}
 use Rattle.ua_client.specs.Carried.{Carries, IsPart, WritesFront}
 use Rattle.ua_client.specs.Hearing.{channel_of, is_hearing_fault, untaken_of, most_reads, Keeps, MovesConnection, StopsAt}
 use Rattle.ua_client.specs.Opening.{is_opened, any_done, GoesUntil, IsOpened, WaitsAt, Waits}
-use Rattle.ua_client.specs.Renewing.{is_renewed, IsIdle, IsSettled, IsRefusal, StandsSettled, renewal_refusal, refused_by, of_renew_fault, renewal_at, asks_renewed, IsRenewed, RenewsAt, Renews}
+use Rattle.ua_client.specs.Renewing.{is_renewed, IsIdle, IsSettled, IsRefusal, StandsSettled, renewal_refusal}
+use Rattle.ua_client.specs.Renewing.{refused_by, of_renew_fault, renewal_at, asks_renewed, IsRenewed, RenewsAt, Renews}
 use Rattle.ua_client.specs.ClientPlace.{ClientPlace, StandsAt, id_at, lane_behind}
 use Rattle.ua_client.specs.declared.connection.Connection.{Connection}
 use Rattle.ua_client.specs.declared.fault.ClientFault.{ClientFault}
@@ -97,32 +100,40 @@ not-some : {A : Type 0} (o : Option A) → listed o ≡ [] → is_some o ≡ fal
 not-some None h = refl
 not-some (Some x) h = absurd cc
 
-judging-in : (limits : Limits) (p : Phase) (before : Received) (asked : List Asking) → InPhase limits p before asked → (IsNotOpen p → ⊥) → pending_renewals (opened_ids before.openings) asked ≡ []
+judging-in : (limits : Limits) (p : Phase) (before : Received) (asked : List Asking) → InPhase limits p before asked → (IsNotOpen p → ⊥)
+    → pending_renewals (opened_ids before.openings) asked ≡ []
     → renew_refusal p ≡ asked-reasons (nat_le most_tokens (length (held_tokens before))) (nat_le no_id (next_id asked))
 judging-in limits phase.Waiting before asked h some none = absurd (some tt)
 judging-in limits (phase.Agreed a) before asked h some none = absurd (some tt)
 judging-in limits (phase.Open t) before asked h some none =
-    ap (λ (b : Bool). first_reason ((ask_fault.RenewPending, b) ∷ (ask_fault.TooManyTokens, nat_le most_tokens (length t.tokens.items)) ∷ (ask_fault.Exhausted, nat_le no_id t.next) ∷ [])) (not-some t.renewal (h.renewal_is ∙ none))
+    ap (λ (b : Bool).
+    first_reason ((ask_fault.RenewPending, b) ∷ (ask_fault.TooManyTokens, nat_le most_tokens (length t.tokens.items))
+    ∷ (ask_fault.Exhausted, nat_le no_id t.next) ∷ [])) (not-some t.renewal (h.renewal_is ∙ none))
     ∙ (ap (λ (ns : List ℕ). asked-reasons (nat_le most_tokens (length ns)) (nat_le no_id t.next)) h.tokens_are
     ∙ ap (λ (n : ℕ). asked-reasons (nat_le most_tokens (length (held_tokens before))) (nat_le no_id n)) h.next_is)
 judging-in limits phase.Done before asked h some none = absurd (some tt)
 
 -- why the channel refuses, by where the client stands
-channel-refuses : (x : ClientChannel) (s : ClientPlace) → StandsAt x s → IsIdle x s → renewal_refused x ≡ asked-reasons (nat_le most_tokens (length (held_tokens s.before))) (nat_le no_id (id_at s))
+channel-refuses : (x : ClientChannel) (s : ClientPlace) → StandsAt x s → IsIdle x s
+    → renewal_refused x ≡ asked-reasons (nat_le most_tokens (length (held_tokens s.before))) (nat_le no_id (id_at s))
 channel-refuses x s at idle = judging-in (client_limits x) (phase_of x) s.before (asked_in s.asks) (phase-there x s at) idle.opened idle.renewals_answered
 
-newest-in : (limits : Limits) (p : Phase) (before : Received) (asked : List Asking) → InPhase limits p before asked → (IsNotOpen p → ⊥) → (k : ℕ) × (latest (held_tokens before) ≡ Some k)
+newest-in : (limits : Limits) (p : Phase) (before : Received) (asked : List Asking) → InPhase limits p before asked → (IsNotOpen p → ⊥)
+    → (k : ℕ) × (latest (held_tokens before) ≡ Some k)
 newest-in limits phase.Waiting before asked h some = absurd (some tt)
 newest-in limits (phase.Agreed a) before asked h some = absurd (some tt)
 newest-in limits (phase.Open t) before asked h some = (t.newest, h.newest_is)
 newest-in limits phase.Done before asked h some = absurd (some tt)
 
 -- a further token that was told last is the newest
-newest-at : (x : ClientChannel) (s : ClientPlace) (at : StandsAt x s) → (HasNoChannel x → ⊥) → (told : List ClientTold) (token : ℕ) → ClientGoesTelling x s.asks s.octets told (Renewed token) → latest (held_tokens s.before) ≡ Some token
+newest-at : (x : ClientChannel) (s : ClientPlace) (at : StandsAt x s) → (HasNoChannel x → ⊥) → (told : List ClientTold) (token : ℕ)
+    → ClientGoesTelling x s.asks s.octets told (Renewed token) → latest (held_tokens s.before) ≡ Some token
 newest-at x s at opened told token g =
     let found = newest-in (client_limits x) (phase_of x) (received at.goes.frames) (asked_in s.asks) at.goes.stands.phase_is opened in
-    let frames : at.goes.frames ≡ g.frames ++ g.frame ∷ [] = (stands_once x s.asks s.octets at.goes.frames (g.frames ++ g.frame ∷ []) at.goes.rest [] at.goes.stands g.stands).0 in
-    let same : found.0 ≡ token = newest-renewed g.frames g.frame token found.0 g.tells (ap (λ (fs : List Frame). latest (held_tokens (received fs))) (sym frames) ∙ found.1) in
+    let frames : at.goes.frames ≡ g.frames ++ g.frame ∷ [] =
+    (stands_once x s.asks s.octets at.goes.frames (g.frames ++ g.frame ∷ []) at.goes.rest [] at.goes.stands g.stands).0 in
+    let same : found.0 ≡ token = newest-renewed g.frames g.frame token found.0 g.tells
+    (ap (λ (fs : List Frame). latest (held_tokens (received fs))) (sym frames) ∙ found.1) in
     ap (λ (b : Received). latest (held_tokens b)) (sym at.before_is) ∙ (found.1 ∙ ap (λ (k : ℕ). Some k) same)
 
 nothing-refused : (many used : Bool) → asked-reasons many used ≡ None → site-reasons many used ≡ None
@@ -160,7 +171,8 @@ module _ (A : Type 0) (s : ClientPlace) (moment : DateTime) (new : ClientChannel
   refuses-at : (x : ClientChannel) → StandsAt x s → IsIdle x s → (f : AskFault) → IsFor (renewal_refused x) f → Refuses (renewal_refusal s) f
   refuses-at x at idle f h =
       refuses-by (nat_le most_tokens (length (held_tokens s.before))) (nat_le no_id (id_at s)) f
-      (either-for f (asked-reasons (nat_le most_tokens (length (held_tokens s.before))) (nat_le no_id (id_at s))) (subst (λ (r : Option AskFault). IsFor r f) (channel-refuses x s at idle) h))
+      (either-for f (asked-reasons (nat_le most_tokens (length (held_tokens s.before))) (nat_le no_id (id_at s)))
+      (subst (λ (r : Option AskFault). IsFor r f) (channel-refuses x s at idle) h))
 
 -- a refusal does not stop what is read
 refusal-stops : (A : Type 0) (f : AskFault) (x : Connection) (t : Option Traffic) → StopsAt {A = A} most_reads most_reads [] x t (Err (of_renew_fault f))
@@ -178,7 +190,11 @@ pub renews-refused : {A : Type 0} (moment : DateTime) (x y : Connection) (t : Op
 renews-refused {A} moment x y t f same h idle = record {
   sent = [];
   moves = moves-writing x y [] t t (ap untaken_of same) (carried-nothing t);
-  same = record { limits = ap (λ (z : Connection). client_limits (channel_of z)) (sym same); url = ap (λ (z : Connection). (channel_of z).address.url) (sym same) };
+  same = record {
+    limits = ap (λ (z : Connection). client_limits (channel_of z)) (sym same);
+    url = ap (λ (z : Connection). (channel_of z).address.url)
+        (sym same);
+  };
   judged = λ s at. (refuses-at A s moment (channel_of y) (channel_of x) at (idle s at) f h).0;
   answers = λ s at. (refuses-at A s moment (channel_of y) (channel_of x) at (idle s at) f h).1;
   stops = refusal-stops A f y t;
@@ -190,14 +206,16 @@ renews-refused {A} moment x y t f same h idle = record {
 pub record Asks (moment : DateTime) (old new : ClientChannel) (id : ℕ) (out : List ℕ) : Type 0 where
   pub refused : renewal_refused old ≡ None
   pub sends : SendsRenewal old (client_next old) moment id out (client_next new)
-  pub stands : (asks : List Placed) (octets : List ℕ) (frames : List Frame) (rest : List ℕ) → ClientStands old asks octets frames rest → ClientStands new (asks ++ (length octets, Renewal id) ∷ []) octets frames rest
+  pub stands : (asks : List Placed) (octets : List ℕ) (frames : List Frame) (rest : List ℕ) → ClientStands old asks octets frames rest
+      → ClientStands new (asks ++ (length octets, Renewal id) ∷ []) octets frames rest
   pub same : SameClient old new
 
 -- the same, where what is sent is named in another way
 pub asks-as : (moment : DateTime) (old new : ClientChannel) (id : ℕ) (out sent : List ℕ) → sent ≡ out → Asks moment old new id out → Asks moment old new id sent
 asks-as moment old new id out sent same h = subst (λ (o : List ℕ). Asks moment old new id o) (sym same) h
 
-asking-in : (limits : Limits) (p : Phase) (before : Received) (asked : List Asking) (number : ℕ) (moment : DateTime) (id : ℕ) (out : List ℕ) (next : ℕ) → InPhase limits p before asked → IsRenewal p number moment id out next
+asking-in : (limits : Limits) (p : Phase) (before : Received) (asked : List Asking) (number : ℕ) (moment : DateTime) (id : ℕ) (out : List ℕ) (next : ℕ)
+    → InPhase limits p before asked → IsRenewal p number moment id out next
     → (id ≡ next_id asked) × (out ≡ renewal_by (lane_behind before) number (next_id asked) moment) × (next ≡ next_number number)
 asking-in limits phase.Waiting before asked number moment id out next h c = absurd c
 asking-in limits (phase.Agreed a) before asked number moment id out next h c = absurd c
@@ -211,8 +229,10 @@ asking-in limits (phase.Open t) before asked number moment id out next h c = (
 asking-in limits phase.Done before asked number moment id out next h c = absurd c
 
 module _ (moment : DateTime) (x y : ClientChannel) (id : ℕ) (out : List ℕ) (asked : Asks moment x y id out) (s : ClientPlace) (at : StandsAt x s) where
-  abbrev asking : (id ≡ id_at s) × (out ≡ renewal_by (lane_behind (received at.goes.frames)) (client_next x) (id_at s) moment) × (client_next y ≡ next_number (client_next x))
-  asking = asking-in (client_limits x) (phase_of x) (received at.goes.frames) (asked_in s.asks) (client_next x) moment id out (client_next y) at.goes.stands.phase_is asked.sends
+  abbrev asking : (id ≡ id_at s) × (out ≡ renewal_by (lane_behind (received at.goes.frames)) (client_next x) (id_at s) moment)
+      × (client_next y ≡ next_number (client_next x))
+  asking = asking-in (client_limits x) (phase_of x) (received at.goes.frames) (asked_in s.asks) (client_next x) moment id out
+      (client_next y) at.goes.stands.phase_is asked.sends
 
   pub out-is : out ≡ renewal_at s moment
   out-is =
@@ -227,7 +247,8 @@ module _ (moment : DateTime) (x y : ClientChannel) (id : ℕ) (out : List ℕ) (
   goes-asked = record {
     frames = at.goes.frames;
     rest = at.goes.rest;
-    stands = subst (λ (n : ℕ). ClientStands y (s.asks ++ (length s.octets, Renewal n) ∷ []) s.octets at.goes.frames at.goes.rest) asking.0 (asked.stands s.asks s.octets at.goes.frames at.goes.rest at.goes.stands);
+    stands = subst (λ (n : ℕ). ClientStands y (s.asks ++ (length s.octets, Renewal n) ∷ []) s.octets at.goes.frames at.goes.rest) asking.0
+        (asked.stands s.asks s.octets at.goes.frames at.goes.rest at.goes.stands);
     told_is = at.goes.told_is;
   }
 
@@ -248,13 +269,15 @@ settled-more s heard token before octets number h =
     let few : length (renewals (asked_in s.asks)) ≤ tokens-told s.told = h.renewed in
     record {
       opened = any-left is_opened s.told (heard ++ Renewed token ∷ []) h.opened;
-      answered = told-renewed (s.told ++ (heard ++ Renewed token ∷ [])) s.asks (length s.octets) (id_at s) (told-longer s.told (heard ++ Renewed token ∷ []) (calls (asked_in s.asks)) h.answered);
+      answered = told-renewed (s.told ++ (heard ++ Renewed token ∷ [])) s.asks (length s.octets) (id_at s)
+          (told-longer s.told (heard ++ Renewed token ∷ []) (calls (asked_in s.asks)) h.answered);
       renewed = omega (arith, asked, told, more, few);
     }
 
 -- ---- what comes of it
 
-module _ (moment : DateTime) (x mid new : Connection) (id : ℕ) (out : List ℕ) (asked : Asks moment (channel_of x) (channel_of mid) id out) (untaken : untaken_of mid ≡ untaken_of x) (a b c : Option Traffic)
+module _ (moment : DateTime) (x mid new : Connection) (id : ℕ) (out : List ℕ) (asked : Asks moment (channel_of x) (channel_of mid) id out)
+    (untaken : untaken_of mid ≡ untaken_of x) (a b c : Option Traffic)
     (stands : StandsSettled (channel_of x)) (idle : (s : ClientPlace) → StandsAt (channel_of x) s → IsIdle (channel_of x) s) where
   -- the OPN was not written whole
   pub renews-unwritten : {A : Type 0} → new ≡ mid → 0 < length out → IfTrafficKnown (WritesFront out) a c → Renews {A = A} moment x new a c (Err fault.Write)
@@ -277,20 +300,29 @@ module _ (moment : DateTime) (x mid new : Connection) (id : ℕ) (out : List ℕ
     same-behind k = record { limits = asked.same.limits ∙ k.same.limits; url = asked.same.url ∙ k.same.url }
 
     -- where a further token came
-    module _ (taken : List ℕ) (k : Keeps mid new) (s : ClientPlace) (at : StandsAt (channel_of x) s) (u : GoesUntil is_renewed (channel_of new) (asks_renewed s) (s.octets ++ taken) s.told) where
+    module _ (taken : List ℕ) (k : Keeps mid new) (s : ClientPlace) (at : StandsAt (channel_of x) s)
+        (u : GoesUntil is_renewed (channel_of new) (asks_renewed s) (s.octets ++ taken) s.told) where
       token-told : (token : ℕ) × (u.last ≡ Renewed token)
       token-told = the-token u.last u.is_wanted
 
       tells-token : ClientGoesTelling (channel_of new) (asks_renewed s) (s.octets ++ taken) (s.told ++ u.heard) (Renewed token-told.0)
-      tells-token = subst (λ (e : ClientTold). ClientGoesTelling (channel_of new) (asks_renewed s) (s.octets ++ taken) (s.told ++ u.heard) e) token-told.1 u.tells
+      tells-token = subst (λ (e : ClientTold). ClientGoesTelling (channel_of new) (asks_renewed s) (s.octets ++ taken) (s.told ++ u.heard) e) token-told.1
+          u.tells
 
       goes-behind : ClientGoes (channel_of new) (asks_renewed s) (s.octets ++ taken) (s.told ++ (u.heard ++ Renewed token-told.0 ∷ []))
       goes-behind =
-          subst (λ (all : List ClientTold). ClientGoes (channel_of new) (asks_renewed s) (s.octets ++ taken) all) (append_assoc s.told u.heard (Renewed token-told.0 ∷ []))
+          subst (λ (all : List ClientTold). ClientGoes (channel_of new) (asks_renewed s) (s.octets ++ taken) all)
+          (append_assoc s.told u.heard (Renewed token-told.0 ∷ []))
           (goes_on (channel_of new) (asks_renewed s) (s.octets ++ taken) (s.told ++ u.heard) (Renewed token-told.0) tells-token)
 
       abbrev behind : ClientPlace
-      behind = record { asks = asks_renewed s; octets = s.octets ++ taken; before = received goes-behind.frames; told = s.told ++ (u.heard ++ Renewed token-told.0 ∷ []); number = next_number s.number }
+      behind = record {
+        asks = asks_renewed s;
+        octets = s.octets ++ taken;
+        before = received goes-behind.frames;
+        told = s.told ++ (u.heard ++ Renewed token-told.0 ∷ []);
+        number = next_number s.number;
+      }
 
       at-behind : StandsAt (channel_of new) behind
       at-behind = record { goes = goes-behind; before_is = refl; number_is = k.next ∙ next-is moment (channel_of x) (channel_of mid) id out asked s at }
@@ -331,7 +363,8 @@ module _ (moment : DateTime) (x mid new : Connection) (id : ℕ) (out : List ℕ
 
         opened : HasNoChannel (channel_of new) → ⊥
         opened n = ∥∥₁_elim stands ⊥_prop (λ (w : (s : ClientPlace) × StandsAt (channel_of x) s × IsSettled s).
-            is-open (channel_of new) (behind h.moves.taken h.keeps w.0 w.1 (until w.0 w.1)) (at-behind h.moves.taken h.keeps w.0 w.1 (until w.0 w.1)) (settled-behind h.moves.taken h.keeps w.0 w.1 (until w.0 w.1) w.2) n)
+            is-open (channel_of new) (behind h.moves.taken h.keeps w.0 w.1 (until w.0 w.1)) (at-behind h.moves.taken h.keeps w.0 w.1 (until w.0 w.1))
+            (settled-behind h.moves.taken h.keeps w.0 w.1 (until w.0 w.1) w.2) n)
     renews-last (Err f) h = record {
       sent = out;
       moves = sent-from h.moves;
@@ -345,7 +378,8 @@ module _ (moment : DateTime) (x mid new : Connection) (id : ℕ) (out : List ℕ
       stops = stops f h.stops;
     }
       where
-        unrefused : (y : ClientFault) (s : ClientPlace) (taken : List ℕ) → WaitsAt is_renewed any_done (Err y) (channel_of new) (asks_renewed s) (s.octets ++ taken) s.told → refused_by {A = Unit {0}} (Err y) ≡ None
+        unrefused : (y : ClientFault) (s : ClientPlace) (taken : List ℕ)
+            → WaitsAt is_renewed any_done (Err y) (channel_of new) (asks_renewed s) (s.octets ++ taken) s.told → refused_by {A = Unit {0}} (Err y) ≡ None
         unrefused fault.Read s taken k = refl
         unrefused fault.Ended s taken k = refl
         unrefused fault.TooLong s taken k = refl
@@ -361,7 +395,8 @@ module _ (moment : DateTime) (x mid new : Connection) (id : ℕ) (out : List ℕ
         unrefused fault.TooManyTokens s taken k = absurd k
         unrefused fault.Closed s taken k = refl
 
-        by : (y : ClientFault) (s : ClientPlace) (taken : List ℕ) → out ≡ renewal_at s moment → WaitsAt is_renewed any_done (Err y) (channel_of new) (asks_renewed s) (s.octets ++ taken) s.told
+        by : (y : ClientFault) (s : ClientPlace) (taken : List ℕ) → out ≡ renewal_at s moment
+            → WaitsAt is_renewed any_done (Err y) (channel_of new) (asks_renewed s) (s.octets ++ taken) s.told
             → RenewsAt {A = Unit {0}} s moment (channel_of new) out taken (Err y)
         by fault.Read s taken e k = (e, k)
         by fault.Ended s taken e k = (e, k)
@@ -378,7 +413,8 @@ module _ (moment : DateTime) (x mid new : Connection) (id : ℕ) (out : List ℕ
         by fault.TooManyTokens s taken e k = absurd k
         by fault.Closed s taken e k = absurd k
 
-        stops : (y : ClientFault) → StopsAt {A = Unit {0}} most_reads left h.moves.got new c (Err y) → StopsAt {A = Unit {0}} most_reads most_reads h.moves.got new c (Err y)
+        stops : (y : ClientFault) → StopsAt {A = Unit {0}} most_reads left h.moves.got new c (Err y)
+            → StopsAt {A = Unit {0}} most_reads most_reads h.moves.got new c (Err y)
         stops fault.TooLong k = k
         stops fault.Ended k = k
         stops fault.Read k = k
@@ -422,7 +458,8 @@ none-called : (told : List ClientTold) → AreTold told (calls (asked_in []))
 unfolding calls asked_in
 none-called told = tt
 
-pub opened-settled : GoesOnBehind → (x : ClientChannel) (octets : List ℕ) → IsOpened x octets → (s : ClientPlace) × (s.octets ≡ octets) × (s.asks ≡ []) × StandsAt x s × IsSettled s
+pub opened-settled : GoesOnBehind → (x : ClientChannel) (octets : List ℕ) → IsOpened x octets → (s : ClientPlace) × (s.octets ≡ octets) × (s.asks ≡ [])
+    × StandsAt x s × IsSettled s
 opened-settled goes_on x octets h =
     let goes = goes_on x [] octets (Agreed h.ack ∷ []) (Opened h.channel h.token) h.tells in (
       record { asks = []; octets = octets; before = received goes.frames; told = Agreed h.ack ∷ Opened h.channel h.token ∷ []; number = client_next x },

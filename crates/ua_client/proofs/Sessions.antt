@@ -1,5 +1,6 @@
 -- How a session begins: one service, and another behind it.
-use Rattle.std.specs.Prelude.{◌≡◌, ℕ, Bool, true, false, nat_le, not, IsFalse, Some, ◌+◌, ◌≤◌, List, [], ◌∷◌, ◌++◌, length, Option, None, Result, Ok, Err, IfOk, IfErr}
+use Rattle.std.specs.Prelude.{◌≡◌, ℕ, Bool, true, false, nat_le, not, IsFalse, Some, ◌+◌, ◌≤◌, List}
+use Rattle.std.specs.Prelude.{[], ◌∷◌, ◌++◌, length, Option, None, Result, Ok, Err, IfOk, IfErr}
 use Rattle.std.proofs.Common.{refl, sym, ◌∙◌, ap, subst, arith, inl, inr}
 use Rattle.std.proofs.Math.Logic.{∥∥₁_map}
 use Rattle.std.proofs.lemmas.List.{length-append}
@@ -25,7 +26,9 @@ use Rattle.ua_channel.specs.declared.client.channel.ClientChannel.{ClientChannel
 use Rattle.ua_client.specs.Calls.{Answered, BreaksAt}
 use Rattle.ua_client.specs.Kept.{CallsGroup, GroupAt}
 use Rattle.ua_client.specs.Hearing.{channel_of, most_reads, StopsAt}
-use Rattle.ua_client.specs.Session.{ActivatesBehind, BeginsAt, BeginsSessionAs, CallsOneAt, DoesIdle, FailsAt, IsFailure, IsReplied, LacksToken, MakesRequest, Replies, ServesAt, TriesSession, activating_at, brings_any, brings_token, creating_at, is_reply, reply_failure, session_alone, token_in}
+use Rattle.ua_client.specs.Session.{ActivatesBehind, BeginsAt, BeginsSessionAs, CallsOneAt, DoesIdle, FailsAt, IsFailure}
+use Rattle.ua_client.specs.Session.{IsReplied, LacksToken, MakesRequest, Replies, ServesAt, TriesSession, activating_at}
+use Rattle.ua_client.specs.Session.{brings_any, brings_token, creating_at, is_reply, reply_failure, session_alone, token_in}
 use Rattle.ua_client.specs.Renewing.{IsIdle, IsSettled, StandsSettled}
 use Rattle.ua_client.specs.ClientPlace.{ClientPlace, StandsAt, id_at}
 use Rattle.ua_client.specs.declared.connection.Connection.{Connection}
@@ -43,9 +46,11 @@ use Rattle.ua_client.proofs.Settled.{answered-settled}
 -- ---- reads, one call behind another
 
 -- a fault behind a call that spent so many reads
-stops-then : (A B : Type 0) (reads left less more : ℕ) (got further : List ℕ) (new : Connection) (after : Option Traffic) (f : ClientFault) → reads ≤ left + length got
+stops-then : (A B : Type 0) (reads left less more : ℕ) (got further : List ℕ) (new : Connection) (after : Option Traffic) (f : ClientFault)
+    → reads ≤ left + length got
     → StopsAt {A = A} left less further new after (Err f) → StopsAt {A = B} reads more (got ++ further) new after (Err f)
-stops-then A B reads left less more got further new after fault.TooLong spent h = (h.0, let l = length-append got further in let few = h.1 in omega (arith, l, spent, few))
+stops-then A B reads left less more got further new after fault.TooLong spent h =
+    (h.0, let l = length-append got further in let few = h.1 in omega (arith, l, spent, few))
 stops-then A B reads left less more got further new after fault.Ended spent h = h
 stops-then A B reads left less more got further new after fault.Read spent h = h
 stops-then A B reads left less more got further new after fault.Write spent h = tt
@@ -66,18 +71,21 @@ stops-as A B reads left more got new after f h = stops-then A B reads reads left
 
 -- ---- one request
 
-pub one-replied : (request : Request) (requests : List Request) (old new : Connection) (before after : Option Traffic) (reads left : ℕ) (had have : List Reply) (reply : Reply)
+pub one-replied : (request : Request) (requests : List Request) (old new : Connection) (before after : Option Traffic) (reads left : ℕ) (had have : List Reply)
+    (reply : Reply)
     → requests ≡ request ∷ [] → had ≡ [] → have ≡ reply ∷ [] → CallsGroup {A = Unit {0}} requests old new before after reads left (Ok tt) had have
     → DoesIdle {A = Reply} (λ s sent taken. CallsOneAt request s new sent taken (Ok reply)) old new before after reads left (Ok reply)
 one-replied request requests old new before after reads left had have reply e none one g = record {
   sent = g.sent;
   moves = g.moves;
   same = g.same;
-  answers = λ s at idle. replied s (subst (λ (ms : List Request). GroupAt {A = Unit {0}} ms s new g.sent g.moves.taken (Ok tt) g.added) e (g.answers s at idle));
+  answers = λ s at idle.
+      replied s (subst (λ (ms : List Request). GroupAt {A = Unit {0}} ms s new g.sent g.moves.taken (Ok tt) g.added) e (g.answers s at idle));
   stops = g.stops;
 }
   where
-    replied : (s : ClientPlace) → GroupAt {A = Unit {0}} (request ∷ []) s new g.sent g.moves.taken (Ok tt) g.added → Replies request s (channel_of new) g.sent g.moves.taken (is_reply reply)
+    replied : (s : ClientPlace) → GroupAt {A = Unit {0}} (request ∷ []) s new g.sent g.moves.taken (Ok tt) g.added
+        → Replies request s (channel_of new) g.sent g.moves.taken (is_reply reply)
     replied s a =
         let alone : g.added ≡ reply ∷ [] = sym (sym one ∙ (g.have_is ∙ ap (λ (rs : List Reply). rs ++ g.added) none)) in
         record {
@@ -85,11 +93,13 @@ one-replied request requests old new before after reads left had have reply e no
           at = a.1.1;
           settled = λ settled. answered-settled (request ∷ []) s a.1.0 g.moves.taken g.added settled a.1.3;
           reply = reply;
-          replied = record { sent_is = a.0; came = a.1.2; answered = subst (λ (rs : List Reply). Answered (request ∷ []) s a.1.0 g.moves.taken rs) alone a.1.3 };
+          replied =
+              record { sent_is = a.0; came = a.1.2; answered = subst (λ (rs : List Reply). Answered (request ∷ []) s a.1.0 g.moves.taken rs) alone a.1.3 };
           says = refl;
         }
 
-pub one-broken : (request : Request) (requests : List Request) (old new : Connection) (before after : Option Traffic) (reads left : ℕ) (had have : List Reply) (c : CallsFault)
+pub one-broken : (request : Request) (requests : List Request) (old new : Connection) (before after : Option Traffic) (reads left : ℕ) (had have : List Reply)
+    (c : CallsFault)
     → requests ≡ request ∷ [] → CallsGroup {A = Unit {0}} requests old new before after reads left (Err c) had have
     → DoesIdle {A = Reply} (λ s sent taken. CallsOneAt request s new sent taken (Err c.fault)) old new before after reads left (Err c.fault)
 one-broken request requests old new before after reads left had have c e g = record {
@@ -121,7 +131,8 @@ broken request brings s new sent taken fault.TooLong h = h
 broken request brings s new sent taken fault.TooManyTokens h = h
 
 -- a fault is the same whatever a reply would have brought
-faulted : {A B : Type 0} (request : Request) (brings : A → Reply → Type 0) (other : B → Reply → Type 0) (s : ClientPlace) (new : Connection) (sent taken : List ℕ) (f : ClientFault)
+faulted : {A B : Type 0} (request : Request) (brings : A → Reply → Type 0) (other : B → Reply → Type 0) (s : ClientPlace) (new : Connection)
+    (sent taken : List ℕ) (f : ClientFault)
     → ServesAt {A = A} request brings s new sent taken (Err f) → ServesAt {A = B} request other s new sent taken (Err f)
 faulted request brings other s new sent taken fault.Read h = h
 faulted request brings other s new sent taken fault.Write h = h
@@ -139,7 +150,8 @@ faulted request brings other s new sent taken fault.TooLong h = h
 faulted request brings other s new sent taken fault.TooManyTokens h = h
 
 module _ (request : Request) (old new : Connection) (before after : Option Traffic) (reads left : ℕ) where
-  pub serves-broken : (f : ClientFault) → DoesIdle {A = Reply} (λ s sent taken. CallsOneAt request s new sent taken (Err f)) old new before after reads left (Err f)
+  pub serves-broken : (f : ClientFault) → DoesIdle {A = Reply} (λ s sent taken. CallsOneAt request s new sent taken (Err f)) old new before after reads left
+      (Err f)
       → DoesIdle {A = Reply} (λ s sent taken. ServesAt request is_reply s new sent taken (Err f)) old new before after reads left (Err f)
   serves-broken f d = record {
     sent = d.sent;
@@ -150,7 +162,8 @@ module _ (request : Request) (old new : Connection) (before after : Option Traff
   }
 
   -- the reply is judged
-  pub serves-judged : (reply : Reply) (result : Result Reply ClientFault) → DoesIdle {A = Reply} (λ s sent taken. CallsOneAt request s new sent taken (Ok reply)) old new before after reads left (Ok reply)
+  pub serves-judged : (reply : Reply) (result : Result Reply ClientFault)
+      → DoesIdle {A = Reply} (λ s sent taken. CallsOneAt request s new sent taken (Ok reply)) old new before after reads left (Ok reply)
       → IfOk result (λ r. (r ≡ reply) × (reply_failure reply ≡ None)) → IfErr result (λ f. IsFailure reply f)
       → DoesIdle {A = Reply} (λ s sent taken. ServesAt request is_reply s new sent taken result) old new before after reads left result
   serves-judged reply (Ok r) d good bad = record {
@@ -159,11 +172,19 @@ module _ (request : Request) (old new : Connection) (before after : Option Traff
     same = d.same;
     answers = λ s at idle.
         let a = d.answers s at idle in
-        record { behind = a.behind; at = a.at; settled = a.settled; reply = a.reply; replied = a.replied; says = (sym (ap reply_failure a.says) ∙ good.1, good.0 ∙ a.says) };
+        record {
+          behind = a.behind;
+          at = a.at;
+          settled = a.settled;
+          reply = a.reply;
+          replied = a.replied;
+          says = (sym (ap reply_failure a.says) ∙ good.1, good.0 ∙ a.says);
+        };
     stops = d.stops;
   }
   serves-judged reply (Err f) d good bad =
-      subst (λ (x : ClientFault). DoesIdle {A = Reply} (λ s sent taken. ServesAt request is_reply s new sent taken (Err x)) old new before after reads left (Err x)) (sym bad.1) (record {
+      subst (λ (x : ClientFault). DoesIdle {A = Reply} (λ s sent taken. ServesAt request is_reply s new sent taken (Err x)) old new before after reads left
+      (Err x)) (sym bad.1) (record {
         sent = d.sent;
         moves = d.moves;
         same = d.same;
@@ -184,7 +205,8 @@ module _ (request : Request) (old new : Connection) (before after : Option Traff
       moves = d.moves;
       same = d.same;
       answers = λ s at idle.
-          subst (λ (r : Request). ServesAt {A = A} r brings s new d.sent d.moves.taken (Err f)) (is s at) (faulted request is_reply brings s new d.sent d.moves.taken f (d.answers s at idle));
+          subst (λ (r : Request). ServesAt {A = A} r brings s new d.sent d.moves.taken (Err f)) (is s at)
+          (faulted request is_reply brings s new d.sent d.moves.taken f (d.answers s at idle));
       stops = stops-as Reply A reads left left d.moves.got new after f d.stops;
     }
 
@@ -199,7 +221,14 @@ module _ (request : Request) (old new : Connection) (before after : Option Traff
       answers = λ s at idle.
           let a = d.answers s at idle in
           subst (λ (r : Request). Replies r s (channel_of new) d.sent d.moves.taken (λ x. (reply_failure x ≡ None) × brings found x)) (is s at)
-          (record { behind = a.behind; at = a.at; settled = a.settled; reply = a.reply; replied = a.replied; says = (a.says.0, subst (λ (x : Reply). brings found x) a.says.1 b) });
+          (record {
+            behind = a.behind;
+            at = a.at;
+            settled = a.settled;
+            reply = a.reply;
+            replied = a.replied;
+            says = (a.says.0, subst (λ (x : Reply). brings found x) a.says.1 b);
+          });
       stops = d.stops;
     }
 
@@ -226,16 +255,19 @@ made-unwritable made brings x t reads unfit = record {
   stops = tt;
 }
   where
-    first-reason : (fits : Bool) (reason : ClientFault) (more : List (ClientFault × Bool)) → IsFalse fits → first_reason ((reason, not fits) ∷ more) ≡ Some reason
+    first-reason : (fits : Bool) (reason : ClientFault) (more : List (ClientFault × Bool)) → IsFalse fits
+        → first_reason ((reason, not fits) ∷ more) ≡ Some reason
     first-reason true reason more h = absurd cc
     first-reason false reason more h = refl
 
     -- the reasons against a request that can be encoded
     reasons-behind : Request → ClientPlace → List (ClientFault × Bool)
-    reasons-behind m s = (fault.Exhausted, nat_le no_id (id_at s)) ∷ (fault.TooLarge, of_ack (λ (a : Ack). is_too_large a (message.canonical m)) s.before.ack) ∷ []
+    reasons-behind m s = (fault.Exhausted, nat_le no_id (id_at s)) ∷ (fault.TooLarge, of_ack (λ (a : Ack). is_too_large a (message.canonical m)) s.before.ack)
+        ∷ []
 
 -- a request that was not made
-pub made-not : {A : Type 0} (made : ClientPlace → Request) (brings : A → Reply → Type 0) (x : Connection) (t : Option Traffic) (reads : ℕ) (f : ClientFault) → MakesRequest made (channel_of x) (Err f)
+pub made-not : {A : Type 0} (made : ClientPlace → Request) (brings : A → Reply → Type 0) (x : Connection) (t : Option Traffic) (reads : ℕ) (f : ClientFault)
+    → MakesRequest made (channel_of x) (Err f)
     → DoesIdle {A = A} (λ s sent taken. ServesAt (made s) brings s x sent taken (Err f)) x x t t reads reads (Err f)
 made-not made brings x t reads fault.NotWritable h = made-unwritable made brings x t reads h
 made-not made brings x t reads fault.OutOfMemory h = made-unasked made brings x t reads
@@ -271,7 +303,8 @@ brings-of k s (inr e) = subst (λ (t : ResponseKind). (s : Structure t) → Brin
 has-token : (m : Response) → Answers (kind_of m) request_kind.CreateSession → Brings m
 has-token m a = subst Brings (sym (are_responses.back m)) (brings-of (kind_of m) (response_parts m).1 a)
 
-brings-some : (x : ClientChannel) (url : Option (List ℕ)) (moment : DateTime) (s t : ClientPlace) (sent taken : List ℕ) (reply : Reply) → IsReplied x (creating_at url moment s) s t sent taken reply
+brings-some : (x : ClientChannel) (url : Option (List ℕ)) (moment : DateTime) (s t : ClientPlace) (sent taken : List ℕ) (reply : Reply)
+    → IsReplied x (creating_at url moment s) s t sent taken reply
     → reply_failure reply ≡ None → token_in reply ≡ None → ⊥
 brings-some x url moment s t sent taken (Aborted code) h good none = absurd cc
 brings-some x url moment s t sent taken (Responds m) h good none = has-token m h.answered.replies_are.0.2.2.1 good none
@@ -284,14 +317,16 @@ module _ (url : Option (List ℕ)) (moment : DateTime) (request : Request) (old 
       → DoesIdle {A = NodeId} (λ s sent taken. ServesAt (creating_at url moment s) brings_token s new sent taken result) old new before after reads left result
   created (Ok token) found lacks = made-served request old new before after reads left (creating_at url moment) is brings_token reply token found d
   created (Err f) found (e, none) =
-      subst (λ (x : ClientFault). DoesIdle {A = NodeId} (λ s sent taken. ServesAt (creating_at url moment s) brings_token s new sent taken (Err x)) old new before after reads left (Err x)) (sym e) (record {
+      subst (λ (x : ClientFault). DoesIdle {A = NodeId} (λ s sent taken. ServesAt (creating_at url moment s) brings_token s new sent taken (Err x)) old new
+      before after reads left (Err x)) (sym e) (record {
         sent = d.sent;
         moves = d.moves;
         same = d.same;
         answers = λ s at idle.
             let a = d.answers s at idle in
             absurd (brings-some (channel_of new) url moment s a.behind d.sent d.moves.taken a.reply
-            (subst (λ (r : Request). IsReplied (channel_of new) r s a.behind d.sent d.moves.taken a.reply) (is s at) a.replied) a.says.0 (sym (ap token_in a.says.1) ∙ none));
+            (subst (λ (r : Request). IsReplied (channel_of new) r s a.behind d.sent d.moves.taken a.reply) (is s at) a.replied) a.says.0
+            (sym (ap token_in a.says.1) ∙ none));
         stops = tt;
       })
 
@@ -299,8 +334,10 @@ module _ (url : Option (List ℕ)) (moment : DateTime) (request : Request) (old 
 
 -- CreateSession failed
 pub begins-first : (policy_id : Option (List ℕ)) (moment : DateTime) (old new : Connection) (before after : Option Traffic) (left : ℕ) (f : ClientFault)
-    → DoesIdle {A = NodeId} (λ s sent taken. ServesAt (creating_at (url_of (channel_of old)) moment s) brings_token s new sent taken (Err f)) old new before after most_reads left (Err f)
-    → ((s : ClientPlace) → StandsAt (channel_of old) s → IsIdle (channel_of old) s) → TriesSession policy_id moment old new before after (Err (record { token = None; fault = f }))
+    → DoesIdle {A = NodeId} (λ s sent taken. ServesAt (creating_at (url_of (channel_of old)) moment s) brings_token s new sent taken (Err f)) old new before
+    after most_reads left (Err f)
+    → ((s : ClientPlace) → StandsAt (channel_of old) s → IsIdle (channel_of old) s)
+    → TriesSession policy_id moment old new before after (Err (record { token = None; fault = f }))
 begins-first policy_id moment old new before after left f d idle = record {
   sent = d.sent;
   moves = d.moves;
@@ -310,7 +347,8 @@ begins-first policy_id moment old new before after left f d idle = record {
 }
 
 -- no memory before anything is asked
-pub begins-unasked : (policy_id : Option (List ℕ)) (moment : DateTime) (x : Connection) (t : Option Traffic) → BeginsSessionAs policy_id moment x x t t (Err fault.OutOfMemory)
+pub begins-unasked : (policy_id : Option (List ℕ)) (moment : DateTime) (x : Connection) (t : Option Traffic)
+    → BeginsSessionAs policy_id moment x x t t (Err fault.OutOfMemory)
 begins-unasked policy_id moment x t = record {
   sent = [];
   moves = moves-nothing x x t refl;
@@ -320,7 +358,8 @@ begins-unasked policy_id moment x t = record {
 }
 
 module _ (policy_id : Option (List ℕ)) (moment : DateTime) (old mid new : Connection) (before between after : Option Traffic) (left less : ℕ) (token : NodeId)
-    (d : DoesIdle {A = NodeId} (λ s sent taken. ServesAt (creating_at (url_of (channel_of old)) moment s) brings_token s mid sent taken (Ok token)) old mid before between most_reads left (Ok token))
+    (d : DoesIdle {A = NodeId} (λ s sent taken. ServesAt (creating_at (url_of (channel_of old)) moment s) brings_token s mid sent taken (Ok token)) old mid
+    before between most_reads left (Ok token))
     (stands : StandsSettled (channel_of old)) (idle : IdleStanding) where
   -- behind CreateSession it may be called again
   stands-between : StandsSettled (channel_of mid)
@@ -330,8 +369,10 @@ module _ (policy_id : Option (List ℕ)) (moment : DateTime) (old mid new : Conn
 
   -- what becomes of ActivateSession
   second : (result : Result (Unit {0}) ClientFault) (P : NodeId → Type 0) → P token
-      → (e : DoesIdle {A = Unit {0}} (λ s sent taken. ServesAt (activating_at policy_id token moment s) brings_any s new sent taken result) mid new between after left less result)
-      → (s : ClientPlace) → StandsAt (channel_of old) s → ActivatesBehind (url_of (channel_of old)) policy_id moment s new (d.sent ++ e.sent) (d.moves.taken ++ e.moves.taken) P result
+      → (e : DoesIdle {A = Unit {0}} (λ s sent taken. ServesAt (activating_at policy_id token moment s) brings_any s new sent taken result) mid new between
+      after left less result)
+      → (s : ClientPlace) → StandsAt (channel_of old) s → ActivatesBehind (url_of (channel_of old)) policy_id moment s new (d.sent ++ e.sent)
+      (d.moves.taken ++ e.moves.taken) P result
   second result P p e s at =
       let a = d.answers s at (idle (channel_of old) s stands at) in
       record {
@@ -358,7 +399,8 @@ module _ (policy_id : Option (List ℕ)) (moment : DateTime) (old mid new : Conn
   same-then k = record { limits = d.same.limits ∙ k.limits; url = d.same.url ∙ k.url }
 
   -- both are done
-  pub begins-both : DoesIdle {A = Unit {0}} (λ s sent taken. ServesAt (activating_at policy_id token moment s) brings_any s new sent taken (Ok tt)) mid new between after left less (Ok tt)
+  pub begins-both : DoesIdle {A = Unit {0}} (λ s sent taken. ServesAt (activating_at policy_id token moment s) brings_any s new sent taken (Ok tt)) mid new
+      between after left less (Ok tt)
       → TriesSession policy_id moment old new before after (Ok token)
   begins-both e = record {
     sent = d.sent ++ e.sent;
@@ -369,7 +411,9 @@ module _ (policy_id : Option (List ℕ)) (moment : DateTime) (old mid new : Conn
   }
 
   -- ActivateSession failed
-  pub begins-second : (f : ClientFault) → DoesIdle {A = Unit {0}} (λ s sent taken. ServesAt (activating_at policy_id token moment s) brings_any s new sent taken (Err f)) mid new between after left less (Err f)
+  pub begins-second : (f : ClientFault)
+      → DoesIdle {A = Unit {0}} (λ s sent taken. ServesAt (activating_at policy_id token moment s) brings_any s new sent taken (Err f)) mid new between after
+      left less (Err f)
       → TriesSession policy_id moment old new before after (Err (record { token = Some token; fault = f }))
   begins-second f e = record {
     sent = d.sent ++ e.sent;
@@ -382,7 +426,8 @@ module _ (policy_id : Option (List ℕ)) (moment : DateTime) (old mid new : Conn
 -- ---- without the token
 
 -- whatever the token is
-behind-any : (url policy_id : Option (List ℕ)) (moment : DateTime) (s : ClientPlace) (new : Connection) (sent taken : List ℕ) (P : NodeId → Type 0) (result : Result (Unit {0}) ClientFault)
+behind-any : (url policy_id : Option (List ℕ)) (moment : DateTime) (s : ClientPlace) (new : Connection) (sent taken : List ℕ) (P : NodeId → Type 0)
+    (result : Result (Unit {0}) ClientFault)
     → ActivatesBehind url policy_id moment s new sent taken P result → ActivatesBehind url policy_id moment s new sent taken (λ given. Unit {0}) result
 behind-any url policy_id moment s new sent taken P result a = record {
   token = a.token;
@@ -404,7 +449,8 @@ behind-any url policy_id moment s new sent taken P result a = record {
   further = (tt, a.further.1);
 }
 
-failed-there : (url policy_id : Option (List ℕ)) (moment : DateTime) (s : ClientPlace) (new : Connection) (sent taken : List ℕ) (token : Option NodeId) (f : ClientFault)
+failed-there : (url policy_id : Option (List ℕ)) (moment : DateTime) (s : ClientPlace) (new : Connection) (sent taken : List ℕ) (token : Option NodeId)
+    (f : ClientFault)
     → FailsAt url policy_id moment s new sent taken token f → BeginsAt url policy_id moment s new sent taken (Err f)
 failed-there url policy_id moment s new sent taken None f h = inl h
 failed-there url policy_id moment s new sent taken (Some token) f a = inr (behind-any url policy_id moment s new sent taken (λ given. given ≡ token) (Err f) a)

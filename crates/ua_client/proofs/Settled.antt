@@ -60,13 +60,15 @@ told-longer us vs (id ∷ ids) h =
     (omega (arith, all, sum, some), told-longer us vs ids h.1)
 
 -- a renewal is no call
-pub told-renewed : (told : List ClientTold) (asks : List Placed) (place id : ℕ) → AreTold told (calls (asked_in asks)) → AreTold told (calls (asked_in (asks ++ (place, Renewal id) ∷ [])))
+pub told-renewed : (told : List ClientTold) (asks : List Placed) (place id : ℕ) → AreTold told (calls (asked_in asks))
+    → AreTold told (calls (asked_in (asks ++ (place, Renewal id) ∷ [])))
 unfolding asked_in calls
 told-renewed told [] place id h = tt
 told-renewed told ((p, Call j) ∷ asks) place id h = (h.0, told-renewed told asks place id h.1)
 told-renewed told ((p, Renewal j) ∷ asks) place id h = told-renewed told asks place id h
 
-told-answered : (told : List ClientTold) (requests : List Request) (place id : ℕ) (replies : List Reply) → AreReplies requests id told replies → AreTold told (calls (asked_in (calls_at place id (bodies_of requests))))
+told-answered : (told : List ClientTold) (requests : List Request) (place id : ℕ) (replies : List Reply) → AreReplies requests id told replies
+    → AreTold told (calls (asked_in (calls_at place id (bodies_of requests))))
 unfolding asked_in calls
 told-answered told [] place id [] h = tt
 told-answered told [] place id (reply ∷ replies) h = absurd h
@@ -75,7 +77,8 @@ told-answered told (r ∷ rs) place id (reply ∷ replies) h =
     let one = ap length h.0.1 in
     (omega (arith, one), told-answered told rs place (id + 1) replies h.1)
 
-told-both : (told : List ClientTold) (asks more : List Placed) → AreTold told (calls (asked_in asks)) → AreTold told (calls (asked_in more)) → AreTold told (calls (asked_in (asks ++ more)))
+told-both : (told : List ClientTold) (asks more : List Placed) → AreTold told (calls (asked_in asks)) → AreTold told (calls (asked_in more))
+    → AreTold told (calls (asked_in (asks ++ more)))
 unfolding asked_in calls
 told-both told [] more h k = k
 told-both told ((p, Call j) ∷ asks) more h k = (h.0, told-both told asks more h.1 k)
@@ -94,25 +97,29 @@ renewals-behind ((p, Renewal j) ∷ asks) more none = let e = renewals-behind as
 
 -- ---- it may be called again
 
-settled-from : (s t : ClientPlace) (more : List ClientTold) → IsSettled s → t.told ≡ s.told ++ more → length (renewals (asked_in t.asks)) ≡ length (renewals (asked_in s.asks)) → AreTold t.told (calls (asked_in t.asks)) → IsSettled t
+settled-from : (s t : ClientPlace) (more : List ClientTold) → IsSettled s → t.told ≡ s.told ++ more
+    → length (renewals (asked_in t.asks)) ≡ length (renewals (asked_in s.asks)) → AreTold t.told (calls (asked_in t.asks)) → IsSettled t
 settled-from s t more h told renewed answered =
     let all : tokens-told t.told ≡ tokens-told s.told + tokens-told more = ap tokens-told told ∙ tokens-append s.told more in
     let few : length (renewals (asked_in s.asks)) ≤ tokens-told s.told = h.renewed in
     record { opened = ap (list_any is_opened) told ∙ any-left is_opened s.told more h.opened; answered = answered; renewed = omega (arith, few, renewed, all) }
 
 still-told : (s t : ClientPlace) (more : List ClientTold) → IsSettled s → t.told ≡ s.told ++ more → AreTold t.told (calls (asked_in s.asks))
-still-told s t more h told = subst (λ (ts : List ClientTold). AreTold ts (calls (asked_in s.asks))) (sym told) (told-longer s.told more (calls (asked_in s.asks)) h.answered)
+still-told s t more h told = subst (λ (ts : List ClientTold). AreTold ts (calls (asked_in s.asks))) (sym told)
+    (told-longer s.told more (calls (asked_in s.asks)) h.answered)
 
 pub later-settled : (s t : ClientPlace) (more : List ClientTold) → IsSettled s → t.asks ≡ s.asks → t.told ≡ s.told ++ more → IsSettled t
 later-settled s t more h asks told =
     settled-from s t more h told (ap (λ (asks : List Placed). length (renewals (asked_in asks))) asks)
     (subst (λ (asks : List Placed). AreTold t.told (calls (asked_in asks))) (sym asks) (still-told s t more h told))
 
-pub answered-settled : (requests : List Request) (s t : ClientPlace) (taken : List ℕ) (replies : List Reply) → IsSettled s → Answered requests s t taken replies → IsSettled t
+pub answered-settled : (requests : List Request) (s t : ClientPlace) (taken : List ℕ) (replies : List Reply) → IsSettled s → Answered requests s t taken replies
+    → IsSettled t
 answered-settled requests s t taken replies h a =
     let asked : List Placed = calls_at (length s.octets) (id_at s) (bodies_of requests) in
     settled-from s t a.heard h a.told
-    (ap (λ (asks : List Placed). length (renewals (asked_in asks))) a.asks ∙ renewals-behind s.asks asked (no-renewals (length s.octets) (id_at s) (bodies_of requests)))
+    (ap (λ (asks : List Placed). length (renewals (asked_in asks))) a.asks
+    ∙ renewals-behind s.asks asked (no-renewals (length s.octets) (id_at s) (bodies_of requests)))
     (subst (λ (asks : List Placed). AreTold t.told (calls (asked_in asks))) (sym a.asks)
     (told-both t.told s.asks asked (still-told s t a.heard h a.told) (told-answered t.told requests (length s.octets) (id_at s) replies a.replies_are)))
 
@@ -126,7 +133,8 @@ aborted-other : (id r : ℕ) (o : Option (StatusCode × Option (List ℕ))) → 
 aborted-other id r None e = refl
 aborted-other id r (Some a) e = ap (λ (b : Bool). cond b (Aborted r a.0 a.1 ∷ []) []) e
 
-given-none : (id : ℕ) (f : Flag) (cs : List Chunk) (c : Chunk) → (eqb c.request id && not (is_more_flag f)) ≡ false → filter (is_item_of id) (given_by f cs c) ≡ []
+given-none : (id : ℕ) (f : Flag) (cs : List Chunk) (c : Chunk) → (eqb c.request id && not (is_more_flag f)) ≡ false
+    → filter (is_item_of id) (given_by f cs c) ≡ []
 given-none id F cs c e = ap (λ (b : Bool). cond b (Whole c.request (joined (gathered cs c)) ∷ []) []) (left-false (eqb c.request id) e)
 given-none id C cs c e = refl
 given-none id A cs c e = aborted-other id c.request (abort_of c.body) (left-false (eqb c.request id) e)
@@ -142,7 +150,8 @@ unfinished-from id start (c ∷ cs) e =
 unfinished-none : (id : ℕ) (cs : List Chunk) → is_finished cs id ≡ false → delivered_under id cs ≡ []
 unfinished-none id cs e = ap (filter (is_item_of id)) (delivered_from cs) ∙ unfinished-from id [] cs e
 
-none-left : (told : List ClientTold) (cs : List Chunk) (ids : List ℕ) → ((id : ℕ) → 0 < length (told_of id told) → is_finished cs id ≡ true) → AreTold told ids → filter (λ (id : ℕ). not (is_finished cs id)) ids ≡ []
+none-left : (told : List ClientTold) (cs : List Chunk) (ids : List ℕ) → ((id : ℕ) → 0 < length (told_of id told) → is_finished cs id ≡ true) → AreTold told ids
+    → filter (λ (id : ℕ). not (is_finished cs id)) ids ≡ []
 none-left told cs [] finished h = refl
 none-left told cs (id ∷ ids) finished h =
     ap (λ (b : Bool). cond (not b) (id ∷ filter (λ (j : ℕ). not (is_finished cs j)) ids) (filter (λ (j : ℕ). not (is_finished cs j)) ids)) (finished id h.0)
@@ -181,7 +190,8 @@ module _ (x : ClientChannel) (s : ClientPlace) (at : StandsAt x s) (settled : Is
   unfolding pending_calls
   none-pending tells = none-left s.told s.before.messages (calls (asked_in s.asks)) (finished tells) settled.answered
 
-lane-in : (limits : Limits) (p : Phase) (before : Received) (asked : List Asking) → InPhase limits p before asked → (IsNotOpen p → ⊥) → (lane : Lane) × (lane_behind before ≡ Some lane)
+lane-in : (limits : Limits) (p : Phase) (before : Received) (asked : List Asking) → InPhase limits p before asked → (IsNotOpen p → ⊥)
+    → (lane : Lane) × (lane_behind before ≡ Some lane)
 lane-in limits phase.Waiting before asked h some = absurd (some tt)
 lane-in limits (phase.Agreed a) before asked h some = absurd (some tt)
 lane-in limits (phase.Open t) before asked h some = (call_lane t.agreed.ack t.channel t.newest, lane-talks limits t before asked h)

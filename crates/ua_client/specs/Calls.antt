@@ -73,17 +73,25 @@ pub record LastCame (x : ClientChannel) (requests : List Request) (id : ℕ) (as
 
 -- the outcome for the replies to calls of these requests, whose RequestIds are counted from the
 -- first: all came, or a prefix of them
-abbrev pub CollectsAt : {A : Type 0} → List (Option Reply) → List Request → ℕ → Connection → Option Traffic → Result A ClientFault → List Placed → List ℕ → List ClientTold → Type 0
+abbrev pub CollectsAt : {A : Type 0} → List (Option Reply) → List Request → ℕ → Connection → Option Traffic → Result A ClientFault → List Placed → List ℕ
+    → List ClientTold → Type 0
 CollectsAt slots requests first new after (Ok found) asks octets told =
-    ClientGoesOn (channel_of new) asks octets told (λ all. AreSlots requests first all slots × (list_any is_none slots ≡ false) × LastCame (channel_of new) requests first asks octets all)
-CollectsAt slots requests first new after (Err (fault.Peer code)) asks octets told = EndsOn (channel_of new) asks octets told (peers code.code) (λ all. AreSlots requests first all slots × (list_any is_none slots ≡ true))
-CollectsAt slots requests first new after (Err (fault.Refused code)) asks octets told = EndsOn (channel_of new) asks octets told (ours code.code) (λ all. AreSlots requests first all slots × (list_any is_none slots ≡ true))
-CollectsAt slots requests first new after (Err fault.Ended) asks octets told = ClientGoesOn (channel_of new) asks octets told (λ all. AreSlots requests first all slots × (list_any is_none slots ≡ true))
-CollectsAt slots requests first new after (Err fault.Read) asks octets told = ClientGoesOn (channel_of new) asks octets told (λ all. AreSlots requests first all slots × (list_any is_none slots ≡ true))
-CollectsAt slots requests first new after (Err fault.TooLong) asks octets told = ClientGoesOn (channel_of new) asks octets told (λ all. AreSlots requests first all slots × (list_any is_none slots ≡ true))
+    ClientGoesOn (channel_of new) asks octets told (λ all. AreSlots requests first all slots × (list_any is_none slots ≡ false)
+    × LastCame (channel_of new) requests first asks octets all)
+CollectsAt slots requests first new after (Err (fault.Peer code)) asks octets told = EndsOn (channel_of new) asks octets told (peers code.code)
+    (λ all. AreSlots requests first all slots × (list_any is_none slots ≡ true))
+CollectsAt slots requests first new after (Err (fault.Refused code)) asks octets told = EndsOn (channel_of new) asks octets told (ours code.code)
+    (λ all. AreSlots requests first all slots × (list_any is_none slots ≡ true))
+CollectsAt slots requests first new after (Err fault.Ended) asks octets told =
+    ClientGoesOn (channel_of new) asks octets told (λ all. AreSlots requests first all slots × (list_any is_none slots ≡ true))
+CollectsAt slots requests first new after (Err fault.Read) asks octets told =
+    ClientGoesOn (channel_of new) asks octets told (λ all. AreSlots requests first all slots × (list_any is_none slots ≡ true))
+CollectsAt slots requests first new after (Err fault.TooLong) asks octets told =
+    ClientGoesOn (channel_of new) asks octets told (λ all. AreSlots requests first all slots × (list_any is_none slots ≡ true))
 CollectsAt slots requests first new after (Err fault.UnknownResponse) asks octets told =
     ClientGoesOn (channel_of new) asks octets told (λ all. IsMisanswered requests first all × IsFront LacksAnswer (front_of slots) requests first all)
-CollectsAt slots requests first new after (Err fault.OutOfMemory) asks octets told = (heard : List ClientTold) × LacksMemory (channel_of new) asks octets (told ++ heard) × IsFront IsUntoldBefore (front_of slots) requests first (told ++ heard)
+CollectsAt slots requests first new after (Err fault.OutOfMemory) asks octets told = (heard : List ClientTold)
+    × LacksMemory (channel_of new) asks octets (told ++ heard) × IsFront IsUntoldBefore (front_of slots) requests first (told ++ heard)
 CollectsAt slots requests first new after (Err other) asks octets told = ⊥
 
 -- no reply to any of these
@@ -96,7 +104,8 @@ AreUntold [] id told = Unit {0}
 AreUntold (request ∷ requests) id told = (told_of id told ≡ []) × AreUntold requests (id + 1) told
 
 -- the bytes up to the last expected reply, or up to a fault
-pub record Collects {A : Type 0} (slots : List (Option Reply)) (requests : List Request) (first : ℕ) (old new : Connection) (before after : Option Traffic) (reads left : ℕ) (result : Result A ClientFault) : Type 0 where
+pub record Collects {A : Type 0} (slots : List (Option Reply)) (requests : List Request) (first : ℕ) (old new : Connection) (before after : Option Traffic)
+    (reads left : ℕ) (result : Result A ClientFault) : Type 0 where
   pub moves : MovesConnection old new [] before after
   pub keeps : Keeps old new
   pub answers : (asks : List Placed) (octets : List ℕ) (told : List ClientTold) → ClientGoes (channel_of old) asks octets told → AreUntold requests first told
@@ -120,18 +129,26 @@ pub record Answered (requests : List Request) (s t : ClientPlace) (taken : List 
 
 -- a group of calls is refused here, or is not answered
 abbrev pub BreaksAt : List Request → ClientPlace → Connection → List ℕ → List ℕ → ClientFault → Type 0
-BreaksAt requests s new sent taken (fault.Peer code) = IsSentAt requests s sent × EndsOn (channel_of new) (asked_at s requests) (s.octets ++ taken) s.told (peers code.code) (AreAwaited requests (id_at s))
-BreaksAt requests s new sent taken (fault.Refused code) = IsSentAt requests s sent × EndsOn (channel_of new) (asked_at s requests) (s.octets ++ taken) s.told (ours code.code) (AreAwaited requests (id_at s))
-BreaksAt requests s new sent taken fault.Ended = IsSentAt requests s sent × ClientGoesOn (channel_of new) (asked_at s requests) (s.octets ++ taken) s.told (AreAwaited requests (id_at s))
-BreaksAt requests s new sent taken fault.Read = IsSentAt requests s sent × ClientGoesOn (channel_of new) (asked_at s requests) (s.octets ++ taken) s.told (AreAwaited requests (id_at s))
-BreaksAt requests s new sent taken fault.TooLong = IsSentAt requests s sent × ClientGoesOn (channel_of new) (asked_at s requests) (s.octets ++ taken) s.told (AreAwaited requests (id_at s))
-BreaksAt requests s new sent taken fault.UnknownResponse = IsSentAt requests s sent × ClientGoesOn (channel_of new) (asked_at s requests) (s.octets ++ taken) s.told (IsMisanswered requests (id_at s))
-BreaksAt requests s new sent taken fault.Write = (refusal_at s requests ≡ None) × Extends sent (sent_at s requests) × (taken ≡ []) × (length sent < length (sent_at s requests))
+BreaksAt requests s new sent taken (fault.Peer code) = IsSentAt requests s sent × EndsOn (channel_of new) (asked_at s requests) (s.octets ++ taken) s.told
+    (peers code.code) (AreAwaited requests (id_at s))
+BreaksAt requests s new sent taken (fault.Refused code) = IsSentAt requests s sent × EndsOn (channel_of new) (asked_at s requests) (s.octets ++ taken) s.told
+    (ours code.code) (AreAwaited requests (id_at s))
+BreaksAt requests s new sent taken fault.Ended = IsSentAt requests s sent × ClientGoesOn (channel_of new) (asked_at s requests) (s.octets ++ taken) s.told
+    (AreAwaited requests (id_at s))
+BreaksAt requests s new sent taken fault.Read = IsSentAt requests s sent × ClientGoesOn (channel_of new) (asked_at s requests) (s.octets ++ taken) s.told
+    (AreAwaited requests (id_at s))
+BreaksAt requests s new sent taken fault.TooLong = IsSentAt requests s sent × ClientGoesOn (channel_of new) (asked_at s requests) (s.octets ++ taken) s.told
+    (AreAwaited requests (id_at s))
+BreaksAt requests s new sent taken fault.UnknownResponse = IsSentAt requests s sent × ClientGoesOn (channel_of new) (asked_at s requests)
+    (s.octets ++ taken) s.told (IsMisanswered requests (id_at s))
+BreaksAt requests s new sent taken fault.Write = (refusal_at s requests ≡ None) × Extends sent (sent_at s requests) × (taken ≡ [])
+    × (length sent < length (sent_at s requests))
 BreaksAt requests s new sent taken fault.OutOfMemory =
     ((sent ≡ []) × (taken ≡ []))
     ⊎ (IsSentAt requests s sent × ((heard : List ClientTold) × LacksMemory (channel_of new) (asked_at s requests) (s.octets ++ taken) (s.told ++ heard)))
 BreaksAt requests s new sent taken fault.TooLarge = (sent ≡ []) × (taken ≡ []) × StandsAt (channel_of new) s × (refusal_at s requests ≡ Some fault.TooLarge)
-BreaksAt requests s new sent taken fault.NotWritable = (sent ≡ []) × (taken ≡ []) × StandsAt (channel_of new) s × (refusal_at s requests ≡ Some fault.NotWritable)
+BreaksAt requests s new sent taken fault.NotWritable = (sent ≡ []) × (taken ≡ []) × StandsAt (channel_of new) s
+    × (refusal_at s requests ≡ Some fault.NotWritable)
 BreaksAt requests s new sent taken fault.Exhausted = (sent ≡ []) × (taken ≡ []) × StandsAt (channel_of new) s × (refusal_at s requests ≡ Some fault.Exhausted)
 BreaksAt requests s new sent taken other = ⊥
 
@@ -147,7 +164,8 @@ pub record StandsBehind (client x : ClientChannel) (requests : List Request) (s 
 -- that its channel has a state after each: what was sent and taken, and the replies
 pub data Rounds (client : ClientChannel) (s : ClientPlace) : List (List Request) → ClientPlace → List ℕ → List ℕ → List Reply → Type 0 where
   NoRound : Rounds client s [] s [] [] []
-  OneRound : {groups : List (List Request)} {m t : ClientPlace} {sent taken part : List ℕ} {replies added : List Reply} (group : List Request) (x : ClientChannel)
+  OneRound : {groups : List (List Request)} {m t : ClientPlace} {sent taken part : List ℕ} {replies added : List Reply} (group : List Request)
+      (x : ClientChannel)
       → Rounds client s groups m sent taken replies → StandsBehind client x group m t → Answered group m t part added
       → Rounds client s (groups ++ group ∷ []) t (sent ++ sent_at m group) (taken ++ part) (replies ++ added)
 
@@ -201,7 +219,8 @@ AllAt view requests s new sent taken (Ok found) = AnsweredAll requests s (channe
 AllAt view requests s new sent taken (Err f) = BrokenAll requests s new sent taken f
 
 -- requests that are called in groups
-pub record CallsAll {A : Type 0} (view : A → List Reply) (requests : List Request) (old new : Connection) (before after : Option Traffic) (result : Result A ClientFault) : Type 0 where
+pub record CallsAll {A : Type 0} (view : A → List Reply) (requests : List Request) (old new : Connection) (before after : Option Traffic)
+    (result : Result A ClientFault) : Type 0 where
   pub sent : List ℕ
   pub moves : MovesConnection old new sent before after
   pub same : SameClient (channel_of old) (channel_of new)

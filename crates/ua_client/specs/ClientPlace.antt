@@ -35,7 +35,8 @@ usable_id id = cond (nat_le no_id id) None (Some id)
 
 -- the lane of calls by an ACK, on a channel and under a token
 abbrev pub lane_by : Option Ack → Option ℕ → Option ℕ → Option Lane
-lane_by (Some a) (Some channel) (Some token) = Some (record { channel = channel; token = token; room = room_of a; octets = a.max_message_size; chunks = a.max_chunk_count })
+lane_by (Some a) (Some channel) (Some token) =
+    Some (record { channel = channel; token = token; room = room_of a; octets = a.max_message_size; chunks = a.max_chunk_count })
 lane_by (Some a) (Some channel) None = None
 lane_by (Some a) None token = None
 lane_by None channel token = None

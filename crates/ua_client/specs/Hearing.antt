@@ -1,6 +1,7 @@
 -- What a client receives: what it reads from its transport, what of that its channel takes, and
 -- what that tells.
-use Rattle.std.specs.Prelude.{◌≡◌, ◌⊎◌, ◌+◌, ◌*◌, ◌<◌, ◌≤◌, ◌++◌, ℕ, Bool, true, false, cond, List, [], length, Option, Some, None, Result, Ok, Err, IfOk, IfErr}
+use Rattle.std.specs.Prelude.{◌≡◌, ◌⊎◌, ◌+◌, ◌*◌, ◌<◌, ◌≤◌, ◌++◌, ℕ, Bool, true, false, cond}
+use Rattle.std.specs.Prelude.{List, [], length, Option, Some, None, Result, Ok, Err, IfOk, IfErr}
 use Rattle.std.specs.List.{concat}
 use Rattle.ua_wire.specs.Format.{Extends}
 use Rattle.ua_builtin.specs.declared.date_time.DateTime.{DateTime}
@@ -224,7 +225,8 @@ StopsAt reads left got new after (Err fault.Ended) = (untaken_of new ≡ []) × 
 StopsAt reads left got new after (Err other) = Unit {0}
 
 -- the bytes up to an event, or up to a fault
-pub record Hears (old new : Connection) (moment : DateTime) (before after : Option Traffic) (reads left : ℕ) (result : Result ClientEvent ClientFault) : Type 0 where
+pub record Hears (old new : Connection) (moment : DateTime) (before after : Option Traffic) (reads left : ℕ) (result : Result ClientEvent ClientFault) : Type
+    0 where
   pub moves : MovesConnection old new [] before after
   pub keeps : Keeps old new
   pub answers : (asks : List Placed) (octets : List ℕ) (told : List ClientTold) → ClientGoes (channel_of old) asks octets told

@@ -4,7 +4,8 @@ use Rattle.ua_channel.specs.Client.{SameClient}
 use Rattle.ua_channel.specs.ClientTold.{ClientTold, ours, peers}
 use Rattle.ua_channel.specs.Line.{Traffic}
 use Rattle.ua_services.specs.declared.request.Request.{Request}
-use Rattle.ua_client.specs.Calls.{Answered, AnsweredAll, BreaksAt, BrokenAll, EndsOn, ClientGoesOn, LacksMemory, LastCame, all_of, asked_at, refusal_at, sent_at}
+use Rattle.ua_client.specs.Calls.{Answered, AnsweredAll, BreaksAt, BrokenAll, EndsOn, ClientGoesOn}
+use Rattle.ua_client.specs.Calls.{LacksMemory, LastCame, all_of, asked_at, refusal_at, sent_at}
 use Rattle.ua_client.specs.Hearing.{channel_of, fault_alone, most_reads, MovesConnection, StopsAt}
 use Rattle.ua_client.specs.Renewing.{IsIdle}
 use Rattle.ua_client.specs.Replies.{IsFront, IsUntold, IsUntoldBefore, LacksAnswer}
@@ -37,15 +38,22 @@ IsRefusedFor requests s f n = (refusal_at s (take n requests) ≡ None) × (refu
 -- that came up to the first that is missing, which is named; none of a group that is refused or not
 -- written, and named is the request for which it is refused, else the first
 abbrev pub KeepsAt : List Request → ClientPlace → Connection → List ℕ → ClientFault → ℕ → List Reply → Type 0
-KeepsAt requests s new taken (fault.Peer code) n kept = (n ≡ length kept) × EndsOn (channel_of new) (asked_at s requests) (s.octets ++ taken) s.told (peers code.code) (IsFront IsUntold kept requests (id_at s))
-KeepsAt requests s new taken (fault.Refused code) n kept = (n ≡ length kept) × EndsOn (channel_of new) (asked_at s requests) (s.octets ++ taken) s.told (ours code.code) (IsFront IsUntold kept requests (id_at s))
-KeepsAt requests s new taken fault.Ended n kept = (n ≡ length kept) × ClientGoesOn (channel_of new) (asked_at s requests) (s.octets ++ taken) s.told (IsFront IsUntold kept requests (id_at s))
-KeepsAt requests s new taken fault.Read n kept = (n ≡ length kept) × ClientGoesOn (channel_of new) (asked_at s requests) (s.octets ++ taken) s.told (IsFront IsUntold kept requests (id_at s))
-KeepsAt requests s new taken fault.TooLong n kept = (n ≡ length kept) × ClientGoesOn (channel_of new) (asked_at s requests) (s.octets ++ taken) s.told (IsFront IsUntold kept requests (id_at s))
-KeepsAt requests s new taken fault.UnknownResponse n kept = (n ≡ length kept) × ClientGoesOn (channel_of new) (asked_at s requests) (s.octets ++ taken) s.told (IsFront LacksAnswer kept requests (id_at s))
+KeepsAt requests s new taken (fault.Peer code) n kept = (n ≡ length kept) × EndsOn (channel_of new) (asked_at s requests) (s.octets ++ taken) s.told
+    (peers code.code) (IsFront IsUntold kept requests (id_at s))
+KeepsAt requests s new taken (fault.Refused code) n kept = (n ≡ length kept) × EndsOn (channel_of new) (asked_at s requests) (s.octets ++ taken) s.told
+    (ours code.code) (IsFront IsUntold kept requests (id_at s))
+KeepsAt requests s new taken fault.Ended n kept = (n ≡ length kept) × ClientGoesOn (channel_of new) (asked_at s requests) (s.octets ++ taken) s.told
+    (IsFront IsUntold kept requests (id_at s))
+KeepsAt requests s new taken fault.Read n kept = (n ≡ length kept) × ClientGoesOn (channel_of new) (asked_at s requests) (s.octets ++ taken) s.told
+    (IsFront IsUntold kept requests (id_at s))
+KeepsAt requests s new taken fault.TooLong n kept = (n ≡ length kept) × ClientGoesOn (channel_of new) (asked_at s requests) (s.octets ++ taken) s.told
+    (IsFront IsUntold kept requests (id_at s))
+KeepsAt requests s new taken fault.UnknownResponse n kept = (n ≡ length kept) × ClientGoesOn (channel_of new) (asked_at s requests) (s.octets ++ taken) s.told
+    (IsFront LacksAnswer kept requests (id_at s))
 KeepsAt requests s new taken fault.OutOfMemory n kept = (n ≡ length kept) ×
     (((taken ≡ []) × (kept ≡ []))
-    ⊎ ((heard : List ClientTold) × LacksMemory (channel_of new) (asked_at s requests) (s.octets ++ taken) (s.told ++ heard) × IsFront IsUntoldBefore kept requests (id_at s) (s.told ++ heard)))
+    ⊎ ((heard : List ClientTold) × LacksMemory (channel_of new) (asked_at s requests) (s.octets ++ taken) (s.told ++ heard)
+    × IsFront IsUntoldBefore kept requests (id_at s) (s.told ++ heard)))
 KeepsAt requests s new taken fault.Write n kept = (n ≡ 0) × (kept ≡ [])
 KeepsAt requests s new taken fault.TooLarge n kept = IsRefusedFor requests s fault.TooLarge n × (kept ≡ [])
 KeepsAt requests s new taken fault.NotWritable n kept = IsRefusedFor requests s fault.NotWritable n × (kept ≡ [])
@@ -54,11 +62,14 @@ KeepsAt requests s new taken other n kept = ⊥
 
 -- the outcome of a group of calls here, with the replies that are added
 abbrev pub GroupAt : {A : Type 0} → List Request → ClientPlace → Connection → List ℕ → List ℕ → Result A CallsFault → List Reply → Type 0
-GroupAt requests s new sent taken (Ok done) added = (sent ≡ sent_at s requests) × ((t : ClientPlace) × StandsAt (channel_of new) t × LastCame (channel_of new) requests (id_at s) t.asks t.octets t.told × Answered requests s t taken added)
+GroupAt requests s new sent taken (Ok done) added = (sent ≡ sent_at s requests)
+    × ((t : ClientPlace) × StandsAt (channel_of new) t × LastCame (channel_of new) requests (id_at s) t.asks t.octets t.told
+    × Answered requests s t taken added)
 GroupAt requests s new sent taken (Err c) added = BreaksAt requests s new sent taken c.fault × KeepsAt requests s new taken c.fault c.request added
 
 -- a group of calls, whose replies are added to those that were there, of a channel that is idle
-pub record CallsGroup {A : Type 0} (requests : List Request) (old new : Connection) (before after : Option Traffic) (reads left : ℕ) (result : Result A CallsFault) (had have : List Reply) : Type 0 where
+pub record CallsGroup {A : Type 0} (requests : List Request) (old new : Connection) (before after : Option Traffic) (reads left : ℕ)
+    (result : Result A CallsFault) (had have : List Reply) : Type 0 where
   pub sent : List ℕ
   pub moves : MovesConnection old new sent before after
   pub same : SameClient (channel_of old) (channel_of new)
@@ -87,7 +98,8 @@ IntoAt requests s new sent taken (Ok done) added = AnsweredAll requests s (chann
 IntoAt requests s new sent taken (Err c) added = BrokenInto requests s new sent taken c added
 
 -- requests that are called in groups, whose replies are added to those that were there
-pub record CallsInto {A : Type 0} (requests : List Request) (old new : Connection) (before after : Option Traffic) (result : Result A CallsFault) (had have : List Reply) : Type 0 where
+pub record CallsInto {A : Type 0} (requests : List Request) (old new : Connection) (before after : Option Traffic) (result : Result A CallsFault)
+    (had have : List Reply) : Type 0 where
   pub sent : List ℕ
   pub moves : MovesConnection old new sent before after
   pub same : SameClient (channel_of old) (channel_of new)

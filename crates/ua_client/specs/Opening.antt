@@ -53,7 +53,8 @@ pub record GoesUntil (wanted : ClientTold → Bool) (x : ClientChannel) (asks : 
   pub tells : ClientGoesTelling x asks octets (told ++ heard) last
 
 -- more was told, and nothing of it is expected, when the connection ended
-pub record EndsWithout (wanted : ClientTold → Bool) (x : ClientChannel) (asks : List Placed) (octets : List ℕ) (told : List ClientTold) (why : Why) : Type 0 where
+pub record EndsWithout (wanted : ClientTold → Bool) (x : ClientChannel) (asks : List Placed) (octets : List ℕ) (told : List ClientTold)
+    (why : Why) : Type 0 where
   pub heard : List ClientTold
   pub none : list_any wanted heard ≡ false
   pub ended : ClientEnded x asks octets (told ++ heard) why
@@ -76,10 +77,12 @@ WaitsAt wanted P (Err fault.OutOfMemory) new asks octets told = StarvesWithout w
 WaitsAt wanted P (Err other) new asks octets told = ⊥
 
 -- the bytes up to what is expected, or up to a fault
-pub record Waits {A : Type 0} (wanted : ClientTold → Bool) (P : A → Type 0) (old new : Connection) (before after : Option Traffic) (reads left : ℕ) (result : Result A ClientFault) : Type 0 where
+pub record Waits {A : Type 0} (wanted : ClientTold → Bool) (P : A → Type 0) (old new : Connection) (before after : Option Traffic) (reads left : ℕ)
+    (result : Result A ClientFault) : Type 0 where
   pub moves : MovesConnection old new [] before after
   pub keeps : Keeps old new
-  pub answers : (asks : List Placed) (octets : List ℕ) (told : List ClientTold) → ClientGoes (channel_of old) asks octets told → WaitsAt wanted P result (channel_of new) asks (octets ++ moves.taken) told
+  pub answers : (asks : List Placed) (octets : List ℕ) (told : List ClientTold) → ClientGoes (channel_of old) asks octets told
+      → WaitsAt wanted P result (channel_of new) asks (octets ++ moves.taken) told
   pub faults : IfErr result (λ f. is_hearing_fault f ≡ true)
   pub stops : StopsAt reads left moves.got new after result
 
@@ -141,5 +144,6 @@ pub record Opens {A : Type 0} (moment : DateTime) (old new : Connection) (before
   pub sent : List ℕ
   pub moves : MovesConnection old new sent before after
   pub keeps : Keeps old new
-  pub answers : ClientGoes (channel_of old) [] [] [] → OpensAt (hello_octets (client_limits (channel_of old)) (url_of (channel_of old))) (open_octets moment) (channel_of new) sent moves.taken result
+  pub answers : ClientGoes (channel_of old) [] [] [] → OpensAt (hello_octets (client_limits (channel_of old)) (url_of (channel_of old))) (open_octets moment)
+      (channel_of new) sent moves.taken result
   pub stops : StopsAt most_reads most_reads moves.got new after result

@@ -108,7 +108,8 @@ LacksAnswer request id told = (told_of id told ≡ []) ⊎ ((t : ClientTold) × 
 
 -- nothing was told of its call except, maybe, the last of all that was told
 abbrev pub IsUntoldBefore : Request → ℕ → List ClientTold → Type 0
-IsUntoldBefore request id told = (told_of id told ≡ []) ⊎ ((before : List ClientTold) × (last : ClientTold) × (told ≡ before ++ last ∷ []) × (told_of id before ≡ []))
+IsUntoldBefore request id told = (told_of id told ≡ [])
+    ⊎ ((before : List ClientTold) × (last : ClientTold) × (told ≡ before ++ last ∷ []) × (told_of id before ≡ []))
 
 -- ---- the place of a reply
 

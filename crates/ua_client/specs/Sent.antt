@@ -55,7 +55,8 @@ by_channel other = fault.Closed
 -- or the server takes no message of this many bytes or chunks (OPC 10000-6, 7.1.2.4)
 abbrev pub request_reasons : Option Ack → ℕ → Request → List (ClientFault × Bool)
 request_reasons ack id m =
-    (fault.NotWritable, not (request.encodable m)) ∷ map (renamed_reason by_channel) (reasons_of_body id (of_ack (λ (a : Ack). is_too_large a (request.canonical m)) ack))
+    (fault.NotWritable, not (request.encodable m)) ∷ map (renamed_reason by_channel)
+    (reasons_of_body id (of_ack (λ (a : Ack). is_too_large a (request.canonical m)) ack))
 
 -- why requests are refused under RequestIds from this one on: the reasons against the first of
 -- them, then those against the next
@@ -110,7 +111,8 @@ AnswersBy reason (Err other) = reason ≡ Some other
 
 -- a group of calls with these bodies was made after these operations and bytes, whose frames are
 -- these: the state of the channel then, what is to be sent, the RequestId of the first
-pub record AsksGroup (bodies : List (List ℕ)) (old new : ClientChannel) (asks : List Placed) (octets : List ℕ) (frames : List Frame) (rest : List ℕ) (out : List ℕ) : Type 0 where
+pub record AsksGroup (bodies : List (List ℕ)) (old new : ClientChannel) (asks : List Placed) (octets : List ℕ) (frames : List Frame) (rest : List ℕ)
+    (out : List ℕ) : Type 0 where
   pub stands : ClientStands new (asks ++ calls_at (length octets) (next_id (asked_in asks)) bodies) octets frames rest
   pub out_is : out ≡ calls_octets (lane_behind (received frames)) (client_next old) (next_id (asked_in asks)) bodies
   pub next_is : client_next new ≡ numbers_behind (lane_behind (received frames)) (client_next old) bodies
@@ -121,7 +123,8 @@ asked_octets calls = flat_map (λ (call : AskedCall). call.octets.items) calls
 
 -- the same, and this is the RequestId of the first
 abbrev pub AsksFrom : List (List ℕ) → ClientChannel → ClientChannel → List Placed → List ℕ → List Frame → List ℕ → ℕ × List ℕ → Type 0
-AsksFrom bodies old new asks octets frames rest found = (0 < length bodies → found.0 ≡ next_id (asked_in asks)) × AsksGroup bodies old new asks octets frames rest found.1
+AsksFrom bodies old new asks octets frames rest found = (0 < length bodies → found.0 ≡ next_id (asked_in asks))
+    × AsksGroup bodies old new asks octets frames rest found.1
 
 -- the outcome for a group that was judged
 abbrev pub AsksOr : {A : Type 0} → (A → Type 0) → Result A ClientFault → Type 0

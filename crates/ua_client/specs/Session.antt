@@ -129,7 +129,8 @@ ServesAt request brings s new sent taken (Err f) = BreaksAt (request ∷ []) s n
 
 -- CreateSession, called there, brought a token; of what was sent and taken after that, if a channel
 -- of this client then had a state, this holds
-pub record BehindCreating (client : ClientChannel) (url : Option (List ℕ)) (moment : DateTime) (s : ClientPlace) (sent taken : List ℕ) (P : NodeId → ClientPlace → List ℕ → List ℕ → Type 0) : Type 0 where
+pub record BehindCreating (client : ClientChannel) (url : Option (List ℕ)) (moment : DateTime) (s : ClientPlace) (sent taken : List ℕ) (P : NodeId → ClientPlace
+    → List ℕ → List ℕ → Type 0) : Type 0 where
   pub token : NodeId
   pub between : ClientPlace
   pub channel : ClientChannel
@@ -150,16 +151,19 @@ pub record BehindCreating (client : ClientChannel) (url : Option (List ℕ)) (mo
 
 -- the outcome of ActivateSession by the token policy with this PolicyId, after CreateSession,
 -- called there
-abbrev pub ActivatesBehind : Option (List ℕ) → Option (List ℕ) → DateTime → ClientPlace → Connection → List ℕ → List ℕ → (NodeId → Type 0) → Result (Unit {0}) ClientFault → Type 0
+abbrev pub ActivatesBehind : Option (List ℕ) → Option (List ℕ) → DateTime → ClientPlace → Connection → List ℕ → List ℕ → (NodeId → Type 0)
+    → Result (Unit {0}) ClientFault → Type 0
 ActivatesBehind url policy_id moment s new sent taken P result =
-    BehindCreating (channel_of new) url moment s sent taken (λ token t sent_then taken_then. P token × ServesAt (activating_at policy_id token moment t) brings_any t new sent_then taken_then result)
+    BehindCreating (channel_of new) url moment s sent taken (λ token t sent_then taken_then. P token
+    × ServesAt (activating_at policy_id token moment t) brings_any t new sent_then taken_then result)
 
 -- the outcome of a session that is begun there: both services are done, and the first brought this
 -- token; or one of them was not, by this fault, and it was the first, or the second after the first
 abbrev pub BeginsAt : Option (List ℕ) → Option (List ℕ) → DateTime → ClientPlace → Connection → List ℕ → List ℕ → Result NodeId ClientFault → Type 0
 BeginsAt url policy_id moment s new sent taken (Ok token) = ActivatesBehind url policy_id moment s new sent taken (λ given. given ≡ token) (Ok tt)
 BeginsAt url policy_id moment s new sent taken (Err f) =
-    ServesAt (creating_at url moment s) brings_token s new sent taken (Err f) ⊎ ActivatesBehind url policy_id moment s new sent taken (λ given. Unit {0}) (Err f)
+    ServesAt (creating_at url moment s) brings_token s new sent taken (Err f) ⊎ ActivatesBehind url policy_id moment s new sent taken (λ given. Unit {0})
+    (Err f)
 
 -- the fault of a session that was not begun, without the token that was received by then
 abbrev pub session_alone : {A : Type 0} → Result A SessionFault → Result A ClientFault
@@ -185,7 +189,8 @@ TriesAt url policy_id moment s new sent taken (Err c) = FailsAt url policy_id mo
 
 -- what was done over a transport, by its outcome in the state of the client, with this many reads
 -- left before and after
-pub record Does {A : Type 0} (P : ClientPlace → List ℕ → List ℕ → Type 0) (old new : Connection) (before after : Option Traffic) (reads left : ℕ) (result : Result A ClientFault) : Type 0 where
+pub record Does {A : Type 0} (P : ClientPlace → List ℕ → List ℕ → Type 0) (old new : Connection) (before after : Option Traffic) (reads left : ℕ)
+    (result : Result A ClientFault) : Type 0 where
   pub sent : List ℕ
   pub moves : MovesConnection old new sent before after
   pub same : SameClient (channel_of old) (channel_of new)
@@ -193,7 +198,8 @@ pub record Does {A : Type 0} (P : ClientPlace → List ℕ → List ℕ → Type
   pub stops : StopsAt reads left moves.got new after result
 
 -- the same, for a channel that is idle
-abbrev pub DoesIdle : {A : Type 0} → (ClientPlace → List ℕ → List ℕ → Type 0) → Connection → Connection → Option Traffic → Option Traffic → ℕ → ℕ → Result A ClientFault → Type 0
+abbrev pub DoesIdle : {A : Type 0} → (ClientPlace → List ℕ → List ℕ → Type 0) → Connection → Connection → Option Traffic → Option Traffic → ℕ → ℕ
+    → Result A ClientFault → Type 0
 DoesIdle P old new before after reads left result = Does (λ s sent taken. IsIdle (channel_of old) s → P s sent taken) old new before after reads left result
 
 -- a session is begun at this time over a transport, by the token policy with this PolicyId
@@ -204,7 +210,8 @@ BeginsSessionAs policy_id moment old new before after result =
 -- the same, with the token of a session that was created and not activated
 abbrev pub TriesSession : Option (List ℕ) → DateTime → Connection → Connection → Option Traffic → Option Traffic → Result NodeId SessionFault → Type 0
 TriesSession policy_id moment old new before after result =
-    Does (λ s sent taken. TriesAt (url_of (channel_of old)) policy_id moment s new sent taken result) old new before after most_reads most_reads (session_alone result)
+    Does (λ s sent taken. TriesAt (url_of (channel_of old)) policy_id moment s new sent taken result) old new before after most_reads most_reads
+    (session_alone result)
 
 -- a session is begun by the token policy `anonymous`
 abbrev pub BeginsSession : DateTime → Connection → Connection → Option Traffic → Option Traffic → Result NodeId ClientFault → Type 0

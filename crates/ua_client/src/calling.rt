@@ -53,7 +53,9 @@ impl Connection {
         requires few { length requests.now ≤ 64 }
         requires bodies { bodies.now ≡ bodies_of requests.now }
         requires judged { group_refusal (phase_of (channel_of self.old)) 0 requests.now ≡ None }
-        ensures calls { CallsGroup requests.now self.old self.new (L.traffic line.old) (L.traffic line.new) reads.old reads.new (named (length replies.new.items - length replies.old.items) result) replies.old.items replies.new.items }
+        ensures calls { CallsGroup requests.now self.old self.new (L.traffic line.old) (L.traffic line.new) reads.old
+            reads.new (named (length replies.new.items - length replies.old.items) result) replies.old.items
+            replies.new.items }
         ensures more { length replies.old.items ≤ length replies.new.items }
         ensures count { OnOk result (length replies.new.items ≡ length replies.old.items + length requests.now) }
         ensures missing { OnErr result (length replies.new.items < length replies.old.items + length requests.now) }
@@ -85,7 +87,8 @@ impl Connection {
     ) -> Result<(), CallsFault>
         requires some { 0 < length requests.now }
         requires few { length requests.now ≤ 64 }
-        ensures calls { CallsGroup requests.now self.old self.new (L.traffic line.old) (L.traffic line.new) reads.old reads.new result replies.old.items replies.new.items }
+        ensures calls { CallsGroup requests.now self.old self.new (L.traffic line.old) (L.traffic line.new) reads.old
+            reads.new result replies.old.items replies.new.items }
         ensures count { OnOk result (length replies.new.items ≡ length replies.old.items + length requests.now) }
         ensures names { IfErr result (λ calls. calls.request < length requests.now) }
         ensures failed { L.failures line.new ≡ failures_behind (L.failures line.old) (fault_alone result) }
@@ -114,7 +117,8 @@ impl Connection {
         replies: &mut Vec<Reply>,
     ) -> Result<(), CallsFault>
         requires settled { StandsSettled (channel_of self.old) }
-        ensures calls { CallsInto requests.now self.old self.new (L.traffic line.old) (L.traffic line.new) result replies.old.items replies.new.items }
+        ensures calls { CallsInto requests.now self.old self.new (L.traffic line.old) (L.traffic line.new) result
+            replies.old.items replies.new.items }
         ensures count { OnOk result (length replies.new.items ≡ length replies.old.items + length requests.now) }
         ensures names { IfErr result (λ calls. calls.request < length requests.now) }
         ensures failed { L.failures line.new ≡ failures_behind (L.failures line.old) (fault_alone result) }

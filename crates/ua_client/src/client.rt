@@ -33,18 +33,22 @@ pub struct Client {
 }
 
 impl Client {
-    ghost use Rattle.std.specs.Prelude.{◌≡◌, ◌⊎◌, ◌+◌, ◌<◌, ◌≤◌, ◌∷◌, [], ℕ, List, length, None, IsTrue, IfOk, IfErr, OnOk, Err};
+    ghost use Rattle.std.specs.Prelude.{◌≡◌, ◌⊎◌, ◌+◌, ◌<◌, ◌≤◌, ◌∷◌, [], ℕ, List};
+    ghost use Rattle.std.specs.Prelude.{length, None, IsTrue, IfOk, IfErr, OnOk, Err};
     ghost use Rattle.ua_wire.specs.Counted.{text};
     ghost use Rattle.ua_channel.specs.Asks.{Placed};
-    ghost use Rattle.ua_channel.specs.Client.{ClientStands, IsClientDone, client_bound, client_bound_behind, client_limits, held_octets};
+    ghost use Rattle.ua_channel.specs.Client.{ClientStands, IsClientDone, client_bound};
+    ghost use Rattle.ua_channel.specs.Client.{client_bound_behind, client_limits, held_octets};
     ghost use Rattle.ua_frame.specs.declared.frame.Frame.{Frame};
     ghost use Rattle.ua_channel.specs.Received.{received};
     ghost use Rattle.ua_client.specs.Calls.{CallsAll};
-    ghost use Rattle.ua_client.specs.Client.{OpensNothing, OpensClient, IsDone, IsReady, IsLeft, Closes, client_channel, connection_of};
+    ghost use Rattle.ua_client.specs.Client.{OpensNothing, OpensClient, IsDone, IsReady};
+    ghost use Rattle.ua_client.specs.Client.{IsLeft, Closes, client_channel, connection_of};
     ghost use Rattle.ua_client.specs.Hearing.{failures_behind, fault_alone};
     ghost use Rattle.ua_client.specs.Kept.{CallsInto, closed_at};
     ghost use Rattle.ua_client.specs.Renewing.{Renews, IsRefusal};
-    ghost use Rattle.ua_client.specs.Session.{BeginsSession, BeginsSessionAs, TriesSession, session_alone, session_closed};
+    ghost use Rattle.ua_client.specs.Session.{BeginsSession, BeginsSessionAs};
+    ghost use Rattle.ua_client.specs.Session.{TriesSession, session_alone, session_closed};
     ghost use Rattle.ua_client.specs.ClientPlace.{ClientPlace, StandsAt, id_at, usable_id};
     ghost use Rattle.ua_client.specs.declared.fault.ClientFault.TheVariants.{Closed};
 
@@ -58,7 +62,8 @@ impl Client {
         moment: DateTime,
     ) -> Result<Client, ClientFault>
         requires { IsTrue (text.encodable url) }
-        ensures opens { OpensNothing (L.traffic line.old) (L.traffic line.new) result ⊎ OpensClient limits url moment (L.traffic line.old) (L.traffic line.new) result }
+        ensures opens { OpensNothing (L.traffic line.old) (L.traffic line.new) result
+            ⊎ OpensClient limits url moment (L.traffic line.old) (L.traffic line.new) result }
         ensures failed { L.failures line.new ≡ failures_behind (L.failures line.old) result }
     {
         clients_are_settled();
@@ -82,7 +87,8 @@ impl Client {
         line: &mut L,
         moment: DateTime,
     ) -> Result<NodeId, ClientFault>
-        ensures begins { IsReady self.old → BeginsSession moment (connection_of self.old) (connection_of self.new) (L.traffic line.old) (L.traffic line.new) result }
+        ensures begins { IsReady self.old → BeginsSession moment (connection_of self.old) (connection_of self.new)
+            (L.traffic line.old) (L.traffic line.new) result }
         ensures left { IsReady self.old → IsLeft result self.new }
         ensures closed { IsDone self.old → (result ≡ Err Closed) × (self.new ≡ self.old) × (line.new ≡ line.old) }
         ensures failed { L.failures line.new ≡ failures_behind (L.failures line.old) result }
@@ -118,7 +124,8 @@ impl Client {
         policy_id: UaString,
         moment: DateTime,
     ) -> Result<NodeId, ClientFault>
-        ensures begins { IsReady self.old → BeginsSessionAs policy_id moment (connection_of self.old) (connection_of self.new) (L.traffic line.old) (L.traffic line.new) result }
+        ensures begins { IsReady self.old → BeginsSessionAs policy_id moment (connection_of self.old)
+            (connection_of self.new) (L.traffic line.old) (L.traffic line.new) result }
         ensures left { IsReady self.old → IsLeft result self.new }
         ensures closed { IsDone self.old → (result ≡ Err Closed) × (self.new ≡ self.old) × (line.new ≡ line.old) }
         ensures failed { L.failures line.new ≡ failures_behind (L.failures line.old) result }
@@ -139,9 +146,12 @@ impl Client {
         policy_id: UaString,
         moment: DateTime,
     ) -> Result<NodeId, SessionFault>
-        ensures begins { IsReady self.old → TriesSession policy_id moment (connection_of self.old) (connection_of self.new) (L.traffic line.old) (L.traffic line.new) result }
+        ensures begins { IsReady self.old
+            → TriesSession policy_id moment (connection_of self.old) (connection_of self.new) (L.traffic line.old)
+            (L.traffic line.new) result }
         ensures left { IsReady self.old → IsLeft (session_alone result) self.new }
-        ensures closed { IsDone self.old → (result ≡ Err session_closed) × (self.new ≡ self.old) × (line.new ≡ line.old) }
+        ensures closed { IsDone self.old → (result ≡ Err session_closed) × (self.new ≡ self.old)
+            × (line.new ≡ line.old) }
         ensures failed { L.failures line.new ≡ failures_behind (L.failures line.old) (session_alone result) }
     {
         if self.is_done {
@@ -169,7 +179,8 @@ impl Client {
         request: &Request,
         moment: DateTime,
     ) -> Result<Reply, ClientFault>
-        ensures calls { IsReady self.old → CallsAll (λ reply. reply ∷ []) (request.now ∷ []) (connection_of self.old) (connection_of self.new) (L.traffic line.old) (L.traffic line.new) result }
+        ensures calls { IsReady self.old → CallsAll (λ reply. reply ∷ []) (request.now ∷ []) (connection_of self.old)
+            (connection_of self.new) (L.traffic line.old) (L.traffic line.new) result }
         ensures left { IsReady self.old → IsLeft result self.new }
         ensures closed { IsDone self.old → (result ≡ Err Closed) × (self.new ≡ self.old) × (line.new ≡ line.old) }
         ensures failed { L.failures line.new ≡ failures_behind (L.failures line.old) result }
@@ -194,7 +205,8 @@ impl Client {
         requests: &[Request],
         moment: DateTime,
     ) -> Result<Vec<Reply>, ClientFault>
-        ensures calls { IsReady self.old → CallsAll (λ replies. replies.items) requests.now (connection_of self.old) (connection_of self.new) (L.traffic line.old) (L.traffic line.new) result }
+        ensures calls { IsReady self.old → CallsAll (λ replies. replies.items) requests.now (connection_of self.old)
+            (connection_of self.new) (L.traffic line.old) (L.traffic line.new) result }
         ensures count { IfOk result (λ replies. length replies.items ≡ length requests.now) }
         ensures left { IsReady self.old → IsLeft result self.new }
         ensures closed { IsDone self.old → (result ≡ Err Closed) × (self.new ≡ self.old) × (line.new ≡ line.old) }
@@ -227,11 +239,13 @@ impl Client {
         moment: DateTime,
         replies: &mut Vec<Reply>,
     ) -> Result<(), CallsFault>
-        ensures calls { IsReady self.old → CallsInto requests.now (connection_of self.old) (connection_of self.new) (L.traffic line.old) (L.traffic line.new) result replies.old.items replies.new.items }
+        ensures calls { IsReady self.old → CallsInto requests.now (connection_of self.old) (connection_of self.new)
+            (L.traffic line.old) (L.traffic line.new) result replies.old.items replies.new.items }
         ensures count { OnOk result (length replies.new.items ≡ length replies.old.items + length requests.now) }
         ensures names { IsReady self.old → IfErr result (λ calls. calls.request < length requests.now) }
         ensures left { IsReady self.old → IsLeft (fault_alone result) self.new }
-        ensures closed { IsDone self.old → (result ≡ Err (closed_at 0)) × (self.new ≡ self.old) × (line.new ≡ line.old) × (replies.new ≡ replies.old) }
+        ensures closed { IsDone self.old → (result ≡ Err (closed_at 0)) × (self.new ≡ self.old) × (line.new ≡ line.old)
+            × (replies.new ≡ replies.old) }
         ensures failed { L.failures line.new ≡ failures_behind (L.failures line.old) (fault_alone result) }
     {
         if self.is_done {
@@ -255,9 +269,11 @@ impl Client {
     /// The number of bytes held that are incomplete: of a frame, and of unfinished messages. Bytes
     /// that were read and are not yet taken are not counted; they are at most 4096.
     pub fn held(&self) -> usize
-        ensures held { (asks : List Placed) (octets : List ℕ) (frames : List Frame) (rest : List ℕ) → ClientStands (client_channel self.now) asks octets frames rest
+        ensures held { (asks : List Placed) (octets : List ℕ) (frames : List Frame) (rest : List ℕ)
+            → ClientStands (client_channel self.now) asks octets frames rest
             → result ≡ held_octets frames rest }
-        ensures bound { (asks : List Placed) (octets : List ℕ) (frames : List Frame) (rest : List ℕ) → ClientStands (client_channel self.now) asks octets frames rest
+        ensures bound { (asks : List Placed) (octets : List ℕ) (frames : List Frame) (rest : List ℕ)
+            → ClientStands (client_channel self.now) asks octets frames rest
             → result ≤ client_bound (client_channel self.now) }
         ensures done { IsClientDone (client_channel self.now) → result ≡ 0 }
     {
@@ -267,7 +283,8 @@ impl Client {
     /// The maximum number of bytes that may be held: the largest frame that the server sends, and 4
     /// times the largest message that the client accepts.
     pub fn bound(&self) -> usize
-        ensures stands { (asks : List Placed) (octets : List ℕ) (frames : List Frame) (rest : List ℕ) → ClientStands (client_channel self.now) asks octets frames rest
+        ensures stands { (asks : List Placed) (octets : List ℕ) (frames : List Frame) (rest : List ℕ)
+            → ClientStands (client_channel self.now) asks octets frames rest
             → result ≡ client_bound_behind (client_limits (client_channel self.now)) (received frames).ack }
         ensures is { result ≡ client_bound (client_channel self.now) }
     {
@@ -276,7 +293,8 @@ impl Client {
 
     /// The RequestId of the next call; `None` where all were used, or the client is done.
     pub fn next_id(&self) -> Option<u32>
-        ensures ready { IsReady self.now → (s : ClientPlace) → StandsAt (client_channel self.now) s → result ≡ usable_id (id_at s) }
+        ensures ready { IsReady self.now → (s : ClientPlace) → StandsAt (client_channel self.now) s
+            → result ≡ usable_id (id_at s) }
         ensures done { IsDone self.now → result ≡ None }
     {
         if self.is_done {
@@ -295,7 +313,8 @@ impl Client {
     /// After `TooManyTokens` and `Exhausted` nothing has changed; after any other fault the client
     /// is done.
     pub fn renew<L: Line>(&mut self, line: &mut L, moment: DateTime) -> Result<(), ClientFault>
-        ensures renews { IsReady self.old → Renews moment (connection_of self.old) (connection_of self.new) (L.traffic line.old) (L.traffic line.new) result }
+        ensures renews { IsReady self.old → Renews moment (connection_of self.old) (connection_of self.new)
+            (L.traffic line.old) (L.traffic line.new) result }
         ensures left { IsReady self.old → IsLeft result self.new }
         ensures unchanged { IsRefusal result → (self.new ≡ self.old) × (line.new ≡ line.old) }
         ensures closed { IsDone self.old → (result ≡ Err Closed) × (self.new ≡ self.old) × (line.new ≡ line.old) }
@@ -315,7 +334,8 @@ impl Client {
 
     /// Closes the channel by the CLO, after which the client is done.
     pub fn close<L: Line>(&mut self, line: &mut L, moment: DateTime) -> Result<(), ClientFault>
-        ensures closes { IsReady self.old → Closes moment (client_channel self.old) (L.traffic line.old) (L.traffic line.new) result }
+        ensures closes { IsReady self.old → Closes moment (client_channel self.old) (L.traffic line.old)
+            (L.traffic line.new) result }
         ensures done { IsDone self.new }
         ensures closed { IsDone self.old → (result ≡ Err Closed) × (self.new ≡ self.old) × (line.new ≡ line.old) }
         ensures failed { L.failures line.new ≡ failures_behind (L.failures line.old) result }

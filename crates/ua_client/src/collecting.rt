@@ -1,6 +1,7 @@
 //! Waiting for the replies of a group of calls.
 
-ghost use Rattle.std.specs.Prelude.{◌≡◌, ◌<◌, ◌≤◌, ◌+◌, ◌++◌, ◌∷◌, [], length, is_none, true, false, None, Err, IfOk, IfErr, OnOk, OnErr};
+ghost use Rattle.std.specs.Prelude.{◌≡◌, ◌<◌, ◌≤◌, ◌+◌, ◌++◌, ◌∷◌, [], length, is_none};
+ghost use Rattle.std.specs.Prelude.{true, false, None, Err, IfOk, IfErr, OnOk, OnErr};
 ghost use Rattle.std.specs.Vec.{vec_len, vec_capacity};
 ghost use Rattle.std.specs.List.{list_any};
 ghost use Rattle.ua_client.specs.Calls.{Collects, none_for};
@@ -134,7 +135,8 @@ impl Connection {
     ) -> Result<(), ClientFault>
         requires some { 0 < length requests.now }
         requires none { slots.old.items ≡ none_for requests.now }
-        ensures collects { Collects slots.new.items requests.now first self.old self.new (L.traffic line.old) (L.traffic line.new) reads.old reads.new result }
+        ensures collects { Collects slots.new.items requests.now first self.old self.new (L.traffic line.old)
+            (L.traffic line.new) reads.old reads.new result }
         ensures count { length slots.new.items ≡ length requests.now }
         ensures whole { OnOk result (list_any is_none slots.new.items ≡ false) }
         ensures missing { OnErr result (list_any is_none slots.new.items ≡ true) }

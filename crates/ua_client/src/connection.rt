@@ -68,7 +68,8 @@ impl Connection {
         reads: &mut u64,
         moment: DateTime,
     ) -> Result<ClientEvent, ClientFault>
-        ensures hears { Hears self.old self.new moment (L.traffic line.old) (L.traffic line.new) reads.old reads.new result }
+        ensures hears { Hears self.old self.new moment (L.traffic line.old) (L.traffic line.new) reads.old reads.new
+            result }
         ensures failed { L.failures line.new ≡ failures_behind (L.failures line.old) result }
     {
         loop {

@@ -1,12 +1,14 @@
 //! Groups of calls: checked as a whole, and then sent.
 
-ghost use Rattle.std.specs.Prelude.{◌≡◌, ◌<◌, ◌++◌, ◌↔◌, ℕ, List, Some, None, length, map, IfOk, IfErr, OnOk, IsTrue, IsFalse, IsErrOf};
+ghost use Rattle.std.specs.Prelude.{◌≡◌, ◌<◌, ◌++◌, ◌↔◌, ℕ, List, Some, None, length};
+ghost use Rattle.std.specs.Prelude.{map, IfOk, IfErr, OnOk, IsTrue, IsFalse, IsErrOf};
 ghost use Rattle.ua_wire.specs.declared.fault.WriteFault.TheVariants.{NotWritable};
 ghost use Rattle.ua_frame.specs.declared.frame.Frame.{Frame};
 ghost use Rattle.ua_services.specs.Request.{request};
 ghost use Rattle.ua_channel.specs.Asks.{Placed};
 ghost use Rattle.ua_channel.specs.Client.{ClientStands, SameClient, phase_of, ask_refusal};
-ghost use Rattle.ua_client.specs.Sent.{asked_octets, of_ask, AnswersBy, request_refusal, group_refusal, bodies_of, AsksFrom, AsksOr, RefusesBy, place_by};
+ghost use Rattle.ua_client.specs.Sent.{asked_octets, of_ask, AnswersBy, request_refusal, group_refusal};
+ghost use Rattle.ua_client.specs.Sent.{bodies_of, AsksFrom, AsksOr, RefusesBy, place_by};
 ghost use Rattle.ua_client.specs.Hearing.{fault_alone};
 ghost use Rattle.ua_client.specs.declared.fault.ClientFault.TheVariants.{OutOfMemory};
 
@@ -151,8 +153,10 @@ pub fn ask_group(
     channel: &mut ClientChannel,
     bodies: &[Body],
 ) -> Result<(u32, Vec<AskedCall>), ClientFault>
-    ensures asks { (asks : List Placed) (octets : List ℕ) (frames : List Frame) (rest : List ℕ) → ClientStands channel.old asks octets frames rest
-        → AsksOr (λ found. AsksFrom bodies.now channel.old channel.new asks octets frames rest (found.0, asked_octets found.1.items)) result }
+    ensures asks { (asks : List Placed) (octets : List ℕ) (frames : List Frame) (rest : List ℕ)
+        → ClientStands channel.old asks octets frames rest
+        → AsksOr (λ found. AsksFrom bodies.now channel.old channel.new asks octets frames rest
+        (found.0, asked_octets found.1.items)) result }
     ensures same { SameClient channel.old channel.new }
     ensures memory { IfErr result (λ fault. fault ≡ OutOfMemory) }
 {

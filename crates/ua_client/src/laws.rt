@@ -29,7 +29,8 @@ use ua_channel_laws::client_laws::{client_goes_on, client_pairs, client_tells_de
 
 /// The event of a call is the first event that is reported of it.
 pub fn calls_are_told_once()
-    ensures { (x : ClientChannel) (asks : List Placed) (octets : List ℕ) (told : List ClientTold) (t : ClientTold) → ClientGoesTelling x asks octets told t → IsFirstOf told t }
+    ensures { (x : ClientChannel) (asks : List Placed) (octets : List ℕ) (told : List ClientTold) (t : ClientTold)
+        → ClientGoesTelling x asks octets told t → IsFirstOf told t }
 {
     client_goes_on();
     client_pairs();
@@ -38,7 +39,8 @@ pub fn calls_are_told_once()
 
 /// No event of a call is reported before the call is sent.
 pub fn calls_are_told_behind()
-    ensures { (x : ClientChannel) (asks : List Placed) (octets : List ℕ) (told : List ClientTold) (n : ℕ) → ClientGoes x asks octets told → told_of (next_id (asked_in asks) + n) told ≡ [] }
+    ensures { (x : ClientChannel) (asks : List Placed) (octets : List ℕ) (told : List ClientTold) (n : ℕ)
+        → ClientGoes x asks octets told → told_of (next_id (asked_in asks) + n) told ≡ [] }
 {
     client_pairs();
     client_tells_delivered();
@@ -49,11 +51,16 @@ pub fn calls_are_told_behind()
 /// call is pending, and there is a lane for the next ones. A channel whose state is a settled one
 /// is idle in every description of that state.
 pub fn clients_are_settled()
-    ensures opened { (x : ClientChannel) (octets : List ℕ) → IsOpened x octets → (s : ClientPlace) × (s.octets ≡ octets) × (s.asks ≡ []) × StandsAt x s × IsSettled s }
-    ensures answered { (requests : List Request) (s t : ClientPlace) (taken : List ℕ) (replies : List Reply) → IsSettled s → Answered requests s t taken replies → IsSettled t }
-    ensures later { (s t : ClientPlace) (more : List ClientTold) → IsSettled s → t.asks ≡ s.asks → t.told ≡ s.told ++ more → IsSettled t }
-    ensures none_pending { (x : ClientChannel) (s : ClientPlace) → StandsAt x s → IsSettled s → pending_calls s.before.messages (asked_in s.asks) ≡ [] }
-    ensures lane { (x : ClientChannel) (s : ClientPlace) → StandsAt x s → IsSettled s → (lane : Lane) × (lane_behind s.before ≡ Some lane) }
+    ensures opened { (x : ClientChannel) (octets : List ℕ) → IsOpened x octets → (s : ClientPlace) × (s.octets ≡ octets)
+        × (s.asks ≡ []) × StandsAt x s × IsSettled s }
+    ensures answered { (requests : List Request) (s t : ClientPlace) (taken : List ℕ) (replies : List Reply)
+        → IsSettled s → Answered requests s t taken replies → IsSettled t }
+    ensures later { (s t : ClientPlace) (more : List ClientTold) → IsSettled s → t.asks ≡ s.asks
+        → t.told ≡ s.told ++ more → IsSettled t }
+    ensures none_pending { (x : ClientChannel) (s : ClientPlace) → StandsAt x s → IsSettled s
+        → pending_calls s.before.messages (asked_in s.asks) ≡ [] }
+    ensures lane { (x : ClientChannel) (s : ClientPlace) → StandsAt x s → IsSettled s
+        → (lane : Lane) × (lane_behind s.before ≡ Some lane) }
     ensures idle { (x : ClientChannel) (s : ClientPlace) → StandsSettled x → StandsAt x s → IsIdle x s }
 {
     client_goes_on();
@@ -67,19 +74,29 @@ pub fn clients_are_settled()
 /// group of calls are those of all the bytes. After such a prefix a group does not end for a
 /// error, of the peer or of the client.
 pub fn clients_follow_asking()
-    ensures told { (x : ClientChannel) (s : ClientPlace) (later : List Placed) (more : List ℕ) (all : List ClientTold) (at : AtClient) → StandsAt x s →
-        AllByRecursion (λ (a : Placed). length s.octets ≤ a.0) later → ClientReads (client_limits x) (s.asks ++ later) (s.octets ++ more) all at →
+    ensures told { (x : ClientChannel) (s : ClientPlace) (later : List Placed) (more : List ℕ) (all : List ClientTold)
+        (at : AtClient) → StandsAt x s →
+        AllByRecursion (λ (a : Placed). length s.octets ≤ a.0) later
+        → ClientReads (client_limits x) (s.asks ++ later) (s.octets ++ more) all at →
         (rest : List ClientTold) × (all ≡ s.told ++ rest) }
-    ensures replies { (requests : List Request) (s t : ClientPlace) (taken : List ℕ) (replies : List Reply) (x : ClientChannel) (later : List Placed) (more : List ℕ) (all : List ClientTold) (at : AtClient) →
+    ensures replies { (requests : List Request) (s t : ClientPlace) (taken : List ℕ) (replies : List Reply)
+        (x : ClientChannel) (later : List Placed) (more : List ℕ) (all : List ClientTold) (at : AtClient) →
         Answered requests s t taken replies → StandsAt x t →
-        AllByRecursion (λ (a : Placed). length t.octets ≤ a.0) later → ClientReads (client_limits x) (t.asks ++ later) (t.octets ++ more) all at →
+        AllByRecursion (λ (a : Placed). length t.octets ≤ a.0) later
+        → ClientReads (client_limits x) (t.asks ++ later) (t.octets ++ more) all at →
         AreReplies requests (id_at s) all replies }
-    ensures not_peer { (requests : List Request) (s : ClientPlace) (new : Connection) (sent taken : List ℕ) (code : StatusCode) (later : List Placed) (more : List ℕ) (all : List ClientTold) (at : AtClient) →
-        BreaksAt requests s new sent taken (Peer code) → AllByRecursion (λ (a : Placed). length (s.octets ++ taken) ≤ a.0) later →
-        ClientReads (client_limits (channel_of new)) (asked_at s requests ++ later) ((s.octets ++ taken) ++ more) all at → ⊥ }
-    ensures not_refused { (requests : List Request) (s : ClientPlace) (new : Connection) (sent taken : List ℕ) (code : StatusCode) (later : List Placed) (more : List ℕ) (all : List ClientTold) (at : AtClient) →
-        BreaksAt requests s new sent taken (Refused code) → AllByRecursion (λ (a : Placed). length (s.octets ++ taken) ≤ a.0) later →
-        ClientReads (client_limits (channel_of new)) (asked_at s requests ++ later) ((s.octets ++ taken) ++ more) all at → ⊥ }
+    ensures not_peer { (requests : List Request) (s : ClientPlace) (new : Connection) (sent taken : List ℕ)
+        (code : StatusCode) (later : List Placed) (more : List ℕ) (all : List ClientTold) (at : AtClient) →
+        BreaksAt requests s new sent taken (Peer code)
+        → AllByRecursion (λ (a : Placed). length (s.octets ++ taken) ≤ a.0) later →
+        ClientReads (client_limits (channel_of new)) (asked_at s requests ++ later) ((s.octets ++ taken) ++ more) all at
+        → ⊥ }
+    ensures not_refused { (requests : List Request) (s : ClientPlace) (new : Connection) (sent taken : List ℕ)
+        (code : StatusCode) (later : List Placed) (more : List ℕ) (all : List ClientTold) (at : AtClient) →
+        BreaksAt requests s new sent taken (Refused code)
+        → AllByRecursion (λ (a : Placed). length (s.octets ++ taken) ≤ a.0) later →
+        ClientReads (client_limits (channel_of new)) (asked_at s requests ++ later) ((s.octets ++ taken) ++ more) all at
+        → ⊥ }
 {
     client_follows_asking();
     client_pairs();

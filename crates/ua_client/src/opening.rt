@@ -45,7 +45,8 @@ impl Connection {
         reads: &mut u64,
         moment: DateTime,
     ) -> Result<Vec<u8>, ClientFault>
-        ensures waits { Waits is_agreed (λ octets. octets.items ≡ open_octets moment) self.old self.new (L.traffic line.old) (L.traffic line.new) reads.old reads.new result }
+        ensures waits { Waits is_agreed (λ octets. octets.items ≡ open_octets moment) self.old self.new
+            (L.traffic line.old) (L.traffic line.new) reads.old reads.new result }
         ensures failed { L.failures line.new ≡ failures_behind (L.failures line.old) result }
     {
         client_goes_on();
@@ -63,7 +64,8 @@ impl Connection {
         reads: &mut u64,
         moment: DateTime,
     ) -> Result<(), ClientFault>
-        ensures waits { Waits is_opened any_done self.old self.new (L.traffic line.old) (L.traffic line.new) reads.old reads.new result }
+        ensures waits { Waits is_opened any_done self.old self.new (L.traffic line.old) (L.traffic line.new) reads.old
+            reads.new result }
         ensures failed { L.failures line.new ≡ failures_behind (L.failures line.old) result }
     {
         client_goes_on();

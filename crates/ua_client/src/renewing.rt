@@ -36,7 +36,8 @@ impl Connection {
         reads: &mut u64,
         moment: DateTime,
     ) -> Result<(), ClientFault>
-        ensures waits { Waits is_renewed any_done self.old self.new (L.traffic line.old) (L.traffic line.new) reads.old reads.new result }
+        ensures waits { Waits is_renewed any_done self.old self.new (L.traffic line.old) (L.traffic line.new) reads.old
+            reads.new result }
         ensures failed { L.failures line.new ≡ failures_behind (L.failures line.old) result }
     {
         client_goes_on();

@@ -1,6 +1,7 @@
 //! Replies to requests.
 
-ghost use Rattle.std.specs.Prelude.{◌≡◌, ◌<◌, ◌++◌, ◌∷◌, [], List, length, slice_set, true, Some, IfOk, IfErr, IfSome, OnErr};
+ghost use Rattle.std.specs.Prelude.{◌≡◌, ◌<◌, ◌++◌, ◌∷◌, [], List, length, slice_set};
+ghost use Rattle.std.specs.Prelude.{true, Some, IfOk, IfErr, IfSome, OnErr};
 ghost use Rattle.std.specs.List.{concat};
 ghost use Rattle.ua_channel.specs.ClientTold.{ClientTold};
 ghost use Rattle.ua_channel.specs.ClientTold.ClientTold.{Answered};
@@ -32,7 +33,8 @@ pub enum Reply {
 /// A response, where it answers a request of this kind.
 fn keep_answer(kind: RequestKind, response: Response) -> Result<Response, ClientFault>
     ensures kept { IfOk result (λ m. (m ≡ response) × Answers (kind_of_response response) kind) }
-    ensures refused { IfErr result (λ fault. (fault ≡ UnknownResponse) × (Answers (kind_of_response response) kind → ⊥)) }
+    ensures refused { IfErr result (λ fault. (fault ≡ UnknownResponse)
+        × (Answers (kind_of_response response) kind → ⊥)) }
 {
     if response.answers(kind) {
         return Ok(response);
@@ -101,7 +103,8 @@ fn reply_by(
     first: u32,
     event: &ClientEvent,
 ) -> Result<Option<(usize, Reply)>, ClientFault>
-    ensures placed { (moment : DateTime) (t : ClientTold) → Says moment event.now t → PlacesReply requests.now first t result }
+    ensures placed { (moment : DateTime) (t : ClientTold) → Says moment event.now t
+        → PlacesReply requests.now first t result }
     ensures within { IfOk result (λ found. IfSome found (λ p. p.0 < length requests.now)) }
     ensures faults { IfErr result (λ fault. is_reading_fault fault ≡ true) }
 {
@@ -132,7 +135,8 @@ pub fn place_reply(
     slots: &mut Vec<Option<Reply>>,
 ) -> Result<(), ClientFault>
     requires { length slots.old.items ≡ length requests.now }
-    ensures fills { (moment : DateTime) (told : List ClientTold) (t : ClientTold) → Says moment event t → IsFirstOf told t → AreSlots requests.now first told slots.old.items
+    ensures fills { (moment : DateTime) (told : List ClientTold) (t : ClientTold) → Says moment event t
+        → IsFirstOf told t → AreSlots requests.now first told slots.old.items
         → FillsSlots requests.now first (told ++ t ∷ []) slots.new.items result }
     ensures faults { IfErr result (λ fault. is_reading_fault fault ≡ true) }
     ensures count { length slots.new.items ≡ length slots.old.items }

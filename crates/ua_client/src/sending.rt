@@ -54,7 +54,8 @@ fn write_frames<L: Line>(line: &mut L, octets: &[u8], frame_len: usize) -> Resul
 
 /// Writes the frames of calls completely, each by one write where the transport takes it so.
 pub fn write_calls<L: Line>(line: &mut L, calls: &[AskedCall]) -> Result<(), LineFault>
-    ensures written { IfTrafficKnown (Writes result (asked_octets calls.now)) (L.traffic line.old) (L.traffic line.new) }
+    ensures written { IfTrafficKnown (Writes result (asked_octets calls.now)) (L.traffic line.old)
+        (L.traffic line.new) }
     ensures some { OnErr result (0 < length (asked_octets calls.now)) }
     ensures failed { L.failures line.new ≡ failures_after (L.failures line.old) result }
 {

@@ -3,7 +3,9 @@
 ghost use Rattle.std.specs.Prelude.{◌≡◌, None, IfOk, IfErr};
 ghost use Rattle.ua_channel.specs.Client.{url_of};
 ghost use Rattle.ua_client.specs.Hearing.{channel_of, failures_behind};
-ghost use Rattle.ua_client.specs.Session.{CallsOneAt, DoesIdle, IsFailure, LacksToken, MakesRequest, ServesAt, TriesSession, activating_at, brings_any, brings_token, creating_at, is_reply, reply_failure, response_failure, session_alone};
+ghost use Rattle.ua_client.specs.Session.{CallsOneAt, DoesIdle, IsFailure, LacksToken, MakesRequest, ServesAt};
+ghost use Rattle.ua_client.specs.Session.{TriesSession, activating_at, brings_any, brings_token, creating_at};
+ghost use Rattle.ua_client.specs.Session.{is_reply, reply_failure, response_failure, session_alone};
 ghost use Rattle.ua_client.specs.Renewing.{StandsSettled};
 ghost use Rattle.ua_client.specs.ClientPlace.{ClientPlace, StandsAt};
 
@@ -75,7 +77,8 @@ impl Connection {
         request: &Request,
         moment: DateTime,
     ) -> Result<Reply, ClientFault>
-        ensures calls { DoesIdle (λ s sent taken. CallsOneAt request.now s self.new sent taken result) self.old self.new (L.traffic line.old) (L.traffic line.new) reads.old reads.new result }
+        ensures calls { DoesIdle (λ s sent taken. CallsOneAt request.now s self.new sent taken result) self.old self.new
+            (L.traffic line.old) (L.traffic line.new) reads.old reads.new result }
         ensures failed { L.failures line.new ≡ failures_behind (L.failures line.old) result }
     {
         let mut replies = Vec::new(alloc);
@@ -98,7 +101,8 @@ impl Connection {
         request: Request,
         moment: DateTime,
     ) -> Result<Reply, ClientFault>
-        ensures serves { DoesIdle (λ s sent taken. ServesAt request is_reply s self.new sent taken result) self.old self.new (L.traffic line.old) (L.traffic line.new) reads.old reads.new result }
+        ensures serves { DoesIdle (λ s sent taken. ServesAt request is_reply s self.new sent taken result) self.old
+            self.new (L.traffic line.old) (L.traffic line.new) reads.old reads.new result }
         ensures failed { L.failures line.new ≡ failures_behind (L.failures line.old) result }
     {
         let replied = self.call_one(alloc, line, reads, &request, moment);
@@ -111,7 +115,8 @@ impl Connection {
 
     /// The CreateSession that would be sent next.
     fn creating(&self, alloc: Global, moment: DateTime) -> Result<Request, AllocError>
-        ensures { (s : ClientPlace) → StandsAt (channel_of self.now) s → IfOk result (λ r. r ≡ creating_at (url_of (channel_of self.now)) moment s) }
+        ensures { (s : ClientPlace) → StandsAt (channel_of self.now) s
+            → IfOk result (λ r. r ≡ creating_at (url_of (channel_of self.now)) moment s) }
     {
         let url = self.channel.url().try_clone()?;
         create_session_request(alloc, url, moment, self.channel.next_id())
@@ -146,7 +151,9 @@ impl Connection {
         reads: &mut u64,
         moment: DateTime,
     ) -> Result<NodeId, ClientFault>
-        ensures creates { DoesIdle (λ s sent taken. ServesAt (creating_at (url_of (channel_of self.old)) moment s) brings_token s self.new sent taken result) self.old self.new (L.traffic line.old) (L.traffic line.new) reads.old reads.new result }
+        ensures creates { DoesIdle
+            (λ s sent taken. ServesAt (creating_at (url_of (channel_of self.old)) moment s) brings_token s self.new sent
+            taken result) self.old self.new (L.traffic line.old) (L.traffic line.new) reads.old reads.new result }
         ensures failed { L.failures line.new ≡ failures_behind (L.failures line.old) result }
     {
         let Ok(request) = self.creating(alloc, moment) else {
@@ -168,7 +175,9 @@ impl Connection {
         policy_id: UaString,
         moment: DateTime,
     ) -> Result<(), ClientFault>
-        ensures activates { DoesIdle (λ s sent taken. ServesAt (activating_at policy_id token.now moment s) brings_any s self.new sent taken result) self.old self.new (L.traffic line.old) (L.traffic line.new) reads.old reads.new result }
+        ensures activates { DoesIdle
+            (λ s sent taken. ServesAt (activating_at policy_id token.now moment s) brings_any s self.new sent taken
+            result) self.old self.new (L.traffic line.old) (L.traffic line.new) reads.old reads.new result }
         ensures failed { L.failures line.new ≡ failures_behind (L.failures line.old) result }
     {
         let request = match self.activating(alloc, token, policy_id, moment) {
@@ -194,7 +203,8 @@ impl Connection {
         moment: DateTime,
     ) -> Result<NodeId, SessionFault>
         requires settled { StandsSettled (channel_of self.old) }
-        ensures begins { TriesSession policy_id moment self.old self.new (L.traffic line.old) (L.traffic line.new) result }
+        ensures begins { TriesSession policy_id moment self.old self.new (L.traffic line.old) (L.traffic line.new)
+            result }
         ensures failed { L.failures line.new ≡ failures_behind (L.failures line.old) (session_alone result) }
     {
         clients_are_settled();

@@ -17,10 +17,12 @@ use Rattle.ua_concurrent.specs.declared.outcome.Phase.TheVariants as phase
 abbrev OthersAt : ℕ → List SharedEvent → List SharedEvent → State → State → State → Type 0
 OthersAt k es all first before now =
     (j : ℕ) → (j ≡ k → ⊥) → (told_by j all ≡ told_by j es) × (sent_to own_id j (opened first) all ≡ sent_to own_id j (opened first) es)
-    × ((x : ServerChannel) (session : Option Session) (octets : List ℕ) → StandsAmong own_id j x session octets es first before → StandsAmong own_id j x session octets all first now)
+    × ((x : ServerChannel) (session : Option Session) (octets : List ℕ) → StandsAmong own_id j x session octets es first before
+    → StandsAmong own_id j x session octets all first now)
 
 pub others_none : (k : ℕ) (es : List SharedEvent) (first now : State) → OthersStand own_id k es [] first now now
-others_none k es first now = subst (λ (all : List SharedEvent). OthersAt k es all first now now) (sym (append-nil es)) (λ j n. (refl, refl, λ x session octets s. s))
+others_none k es first now = subst (λ (all : List SharedEvent). OthersAt k es all first now now) (sym (append-nil es))
+    (λ j n. (refl, refl, λ x session octets s. s))
 
 pub others_trans : (k : ℕ) (es more again : List SharedEvent) (first before mid now : State) → OthersStand own_id k es more first before mid
     → OthersStand own_id k (es ++ more) again first mid now → OthersStand own_id k es (more ++ again) first before now
@@ -31,7 +33,8 @@ others_trans k es more again first before mid now a b =
 -- ---- one conversation
 
 module _ {S : Type 0} (heard : S → Option Carried) where
-  pub went_none : (es : List SharedEvent) (first now : State) (t : Talk S) → (shared_over own_id (opened first) es).state ≡ now → Stands heard es first now t → Went heard es first now now t
+  pub went_none : (es : List SharedEvent) (first now : State) (t : Talk S) → (shared_over own_id (opened first) es).state ≡ now → Stands heard es first now t
+      → Went heard es first now now t
   went_none es first now t state s = record {
     more = [];
     state_is = subst (λ (all : List SharedEvent). (shared_over own_id (opened first) all).state ≡ now) (sym (append-nil es)) state;
@@ -45,12 +48,14 @@ module _ {S : Type 0} (heard : S → Option Carried) where
     more = w.more ++ v.more;
     state_is = subst (λ (all : List SharedEvent). (shared_over own_id (opened first) all).state ≡ now) (append_assoc es w.more v.more) v.state_is;
     stands = subst (λ (all : List SharedEvent). Stands heard all first now u) (append_assoc es w.more v.more) v.stands;
-    others = others_trans u.number es w.more v.more first before mid now (subst (λ (k : ℕ). OthersStand own_id k es w.more first before mid) (sym same) w.others) v.others;
+    others = others_trans u.number es w.more v.more first before mid now
+        (subst (λ (k : ℕ). OthersStand own_id k es w.more first before mid) (sym same) w.others) v.others;
   }
 
   -- where it stands on without a further event
   pub went_on : (es : List SharedEvent) (first before now : State) (t u : Talk S) → u.number ≡ t.number
-      → ((all : List SharedEvent) → Stands heard all first now t → Stands heard all first now u) → Went heard es first before now t → Went heard es first before now u
+      → ((all : List SharedEvent) → Stands heard all first now t → Stands heard all first now u) → Went heard es first before now t
+      → Went heard es first before now u
   went_on es first before now t u same on w = record {
     more = w.more;
     state_is = w.state_is;
@@ -59,12 +64,15 @@ module _ {S : Type 0} (heard : S → Option Carried) where
   }
 
   -- one did this, and then that
-  pub went_then : (first before mid now : State) (a b c : Talk S) → ((es : List SharedEvent) → Stands heard es first before a → Went heard es first before mid b) → c.number ≡ b.number
-      → ((es : List SharedEvent) → Stands heard es first mid b → Went heard es first mid now c) → (es : List SharedEvent) → Stands heard es first before a → Went heard es first before now c
+  pub went_then : (first before mid now : State) (a b c : Talk S)
+      → ((es : List SharedEvent) → Stands heard es first before a → Went heard es first before mid b) → c.number ≡ b.number
+      → ((es : List SharedEvent) → Stands heard es first mid b → Went heard es first mid now c) → (es : List SharedEvent) → Stands heard es first before a
+      → Went heard es first before now c
   went_then first before mid now a b c f same h es s = let w = f es s in went_trans es first before mid now b c w same (h (es ++ w.more) w.stands)
 
   -- another conversation stands on
-  pub stands_beside : (k : ℕ) (es more : List SharedEvent) (first before now : State) (t : Talk S) → (t.number ≡ k → ⊥) → OthersStand own_id k es more first before now
+  pub stands_beside : (k : ℕ) (es more : List SharedEvent) (first before now : State) (t : Talk S) → (t.number ≡ k → ⊥)
+      → OthersStand own_id k es more first before now
       → Stands heard es first before t → Stands heard (es ++ more) first now t
   stands_beside k es more first before now t apart others s = record {
     octets = s.octets;
@@ -75,7 +83,8 @@ module _ {S : Type 0} (heard : S → Option Carried) where
     where
       come_beside : (p : Phase) (j : ℕ) (c : Connection) (octets sent : List ℕ)
           → (told_by j (es ++ more) ≡ told_by j es) × (sent_to own_id j (opened first) (es ++ more) ≡ sent_to own_id j (opened first) es)
-          × ((x : ServerChannel) (session : Option Session) (octets : List ℕ) → StandsAmong own_id j x session octets es first before → StandsAmong own_id j x session octets (es ++ more) first now)
+          × ((x : ServerChannel) (session : Option Session) (octets : List ℕ) → StandsAmong own_id j x session octets es first before
+          → StandsAmong own_id j x session octets (es ++ more) first now)
           → HasCome p j c octets es first before sent → HasCome p j c octets (es ++ more) first now sent
       come_beside phase.Going j c octets sent o h = (o.2 _ _ octets h.0, o.1 ∙ h.1)
       come_beside phase.Closed j c octets sent o h = rw (o.0, o.1) h

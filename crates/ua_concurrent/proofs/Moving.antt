@@ -1,5 +1,6 @@
 -- What reads and writes leave.
-use Rattle.std.proofs.Common.{◌≡◌, ◌<◌, ◌≤◌, ◌⊎◌, inl, inr, ℕ, Bool, true, false, List, [], ◌∷◌, ◌++◌, length, length-drop, take, drop, Option, None, Some, Result, Ok, Err, refl, sym, ap, subst, ◌∙◌, append_assoc, append-nil, arith, ◌==◌}
+use Rattle.std.proofs.Common.{◌≡◌, ◌<◌, ◌≤◌, ◌⊎◌, inl, inr, ℕ, Bool, true, false, List, [], ◌∷◌, ◌++◌, length, length-drop, take, drop}
+use Rattle.std.proofs.Common.{Option, None, Some, Result, Ok, Err, refl, sym, ap, subst, ◌∙◌, append_assoc, append-nil, arith, ◌==◌}
 use Rattle.std.proofs.lemmas.List.{take-append-drop}
 use Rattle.std.specs.Option.{option_map}
 use Rattle.std.specs.Prelude.{cond, is_some}
@@ -10,7 +11,8 @@ use Rattle.ua_server.specs.declared.step.End.TheVariants as ending
 use Rattle.ua_concurrent.specs.Carried.{Carried, with_read, with_written}
 use Rattle.ua_concurrent.specs.Standing.{HasCome, Stands}
 use Rattle.ua_concurrent.specs.Talk.{Talk, are_there, is_going, is_ready, ready_of}
-use Rattle.ua_concurrent.specs.Turning.{Answered, CameTo, Failed, Finished, Finishes, HadTurn, IsIdle, IsOver, Moves, Read, Reads, ReadsNothing, ReadsSome, Stepped, Stopped, Turned, Writes, Wrote}
+use Rattle.ua_concurrent.specs.Turning.{Answered, CameTo, Failed, Finished, Finishes, HadTurn, IsIdle, IsOver, Moves}
+use Rattle.ua_concurrent.specs.Turning.{Read, Reads, ReadsNothing, ReadsSome, Stepped, Stopped, Turned, Writes, Wrote}
 use Rattle.ua_concurrent.specs.declared.outcome.Failure.{Failure}
 use Rattle.ua_concurrent.specs.declared.outcome.Failure.TheVariants as failure
 use Rattle.ua_concurrent.specs.declared.outcome.Phase.{Phase}
@@ -49,29 +51,36 @@ module _ {S : Type 0} (heard : S → Option Carried) where
             (ap (λ (x : Carried). x.read) before.2 ∙ was.0, ap (λ (x : Carried). x.written) before.2 ∙ ap (λ (x : List ℕ). x ++ take n a.waiting) was.1);
       })
 
-  pub stands_read : (es : List SharedEvent) (first now : State) (a b : Talk S) → a.unread ≡ [] → Read heard a b → Stands heard es first now a → Stands heard es first now b
+  pub stands_read : (es : List SharedEvent) (first now : State) (a b : Talk S) → a.unread ≡ [] → Read heard a b → Stands heard es first now a
+      → Stands heard es first now b
   stands_read es first now a b none w s =
       subst (λ (t : Talk S). Stands heard es first now t) (sym w.is) (record {
         octets = s.octets;
         written = s.written;
         come = s.come;
         carried = λ c e. let before = heard_before (with_read w.piece) (heard a.socket) (heard b.socket) c w.heard_is e in
-            let was = s.carried before.0 before.1 in
-            (ap (λ (x : Carried). x.read) before.2 ∙ ap (λ (x : List ℕ). x ++ w.piece) (was.0 ∙ ap (λ (x : List ℕ). s.octets ++ x) none ∙ append-nil s.octets), ap (λ (x : Carried). x.written) before.2 ∙ was.1);
+            let was = s.carried before.0 before.1 in (
+              ap (λ (x : Carried). x.read) before.2 ∙ ap (λ (x : List ℕ). x ++ w.piece) (was.0 ∙ ap (λ (x : List ℕ). s.octets ++ x) none ∙ append-nil s.octets),
+              ap (λ (x : Carried). x.written) before.2 ∙ was.1,
+            );
       })
 
-  pub stands_finished : (es : List SharedEvent) (first now : State) (a b : Talk S) → a.unread ≡ [] → Finished heard a b → Stands heard es first now a → Stands heard es first now b
+  pub stands_finished : (es : List SharedEvent) (first now : State) (a b : Talk S) → a.unread ≡ [] → Finished heard a b → Stands heard es first now a
+      → Stands heard es first now b
   stands_finished es first now a b none w s =
       subst (λ (t : Talk S). Stands heard es first now t) (sym w.is) (record {
         octets = s.octets;
         written = s.written;
         come = s.come;
         carried = λ c e. let before = heard_before (with_read []) (heard a.socket) (heard b.socket) c w.heard_is e in
-            let was = s.carried before.0 before.1 in
-            (ap (λ (x : Carried). x.read) before.2 ∙ append-nil before.0.read ∙ was.0 ∙ ap (λ (x : List ℕ). s.octets ++ x) none, ap (λ (x : Carried). x.written) before.2 ∙ was.1);
+            let was = s.carried before.0 before.1 in (
+              ap (λ (x : Carried). x.read) before.2 ∙ append-nil before.0.read ∙ was.0 ∙ ap (λ (x : List ℕ). s.octets ++ x) none,
+              ap (λ (x : Carried). x.written) before.2 ∙ was.1,
+            );
       })
 
-  pub stands_stopped : (able : S → Bool) (es : List SharedEvent) (first now : State) (a b : Talk S) → Stopped heard able a b → Stands heard es first now a → Stands heard es first now b
+  pub stands_stopped : (able : S → Bool) (es : List SharedEvent) (first now : State) (a b : Talk S) → Stopped heard able a b → Stands heard es first now a
+      → Stands heard es first now b
   stands_stopped able es first now a b w s =
       subst (λ (t : Talk S). Stands heard es first now t) (sym w.is) (record {
         octets = s.octets;
@@ -80,7 +89,8 @@ module _ {S : Type 0} (heard : S → Option Carried) where
         carried = λ c e. s.carried c (sym w.heard_is ∙ e);
       })
 
-  pub stands_failed : (failure : Failure) (es : List SharedEvent) (first now : State) (a b : Talk S) → Failed heard failure a b → Stands heard es first now a → Stands heard es first now b
+  pub stands_failed : (failure : Failure) (es : List SharedEvent) (first now : State) (a b : Talk S) → Failed heard failure a b → Stands heard es first now a
+      → Stands heard es first now b
   stands_failed failure es first now a b w s =
       subst (λ (t : Talk S). Stands heard es first now t) (sym w.is) (record {
         octets = s.octets;
@@ -89,12 +99,14 @@ module _ {S : Type 0} (heard : S → Option Carried) where
         carried = λ c e. s.carried c (sym w.heard_is ∙ e);
       })
 
-  pub stands_writes : (writable : S → Bool) (es : List SharedEvent) (first now : State) (a b : Talk S) → Writes heard writable a b → Stands heard es first now a → Stands heard es first now b
+  pub stands_writes : (writable : S → Bool) (es : List SharedEvent) (first now : State) (a b : Talk S) → Writes heard writable a b → Stands heard es first now a
+      → Stands heard es first now b
   stands_writes writable es first now a b (inl w) s = stands_wrote es first now a b w s
   stands_writes writable es first now a b (inr (inl w)) s = stands_stopped writable es first now a b w s
   stands_writes writable es first now a b (inr (inr w)) s = stands_failed failure.Write es first now a b w s
 
-  pub stands_reads : (readable : S → Bool) (es : List SharedEvent) (first now : State) (a b : Talk S) → a.unread ≡ [] → Reads heard readable a b → Stands heard es first now a → Stands heard es first now b
+  pub stands_reads : (readable : S → Bool) (es : List SharedEvent) (first now : State) (a b : Talk S) → a.unread ≡ [] → Reads heard readable a b
+      → Stands heard es first now a → Stands heard es first now b
   stands_reads readable es first now a b none (inl w) s = stands_read es first now a b none w s
   stands_reads readable es first now a b none (inr (inl w)) s = stands_finished es first now a b none w s
   stands_reads readable es first now a b none (inr (inr (inl w))) s = stands_stopped readable es first now a b w s
@@ -119,7 +131,8 @@ module _ {S : Type 0} (heard : S → Option Carried) where
   told_on f x y c e s = e ∙ ap (option_map f) s
 
   pub nothing_writes : (writable : S → Bool) (a b : Talk S) → Writes heard writable a b → ReadsNothing heard a b
-  nothing_writes writable a b (inl w) = λ c e. (with_written (take w.count a.waiting) c, told_on (with_written (take w.count a.waiting)) (heard a.socket) (heard b.socket) c w.heard_is e, refl)
+  nothing_writes writable a b (inl w) = λ c e.
+      (with_written (take w.count a.waiting) c, told_on (with_written (take w.count a.waiting)) (heard a.socket) (heard b.socket) c w.heard_is e, refl)
   nothing_writes writable a b (inr (inl w)) = λ c e. (c, w.heard_is ∙ e, refl)
   nothing_writes writable a b (inr (inr w)) = λ c e. (c, w.heard_is ∙ e, refl)
 
@@ -132,7 +145,8 @@ module _ {S : Type 0} (heard : S → Option Carried) where
   pub over_writes : (writable : S → Bool) (a b : Talk S) → a.outcome ≡ None → 0 < length a.waiting → Writes heard writable a b → IsOver b.outcome b
   over_writes writable a b still some (inl w) = over_none b.outcome b (ap (λ (t : Talk S). t.outcome) w.is ∙ still)
   over_writes writable a b still some (inr (inl w)) = over_none b.outcome b (ap (λ (t : Talk S). t.outcome) w.is ∙ still)
-  over_writes writable a b still some (inr (inr w)) = over_as b.outcome (Some (Err failure.Write)) b (ap (λ (t : Talk S). t.outcome) w.is) (subst (λ (x : List ℕ). 0 < length x) (sym (ap (λ (t : Talk S). t.waiting) w.is)) some)
+  over_writes writable a b still some (inr (inr w)) = over_as b.outcome (Some (Err failure.Write)) b (ap (λ (t : Talk S). t.outcome) w.is)
+      (subst (λ (x : List ℕ). 0 < length x) (sym (ap (λ (t : Talk S). t.waiting) w.is)) some)
 
   -- ---- steps, and writes behind them
 
@@ -164,7 +178,8 @@ module _ {S : Type 0} (heard : S → Option Carried) where
     over = over_none b.outcome b (s.outcome_is ∙ still);
   }
 
-  pub answered_writes : (writable : S → Bool) (a b d : Talk S) → a.outcome ≡ None → Stepped a b → 0 < length b.waiting → Writes heard writable b d → Answered heard a d
+  pub answered_writes : (writable : S → Bool) (a b d : Talk S) → a.outcome ≡ None → Stepped a b → 0 < length b.waiting → Writes heard writable b d
+      → Answered heard a d
   answered_writes writable a b d still s some w = record {
     number_is = number_writes writable b d w ∙ s.number_is;
     fewer = subst (λ (p : Phase). (is_going p ≡ false) ⊎ (length d.unread < length a.unread)) (sym (phase_writes w))
@@ -215,25 +230,33 @@ module _ {S : Type 0} (heard : S → Option Carried) where
         idle_b t e j = subst (λ (x : Talk S). IsIdle x) (sym e) j
 
         moves : Reads heard readable a b → Moves heard readable writable a b
-        moves (inl w) = let more : 0 < length b.unread = subst (λ (x : List ℕ). 0 < length x) (sym (ap (λ (t : Talk S). t.unread) w.is)) w.some in absurd (omega (arith, none, more))
+        moves (inl w) = let more : 0 < length b.unread = subst (λ (x : List ℕ). 0 < length x) (sym (ap (λ (t : Talk S). t.unread) w.is)) w.some in absurd
+            (omega (arith, none, more))
         moves (inr (inl w)) = inl (ap (λ (t : Talk S). is_some t.outcome) w.is)
         moves (inr (inr (inl w))) = inr (inr (inr (inr (inr (ready_idle b (ap (λ (t : Talk S). t.outcome) w.is ∙ still) (idle_b _ w.is i) ∙ w.unable)))))
         moves (inr (inr (inr w))) = inl (ap (λ (t : Talk S). is_some t.outcome) w.is)
 
         over : Reads heard readable a b → IsOver b.outcome b
         over (inl w) = over_none b.outcome b (ap (λ (t : Talk S). t.outcome) w.is ∙ still)
-        over (inr (inl w)) = over_as b.outcome (Some (Ok w.end)) b (ap (λ (t : Talk S). t.outcome) w.is) (came_finished w.end b (idle_b _ w.is (i.0, refl, i.2)) w.fits)
+        over (inr (inl w)) = over_as b.outcome (Some (Ok w.end)) b (ap (λ (t : Talk S). t.outcome) w.is)
+            (came_finished w.end b (idle_b _ w.is (i.0, refl, i.2)) w.fits)
         over (inr (inr (inl w))) = over_none b.outcome b (ap (λ (t : Talk S). t.outcome) w.is ∙ still)
         over (inr (inr (inr w))) = over_as b.outcome (Some (Err failure.Read)) b (ap (λ (t : Talk S). t.outcome) w.is) (idle_b _ w.is i)
 
-    pub turned_read_answered : (a b d : Talk S) → a.unread ≡ [] → Reads heard readable a b → 0 < length b.unread → Answered heard b d → Turned heard readable writable a d
-    turned_read_answered a b d none r some s = record { number_is = s.number_is ∙ number_reads readable a b r; moves = inr (inr (inr (inr (inl (grew r))))); over = s.over }
+    pub turned_read_answered : (a b d : Talk S) → a.unread ≡ [] → Reads heard readable a b → 0 < length b.unread → Answered heard b d
+        → Turned heard readable writable a d
+    turned_read_answered a b d none r some s = record {
+      number_is = s.number_is ∙ number_reads readable a b r;
+      moves = inr (inr (inr (inr (inl (grew r)))));
+      over = s.over;
+    }
       where
         no : (xs : List ℕ) → b.unread ≡ xs → xs ≡ [] → ReadsSome heard a d
         no xs e f = let z : 0 < length {A = ℕ} [] = subst (λ (x : List ℕ). 0 < length x) (e ∙ f) some in absurd (omega (arith, z))
 
         grew : Reads heard readable a b → ReadsSome heard a d
-        grew (inl w) = λ c e. let z = s.reads (with_read w.piece c) (told_on (with_read w.piece) (heard a.socket) (heard b.socket) c w.heard_is e) in (z.0, w.piece, z.1, z.2, w.some, w.within)
+        grew (inl w) = λ c e. let z = s.reads (with_read w.piece c) (told_on (with_read w.piece) (heard a.socket) (heard b.socket) c w.heard_is e) in
+            (z.0, w.piece, z.1, z.2, w.some, w.within)
         grew (inr (inl w)) = no [] (ap (λ (t : Talk S). t.unread) w.is) refl
         grew (inr (inr (inl w))) = no a.unread (ap (λ (t : Talk S). t.unread) w.is) none
         grew (inr (inr (inr w))) = no a.unread (ap (λ (t : Talk S). t.unread) w.is) none
@@ -243,7 +266,8 @@ module _ {S : Type 0} (heard : S → Option Carried) where
       where
         by : (x : Option (Result End Failure)) → t.outcome ≡ x → t.outcome ≡ None
         by None f = f
-        by (Some o) f = let no : true ≡ false = sym e ∙ ap (λ (y : Option (Result End Failure)). ready_of y t.waiting t.phase t.unread (readable t.socket) (writable t.socket)) f in cc
+        by (Some o) f = let no : true ≡ false = sym e
+            ∙ ap (λ (y : Option (Result End Failure)). ready_of y t.waiting t.phase t.unread (readable t.socket) (writable t.socket)) f in cc
 
     pub had_none : (a : Talk S) → is_ready readable writable a ≡ false → HadTurn heard readable writable a a
     had_none a e = record {
@@ -261,7 +285,8 @@ module _ {S : Type 0} (heard : S → Option Carried) where
         ap (λ (o : Option (Result End Failure)). ready_of o t.waiting t.phase t.unread r w) still
         ∙ ap (λ (b : Bool). cond b w (cond (is_going t.phase) (cond (are_there t.unread) true r) true)) (some_there t.waiting some)
 
-    pub had_writes : (a b : Talk S) → is_ready readable writable a ≡ true → 0 < length a.waiting → Writes heard writable a b → HadTurn heard readable writable a b
+    pub had_writes : (a b : Talk S) → is_ready readable writable a ≡ true → 0 < length a.waiting → Writes heard writable a b
+        → HadTurn heard readable writable a b
     had_writes a b ready some w = record {
       number_is = number_writes writable a b w;
       idle = λ f. let no : true ≡ false = sym ready ∙ f in cc;
@@ -278,7 +303,8 @@ module _ {S : Type 0} (heard : S → Option Carried) where
             (subst (λ (x : List ℕ). 0 < length x) (sym (ap (λ (t : Talk S). t.waiting) w.is)) some) ∙ w.unable)))))
         moves (inr (inr w)) = inl (ap (λ (t : Talk S). is_some t.outcome) w.is)
 
-    pub had_over : (a b : Talk S) (o : Result End Failure) → is_ready readable writable a ≡ true → a.waiting ≡ [] → b ≡ record a { outcome = Some o } → CameTo o b → HadTurn heard readable writable a b
+    pub had_over : (a b : Talk S) (o : Result End Failure) → is_ready readable writable a ≡ true → a.waiting ≡ [] → b ≡ record a { outcome = Some o }
+        → CameTo o b → HadTurn heard readable writable a b
     had_over a b o ready none is came = record {
       number_is = ap (λ (t : Talk S). t.number) is;
       idle = λ f. let no : true ≡ false = sym ready ∙ f in cc;
@@ -287,7 +313,8 @@ module _ {S : Type 0} (heard : S → Option Carried) where
       over = λ f. over_as b.outcome (Some o) b (ap (λ (t : Talk S). t.outcome) is) came;
     }
 
-    pub had_turned : (a b : Talk S) → is_ready readable writable a ≡ true → a.waiting ≡ [] → Turned heard readable writable a b → HadTurn heard readable writable a b
+    pub had_turned : (a b : Talk S) → is_ready readable writable a ≡ true → a.waiting ≡ [] → Turned heard readable writable a b
+        → HadTurn heard readable writable a b
     had_turned a b ready none t = record {
       number_is = t.number_is;
       idle = λ f. let no : true ≡ false = sym ready ∙ f in cc;

@@ -1,5 +1,6 @@
 -- What a step of one connection leaves of all.
-use Rattle.std.proofs.Common.{◌≡◌, inl, inr, ℕ, List, [], ◌∷◌, ◌++◌, ◌-◌, length, length-drop, take, drop, Option, None, Some, Ok, Err, refl, sym, ap, subst, ◌∙◌, append_assoc, append-nil, arith}
+use Rattle.std.proofs.Common.{◌≡◌, inl, inr, ℕ, List, [], ◌∷◌, ◌++◌, ◌-◌, length, length-drop, take, drop, Option}
+use Rattle.std.proofs.Common.{None, Some, Ok, Err, refl, sym, ap, subst, ◌∙◌, append_assoc, append-nil, arith}
 use Rattle.std.proofs.lemmas.List.{take-append-drop, take_all}
 use Rattle.std.specs.Prelude.{cond, nat_eq, Bool, true, false}
 use Rattle.ua_builtin.specs.declared.date_time.DateTime.{DateTime}
@@ -8,7 +9,8 @@ use Rattle.ua_channel.specs.ServerTold.{Told}
 use Rattle.ua_channel.specs.declared.server.ServerChannel.{ServerChannel}
 use Rattle.ua_nodes.specs.Table.{Nodes}
 use Rattle.ua_server.specs.Served.{channel_at, session_at}
-use Rattle.ua_server.specs.Sharing.{SharedEvent, At, Changed, AmongBy, OthersStand, SharedState, StandsAmong, StepAmong, answer_at, at_moment, opened, sent_to, shared_by, shared_over, told_by}
+use Rattle.ua_server.specs.Sharing.{SharedEvent, At, Changed, AmongBy, OthersStand, SharedState, StandsAmong}
+use Rattle.ua_server.specs.Sharing.{StepAmong, answer_at, at_moment, opened, sent_to, shared_by, shared_over, told_by}
 use Rattle.ua_server.specs.State.{State, with_nodes}
 use Rattle.ua_server.specs.declared.connection.Connection.{Connection}
 use Rattle.ua_server.specs.declared.session.Session.{Session}
@@ -41,14 +43,18 @@ sent_none k p (At j t moment ∷ es) e = by (nat_eq k j) e (λ f. sent_none k (s
 
 -- what events in two parts are to a connection, and a change of the nodes: the laws of ua_server
 pub record Laws : Type 0 where
-  pub sent : (channels : ℕ → ℕ) (k : ℕ) (p : SharedState) (a b : List SharedEvent) → sent_to channels k p (a ++ b) ≡ sent_to channels k p a ++ sent_to channels k (shared_over channels p a) b
+  pub sent : (channels : ℕ → ℕ) (k : ℕ) (p : SharedState) (a b : List SharedEvent) → sent_to channels k p (a ++ b) ≡ sent_to channels k p a
+      ++ sent_to channels k (shared_over channels p a) b
   pub told : (k : ℕ) (a b : List SharedEvent) → told_by k (a ++ b) ≡ told_by k a ++ told_by k b
-  pub changed : (channels : ℕ → ℕ) (k : ℕ) (x : ServerChannel) (session : Option Session) (octets : List ℕ) (es : List SharedEvent) (first now : State) (nodes : Nodes)
+  pub changed : (channels : ℕ → ℕ) (k : ℕ) (x : ServerChannel) (session : Option Session) (octets : List ℕ) (es : List SharedEvent) (first now : State)
+      (nodes : Nodes)
       → StandsAmong channels k x session octets es first now → StandsAmong channels k x session octets (es ++ Changed nodes ∷ []) first (with_nodes now nodes)
-  pub silent : (channels : ℕ → ℕ) (k : ℕ) (p : SharedState) (nodes : Nodes) → (sent_to channels k p (Changed nodes ∷ []) ≡ []) × (told_by k (Changed nodes ∷ []) ≡ [])
+  pub silent : (channels : ℕ → ℕ) (k : ℕ) (p : SharedState) (nodes : Nodes) → (sent_to channels k p (Changed nodes ∷ []) ≡ [])
+      × (told_by k (Changed nodes ∷ []) ≡ [])
 
 module _ (laws : Laws) where
-  sent_changed : (j : ℕ) (es : List SharedEvent) (first : State) (nodes : Nodes) → sent_to own_id j (opened first) (es ++ Changed nodes ∷ []) ≡ sent_to own_id j (opened first) es
+  sent_changed : (j : ℕ) (es : List SharedEvent) (first : State) (nodes : Nodes) → sent_to own_id j (opened first) (es ++ Changed nodes ∷ [])
+      ≡ sent_to own_id j (opened first) es
   sent_changed j es first nodes =
       laws.sent own_id j (opened first) es (Changed nodes ∷ [])
       ∙ ap (λ (x : List ℕ). sent_to own_id j (opened first) es ++ x) (laws.silent own_id j (shared_over own_id (opened first) es) nodes).0
@@ -58,10 +64,13 @@ module _ (laws : Laws) where
   told_changed j es first nodes =
       laws.told j es (Changed nodes ∷ []) ∙ ap (λ (x : List Told). told_by j es ++ x) (laws.silent own_id j (opened first) nodes).1 ∙ append-nil (told_by j es)
 
-  pub others_changed : (k : ℕ) (es : List SharedEvent) (first now : State) (nodes : Nodes) → OthersStand own_id k es (Changed nodes ∷ []) first now (with_nodes now nodes)
-  others_changed k es first now nodes = λ j n. (told_changed j es first nodes, sent_changed j es first nodes, λ x session octets s. laws.changed own_id j x session octets es first now nodes s)
+  pub others_changed : (k : ℕ) (es : List SharedEvent) (first now : State) (nodes : Nodes)
+      → OthersStand own_id k es (Changed nodes ∷ []) first now (with_nodes now nodes)
+  others_changed k es first now nodes = λ j n.
+      (told_changed j es first nodes, sent_changed j es first nodes, λ x session octets s. laws.changed own_id j x session octets es first now nodes s)
 
-module _ {S : Type 0} (heard : S → Option Carried) (laws : Laws) (es : List SharedEvent) (first before : State) (nodes : Nodes) (t : Talk S) (going : t.phase ≡ phase.Going) (s : Stands heard es first before t)
+module _ {S : Type 0} (heard : S → Option Carried) (laws : Laws) (es : List SharedEvent) (first before : State) (nodes : Nodes) (t : Talk S)
+    (going : t.phase ≡ phase.Going) (s : Stands heard es first before t)
     (changed_state : State) (changed_is : changed_state ≡ with_nodes before nodes) where
   abbrev mid : List SharedEvent
   mid = es ++ Changed nodes ∷ []
@@ -87,7 +96,8 @@ module _ {S : Type 0} (heard : S → Option Carried) (laws : Laws) (es : List Sh
       come = subst (λ (p : Phase). HasCome p t.number t.connection s.octets mid first changed_state (s.written ++ t.waiting)) (sym going) behind_change;
       carried = s.carried;
     };
-    others = subst (λ (x : State). OthersStand own_id t.number es (Changed nodes ∷ []) first before x) (sym changed_is) (others_changed laws t.number es first before nodes);
+    others = subst (λ (x : State). OthersStand own_id t.number es (Changed nodes ∷ []) first before x) (sym changed_is)
+        (others_changed laws t.number es first before nodes);
   }
 
   module _ (limits : Limits) (moment : DateTime) (piece : List ℕ) (piece_is : piece ≡ t.unread) (c : Connection) (now : State) where
@@ -95,10 +105,12 @@ module _ {S : Type 0} (heard : S → Option Carried) (laws : Laws) (es : List Sh
     lost : (more : List SharedEvent) → (lost : List ℕ) × (sent_to own_id t.number (opened first) (mid ++ more) ≡ (s.written ++ t.waiting) ++ lost)
     lost more = (
       sent_to own_id t.number (shared_over own_id (opened first) mid) more,
-      laws.sent own_id t.number (opened first) mid more ∙ ap (λ (x : List ℕ). x ++ sent_to own_id t.number (shared_over own_id (opened first) mid) more) behind_change.1,
+      laws.sent own_id t.number (opened first) mid more
+          ∙ ap (λ (x : List ℕ). x ++ sent_to own_id t.number (shared_over own_id (opened first) mid) more) behind_change.1,
     )
 
-    pub went_starved : (fault : StepFault) → StepAmong limits own_id t.number moment piece (Err fault) (channel_at c) (session_at c) s.octets mid first changed_state now
+    pub went_starved : (fault : StepFault) → StepAmong limits own_id t.number moment piece (Err fault) (channel_at c) (session_at c) s.octets mid first
+        changed_state now
         → Went heard es first before now (record t { connection = c; phase = phase.Starved })
     unfolding went_changed
     went_starved fault a = went_trans heard es first before changed_state now t (record t { connection = c; phase = phase.Starved }) went_changed refl (record {
@@ -108,7 +120,8 @@ module _ {S : Type 0} (heard : S → Option Carried) (laws : Laws) (es : List Sh
       others = a.others;
     })
 
-    pub went_stepped : (step : Step) (b : Talk S) → StepAmong limits own_id t.number moment piece (Ok step) (channel_at c) (session_at c) s.octets mid first changed_state now
+    pub went_stepped : (step : Step) (b : Talk S) → StepAmong limits own_id t.number moment piece (Ok step) (channel_at c) (session_at c) s.octets mid first
+        changed_state now
         → Keeps step (record t { connection = c }) b → Went heard es first before now b
     unfolding went_changed
     went_stepped step b a keeps = went_trans heard es first before changed_state now t b went_changed (number keeps) (record {
@@ -130,8 +143,11 @@ module _ {S : Type 0} (heard : S → Option Carried) (laws : Laws) (es : List Sh
 
         carried : (d : Carried) → heard t.socket ≡ Some d → (d.read ≡ octets ++ drop step.taken t.unread) × (d.written ≡ s.written)
         carried d e =
-            let was = s.carried d e in
-            (was.0 ∙ sym (append_assoc s.octets (take step.taken t.unread) (drop step.taken t.unread) ∙ ap (λ (x : List ℕ). s.octets ++ x) (take-append-drop step.taken t.unread)), was.1)
+            let was = s.carried d e in (
+              was.0 ∙ sym (append_assoc s.octets (take step.taken t.unread) (drop step.taken t.unread)
+                  ∙ ap (λ (x : List ℕ). s.octets ++ x) (take-append-drop step.taken t.unread)),
+              was.1,
+            )
 
         sent : (all : List ℕ) → all ≡ sent_to own_id t.number (opened first) mid ++ step.out.items → all ≡ s.written ++ (t.waiting ++ step.out.items)
         sent all e = e ∙ ap (λ (x : List ℕ). x ++ step.out.items) behind_change.1 ∙ append_assoc s.written t.waiting step.out.items
@@ -145,5 +161,15 @@ module _ {S : Type 0} (heard : S → Option Carried) (laws : Laws) (es : List Sh
         come (Some ending.Cut) x = absurd x
 
         stands : Keeps step (record t { connection = c }) b → Stands heard (mid ++ more) first now b
-        stands (inl is) = subst (λ (x : Talk S). Stands heard (mid ++ more) first now x) (sym is) (record { octets = octets; written = s.written; come = come step.end (subst (λ (x : List ℕ). AmongBy step.end own_id t.number (channel_at c) (session_at c) (s.octets ++ take step.taken x) step.out.items mid more first changed_state now) piece_is a.comes_to); carried = carried })
-        stands (inr is) = subst (λ (x : Talk S). Stands heard (mid ++ more) first now x) (sym is) (record { octets = octets; written = s.written; come = lost more; carried = carried })
+        stands (inl is) = subst (λ (x : Talk S). Stands heard (mid ++ more) first now x) (sym is)
+            (record {
+              octets = octets;
+              written = s.written;
+              come = come step.end
+                  (subst (λ (x : List ℕ). AmongBy step.end own_id t.number (channel_at c) (session_at c) (s.octets ++ take step.taken x) step.out.items mid more
+                  first
+                  changed_state now) piece_is a.comes_to);
+              carried = carried;
+            })
+        stands (inr is) = subst (λ (x : Talk S). Stands heard (mid ++ more) first now x) (sym is)
+            (record { octets = octets; written = s.written; come = lost more; carried = carried })

@@ -1,5 +1,6 @@
 -- What a turn at one place leaves of all places.
-use Rattle.std.proofs.Common.{◌≡◌, ◌≢◌, ◌<◌, ◌≤◌, ◌+◌, ◌⊎◌, inl, inr, ℕ, zero, suc, List, [], ◌∷◌, ◌++◌, length, replicate, Option, None, Some, Bool, true, false, refl, sym, ap, subst, ◌∙◌, append_assoc, append-nil, arith, slice_get, slice_set}
+use Rattle.std.proofs.Common.{◌≡◌, ◌≢◌, ◌<◌, ◌≤◌, ◌+◌, ◌⊎◌, inl, inr, ℕ, zero, suc, List, [], ◌∷◌, ◌++◌, length, replicate, Option, None}
+use Rattle.std.proofs.Common.{Some, Bool, true, false, refl, sym, ap, subst, ◌∙◌, append_assoc, append-nil, arith, slice_get, slice_set}
 use Rattle.std.proofs.Math.ListN.{length-set}
 use Rattle.ua_server.specs.Sharing.{SharedEvent, opened, shared_over}
 use Rattle.ua_server.specs.State.{State}
@@ -81,7 +82,8 @@ below (suc n) (suc p) h x = let l = below n p (omega (arith, h)) (λ e. x (ap su
 
 module _ {S : Type 0} (heard : S → Option Carried) where
   -- each conversation that is there was there, under its number
-  pub numbered_back : (last : ℕ) (before after : List (Option (Talk S))) → ((q : ℕ) (t : Talk S) → IsAt after q t → (u : Talk S) × IsAt before q u × (t.number ≡ u.number))
+  pub numbered_back : (last : ℕ) (before after : List (Option (Talk S)))
+      → ((q : ℕ) (t : Talk S) → IsAt after q t → (u : Talk S) × IsAt before q u × (t.number ≡ u.number))
       → AreNumbered last before → AreNumbered last after
   numbered_back last before after back n = record {
     within = λ q t e. let u = back q t e in subst (λ (k : ℕ). k ≤ last) (sym u.2) (n.within q u.0 u.1);
@@ -90,7 +92,8 @@ module _ {S : Type 0} (heard : S → Option Carried) where
 
   -- all stand on where each that is there was there, and stands on
   pub together_kept : (es : List SharedEvent) (first now : State) (last : ℕ) (before after : List (Option (Talk S)))
-      → ((q : ℕ) (t : Talk S) → IsAt after q t → (u : Talk S) × IsAt before q u × (t.number ≡ u.number) × (Stands heard es first now u → Stands heard es first now t))
+      → ((q : ℕ) (t : Talk S) → IsAt after q t → (u : Talk S) × IsAt before q u × (t.number ≡ u.number)
+      × (Stands heard es first now u → Stands heard es first now t))
       → StandTogether heard es first now last before → StandTogether heard es first now last after
   together_kept es first now last before after back s = record {
     state_is = s.state_is;
@@ -109,11 +112,13 @@ module _ {S : Type 0} (heard : S → Option Carried) where
   }
 
   -- one more is opened, under the next number
-  pub together_opened : (es : List SharedEvent) (first now : State) (last p : ℕ) (t : Talk S) (before : List (Option (Talk S))) → p < length before → t.number ≡ last + 1
+  pub together_opened : (es : List SharedEvent) (first now : State) (last p : ℕ) (t : Talk S) (before : List (Option (Talk S))) → p < length before
+      → t.number ≡ last + 1
       → Stands heard es first now t → StandTogether heard es first now last before → StandTogether heard es first now (last + 1) (slice_set before p (Some t))
   together_opened es first now last p t before within number stands s = record {
     state_is = s.state_is;
-    numbered = record { within = λ q u e. numbers q u e (same_or_not q p); apart = λ q r u v e f same. places q r u v e f same (same_or_not q p) (same_or_not r p) };
+    numbered =
+        record { within = λ q u e. numbers q u e (same_or_not q p); apart = λ q r u v e f same. places q r u v e f same (same_or_not q p) (same_or_not r p) };
     each = λ q u e. each q u e (same_or_not q p);
     unheard = λ k h. s.unheard k (omega (arith, h));
   }
@@ -151,7 +156,8 @@ module _ {S : Type 0} (heard : S → Option Carried) where
       together_kept es first now last places (slice_set places p None) (λ q t e. (t, at_freed places p q t e, refl, λ h. h)) s
 
   -- the system said something of the socket of one
-  pub together_woken : (es : List SharedEvent) (first now : State) (last p : ℕ) (a b : Talk S) (places : List (Option (Talk S))) → p < length places → IsAt places p a
+  pub together_woken : (es : List SharedEvent) (first now : State) (last p : ℕ) (a b : Talk S) (places : List (Option (Talk S))) → p < length places
+      → IsAt places p a
       → b ≡ record a { socket = b.socket } → heard b.socket ≡ heard a.socket
       → StandTogether heard es first now last places → StandTogether heard es first now last (slice_set places p (Some b))
   together_woken es first now last p a b places within at same told s =
@@ -164,7 +170,8 @@ module _ {S : Type 0} (heard : S → Option Carried) where
       back : (q : ℕ) (t : Talk S) → IsAt (slice_set places p (Some b)) q t → (q ≡ p) ⊎ (q ≢ p)
           → (u : Talk S) × IsAt places q u × (t.number ≡ u.number) × (Stands heard es first now u → Stands heard es first now t)
       back q t e (inl is) =
-          let here : slice_get (slice_set places p (Some b)) p ≡ Some (Some t) = subst (λ (x : ℕ). slice_get (slice_set places p (Some b)) x ≡ Some (Some t)) is e in
+          let here : slice_get (slice_set places p (Some b)) p ≡ Some (Some t) = subst (λ (x : ℕ). slice_get (slice_set places p (Some b)) x ≡ Some (Some t)) is
+          e in
           let put : slice_get (slice_set places p (Some b)) p ≡ Some (Some b) = get_same places p (Some b) within in
           let t_is : t ≡ b = cc (here, put) in (
             a,
@@ -210,11 +217,17 @@ module _ {S : Type 0} (heard : S → Option Carried) where
   together_then first before mid now last last' last'' a b c f h es s =
       let w = f es s in
       let v = h (es ++ w.more) w.stand in
-      record { more = w.more ++ v.more; stand = subst (λ (all : List SharedEvent). StandTogether heard all first now last'' c) (append_assoc es w.more v.more) v.stand }
+      record {
+        more = w.more ++ v.more;
+        stand = subst (λ (all : List SharedEvent). StandTogether heard all first now last'' c) (append_assoc es w.more v.more)
+            v.stand;
+      }
 
   -- nothing was done
-  pub together_same : (es : List SharedEvent) (first now : State) (last : ℕ) (places : List (Option (Talk S))) → StandTogether heard es first now last places → GoOn heard es first now last places
-  together_same es first now last places s = record { more = []; stand = subst (λ (all : List SharedEvent). StandTogether heard all first now last places) (sym (append-nil es)) s }
+  pub together_same : (es : List SharedEvent) (first now : State) (last : ℕ) (places : List (Option (Talk S))) → StandTogether heard es first now last places
+      → GoOn heard es first now last places
+  together_same es first now last places s =
+      record { more = []; stand = subst (λ (all : List SharedEvent). StandTogether heard all first now last places) (sym (append-nil es)) s }
 
   module _ (readable writable : S → Bool) where
     -- the places before this one had their turn
@@ -227,7 +240,8 @@ module _ {S : Type 0} (heard : S → Option Carried) where
     pub round_none : (places : List (Option (Talk S))) → RoundTo 0 places places
     round_none places = record { count = refl; free = λ p f. f; each = λ p a h. absurd (omega (arith, h)); still = λ p h. refl }
 
-    pub round_next : (n : ℕ) (before mid after : List (Option (Talk S))) → RoundTo n before mid → TurnsAt heard readable writable n mid after → RoundTo (n + 1) before after
+    pub round_next : (n : ℕ) (before mid after : List (Option (Talk S))) → RoundTo n before mid → TurnsAt heard readable writable n mid after
+        → RoundTo (n + 1) before after
     round_next n before mid after r t = record {
       count = t.count ∙ r.count;
       free = λ p f. free p f (same_or_not p n);
@@ -249,7 +263,8 @@ module _ {S : Type 0} (heard : S → Option Carried) where
             let had = r.each p a less e in
             (had.0, t.others p d ∙ had.1, had.2)
 
-    pub round_whole : (n : ℕ) (before after : List (Option (Talk S))) → length before ≤ n → RoundTo n before after → HadRound heard readable writable before after
+    pub round_whole : (n : ℕ) (before after : List (Option (Talk S))) → length before ≤ n → RoundTo n before after
+        → HadRound heard readable writable before after
     round_whole n before after all r = record {
       count = r.count;
       free = r.free;
@@ -268,7 +283,8 @@ module _ {S : Type 0} (heard : S → Option Carried) where
           (b, get_same places p (Some b) within, subst (λ (t : Talk S). HadTurn heard readable writable t b) same had);
     }
 
-    pub put_stand : (places : List (Option (Talk S))) (p : ℕ) (a b : Talk S) (first before now : State) (last : ℕ) → p < length places → IsAt places p a → b.number ≡ a.number
+    pub put_stand : (places : List (Option (Talk S))) (p : ℕ) (a b : Talk S) (first before now : State) (last : ℕ) → p < length places → IsAt places p a
+        → b.number ≡ a.number
         → ((es : List SharedEvent) → (shared_over own_id (opened first) es).state ≡ before → Stands heard es first before a → Went heard es first before now b)
         → (es : List SharedEvent) → StandTogether heard es first before last places → GoOn heard es first now last (slice_set places p (Some b))
     put_stand places p a b first before now last within here same went es s =

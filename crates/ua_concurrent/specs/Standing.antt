@@ -23,8 +23,10 @@ own_id k = k
 -- bytes; if the connection was rejected the ERR frame follows them. If an allocation failed in a
 -- step, the reply to the last message that was handled may be lost; all before it is sent.
 abbrev pub HasCome : Phase → ℕ → Connection → List ℕ → List SharedEvent → State → State → List ℕ → Type 0
-HasCome phase.Going k c octets es first now sent = StandsAmong own_id k (channel_at c) (session_at c) octets es first now × (sent_to own_id k (opened first) es ≡ sent)
-HasCome phase.Closed k c octets es first now sent = EndedAt Over (channel_at c) octets (told_by k es) × (sent_to own_id k (opened first) es ++ last_words Over ≡ sent)
+HasCome phase.Going k c octets es first now sent = StandsAmong own_id k (channel_at c) (session_at c) octets es first now
+    × (sent_to own_id k (opened first) es ≡ sent)
+HasCome phase.Closed k c octets es first now sent = EndedAt Over (channel_at c) octets (told_by k es)
+    × (sent_to own_id k (opened first) es ++ last_words Over ≡ sent)
 HasCome (phase.Refused code) k c octets es first now sent =
     EndedAt (Stopped code.code) (channel_at c) octets (told_by k es) × (sent_to own_id k (opened first) es ++ last_words (Stopped code.code) ≡ sent)
 HasCome phase.Starved k c octets es first now sent = (lost : List ℕ) × (sent_to own_id k (opened first) es ≡ sent ++ lost)
@@ -58,14 +60,16 @@ pub record AreNumbered {S : Type 0} (last : ℕ) (places : List (Option (Talk S)
 -- All conversations over the services, which were in the first state before any of them began and
 -- are in this one now: these events left it, the state of each conversation is that after them, and
 -- those that are still to come have sent nothing.
-pub record StandTogether {S : Type 0} (heard : S → Option Carried) (es : List SharedEvent) (first now : State) (last : ℕ) (places : List (Option (Talk S))) : Type 0 where
+pub record StandTogether {S : Type 0} (heard : S → Option Carried) (es : List SharedEvent) (first now : State) (last : ℕ)
+    (places : List (Option (Talk S))) : Type 0 where
   pub state_is : (shared_over own_id (opened first) es).state ≡ now
   pub numbered : AreNumbered last places
   pub each : (p : ℕ) (t : Talk S) → IsAt places p t → Stands heard es first now t
   pub unheard : (k : ℕ) → last < k → told_by k es ≡ []
 
 -- They go on: more was handled, and the state of all is that after it.
-pub record GoOn {S : Type 0} (heard : S → Option Carried) (es : List SharedEvent) (first now : State) (last : ℕ) (places : List (Option (Talk S))) : Type 0 where
+pub record GoOn {S : Type 0} (heard : S → Option Carried) (es : List SharedEvent) (first now : State) (last : ℕ) (places : List (Option (Talk S))) : Type
+    0 where
   pub more : List SharedEvent
   pub stand : StandTogether heard (es ++ more) first now last places
 

@@ -1,6 +1,7 @@
 //! All connections, each at a place.
 
-ghost use Rattle.std.specs.Prelude.{◌≡◌, ◌<◌, ◌+◌, ◌↔◌, ℕ, List, [], None, Some, is_some, length, replicate, slice_get, slice_set, IfOk, IfSome, IfNone, OnErr, IsErrOf, IsTrue};
+ghost use Rattle.std.specs.Prelude.{◌≡◌, ◌<◌, ◌+◌, ◌↔◌, ℕ, List, [], None, Some, is_some, length, replicate};
+ghost use Rattle.std.specs.Prelude.{slice_get, slice_set, IfOk, IfSome, IfNone, OnErr, IsErrOf, IsTrue};
 ghost use Rattle.std.specs.List.{list_any};
 ghost use Rattle.ua_server.specs.Sharing.{SharedEvent, Changed, opened as before_all, shared_over};
 ghost use Rattle.ua_server.specs.State.{State, with_nodes};
@@ -51,7 +52,8 @@ impl<S: Socket> Connections<S> {
     pub fn new(alloc: Global, limits: Limits, count: usize) -> Result<Connections<S>, AllocError>
         ensures free { IfOk result (λ it. places_of it ≡ replicate count None) }
         ensures last { IfOk result (λ it. last_of it ≡ 0) }
-        ensures stand { (first : State) → IfOk result (λ it. StandTogether S.heard [] first first (last_of it) (places_of it)) }
+        ensures stand { (first : State)
+            → IfOk result (λ it. StandTogether S.heard [] first first (last_of it) (places_of it)) }
     {
         let mut places = Vec::with_capacity(alloc, count)?;
         'places: for _ in 0..count {
@@ -101,11 +103,13 @@ impl<S: Socket> Connections<S> {
     /// number.
     pub fn open(&mut self, place: usize, socket: S) -> Result<u32, OpenFault>
         ensures number { IfOk result (λ number. (number ≡ last_of self.old + 1) × (last_of self.new ≡ number)) }
-        ensures opens { IfOk result (λ number. IsFree (places_of self.old) place × Opens number socket place (places_of self.old) (places_of self.new)) }
+        ensures opens { IfOk result (λ number. IsFree (places_of self.old) place
+            × Opens number socket place (places_of self.old) (places_of self.new)) }
         ensures not_free { IsErrOf result fault.NotFree → IsFree (places_of self.old) place → ⊥ }
         ensures too_many { IsErrOf result fault.TooMany → last_of self.old ≡ 4294967295 }
         ensures kept { OnErr result (self.new ≡ self.old) }
-        ensures stand { (es : List SharedEvent) (first now : State) → IsFresh (S.heard socket) → StandTogether S.heard es first now (last_of self.old) (places_of self.old)
+        ensures stand { (es : List SharedEvent) (first now : State) → IsFresh (S.heard socket)
+            → StandTogether S.heard es first now (last_of self.old) (places_of self.old)
             → StandTogether S.heard es first now (last_of self.new) (places_of self.new) }
     {
         if !self.is_free(place) {
@@ -127,7 +131,8 @@ impl<S: Socket> Connections<S> {
     /// Passes on what the system reports about the socket at a place.
     pub fn wake(&mut self, place: usize, readiness: Readiness)
         ensures last { last_of self.new ≡ last_of self.old }
-        ensures stand { (es : List SharedEvent) (first now : State) → StandTogether S.heard es first now (last_of self.old) (places_of self.old)
+        ensures stand { (es : List SharedEvent) (first now : State)
+            → StandTogether S.heard es first now (last_of self.old) (places_of self.old)
             → StandTogether S.heard es first now (last_of self.new) (places_of self.new) }
     {
         if place < self.places.len()
@@ -149,7 +154,8 @@ impl<S: Socket> Connections<S> {
     pub fn go_round<A: Application>(&mut self, services: &mut Services, application: &mut A)
         ensures last { last_of self.new ≡ last_of self.old }
         ensures round { HadRound S.heard S.readable S.writable (places_of self.old) (places_of self.new) }
-        ensures stand { (es : List SharedEvent) (first : State) → StandTogether S.heard es first services.old (last_of self.old) (places_of self.old)
+        ensures stand { (es : List SharedEvent) (first : State)
+            → StandTogether S.heard es first services.old (last_of self.old) (places_of self.old)
             → GoOn S.heard es first services.new (last_of self.new) (places_of self.new) }
         ensures acted { HasActed A.acts application.old application.new }
     {
@@ -164,7 +170,8 @@ impl<S: Socket> Connections<S> {
         requires { place < length (places_of self.old) }
         ensures last { last_of self.new ≡ last_of self.old }
         ensures turn { TurnsAt S.heard S.readable S.writable place (places_of self.old) (places_of self.new) }
-        ensures stand { (es : List SharedEvent) (first : State) → StandTogether S.heard es first services.old (last_of self.old) (places_of self.old)
+        ensures stand { (es : List SharedEvent) (first : State)
+            → StandTogether S.heard es first services.old (last_of self.old) (places_of self.old)
             → GoOn S.heard es first services.new (last_of self.new) (places_of self.new) }
         ensures acted { HasActed A.acts application.old application.new }
     {
@@ -190,7 +197,8 @@ impl<S: Socket> Connections<S> {
         ensures free { IfSome result (λ _. places_of self.new ≡ slice_set (places_of self.old) place None) }
         ensures kept { IfNone result (self.new ≡ self.old) }
         ensures last { last_of self.new ≡ last_of self.old }
-        ensures stand { (es : List SharedEvent) (first now : State) → StandTogether S.heard es first now (last_of self.old) (places_of self.old)
+        ensures stand { (es : List SharedEvent) (first now : State)
+            → StandTogether S.heard es first now (last_of self.old) (places_of self.old)
             → StandTogether S.heard es first now (last_of self.new) (places_of self.new) }
     {
         if !self.is_over(place) {

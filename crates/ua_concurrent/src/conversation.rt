@@ -1,13 +1,15 @@
 //! The conversation of one client.
 
-ghost use Rattle.std.specs.Prelude.{◌≡◌, ◌≢◌, ◌⊎◌, ◌<◌, ◌≤◌, ◌↔◌, ℕ, Bool, true, false, is_some, List, [], length, drop, take, IfOk, IfSome, OnOk, IsTrue, Some, None};
+ghost use Rattle.std.specs.Prelude.{◌≡◌, ◌≢◌, ◌⊎◌, ◌<◌, ◌≤◌, ◌↔◌, ℕ, Bool, true, false, is_some, List};
+ghost use Rattle.std.specs.Prelude.{[], length, drop, take, IfOk, IfSome, OnOk, IsTrue, Some, None};
 ghost use Rattle.ua_server.specs.Sharing.{SharedEvent, opened, shared_over, told_by};
 ghost use Rattle.ua_server.specs.State.{State};
 ghost use Rattle.ua_server.specs.declared.step.End.TheVariants.{NoClose, Cut};
 ghost use Rattle.ua_concurrent.specs.Acts.{HasActed};
 ghost use Rattle.ua_concurrent.specs.Standing.{IsFresh, Stands, Went, own_id};
 ghost use Rattle.ua_concurrent.specs.Talk.{Talk, is_going, is_ready, released};
-ghost use Rattle.ua_concurrent.specs.Turning.{Answered, Finishes, HadTurn, Turned, IsIdle, Keeps, Reads, Stepped, Writes, most_read};
+ghost use Rattle.ua_concurrent.specs.Turning.{Answered, Finishes, HadTurn, Turned, IsIdle};
+ghost use Rattle.ua_concurrent.specs.Turning.{Keeps, Reads, Stepped, Writes, most_read};
 ghost use Rattle.ua_concurrent.specs.declared.outcome.Phase.TheVariants as phase;
 
 use crate::application::Application;
@@ -50,9 +52,18 @@ impl<S> Model for Conversation<S> {
 
     ghost Value = { Talk S };
 
-    ghost view = { λ c. record { number = c.number; socket = c.socket; connection = c.connection; phase = c.phase; outcome = c.outcome; unread = drop c.stepped (take c.filled c.piece.items); waiting = drop c.sent c.out.items } };
+    ghost view = { λ c. record {
+      number = c.number;
+      socket = c.socket;
+      connection = c.connection;
+      phase = c.phase;
+      outcome = c.outcome;
+      unread = drop c.stepped (take c.filled c.piece.items);
+      waiting = drop c.sent c.out.items;
+    } };
 
-    ghost invariant = { λ c. (c.stepped ≤ c.filled) × (c.filled ≤ length c.piece.items) × (length c.piece.items ≡ 4096) × (c.sent ≤ length c.out.items) };
+    ghost invariant = { λ c. (c.stepped ≤ c.filled) × (c.filled ≤ length c.piece.items) × (length c.piece.items ≡ 4096)
+        × (c.sent ≤ length c.out.items) };
 }
 
 impl<S: Socket> Conversation<S> {
@@ -65,7 +76,8 @@ impl<S: Socket> Conversation<S> {
     ) -> Result<Conversation<S>, AllocError>
         ensures number { IfOk result (λ t. t.number ≡ number) }
         ensures begins { IfOk result (λ t. (t.socket ≡ socket) × (t.outcome ≡ None) × IsIdle t) }
-        ensures stands { (es : List SharedEvent) (first now : State) → told_by number es ≡ [] → (shared_over own_id (opened first) es).state ≡ now → IsFresh (S.heard socket)
+        ensures stands { (es : List SharedEvent) (first now : State) → told_by number es ≡ []
+            → (shared_over own_id (opened first) es).state ≡ now → IsFresh (S.heard socket)
             → IfOk result (λ t. Stands S.heard es first now t) }
     {
         let piece = Vec::from_elem(alloc, 0u8, PIECE)?;
@@ -153,7 +165,8 @@ impl<S: Socket> Conversation<S> {
     #[tactic(auto, using(crate::proofs::Acting::acted_none))]
     pub fn turn<A: Application>(&mut self, services: &mut Services, application: &mut A)
         ensures turn { HadTurn S.heard S.readable S.writable self.old self.new }
-        ensures went { (es : List SharedEvent) (first : State) → (shared_over own_id (opened first) es).state ≡ services.old → Stands S.heard es first services.old self.old
+        ensures went { (es : List SharedEvent) (first : State) → (shared_over own_id (opened first) es).state
+            ≡ services.old → Stands S.heard es first services.old self.old
             → Went S.heard es first services.old services.new self.new }
         ensures acted { HasActed A.acts application.old application.new }
     {
@@ -178,7 +191,8 @@ impl<S: Socket> Conversation<S> {
         requires still { self.old.outcome ≡ None }
         requires none { self.old.waiting ≡ [] }
         ensures turned { Turned S.heard S.readable S.writable self.old self.new }
-        ensures went { (es : List SharedEvent) (first : State) → (shared_over own_id (opened first) es).state ≡ services.old → Stands S.heard es first services.old self.old
+        ensures went { (es : List SharedEvent) (first : State) → (shared_over own_id (opened first) es).state
+            ≡ services.old → Stands S.heard es first services.old self.old
             → Went S.heard es first services.old services.new self.new }
         ensures acted { HasActed A.acts application.old application.new }
     {
@@ -196,7 +210,8 @@ impl<S: Socket> Conversation<S> {
         requires still { self.old.outcome ≡ None }
         requires none { (self.old.unread ≡ []) × (self.old.waiting ≡ []) }
         ensures turned { Turned S.heard S.readable S.writable self.old self.new }
-        ensures went { (es : List SharedEvent) (first : State) → (shared_over own_id (opened first) es).state ≡ services.old → Stands S.heard es first services.old self.old
+        ensures went { (es : List SharedEvent) (first : State) → (shared_over own_id (opened first) es).state
+            ≡ services.old → Stands S.heard es first services.old self.old
             → Went S.heard es first services.old services.new self.new }
         ensures acted { HasActed A.acts application.old application.new }
     {

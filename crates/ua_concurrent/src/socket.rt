@@ -1,6 +1,7 @@
 //! The sockets of peers.
 
-ghost use Rattle.std.specs.Prelude.{◌≡◌, ◌≤◌, ◌<◌, ℕ, Bool, false, List, [], Option, length, take, IfOk, IsErrOf, MatchResult};
+ghost use Rattle.std.specs.Prelude.{◌≡◌, ◌≤◌, ◌<◌, ℕ, Bool, false, List, [], Option};
+ghost use Rattle.std.specs.Prelude.{length, take, IfOk, IsErrOf, MatchResult};
 ghost use Rattle.std.specs.Option.{option_map};
 ghost use Rattle.ua_concurrent.specs.Carried.{Carried, with_read, with_written};
 ghost use Rattle.ua_concurrent.specs.declared.socket.Stop.TheVariants.{Blocked};
@@ -57,12 +58,15 @@ pub trait Socket: Drop {
     fn read(&mut self, buffer: &mut [u8]) -> Result<usize, Stop>
         ensures within { IfOk result (λ n. n ≤ length buffer.new) }
         ensures blocked { IsErrOf result Blocked → readable self.new ≡ false }
-        ensures heard { MatchResult result (λ n. heard self.new ≡ option_map (with_read (take n buffer.new)) (heard self.old)) (λ _. heard self.new ≡ heard self.old) };
+        ensures heard { MatchResult result
+            (λ n. heard self.new ≡ option_map (with_read (take n buffer.new)) (heard self.old))
+            (λ _. heard self.new ≡ heard self.old) };
 
     /// Writes the first of these bytes, at least one where there is one.
     fn write(&mut self, octets: &[u8]) -> Result<usize, Stop>
         ensures some { 0 < length octets.now → IfOk result (λ n. 0 < n) }
         ensures within { IfOk result (λ n. n ≤ length octets.now) }
         ensures blocked { IsErrOf result Blocked → writable self.new ≡ false }
-        ensures heard { MatchResult result (λ n. heard self.new ≡ option_map (with_written (take n octets.now)) (heard self.old)) (λ _. heard self.new ≡ heard self.old) };
+        ensures heard { MatchResult result (λ n. heard self.new ≡ option_map (with_written (take n octets.now))
+            (heard self.old)) (λ _. heard self.new ≡ heard self.old) };
 }

@@ -17,16 +17,20 @@ use Rattle.ua_diagnostic.proofs.Lengths.{diagnostic_takes}
 
 -- ---- values of the code, by the data that they stand for
 
-pub exact_made : {A B : Type 0} (view : B → A) (make : A → B) (p : A → List ℕ → Type 0) (r : List ℕ → Option (A × List ℕ)) → ((v : B) → make (view v) ≡ v) → ((a : A) → view (make a) ≡ a) → Exact p r
+pub exact_made : {A B : Type 0} (view : B → A) (make : A → B) (p : A → List ℕ → Type 0) (r : List ℕ → Option (A × List ℕ)) → ((v : B) → make (view v) ≡ v)
+    → ((a : A) → view (make a) ≡ a) → Exact p r
     → Exact (λ (v : B) (b : List ℕ). p (view v) b) (image_read make r)
 exact_made {A} {B} view make p r back forth e =
-    exact_as (λ (v : B) (b : List ℕ). p (view v) b) (exact_map make e) (λ v b h. subst (λ a. p a b) (sym (ap view h.1 ∙ forth h.0)) h.2) (λ v b h. (view v, sym (back v), h))
+    exact_as (λ (v : B) (b : List ℕ). p (view v) b) (exact_map make e) (λ v b h. subst (λ a. p a b) (sym (ap view h.1 ∙ forth h.0)) h.2)
+    (λ v b h. (view v, sym (back v), h))
 
-pub exact_diagnostic_value : (n : ℕ) → Exact (Within (λ v. EncodesDiagnostic (diagnostic_of v)) (λ v. diagnostic_depth (diagnostic_of v)) n) (image_read diagnostic_value (diagnostic_at n))
+pub exact_diagnostic_value : (n : ℕ) → Exact (Within (λ v. EncodesDiagnostic (diagnostic_of v)) (λ v. diagnostic_depth (diagnostic_of v)) n)
+    (image_read diagnostic_value (diagnostic_at n))
 exact_diagnostic_value n = exact_made diagnostic_of diagnostic_value (Shallow n) (diagnostic_at n) diagnostic_value_of diagnostic_forth (exact_diagnostic n)
 
 -- an answer that is exact for the data is exact for the values
-pub gives_made : {A B : Type 0} (view : B → A) (make : A → B) (r : List ℕ → Option (A × List ℕ)) → ((v : B) → make (view v) ≡ v) → (old new : List ℕ) (answer : Result B ReadFault) → GivesBy view r old new answer → Gives (image_read make r) old new answer
+pub gives_made : {A B : Type 0} (view : B → A) (make : A → B) (r : List ℕ → Option (A × List ℕ)) → ((v : B) → make (view v) ≡ v)
+    → (old new : List ℕ) (answer : Result B ReadFault) → GivesBy view r old new answer → Gives (image_read make r) old new answer
 gives_made view make r back old new (Ok v) h = ap (λ o. o >>= λ x. Some (make x.0, x.1)) h ∙ ap (λ y. Some (y, new)) (back v)
 gives_made view make r back old new (Err NoValue) h = ap (λ o. o >>= λ x. Some (make x.0, x.1)) h
 gives_made view make r back old new (Err OutOfMemory) h = tt

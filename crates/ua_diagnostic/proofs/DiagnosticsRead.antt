@@ -12,7 +12,8 @@ use Rattle.ua_builtin.proofs.PlainLawful.{sound_status_code}
 use Rattle.ua_diagnostic.specs.Parts.{when, Joins, IsOctet, Optional, optional_read}
 use Rattle.ua_diagnostic.proofs.PartsRead.{exact_octet, exact_then, exact_map, exact_as, exact_when, exact_optional, nil_behind, exact_none}
 use Rattle.ua_diagnostic.proofs.PartsLawful.{sound_optional}
-use Rattle.ua_diagnostic.specs.Diagnostic.{DiagnosticFields, DiagnosticData, innermost, around, diagnostic_within, diagnostic_depth, diagnostic_fields, EncodesDiagnostic, diagnostic_step, diagnostic_at}
+use Rattle.ua_diagnostic.specs.Diagnostic.{DiagnosticFields, DiagnosticData, innermost, around, diagnostic_within}
+use Rattle.ua_diagnostic.specs.Diagnostic.{diagnostic_depth, diagnostic_fields, EncodesDiagnostic, diagnostic_step, diagnostic_at}
 
 pub sound_diagnostic_fields : (m : ℕ) → IsSound (diagnostic_fields m)
 unfolding diagnostic_fields
@@ -30,18 +31,28 @@ Shallow n = Within EncodesDiagnostic diagnostic_depth n
 
 -- behind the mask m
 abbrev Body : ℕ → ℕ → DiagnosticData → List ℕ → Type 0
-Body n m y b = IsTrue (leb m 127) × ((f : DiagnosticFields) × Joins ((diagnostic_fields m).encodes f) (λ c. (i : Option DiagnosticData) × (y ≡ diagnostic_within i f) × Optional (Shallow n) (has m 64) i c) b)
+Body n m y b = IsTrue (leb m 127)
+    × ((f : DiagnosticFields) × Joins ((diagnostic_fields m).encodes f) (λ c. (i : Option DiagnosticData) × (y ≡ diagnostic_within i f)
+    × Optional (Shallow n) (has m 64) i c) b)
 
 body : (n m : ℕ) → Exact (Shallow n) (diagnostic_at n)
-    → Exact (Body n m) (λ octets. when (leb m 127) ((diagnostic_fields m).decode octets >>= λ f. optional_read (has m 64) (diagnostic_at n) f.1 >>= λ i. Some (diagnostic_within i.0 f.0, i.1)))
+    → Exact (Body n m)
+    (λ octets. when (leb m 127) ((diagnostic_fields m).decode octets >>= λ f. optional_read (has m 64) (diagnostic_at n) f.1 >>= λ i.
+    Some (diagnostic_within i.0 f.0, i.1)))
 body n m e =
-    exact_when (leb m 127) (exact_then (sound_diagnostic_fields m).exact (λ f. exact_map (λ (i : Option DiagnosticData). diagnostic_within i f) (exact_optional (Shallow n) (diagnostic_at n) (has m 64) e)))
+    exact_when (leb m 127)
+    (exact_then (sound_diagnostic_fields m).exact
+    (λ f. exact_map (λ (i : Option DiagnosticData). diagnostic_within i f) (exact_optional (Shallow n) (diagnostic_at n) (has m 64) e)))
 
 to_at : (n m : ℕ) (y : DiagnosticData) (b a c c1 c2 : List ℕ) (f : DiagnosticFields) (i : Option DiagnosticData) (t : Bool)
-    → has m 64 ≡ t → IsTrue (leb m 127) → b ≡ a ++ c → IsOctet m a → c ≡ c1 ++ c2 → (diagnostic_fields m).encodes f c1 → y ≡ diagnostic_within i f → Optional (Shallow n) t i c2 → Shallow (suc n) y b
+    → has m 64 ≡ t → IsTrue (leb m 127) → b ≡ a ++ c → IsOctet m a → c ≡ c1 ++ c2 → (diagnostic_fields m).encodes f c1 → y ≡ diagnostic_within i f
+    → Optional (Shallow n) t i c2 → Shallow (suc n) y b
 to_at n m y b a c c1 c2 f None true is low e o e1 r1 iy r2 = absurd r2
 to_at n m y b a c c1 c2 f None false is low e o e1 r1 iy r2 =
-    subst (λ x. Shallow (suc n) x b) (sym iy) ((m, (a, c, e, o, (low, (is, subst ((diagnostic_fields m).encodes f) (sym (nil_behind c c1 c2 e1 r2)) r1)))), omega arith)
+    subst (λ x. Shallow (suc n) x b) (sym iy) (
+      (m, (a, c, e, o, (low, (is, subst ((diagnostic_fields m).encodes f) (sym (nil_behind c c1 c2 e1 r2)) r1)))),
+      omega arith,
+    )
 to_at n m y b a c c1 c2 f (Some d) true is low e o e1 r1 iy r2 =
     let deep : diagnostic_depth d ≤ n = r2.1 in
     subst (λ x. Shallow (suc n) x b) (sym iy) ((m, (a, c, e, o, (low, (is, (c1, c2, e1, r1, r2.0))))), omega arith)
@@ -58,15 +69,31 @@ diagnostic_back : (n : ℕ) (y : DiagnosticData) (b : List ℕ) → Shallow (suc
 diagnostic_back n (innermost f) b r =
     let m = r.0.0 in
     let j = r.0.1 in
-    let w = j.4 in
-    (m, (j.0, j.1, j.2, j.3, (w.0, (f, (j.1, [], sym (append-nil j.1), w.1.1, (None, refl, subst (λ (t : Bool). Optional (Shallow n) t None []) (sym w.1.0) refl))))))
+    let w = j.4 in (
+      m,
+      (
+        j.0,
+        j.1,
+        j.2,
+        j.3,
+        (w.0, (f, (j.1, [], sym (append-nil j.1), w.1.1, (None, refl, subst (λ (t : Bool). Optional (Shallow n) t None []) (sym w.1.0) refl)))),
+      ),
+    )
 diagnostic_back n (around f d) b r =
     let m = r.0.0 in
     let j = r.0.1 in
     let w = j.4 in
     let g = w.1.1 in
-    let deep : diagnostic_depth d ≤ n = let h : 1 + diagnostic_depth d ≤ suc n = r.1 in omega arith in
-    (m, (j.0, j.1, j.2, j.3, (w.0, (f, (g.0, g.1, g.2, g.3, (Some d, refl, subst (λ (t : Bool). Optional (Shallow n) t (Some d) g.1) (sym w.1.0) (g.4, deep)))))))
+    let deep : diagnostic_depth d ≤ n = let h : 1 + diagnostic_depth d ≤ suc n = r.1 in omega arith in (
+      m,
+      (
+        j.0,
+        j.1,
+        j.2,
+        j.3,
+        (w.0, (f, (g.0, g.1, g.2, g.3, (Some d, refl, subst (λ (t : Bool). Optional (Shallow n) t (Some d) g.1) (sym w.1.0) (g.4, deep))))),
+      ),
+    )
 
 no_level : (d : DiagnosticData) (b : List ℕ) → Shallow 0 d b → ⊥
 no_level (innermost f) b r = let h : 1 ≤ 0 = r.1 in absurd (omega arith)

@@ -9,7 +9,8 @@ use Rattle.ua_wire.proofs.Readers.{exact_only, both_true, not_false}
 use Rattle.ua_wire.proofs.NumbersRead.{exact_number}
 use Rattle.ua_diagnostic.specs.Parts.{when, Joins, Nothing, IsCount, IsNegative}
 use Rattle.ua_diagnostic.proofs.PartsRead.{exact_then, exact_map, exact_as, exact_if, exact_when, nil_behind}
-use Rattle.ua_diagnostic.specs.Dimensions.{product, IsSize, EncodesSizes, EncodesDims, is_count, are_sizes, dims_encodable, null_count, sizes_canonical, has_dims, dims_canonical, is_negative, size_at, sizes_at, is_none_count, dims_at, no_dims_at}
+use Rattle.ua_diagnostic.specs.Dimensions.{product, IsSize, EncodesSizes, EncodesDims, is_count, are_sizes, dims_encodable, null_count, sizes_canonical}
+use Rattle.ua_diagnostic.specs.Dimensions.{has_dims, dims_canonical, is_negative, size_at, sizes_at, is_none_count, dims_at, no_dims_at}
 
 pub count_is : (n : ℕ) → is_count n ≡ true → n < 2147483648
 count_is n h = Prim.grind (arith, common_steps)
@@ -100,7 +101,8 @@ some_count_from : (n m : ℕ) → is_none_count m ≡ false → (y : List ℤ) (
 some_count_from n m h y c (inl r) = let e : is_none_count m ≡ true = r.0 in absurd cc
 some_count_from n m h y c (inr r) = r.1
 
-dims_body : (n m : ℕ) → Exact (DimsBody n m) (λ octets. cond (is_none_count m) (Some ([], octets)) (sizes_at m octets >>= λ ds. when (eqb (product ds.0) n) (Some ds)))
+dims_body : (n m : ℕ)
+    → Exact (DimsBody n m) (λ octets. cond (is_none_count m) (Some ([], octets)) (sizes_at m octets >>= λ ds. when (eqb (product ds.0) n) (Some ds)))
 dims_body n m =
     exact_if (is_none_count m) (λ h. exact_as (DimsBody n m) (exact_only []) (λ y c r. inl (h, r)) (none_count_from n m h))
     (λ h. exact_as (DimsBody n m) (sizes_passed n m) (λ y c r. inr (h, r)) (some_count_from n m h))
@@ -192,5 +194,13 @@ pub dims_encode : (ds : List ℤ) (n : ℕ) → dims_encodable ds n ≡ true →
 dims_encode [] n h = (refl, refl)
 dims_encode (d ∷ ds) n h =
     let u = both_true (is_count (length (d ∷ ds)) && are_sizes (d ∷ ds)) (eqb (product (d ∷ ds)) n) h in
-    let w = both_true (is_count (length (d ∷ ds))) (are_sizes (d ∷ ds)) u.0 in
-    (eqb_to (product (d ∷ ds)) n u.1, (number_octets 4 (length (d ∷ ds)), sizes_canonical (d ∷ ds), refl, count_encodes (length (d ∷ ds)) w.0, sizes_encode (d ∷ ds) w.1))
+    let w = both_true (is_count (length (d ∷ ds))) (are_sizes (d ∷ ds)) u.0 in (
+      eqb_to (product (d ∷ ds)) n u.1,
+      (
+        number_octets 4 (length (d ∷ ds)),
+        sizes_canonical (d ∷ ds),
+        refl,
+        count_encodes (length (d ∷ ds)) w.0,
+        sizes_encode (d ∷ ds) w.1,
+      ),
+    )

@@ -15,7 +15,8 @@ use Rattle.ua_builtin.specs.Status.{status_code as status_code_format}
 use Rattle.ua_builtin.proofs.PlainLawful.{lawful_status_code}
 use Rattle.ua_diagnostic.specs.Parts.{IsOctet, there, Optional}
 use Rattle.ua_diagnostic.specs.Dimensions.{IsSize, EncodesSizes, EncodesDims}
-use Rattle.ua_diagnostic.specs.Diagnostic.{DiagnosticFields, DiagnosticData, innermost, around, diagnostic_fields, diagnostic_fields_count, diagnostic_count, EncodesDiagnostic}
+use Rattle.ua_diagnostic.specs.Diagnostic.{DiagnosticFields, DiagnosticData, innermost, around, diagnostic_fields}
+use Rattle.ua_diagnostic.specs.Diagnostic.{diagnostic_fields_count, diagnostic_count, EncodesDiagnostic}
 
 pub takes_some : {A : Type 0} (p : A → List ℕ → Type 0) → TakesSome p → (v : A) (b : List ℕ) → p v b → 1 ≤ length b
 takes_some p some v [] h = absurd (some v h)
@@ -47,7 +48,8 @@ diagnostic_fields_take m f b h =
     let l = k.second_encoded in
     let n = l.second_encoded in
     let o = n.second_encoded in
-    let r5 = both_take n.back o.front o.back _ _ o.parts (flagged_takes (has m 16) _ o.front o.first_encoded) (optional_takes status_code_format.encodes lawful_status_code.starts (has m 32) _ o.back o.second_encoded) in
+    let r5 = both_take n.back o.front o.back _ _ o.parts (flagged_takes (has m 16) _ o.front o.first_encoded)
+    (optional_takes status_code_format.encodes lawful_status_code.starts (has m 32) _ o.back o.second_encoded) in
     let r4 = both_take l.back n.front n.back _ _ n.parts (optional_takes (signed w32).encodes signed_some (has m 4) _ n.front n.first_encoded) r5 in
     let r3 = both_take k.back l.front l.back _ _ l.parts (optional_takes (signed w32).encodes signed_some (has m 8) _ l.front l.first_encoded) r4 in
     let r2 = both_take j.back k.front k.back _ _ k.parts (optional_takes (signed w32).encodes signed_some (has m 2) _ k.front k.first_encoded) r3 in

@@ -7,7 +7,8 @@ use Rattle.ua_wire.proofs.Readers.{both_true, not_false}
 use Rattle.ua_diagnostic.specs.Parts.{Optional, optional, optional_encodable, optional_canonical, unwritten}
 use Rattle.ua_diagnostic.proofs.PartsRead.{exact_optional}
 
-optional_canonical_encodes : {A : Type 0} (f : Flat A) → IsSound f → (b : Bool) (v : Option A) → IsTrue (optional_encodable f.encodable b v) → Optional f.encodes b v (optional_canonical f.canonical v)
+optional_canonical_encodes : {A : Type 0} (f : Flat A) → IsSound f → (b : Bool) (v : Option A) → IsTrue (optional_encodable f.encodable b v)
+    → Optional f.encodes b v (optional_canonical f.canonical v)
 optional_canonical_encodes f sound true None h = not_false h
 optional_canonical_encodes f sound true (Some x) h = sound.canonical_encodes x h
 optional_canonical_encodes f sound false None h = refl

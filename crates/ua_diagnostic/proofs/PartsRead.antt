@@ -18,7 +18,8 @@ pub exact_octet : Exact IsOctet (number_at 1)
 exact_octet = exact_same (IsNumber 1) IsOctet (number_at 1) octet_is number_is (exact_number 1)
 
 -- one behind the other, the second by what the first is
-pub exact_then : {A B : Type 0} {p : A → List ℕ → Type 0} {r : List ℕ → Option (A × List ℕ)} {q : A → B → List ℕ → Type 0} {s : A → List ℕ → Option (B × List ℕ)} → Exact p r → ((x : A) → Exact (q x) (s x))
+pub exact_then : {A B : Type 0} {p : A → List ℕ → Type 0} {r : List ℕ → Option (A × List ℕ)} {q : A → B → List ℕ → Type 0} {s : A → List ℕ
+    → Option (B × List ℕ)} → Exact p r → ((x : A) → Exact (q x) (s x))
     → Exact (λ (y : B) (b : List ℕ). (x : A) × Joins (p x) (q x y) b) (λ octets. r octets >>= λ x. s x.0 x.1)
 exact_then {A} {B} {p} {r} {q} {s} e f =
     exact_same (Follows p q) (λ (y : B) (b : List ℕ). (x : A) × Joins (p x) (q x y) b) (then_read r s)
@@ -27,19 +28,24 @@ exact_then {A} {B} {p} {r} {q} {s} e f =
     (exact_bind p r q s e f)
 
 -- the same encodings for what f makes
-pub exact_map : {A B : Type 0} {p : A → List ℕ → Type 0} {r : List ℕ → Option (A × List ℕ)} (f : A → B) → Exact p r → Exact (λ (y : B) (b : List ℕ). (x : A) × (y ≡ f x) × p x b) (λ octets. r octets >>= λ x. Some (f x.0, x.1))
+pub exact_map : {A B : Type 0} {p : A → List ℕ → Type 0} {r : List ℕ → Option (A × List ℕ)} (f : A → B) → Exact p r
+    → Exact (λ (y : B) (b : List ℕ). (x : A) × (y ≡ f x) × p x b) (λ octets. r octets >>= λ x. Some (f x.0, x.1))
 exact_map {A} {B} {p} {r} f e =
-    exact_same (Image f p) (λ (y : B) (b : List ℕ). (x : A) × (y ≡ f x) × p x b) (λ octets. r octets >>= λ x. Some (f x.0, x.1)) (λ y b h. (h.of, h.is, h.encoded)) (λ y b h. record { of = h.0; is = h.1; encoded = h.2 }) (exact_image f p r e)
+    exact_same (Image f p) (λ (y : B) (b : List ℕ). (x : A) × (y ≡ f x) × p x b) (λ octets. r octets >>= λ x. Some (f x.0, x.1))
+    (λ y b h. (h.of, h.is, h.encoded)) (λ y b h. record { of = h.0; is = h.1; encoded = h.2 }) (exact_image f p r e)
 
-pub exact_as : {A : Type 0} {p : A → List ℕ → Type 0} {r : List ℕ → Option (A × List ℕ)} (q : A → List ℕ → Type 0) → Exact p r → ((x : A) (b : List ℕ) → p x b → q x b) → ((x : A) (b : List ℕ) → q x b → p x b) → Exact q r
+pub exact_as : {A : Type 0} {p : A → List ℕ → Type 0} {r : List ℕ → Option (A × List ℕ)} (q : A → List ℕ → Type 0) → Exact p r
+    → ((x : A) (b : List ℕ) → p x b → q x b) → ((x : A) (b : List ℕ) → q x b → p x b) → Exact q r
 exact_as {A} {p} {r} q e there back = exact_same p q r there back e
 
-pub exact_if : {A : Type 0} {p : A → List ℕ → Type 0} {r s : List ℕ → Option (A × List ℕ)} (b : Bool) → (b ≡ true → Exact p r) → (b ≡ false → Exact p s) → Exact p (λ octets. cond b (r octets) (s octets))
+pub exact_if : {A : Type 0} {p : A → List ℕ → Type 0} {r s : List ℕ → Option (A × List ℕ)} (b : Bool) → (b ≡ true → Exact p r) → (b ≡ false → Exact p s)
+    → Exact p (λ octets. cond b (r octets) (s octets))
 exact_if true e f = e refl
 exact_if false e f = f refl
 
 -- what is read only where the test passes
-pub exact_when : {A : Type 0} {p : A → List ℕ → Type 0} {r : List ℕ → Option (A × List ℕ)} (b : Bool) → Exact p r → Exact (λ (x : A) (c : List ℕ). IsTrue b × p x c) (λ octets. when b (r octets))
+pub exact_when : {A : Type 0} {p : A → List ℕ → Type 0} {r : List ℕ → Option (A × List ℕ)} (b : Bool) → Exact p r
+    → Exact (λ (x : A) (c : List ℕ). IsTrue b × p x c) (λ octets. when b (r octets))
 exact_when {A} {p} {r} true e = exact_same p (λ (x : A) (c : List ℕ). IsTrue true × p x c) r (λ x c h. (refl, h)) (λ x c h. h.1) e
 exact_when {A} {p} {r} false e = record { sound = λ octets v rest h. absurd cc; complete = λ v front rest h. not_false h.0 }
 
@@ -60,7 +66,8 @@ none_back p None b h = (refl, h)
 none_back p (Some x) b h = absurd h
 
 pub exact_optional : {A : Type 0} (p : A → List ℕ → Type 0) (r : List ℕ → Option (A × List ℕ)) (b : Bool) → Exact p r → Exact (Optional p b) (optional_read b r)
-exact_optional p r true e = exact_same (Image Some p) (Optional p true) (λ octets. r octets >>= λ x. Some (Some x.0, x.1)) (some_there p) (some_back p) (exact_image Some p r e)
+exact_optional p r true e = exact_same (Image Some p) (Optional p true) (λ octets. r octets >>= λ x. Some (Some x.0, x.1)) (some_there p) (some_back p)
+    (exact_image Some p r e)
 exact_optional {A} p r false e = exact_same (IsOnly None) (Optional p false) (λ octets. Some (None, octets)) (none_there p) (none_back p) (exact_only None)
 
 -- ---- what stands beside nothing

@@ -35,12 +35,14 @@ factor all next d p e =
     let same : all * (d * p) ≡ all * d * p = Prim.grind arith in
     ap (λ x. min x 18446744073709551615) same ∙ sym (min_times (all * d) p 18446744073709551615) ∙ ap (λ x. min (x * p) 18446744073709551615) (sym e)
 
-with_factor : (all next : ℕ) (d : ℤ) (found : Option (List ℤ × List ℕ)) → next ≡ min (all * unsigned_abs d) 18446744073709551615 → multiplied all (found >>= with_one d) ≡ multiplied next found
+with_factor : (all next : ℕ) (d : ℤ) (found : Option (List ℤ × List ℕ)) → next ≡ min (all * unsigned_abs d) 18446744073709551615
+    → multiplied all (found >>= with_one d) ≡ multiplied next found
 with_factor all next d None e = refl
 with_factor all next d (Some x) e = ap (λ (n : ℕ). Some (n, x.1)) (factor all next (unsigned_abs d) (product x.0) e)
 
 -- one more factor, as a loop over so many dimensions meets it
-pub product_goes_on : (all next : ℕ) (d : ℤ) (count counter : ℕ) (old new : List ℕ) (whole : Option (ℕ × List ℕ)) → counter < count → next ≡ min (all * unsigned_abs d) 18446744073709551615 → size_at old ≡ Some (d, new)
+pub product_goes_on : (all next : ℕ) (d : ℤ) (count counter : ℕ) (old new : List ℕ) (whole : Option (ℕ × List ℕ)) → counter < count
+    → next ≡ min (all * unsigned_abs d) 18446744073709551615 → size_at old ≡ Some (d, new)
     → product_at all (count - counter) old ≡ whole → product_at next (count - (counter + 1)) new ≡ whole
 product_goes_on all next d count counter old new whole lt e h so_far =
     let n = count - (counter + 1) in
@@ -60,7 +62,8 @@ product_fault NoValue all count counter start old new lt h so_far =
 product_fault OutOfMemory all count counter start old new lt h so_far = tt
 
 -- the last factor
-pub product_ends : (all count counter : ℕ) (old : List ℕ) (whole : Option (ℕ × List ℕ)) → all ≤ 18446744073709551615 → count ≤ counter → product_at all (count - counter) old ≡ whole → whole ≡ Some (all, old)
+pub product_ends : (all count counter : ℕ) (old : List ℕ) (whole : Option (ℕ × List ℕ)) → all ≤ 18446744073709551615 → count ≤ counter
+    → product_at all (count - counter) old ≡ whole → whole ≡ Some (all, old)
 product_ends all count counter old whole within le so_far =
     let none : count - counter ≡ 0 = omega arith in
     let is : min (all * 1) 18446744073709551615 ≡ all = omega arith in

@@ -7,7 +7,8 @@ use Rattle.ua_wire.specs.Signed.{signed}
 use Rattle.ua_wire.proofs.Readers.{both_true}
 use Rattle.ua_builtin.specs.Flags.{flagged_text}
 use Rattle.ua_builtin.specs.Status.{status_code}
-use Rattle.ua_diagnostic.specs.Diagnostic.{DiagnosticFields, DiagnosticData, diagnostic_depth, diagnostic_fields_encodable, diagnostic_fits, diagnostic_encodable}
+use Rattle.ua_diagnostic.specs.Diagnostic.{DiagnosticFields, DiagnosticData, diagnostic_depth}
+use Rattle.ua_diagnostic.specs.Diagnostic.{diagnostic_fields_encodable, diagnostic_fits, diagnostic_encodable}
 use Rattle.ua_diagnostic.specs.Parts.{optional_fits}
 
 -- what can be written fits
@@ -16,7 +17,9 @@ diagnostic_fits_of d h = (both_true (leb (diagnostic_depth d) most_levels) (diag
 
 -- each of the fields can be written
 pub fields_parts : (f : DiagnosticFields) → diagnostic_fields_encodable f ≡ true
-    → IsTrue (optional_fits (signed w32).encodable f.symbolic_id) × IsTrue (optional_fits (signed w32).encodable f.namespace_uri) × IsTrue (optional_fits (signed w32).encodable f.locale) × IsTrue (optional_fits (signed w32).encodable f.localized_text) × IsTrue ((flagged_text (is_some f.additional_info)).encodable f.additional_info) × IsTrue (optional_fits status_code.encodable f.inner_status_code)
+    → IsTrue (optional_fits (signed w32).encodable f.symbolic_id) × IsTrue (optional_fits (signed w32).encodable f.namespace_uri)
+    × IsTrue (optional_fits (signed w32).encodable f.locale) × IsTrue (optional_fits (signed w32).encodable f.localized_text)
+    × IsTrue ((flagged_text (is_some f.additional_info)).encodable f.additional_info) × IsTrue (optional_fits status_code.encodable f.inner_status_code)
 unfolding diagnostic_fields_encodable
 fields_parts f h =
     let number = optional_fits (signed w32).encodable in

@@ -15,7 +15,8 @@ diagnostic_from [] = innermost no_fields
 diagnostic_from (f ∷ []) = innermost f
 diagnostic_from (f ∷ g ∷ fs) = around f (diagnostic_from (g ∷ fs))
 
-diagnostic_back_around : (f : DiagnosticFields) (d : DiagnosticData) → diagnostic_from (diagnostic_levels (around f d)) ≡ around f (diagnostic_from (diagnostic_levels d))
+diagnostic_back_around : (f : DiagnosticFields) (d : DiagnosticData) → diagnostic_from (diagnostic_levels (around f d))
+    ≡ around f (diagnostic_from (diagnostic_levels d))
 diagnostic_back_around f (innermost g) = refl
 diagnostic_back_around f (around g d) = refl
 

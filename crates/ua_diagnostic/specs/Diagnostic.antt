@@ -46,7 +46,8 @@ diagnostic_depth (around f d) = 1 + diagnostic_depth d
 
 -- how many of the fields are present
 abbrev pub diagnostic_fields_count : DiagnosticFields → ℕ
-diagnostic_fields_count f = there f.symbolic_id + there f.namespace_uri + there f.locale + there f.localized_text + there f.additional_info + there f.inner_status_code
+diagnostic_fields_count f = there f.symbolic_id + there f.namespace_uri + there f.locale + there f.localized_text + there f.additional_info
+    + there f.inner_status_code
 
 -- a Variant, DataValue or DiagnosticInfo counts 1 plus what it contains; each other scalar, field
 -- and dimension counts 1
@@ -62,7 +63,14 @@ diagnostic_count (around f d) = 1 + diagnostic_fields_count f + diagnostic_count
 -- 5.2.2.12)
 unfoldable pub diagnostic_fields : ℕ → Flat DiagnosticFields
 diagnostic_fields m =
-    made (λ (a, (b, (c, (d, (e, f))))). record { symbolic_id = a; namespace_uri = b; locale = c; localized_text = d; additional_info = e; inner_status_code = f })
+    made (λ (a, (b, (c, (d, (e, f))))). record {
+      symbolic_id = a;
+      namespace_uri = b;
+      locale = c;
+      localized_text = d;
+      additional_info = e;
+      inner_status_code = f;
+    })
     (λ f. (f.symbolic_id, (f.namespace_uri, (f.locale, (f.localized_text, (f.additional_info, f.inner_status_code))))))
     (both (optional (has m 0x01) (signed w32))
     (both (optional (has m 0x02) (signed w32))

@@ -1,7 +1,9 @@
 //! DiagnosticInfo as a value: its fields, its nesting depth, and copies of it.
 
 ghost use Rattle.std.specs.Prelude.{◌≡◌, ◌≤◌, ◌↔◌, None, min, option_map, IfOk, IsTrue};
-ghost use Rattle.ua_diagnostic.specs.Diagnostic.{innermost, no_fields, diagnostic_depth, diagnostic_count, diagnostic_fields_count, diagnostic_encodable, diagnostic_fits, diagnostic_fields_encodable};
+ghost use Rattle.ua_diagnostic.specs.Diagnostic.{innermost, no_fields, diagnostic_depth, diagnostic_count};
+ghost use Rattle.ua_diagnostic.specs.Diagnostic.{diagnostic_fields_count, diagnostic_encodable};
+ghost use Rattle.ua_diagnostic.specs.Diagnostic.{diagnostic_fits, diagnostic_fields_encodable};
 ghost use Rattle.ua_diagnostic.specs.View.{diagnostic_of, diagnostic_fields_of, no_diagnostics, or_innermost};
 
 use crate::field::{count_of, count_of_text, field_fits};

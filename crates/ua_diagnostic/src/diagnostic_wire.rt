@@ -8,7 +8,10 @@ ghost use Rattle.ua_builtin.specs.Format.{most_levels, Gives, GivesBy, StaysBehi
 ghost use Rattle.ua_builtin.specs.Signed.{signed};
 ghost use Rattle.ua_builtin.specs.Status.{status_code};
 ghost use Rattle.ua_diagnostic.specs.Parts.{optional_read, optional_fits, optional_canonical};
-ghost use Rattle.ua_diagnostic.specs.Diagnostic.{diagnostic_at, diagnostic_step, diagnostic_fields, diagnostic_flags, diagnostic_fits, diagnostic_fields_encodable, diagnostic_fields_canonical, diagnostic_canonical, innermost, no_fields};
+ghost use Rattle.ua_diagnostic.specs.Diagnostic.{diagnostic_at, diagnostic_step, diagnostic_fields};
+ghost use Rattle.ua_diagnostic.specs.Diagnostic.{diagnostic_flags, diagnostic_fits};
+ghost use Rattle.ua_diagnostic.specs.Diagnostic.{diagnostic_fields_encodable, diagnostic_fields_canonical};
+ghost use Rattle.ua_diagnostic.specs.Diagnostic.{diagnostic_canonical, innermost, no_fields};
 ghost use Rattle.ua_diagnostic.specs.View.{diagnostic_of, diagnostic_fields_of};
 
 use crate::diagnostic_info::{BoxedDiagnostic, DiagnosticInfo};
@@ -90,7 +93,8 @@ fn read_level<S: Source>(
     depth: u32,
 ) -> Result<DiagnosticInfo, ReadFault>
     requires levels { depth ≤ most_levels }
-    ensures exact { GivesBy diagnostic_of (diagnostic_step (diagnostic_at depth)) (S.octets src.old) (S.octets src.new) result }
+    ensures exact { GivesBy diagnostic_of (diagnostic_step (diagnostic_at depth)) (S.octets src.old)
+        (S.octets src.new) result }
     ensures behind { StaysBehind (S.octets src.old) (S.octets src.new) }
 {
     let mask = u8::read_value(alloc, src, 0)?;
@@ -160,7 +164,8 @@ pub fn skip_diagnostic<S: Source>(alloc: Global, src: &mut S, depth: u32) -> Res
 #[tactic(auto, unfolding(crate::specs::Diagnostic::diagnostic_step))]
 fn skip_level<S: Source>(alloc: Global, src: &mut S, depth: u32) -> Result<(), ReadFault>
     requires levels { depth ≤ most_levels }
-    ensures exact { Gives (skipped (diagnostic_step (diagnostic_at depth))) (S.octets src.old) (S.octets src.new) result }
+    ensures exact { Gives (skipped (diagnostic_step (diagnostic_at depth))) (S.octets src.old)
+        (S.octets src.new) result }
     ensures behind { StaysBehind (S.octets src.old) (S.octets src.new) }
 {
     let mask = u8::read_value(alloc, src, 0)?;
@@ -190,7 +195,8 @@ fn skip_fields<S: Source>(alloc: Global, src: &mut S, mask: u8) -> Result<(), Re
 #[cycle(skipped_diagnostics)]
 fn skip_inner<S: Source>(alloc: Global, src: &mut S, depth: u32, set: bool) -> Result<(), ReadFault>
     requires levels { depth ≤ most_levels }
-    ensures exact { Gives (skipped (optional_read set (diagnostic_at depth))) (S.octets src.old) (S.octets src.new) result }
+    ensures exact { Gives (skipped (optional_read set (diagnostic_at depth))) (S.octets src.old)
+        (S.octets src.new) result }
     ensures behind { StaysBehind (S.octets src.old) (S.octets src.new) }
 {
     if !set {
@@ -217,7 +223,8 @@ fn mask_of(value: &DiagnosticInfo) -> u8
 #[tactic(auto, unfolding(crate::specs::Diagnostic::diagnostic_fields_canonical))]
 fn append_fields(value: &DiagnosticInfo, out: &mut Vec<u8>) -> Result<(), AllocError>
     requires { diagnostic_fields_encodable (diagnostic_fields_of value.now) ≡ true }
-    ensures ok { OnOk result (out.new.items ≡ out.old.items ++ diagnostic_fields_canonical (diagnostic_fields_of value.now)) }
+    ensures ok { OnOk result
+        (out.new.items ≡ out.old.items ++ diagnostic_fields_canonical (diagnostic_fields_of value.now)) }
     ensures err { OnErr result (Extends out.old.items out.new.items) }
 {
     append_three(&value.symbolic_id, &value.namespace_uri, &value.locale, out)?;
@@ -239,7 +246,11 @@ fn append_texts(
     requires localized_text { IsTrue (optional_fits (signed w32).encodable localized_text.now) }
     requires additional_info { IsTrue ((flagged_text (is_some additional_info.now)).encodable additional_info.now) }
     requires inner_status_code { IsTrue (optional_fits status_code.encodable inner_status_code.now) }
-    ensures ok { OnOk result (out.new.items ≡ out.old.items ++ (optional_canonical (signed w32).canonical localized_text.now ++ ((flagged_text (is_some additional_info.now)).canonical additional_info.now ++ optional_canonical status_code.canonical inner_status_code.now))) }
+    ensures ok { OnOk result
+        (out.new.items ≡ out.old.items
+        ++ (optional_canonical (signed w32).canonical localized_text.now
+        ++ ((flagged_text (is_some additional_info.now)).canonical additional_info.now
+        ++ optional_canonical status_code.canonical inner_status_code.now))) }
     ensures err { OnErr result (Extends out.old.items out.new.items) }
 {
     append_field(localized_text, out)?;

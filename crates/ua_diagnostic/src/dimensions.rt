@@ -5,7 +5,9 @@ ghost use Rattle.ua_builtin.specs.Counted.{first_negative};
 ghost use Rattle.ua_builtin.specs.Exact.{image_read, skipped};
 ghost use Rattle.ua_builtin.specs.Format.{Gives, GivesBy, StaysBehind, Extends};
 ghost use Rattle.ua_wire.specs.declared.fault.ReadFault.TheVariants.{NoValue};
-ghost use Rattle.ua_diagnostic.specs.Dimensions.{product, is_count, are_sizes, dims_encodable, dims_canonical, sizes_canonical, size_at, sizes_at, dims_at, no_dims_at, IsOverlongDims};
+ghost use Rattle.ua_diagnostic.specs.Dimensions.{product, is_count, are_sizes, dims_encodable};
+ghost use Rattle.ua_diagnostic.specs.Dimensions.{dims_canonical, sizes_canonical, size_at};
+ghost use Rattle.ua_diagnostic.specs.Dimensions.{sizes_at, dims_at, no_dims_at, IsOverlongDims};
 
 use std::alloc::{AllocError, Global};
 use std::marker::Model;
@@ -205,7 +207,8 @@ pub fn skip_dims<S: Source>(
 
 /// Skips so many dimensions, and tells their product, or the greatest number.
 fn skip_sizes<S: Source>(alloc: Global, src: &mut S, count: u32) -> Result<u64, ReadFault>
-    ensures exact { Gives (image_read (λ sizes. min (product sizes) u64.MAX) (sizes_at count)) (S.octets src.old) (S.octets src.new) result }
+    ensures exact { Gives (image_read (λ sizes. min (product sizes) u64.MAX) (sizes_at count)) (S.octets src.old)
+        (S.octets src.new) result }
     ensures behind { StaysBehind (S.octets src.old) (S.octets src.new) }
 {
     let mut all = 1u64;

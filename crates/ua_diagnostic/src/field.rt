@@ -79,7 +79,9 @@ pub fn append_two<A: Wire, B: Wire>(
 ) -> Result<(), AllocError>
     requires first { IsTrue (optional_fits A.format.encodable first.now) }
     requires second { IsTrue (optional_fits B.format.encodable second.now) }
-    ensures ok { OnOk result (out.new.items ≡ out.old.items ++ (optional_canonical A.format.canonical first.now ++ optional_canonical B.format.canonical second.now)) }
+    ensures ok { OnOk result
+        (out.new.items ≡ out.old.items
+        ++ (optional_canonical A.format.canonical first.now ++ optional_canonical B.format.canonical second.now)) }
     ensures err { OnErr result (Extends out.old.items out.new.items) }
 {
     append_field(first, out)?;
@@ -97,7 +99,10 @@ pub fn append_three<A: Wire, B: Wire, C: Wire>(
     requires first { IsTrue (optional_fits A.format.encodable first.now) }
     requires second { IsTrue (optional_fits B.format.encodable second.now) }
     requires third { IsTrue (optional_fits C.format.encodable third.now) }
-    ensures ok { OnOk result (out.new.items ≡ out.old.items ++ (optional_canonical A.format.canonical first.now ++ (optional_canonical B.format.canonical second.now ++ optional_canonical C.format.canonical third.now))) }
+    ensures ok { OnOk result
+        (out.new.items ≡ out.old.items
+        ++ (optional_canonical A.format.canonical first.now
+        ++ (optional_canonical B.format.canonical second.now ++ optional_canonical C.format.canonical third.now))) }
     ensures err { OnErr result (Extends out.old.items out.new.items) }
 {
     append_field(first, out)?;

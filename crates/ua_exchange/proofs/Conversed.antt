@@ -1,5 +1,6 @@
 -- What a client over a line to a server comes to that has the turns of an exchange.
-use Rattle.std.proofs.Common.{◌≡◌, ◌≤◌, ℕ, IsTrue, List, [], ◌++◌, Option, Some, None, Result, Ok, Err, map, take, drop, refl, sym, ◌∙◌, ap, subst, append-nil, arith}
+use Rattle.std.proofs.Common.{◌≡◌, ◌≤◌, ℕ, IsTrue, List, [], ◌++◌, Option, Some, None, Result, Ok}
+use Rattle.std.proofs.Common.{Err, map, take, drop, refl, sym, ◌∙◌, ap, subst, append-nil, arith}
 use Rattle.std.specs.Prelude.{IfErr, OnOk, codes}
 use Rattle.std.proofs.lemmas.List.{take-append-drop}
 use Rattle.ua_builtin.specs.DateTime.{date_time}
@@ -41,20 +42,26 @@ endpoint_fits e is =
     subst Fits (sym is) (record { url = url_fits; application_uri = word_fits (codes "urn:ua:server") refl refl; name = word_fits (codes "ua") refl refl })
 
 -- a server reads what a client says of turns that are accepted
-pub turns-closed : (moment : DateTime) (turns : List Turn) → IsTrue (date_time.encodable moment) → AreAccepted turns → ServerCloses program_limits channel (up_octets moment turns) (all_told turns)
+pub turns-closed : (moment : DateTime) (turns : List Turn) → IsTrue (date_time.encodable moment) → AreAccepted turns
+    → ServerCloses program_limits channel (up_octets moment turns) (all_told turns)
 unfolding up_octets all_told
-turns-closed moment turns dated accepted = conversation_read program_limits program_limits (Some url) channel moment (omega arith) dated hello_fits (omega arith) (served_turns turns) (served-all turns accepted)
+turns-closed moment turns dated accepted = conversation_read program_limits program_limits (Some url) channel moment (omega arith) dated hello_fits
+    (omega arith) (served_turns turns) (served-all turns accepted)
 
 -- ---- the turns that it was to take
 
 -- where none is a renewal for which too many tokens are held, all of them
-pub all-conversed : (first : State) (moment : DateTime) (turns asked : List Turn) (found : Option ℕ) (t : ConversationLog) → asked ≡ front_of found turns → found ≡ None → IsConversed first moment asked t → IsConversed first moment turns t
-all-conversed first moment turns asked found t front none k = subst (λ (ts : List Turn). IsConversed first moment ts t) (front ∙ ap (λ (o : Option ℕ). front_of o turns) none) k
+pub all-conversed : (first : State) (moment : DateTime) (turns asked : List Turn) (found : Option ℕ) (t : ConversationLog) → asked ≡ front_of found turns
+    → found ≡ None → IsConversed first moment asked t → IsConversed first moment turns t
+all-conversed first moment turns asked found t front none k = subst (λ (ts : List Turn). IsConversed first moment ts t)
+    (front ∙ ap (λ (o : Option ℕ). front_of o turns) none) k
 
 -- else those in front of it
-pub front-conversed : (first : State) (moment : DateTime) (turns asked : List Turn) (found : Option ℕ) (place : ℕ) (t : ConversationLog) → asked ≡ front_of found turns → found ≡ Some place → IsConversed first moment asked t
+pub front-conversed : (first : State) (moment : DateTime) (turns asked : List Turn) (found : Option ℕ) (place : ℕ) (t : ConversationLog)
+    → asked ≡ front_of found turns → found ≡ Some place → IsConversed first moment asked t
     → IsConversed first moment (take place turns) t
-front-conversed first moment turns asked found place t front some k = subst (λ (ts : List Turn). IsConversed first moment ts t) (front ∙ ap (λ (o : Option ℕ). front_of o turns) some) k
+front-conversed first moment turns asked found place t front some k = subst (λ (ts : List Turn). IsConversed first moment ts t)
+    (front ∙ ap (λ (o : Option ℕ). front_of o turns) some) k
 
 -- ---- where the client did all
 
@@ -62,7 +69,8 @@ on_ok : (X : Type 0) (r : Result (Unit {0}) ClientFault) (done : Unit {0}) → r
 on_ok X (Ok found) done e x = x
 on_ok X (Err fault) done e x = absurd cc
 
-module _ (first : State) (moment : DateTime) (turns : List Turn) (t : ConversationLog) (k : IsConversed first moment turns t) (done : Unit {0}) (is : t.outcome ≡ Ok done) where
+module _ (first : State) (moment : DateTime) (turns : List Turn) (t : ConversationLog) (k : IsConversed first moment turns t) (done : Unit {0})
+    (is : t.outcome ≡ Ok done) where
   pub up-all : t.up.items ≡ up_octets moment turns
   unfolding up_octets
   up-all = on_ok (t.up.items ≡ up_octets moment turns) t.outcome done is k.sent
@@ -74,7 +82,8 @@ module _ (first : State) (moment : DateTime) (turns : List Turn) (t : Conversati
   pub down-all : t.down.items ≡ all_said first moment turns
   down-all =
       k.down
-      ∙ (said_by_run (beginning first moment) t.up.items handed-all.frames [] Over handed-all.run ∙ ap (λ (ts : List Told). output_of channel first ts Over (times_of_answers ts moment)) handed-all.told_is)
+      ∙ (said_by_run (beginning first moment) t.up.items handed-all.frames [] Over handed-all.run
+      ∙ ap (λ (ts : List Told). output_of channel first ts Over (times_of_answers ts moment)) handed-all.told_is)
 
   pub replies-all : map (λ (r : Reply). Some r) t.replies.items ≡ turns_replies first moment turns
   unfolding turns_replies
@@ -98,23 +107,29 @@ behind-front turns None = ([], append-nil turns)
 behind-front turns (Some place) = (drop place turns, take-append-drop place turns)
 
 -- a turn was not taken, or memory was refused
-pub refused-turn : (first : State) (moment : DateTime) (turns : List Turn) (found : Option ℕ) (t : ConversationLog) (fault : ClientFault) → FindsCrowded turns found → IsConversed first moment (front_of found turns) t → t.outcome ≡ Err fault
+pub refused-turn : (first : State) (moment : DateTime) (turns : List Turn) (found : Option ℕ) (t : ConversationLog) (fault : ClientFault)
+    → FindsCrowded turns found → IsConversed first moment (front_of found turns) t → t.outcome ≡ Err fault
     → IsRefusedFor turns (fault_at t.taken fault)
 refused-turn first moment turns found t fault f k is =
     let more = behind-front turns found in
     let refused : judged.IsTurnFault fault → judged.FirstRefused acknowledged (served_turns (front_of found turns)) t.taken fault =
-    subst (λ (r : Result (Unit {0}) ClientFault). IfErr r (λ g. judged.IsTurnFault g → judged.FirstRefused acknowledged (served_turns (front_of found turns)) t.taken g)) is k.refused in
-    subst (λ (ts : List Turn). IsRefusedFor ts (fault_at t.taken fault)) more.1 (refused-for (front_of found turns) more.0 t.taken fault refused (room-front turns found f))
+    subst (λ (r : Result (Unit {0}) ClientFault).
+    IfErr r (λ g. judged.IsTurnFault g → judged.FirstRefused acknowledged (served_turns (front_of found turns)) t.taken g)) is k.refused in
+    subst (λ (ts : List Turn). IsRefusedFor ts (fault_at t.taken fault)) more.1
+    (refused-for (front_of found turns) more.0 t.taken fault refused (room-front turns found f))
 
 -- and what it failed for
-pub served-fault : (first : State) (moment : DateTime) (turns : List Turn) (t : ConversationLog) (fault : ClientFault) → IsConversed first moment turns t → t.outcome ≡ Err fault → (stage : Stage) × FailsAt stage fault
+pub served-fault : (first : State) (moment : DateTime) (turns : List Turn) (t : ConversationLog) (fault : ClientFault) → IsConversed first moment turns t
+    → t.outcome ≡ Err fault → (stage : Stage) × FailsAt stage fault
 served-fault first moment turns t fault k is =
     let fails = subst (λ (r : Result (Unit {0}) ClientFault). IfErr r (λ g. url_length (Some url) ≤ 4095 → FailsAt t.stage g)) is k.fails in
     (t.stage, fails (omega arith))
 
 -- it took all in front of a renewal for which too many tokens are held
-pub refused-crowded : (first : State) (moment : DateTime) (turns : List Turn) (place : ℕ) (t : ConversationLog) (done : Unit {0}) → FirstCrowded turns place → IsConversed first moment (take place turns) t → t.outcome ≡ Ok done
+pub refused-crowded : (first : State) (moment : DateTime) (turns : List Turn) (place : ℕ) (t : ConversationLog) (done : Unit {0}) → FirstCrowded turns place
+    → IsConversed first moment (take place turns) t → t.outcome ≡ Ok done
     → IsRefusedFor turns (Request place TooManyTokens)
 refused-crowded first moment turns place t done f k is =
     crowded-refused turns place f
-    (subst AreAccepted (front-is turns place f) (accepted-turns first moment (take place turns) t k done is (subst HaveRoom (sym (front-is turns place f)) f.have_room)))
+    (subst AreAccepted (front-is turns place f)
+    (accepted-turns first moment (take place turns) t k done is (subst HaveRoom (sym (front-is turns place f)) f.have_room)))

@@ -1,5 +1,6 @@
 -- The turns that stand last, counted one by one, and the tokens that are held behind them.
-use Rattle.std.proofs.Common.{◌≡◌, ℕ, zero, suc, ◌+◌, ◌-◌, ◌<◌, ◌≤◌, min, Bool, true, false, cond, List, [], ◌∷◌, ◌++◌, Option, Some, None, length, take, nat_le, refl, sym, ◌∙◌, ap, arith, append_assoc, append-nil, length-append, length-take-le}
+use Rattle.std.proofs.Common.{◌≡◌, ℕ, zero, suc, ◌+◌, ◌-◌, ◌<◌, ◌≤◌, min, Bool, true, false, cond, List, [], ◌∷◌, ◌++◌, Option, Some, None}
+use Rattle.std.proofs.Common.{length, take, nat_le, refl, sym, ◌∙◌, ap, arith, append_assoc, append-nil, length-append, length-take-le}
 use Rattle.std.proofs.Math.Seq.{take-append-add}
 use Rattle.std.proofs.lemmas.Bool.{le-leb, leb-false, leb-true, lt-leb}
 use Rattle.std.proofs.lemmas.List.{take_all, take_at}
@@ -58,7 +59,8 @@ last-are [] = tt
 last-are (Ask m ∷ ts) = are_last (list_any is_renewal ts) m ts (last_calls ts) (last-are ts) (no_renewal ts)
 last-are (Renew ∷ ts) = last-are ts
 
-split_at : (b : Bool) (t : Turn) (ts last : List Turn) → ((front : List Turn) × (ts ≡ front ++ last)) → (front : List Turn) × (t ∷ ts ≡ front ++ cond b last (t ∷ ts))
+split_at : (b : Bool) (t : Turn) (ts last : List Turn) → ((front : List Turn) × (ts ≡ front ++ last))
+    → (front : List Turn) × (t ∷ ts ≡ front ++ cond b last (t ∷ ts))
 split_at true t ts last (front, is) = (t ∷ front, ap (λ (us : List Turn). t ∷ us) is)
 split_at false t ts last (front, is) = ([], refl)
 
@@ -77,7 +79,8 @@ held-push before t = ap (tokens_held 1) (served-push before t) ∙ held_push 1 (
 ends-with-call : (before calls : List Turn) → AreCalls calls → 0 < length calls → held (before ++ calls) ≡ 1
 ends-with-call before [] are some = absurd (omega (arith, some))
 ends-with-call before (Ask m ∷ []) are some = held-push before (Ask m)
-ends-with-call before (Ask m ∷ (t ∷ ts)) are some = ap held (sym (append_assoc before (Ask m ∷ []) (t ∷ ts))) ∙ ends-with-call (before ++ Ask m ∷ []) (t ∷ ts) are (omega arith)
+ends-with-call before (Ask m ∷ (t ∷ ts)) are some = ap held (sym (append_assoc before (Ask m ∷ []) (t ∷ ts)))
+    ∙ ends-with-call (before ++ Ask m ∷ []) (t ∷ ts) are (omega arith)
 ends-with-call before (Renew ∷ ts) are some = absurd are
 
 some-held : (n : ℕ) (turns : List (Option (List Request))) → 0 < n → 0 < tokens_held n turns
@@ -91,7 +94,8 @@ some-held n (None ∷ ts) some = some-held (n + 1) ts (omega arith)
 pub counts-none : CountsLast [] 0 0
 counts-none = record { front = []; last = []; parts = refl; are_calls = tt; calls_are = refl; no_more = refl; held_is = refl }
 
-pub counts-call : (before : List Turn) (renewals calls : ℕ) (m : Request) → CountsLast before renewals calls → CountsLast (before ++ Ask m ∷ []) renewals (calls + 1)
+pub counts-call : (before : List Turn) (renewals calls : ℕ) (m : Request) → CountsLast before renewals calls
+    → CountsLast (before ++ Ask m ∷ []) renewals (calls + 1)
 counts-call before renewals calls m k = record {
   front = k.front;
   last = k.last ++ Ask m ∷ [];
@@ -114,9 +118,11 @@ counts-renewed before renewals is = record {
   held_is = held-push before Renew ∙ ap (λ (n : ℕ). n + 1) is;
 }
 
-pub counts-renewal : (before : List Turn) (renewals calls : ℕ) → CountsLast before renewals calls → calls ≡ 0 → CountsLast (before ++ Renew ∷ []) (renewals + 1) 0
+pub counts-renewal : (before : List Turn) (renewals calls : ℕ) → CountsLast before renewals calls → calls ≡ 0
+    → CountsLast (before ++ Renew ∷ []) (renewals + 1) 0
 counts-renewal before renewals calls k none =
-    let same : before ≡ k.front = k.parts ∙ (ap (λ (ts : List Turn). k.front ++ ts) (none-last k.last (omega (arith, none, k.calls_are))) ∙ append-nil k.front) in
+    let same : before ≡ k.front = k.parts ∙ (ap (λ (ts : List Turn). k.front ++ ts) (none-last k.last (omega (arith, none, k.calls_are))) ∙ append-nil k.front)
+    in
     counts-renewed before renewals (ap held same ∙ k.held_is)
 
 pub counts-first : (before : List Turn) (renewals calls : ℕ) → CountsLast before renewals calls → (calls ≡ 0 → ⊥) → CountsLast (before ++ Renew ∷ []) 1 0
@@ -126,10 +132,13 @@ counts-first before renewals calls k some =
 -- ---- the tokens that are held
 
 -- where no requests stand in front of the group
-group-alone : (answered waiting : List Turn) → AreCalls waiting → length waiting ≤ most_pending → last_calls answered ≡ [] → before_group (answered ++ waiting) ≡ answered
+group-alone : (answered waiting : List Turn) → AreCalls waiting → length waiting ≤ most_pending → last_calls answered ≡ []
+    → before_group (answered ++ waiting) ≡ answered
 group-alone answered waiting calls few none =
-    let last : length (last_calls (answered ++ waiting)) ≡ length waiting = ap length (last-calls answered waiting calls ∙ ap (λ (ts : List Turn). ts ++ waiting) none) in
-    take_at answered waiting (length (answered ++ waiting) - min (length (last_calls (answered ++ waiting))) most_pending) (omega (arith, length-append answered waiting, last, few))
+    let last : length (last_calls (answered ++ waiting)) ≡ length waiting =
+    ap length (last-calls answered waiting calls ∙ ap (λ (ts : List Turn). ts ++ waiting) none) in
+    take_at answered waiting (length (answered ++ waiting) - min (length (last_calls (answered ++ waiting))) most_pending)
+    (omega (arith, length-append answered waiting, last, few))
 
 counted-few : (before : List Turn) (renewals calls : ℕ) → CountsLast before renewals calls → calls ≤ most_pending → tokens_counted before ≡ renewals + 1
 counted-few before renewals calls k few =
@@ -142,7 +151,8 @@ counted-many before renewals calls k many =
     let last : last_calls (k.front ++ k.last) ≡ k.last = last-calls k.front k.last k.are_calls ∙ ap (λ (ts : List Turn). ts ++ k.last) k.no_more in
     let at : length (k.front ++ k.last) - min (length (last_calls (k.front ++ k.last))) most_pending ≡ length k.front + count =
     omega (arith, ap length last, length-append k.front k.last, many, k.calls_are) in
-    let group : before_group (k.front ++ k.last) ≡ k.front ++ take count k.last = ap (λ (n : ℕ). take n (k.front ++ k.last)) at ∙ take-append-add k.front k.last count in
+    let group : before_group (k.front ++ k.last) ≡ k.front ++ take count k.last = ap (λ (n : ℕ). take n (k.front ++ k.last)) at
+    ∙ take-append-add k.front k.last count in
     let some : 0 < length (take count k.last) = omega (arith, length-take-le count k.last (omega arith), many, k.calls_are) in
     ap tokens_counted k.parts ∙ (ap held group ∙ ends-with-call k.front (take count k.last) (calls-take count k.last k.are_calls) some)
 
@@ -151,16 +161,19 @@ crowded-by : (b : Bool) (held renewals : ℕ) → held ≡ renewals + 1 → nat_
 crowded-by true held renewals is e = le-leb most_tokens held (omega (arith, is, leb-true 15 renewals e))
 crowded-by false held renewals is e = lt-leb most_tokens held (omega (arith, is, leb-false 15 renewals e))
 
-pub crowded-few : (before : List Turn) (renewals calls : ℕ) → CountsLast before renewals calls → calls ≤ most_pending → nat_le most_tokens (tokens_counted before) ≡ nat_le 15 renewals
+pub crowded-few : (before : List Turn) (renewals calls : ℕ) → CountsLast before renewals calls → calls ≤ most_pending
+    → nat_le most_tokens (tokens_counted before) ≡ nat_le 15 renewals
 crowded-few before renewals calls k few = crowded-by (nat_le 15 renewals) (tokens_counted before) renewals (counted-few before renewals calls k few) refl
 
-pub crowded-many : (before : List Turn) (renewals calls : ℕ) → CountsLast before renewals calls → most_pending < calls → nat_le most_tokens (tokens_counted before) ≡ false
+pub crowded-many : (before : List Turn) (renewals calls : ℕ) → CountsLast before renewals calls → most_pending < calls
+    → nat_le most_tokens (tokens_counted before) ≡ false
 crowded-many before renewals calls k many = lt-leb most_tokens (tokens_counted before) (omega (arith, counted-many before renewals calls k many))
 
 -- a client whose calls are all answered holds no more tokens
 held-by : (before last : List Turn) → last_calls before ≡ last → held before ≤ tokens_counted before
 held-by before [] none =
-    let whole : before_group before ≡ before = take_all (length before - min (length (last_calls before)) most_pending) before (omega (arith, ap length none)) in
+    let whole : before_group before ≡ before = take_all (length before - min (length (last_calls before)) most_pending) before (omega (arith, ap length none))
+    in
     omega (arith, ap held whole)
 held-by before (t ∷ ts) some =
     let parts = last_behind before in

@@ -1,5 +1,6 @@
 -- That a client reads what a server says to it of turns that are accepted.
-use Rattle.std.proofs.Common.{◌≡◌, ℕ, ◌+◌, ◌<◌, ◌≤◌, leb, true, not, IsTrue, List, [], ◌∷◌, ◌++◌, Some, length, refl, sym, ◌∙◌, ap, subst, arith, append_assoc, append-nil, length-append}
+use Rattle.std.proofs.Common.{◌≡◌, ℕ, ◌+◌, ◌<◌, ◌≤◌, leb, true, not, IsTrue, List, [], ◌∷◌, ◌++◌, Some, length}
+use Rattle.std.proofs.Common.{refl, sym, ◌∙◌, ap, subst, arith, append_assoc, append-nil, length-append}
 use Rattle.std.specs.List.{AllByRecursion}
 use Rattle.std.proofs.lemmas.Bool.{leb-false, not-false}
 use Rattle.ua_builtin.specs.DateTime.{date_time}
@@ -13,7 +14,8 @@ use Rattle.ua_chunk.specs.Sequence.{next_number}
 use Rattle.ua_channel.specs.Asks.{Asking, Placed, asked_in, next_id, is_in}
 use Rattle.ua_channel.specs.Asks.Asking.{Call, Renewal}
 use Rattle.ua_channel.specs.ClientAsks.{most_tokens, no_id}
-use Rattle.ua_channel_laws.specs.ClientReads.{AtClient, ClientReads, IsAnswered, IsLaneBack, opened_at, with_answer, with_call, with_renewal, with_reply, without_id}
+use Rattle.ua_channel_laws.specs.ClientReads.{AtClient, ClientReads, IsAnswered, IsLaneBack, opened_at}
+use Rattle.ua_channel_laws.specs.ClientReads.{with_answer, with_call, with_renewal, with_reply, without_id}
 use Rattle.ua_channel.specs.ClientSends.{token_lifetime}
 use Rattle.ua_channel.specs.ClientTold.{ClientTold as Heard, ClientTold as heard}
 use Rattle.ua_channel.specs.Received.{latest}
@@ -83,12 +85,20 @@ module _ (first : State) (moment : DateTime) (fits : IsTrue (date_time.encodable
     next_is_id : next_id (asked_in asks) ≡ id_behind answered + length waiting
     next_is_id = let ids = id-is answered in omega (arith, h.asked_is, ids)
 
-    asks_more : (a : Asking) (t : Turn) → length (asked_in (asks ++ (length (output_behind_turns first moment answered), a) ∷ [])) ≡ length answered + length (waiting ++ t ∷ [])
+    asks_more : (a : Asking) (t : Turn) → length (asked_in (asks ++ (length (output_behind_turns first moment answered), a) ∷ [])) ≡ length answered + length
+        (waiting ++ t ∷ [])
     asks_more a t =
-        omega (arith, ap length (asked_in-push asks (length (output_behind_turns first moment answered), a)), length-append (asked_in asks) (a ∷ []), length-append waiting (t ∷ []), h.asked_is)
+        omega (
+          arith,
+          ap length (asked_in-push asks (length (output_behind_turns first moment answered), a)),
+          length-append (asked_in asks) (a ∷ []),
+          length-append waiting (t ∷ []),
+          h.asked_is,
+        )
 
     -- a request is asked
-    hearing-call : (m : Request) → Hearing (asks ++ (length (output_behind_turns first moment answered), Call (next_id (asked_in asks))) ∷ []) answered (waiting ++ Ask m ∷ [])
+    hearing-call : (m : Request) → Hearing (asks ++ (length (output_behind_turns first moment answered), Call (next_id (asked_in asks))) ∷ []) answered
+        (waiting ++ Ask m ∷ [])
     hearing-call m = record {
       at = with_call h.at (next_id (asked_in asks));
       reads = reads_call program_limits asks (output_behind_turns first moment answered) (all_heard first moment answered) h.at h.reads;
@@ -105,7 +115,8 @@ module _ (first : State) (moment : DateTime) (fits : IsTrue (date_time.encodable
     }
 
     -- a renewal is asked
-    hearing-renewal : Hearing (asks ++ (length (output_behind_turns first moment answered), Renewal (next_id (asked_in asks))) ∷ []) answered (waiting ++ Renew ∷ [])
+    hearing-renewal : Hearing (asks ++ (length (output_behind_turns first moment answered), Renewal (next_id (asked_in asks))) ∷ []) answered
+        (waiting ++ Renew ∷ [])
     hearing-renewal = record {
       at = with_renewal h.at (next_id (asked_in asks));
       reads = reads_renewal program_limits asks (output_behind_turns first moment answered) (all_heard first moment answered) h.at h.reads;
@@ -126,8 +137,12 @@ module _ (first : State) (moment : DateTime) (fits : IsTrue (date_time.encodable
     id_here = let ids = id-is (answered ++ waiting) in omega (arith, h.asked_is, length-append answered waiting, ids)
 
     pub hearing-asked : (t : Turn) → Hearing (asks ++ asked_behind first moment answered waiting t ∷ []) answered (waiting ++ t ∷ [])
-    hearing-asked (Ask m) = subst (λ (id : ℕ). Hearing (asks ++ (length (output_behind_turns first moment answered), Call id) ∷ []) answered (waiting ++ Ask m ∷ [])) id_here (hearing-call m)
-    hearing-asked Renew = subst (λ (id : ℕ). Hearing (asks ++ (length (output_behind_turns first moment answered), Renewal id) ∷ []) answered (waiting ++ Renew ∷ [])) id_here hearing-renewal
+    hearing-asked (Ask m) =
+        subst (λ (id : ℕ). Hearing (asks ++ (length (output_behind_turns first moment answered), Call id) ∷ []) answered (waiting ++ Ask m ∷ [])) id_here
+        (hearing-call m)
+    hearing-asked Renew =
+        subst (λ (id : ℕ). Hearing (asks ++ (length (output_behind_turns first moment answered), Renewal id) ∷ []) answered (waiting ++ Renew ∷ [])) id_here
+        hearing-renewal
 
     -- where replies go
     lane_here : id_behind answered < no_id → IsLaneBack program_limits h.at (lane_back answered)
@@ -147,7 +162,8 @@ module _ (first : State) (moment : DateTime) (fits : IsTrue (date_time.encodable
   counted answered t = let ids = id-is answered in let more = id-is (answered ++ t ∷ []) in omega (arith, ids, more, length-append answered (t ∷ []))
 
   -- a request is answered
-  hearing-reply : (asks : List Placed) (answered : List Turn) (m : Request) (waiting : List Turn) → Hearing asks answered (Ask m ∷ waiting) → id_behind answered < no_id → IsTrue (request.encodable m)
+  hearing-reply : (asks : List Placed) (answered : List Turn) (m : Request) (waiting : List Turn) → Hearing asks answered (Ask m ∷ waiting)
+      → id_behind answered < no_id → IsTrue (request.encodable m)
       → Hearing asks (answered ++ Ask m ∷ []) waiting
   hearing-reply asks answered m waiting h few written =
       let body = response.canonical (response_behind first moment answered m) in
@@ -155,18 +171,21 @@ module _ (first : State) (moment : DateTime) (fits : IsTrue (date_time.encodable
       let lane = lane_back answered in
       let awaited : is_in id h.at.pending ≡ true = ap (is_in id) h.pending_are ∙ first-waits id (calls_from (id + 1) waiting) in
       let more =
-      reads_replied program_limits asks (output_behind_turns first moment answered) (all_heard first moment answered) h.at lane id h.reads (lane_here asks answered (Ask m ∷ waiting) h few) awaited (omega (arith, few)) body (response_takes_some (response_behind first moment answered m)) in
+      reads_replied program_limits asks (output_behind_turns first moment answered) (all_heard first moment answered) h.at lane id h.reads
+      (lane_here asks answered (Ask m ∷ waiting) h few) awaited (omega (arith, few)) body (response_takes_some (response_behind first moment answered m)) in
       let now = with_reply h.at lane.token id (replied lane body h.at.next id).1 in
       let said = said-call first moment answered h.at.next h.next_is m written in
       record {
         at = now;
         reads =
             subst (λ (o : List ℕ). ClientReads program_limits asks o (all_heard first moment (answered ++ Ask m ∷ [])) now) (sym said)
-            (subst (λ (ts : List Heard). ClientReads program_limits asks (output_behind_turns first moment answered ++ (replied lane body h.at.next id).0) ts now) (sym (heard-push answered (Ask m))) more);
+            (subst (λ (ts : List Heard). ClientReads program_limits asks (output_behind_turns first moment answered ++ (replied lane body h.at.next id).0) ts
+            now) (sym (heard-push answered (Ask m))) more);
         asked_is = omega (arith, h.asked_is, length-append answered (Ask m ∷ []));
         ack_is = h.ack_is;
         channel_is = h.channel_is;
-        issued = subst (λ (n : ℕ). AllByRecursion (λ (k : ℕ). k ≤ n) now.tokens) (sym (token-call answered m)) (all_held (λ (k : ℕ). k ≤ token_behind answered) lane.token h.at.tokens h.issued);
+        issued = subst (λ (n : ℕ). AllByRecursion (λ (k : ℕ). k ≤ n) now.tokens) (sym (token-call answered m))
+            (all_held (λ (k : ℕ). k ≤ token_behind answered) lane.token h.at.tokens h.issued);
         newest_is = h.newest_is ∙ sym (token-call answered m);
         pending_are =
             ap (without_id id) h.pending_are
@@ -176,7 +195,8 @@ module _ (first : State) (moment : DateTime) (fits : IsTrue (date_time.encodable
       }
 
   -- a renewal is answered
-  hearing-renewed : (asks : List Placed) (answered waiting : List Turn) → Hearing asks answered (Renew ∷ waiting) → waiting ≡ [] → id_behind answered < no_id → Hearing asks (answered ++ Renew ∷ []) waiting
+  hearing-renewed : (asks : List Placed) (answered waiting : List Turn) → Hearing asks answered (Renew ∷ waiting) → waiting ≡ [] → id_behind answered < no_id
+      → Hearing asks (answered ++ Renew ∷ []) waiting
   hearing-renewed asks answered waiting h last few =
       let id = id_behind answered in
       let token = token_behind answered + 1 in
@@ -191,16 +211,23 @@ module _ (first : State) (moment : DateTime) (fits : IsTrue (date_time.encodable
         lifetime_small = omega arith;
         moment_fits = fits;
       } in
-      let more = reads_renewed program_limits asks (output_behind_turns first moment answered) (all_heard first moment answered) h.at id 0 token token_lifetime moment h.reads is one (none_past (token_behind answered) h.at.tokens h.issued) in
-      let said : output_behind_turns first moment answered ++ frame_octets (opened_frame h.at.channel h.at.next id 0 token token_lifetime moment) ≡ output_behind_turns first moment (answered ++ Renew ∷ []) =
-      ap (λ (c : ℕ). output_behind_turns first moment answered ++ frame_octets (opened_frame c h.at.next id 0 token token_lifetime moment)) h.channel_is ∙ sym (said-renewal first moment answered h.at.next h.next_is) in
+      let more = reads_renewed program_limits asks (output_behind_turns first moment answered) (all_heard first moment answered) h.at id 0 token token_lifetime
+      moment h.reads is one (none_past (token_behind answered) h.at.tokens h.issued) in
+      let said : output_behind_turns first moment answered ++ frame_octets (opened_frame h.at.channel h.at.next id 0 token token_lifetime moment)
+      ≡ output_behind_turns first moment (answered ++ Renew ∷ []) =
+      ap (λ (c : ℕ). output_behind_turns first moment answered ++ frame_octets (opened_frame c h.at.next id 0 token token_lifetime moment)) h.channel_is
+      ∙ sym (said-renewal first moment answered h.at.next h.next_is) in
       let tokens : AllByRecursion (λ (k : ℕ). k ≤ token) now.tokens =
-      all-push (λ (k : ℕ). k ≤ token) h.at.tokens token (all-weaken (λ (k : ℕ). k ≤ token_behind answered) (λ (k : ℕ). k ≤ token) h.at.tokens (λ k le. omega (arith, le)) h.issued) (omega arith) in
+      all-push (λ (k : ℕ). k ≤ token) h.at.tokens token
+      (all-weaken (λ (k : ℕ). k ≤ token_behind answered) (λ (k : ℕ). k ≤ token) h.at.tokens (λ k le. omega (arith, le)) h.issued) (omega arith) in
       record {
         at = now;
         reads =
             subst (λ (o : List ℕ). ClientReads program_limits asks o (all_heard first moment (answered ++ Renew ∷ [])) now) said
-            (subst (λ (ts : List Heard). ClientReads program_limits asks (output_behind_turns first moment answered ++ frame_octets (opened_frame h.at.channel h.at.next id 0 token token_lifetime moment)) ts now) (sym (heard-push answered Renew)) more);
+            (subst (λ (ts : List Heard).
+            ClientReads program_limits asks
+            (output_behind_turns first moment answered ++ frame_octets (opened_frame h.at.channel h.at.next id 0 token token_lifetime moment)) ts now)
+            (sym (heard-push answered Renew)) more);
         asked_is = omega (arith, h.asked_is, length-append answered (Renew ∷ []));
         ack_is = h.ack_is;
         channel_is = h.channel_is;
@@ -229,7 +256,9 @@ module _ (first : State) (moment : DateTime) (fits : IsTrue (date_time.encodable
         at = now;
         reads =
             subst (λ (o : List ℕ). ClientReads program_limits [] o (all_heard first moment []) now) (sym (said-none first moment))
-            (subst (λ (ts : List Heard). ClientReads program_limits [] (frame_octets (ack_frame acknowledged) ++ frame_octets (opened_frame channel 1 1 0 1 token_lifetime moment)) ts now) none_heard (answer_read (beginning first moment) program_limits (Some url) ack_fits (omega arith) fits));
+            (subst (λ (ts : List Heard).
+            ClientReads program_limits [] (frame_octets (ack_frame acknowledged) ++ frame_octets (opened_frame channel 1 1 0 1 token_lifetime moment)) ts
+            now) none_heard (answer_read (beginning first moment) program_limits (Some url) ack_fits (omega arith) fits));
         asked_is = no_asks;
         ack_is = refl;
         channel_is = refl;
@@ -243,7 +272,8 @@ module _ (first : State) (moment : DateTime) (fits : IsTrue (date_time.encodable
   -- ---- a group
 
   -- its turns are answered, one after the other
-  pub hearing-all : (asks : List Placed) (answered waiting : List Turn) → Hearing asks answered waiting → EndsAtRenewal waiting → AllFrom IsAccepted answered waiting → Hearing asks (answered ++ waiting) []
+  pub hearing-all : (asks : List Placed) (answered waiting : List Turn) → Hearing asks answered waiting → EndsAtRenewal waiting
+      → AllFrom IsAccepted answered waiting → Hearing asks (answered ++ waiting) []
   hearing-all asks answered [] h ends accepted = subst (λ (ts : List Turn). Hearing asks ts []) (sym (append-nil answered)) h
   hearing-all asks answered (Ask m ∷ waiting) h ends accepted =
       let a = accepted_call answered m accepted.0 in
@@ -251,4 +281,5 @@ module _ (first : State) (moment : DateTime) (fits : IsTrue (date_time.encodable
       (hearing-all asks (answered ++ Ask m ∷ []) waiting (hearing-reply asks answered m waiting h a.1 a.0) ends accepted.1)
   hearing-all asks answered (Renew ∷ waiting) h ends accepted =
       subst (λ (ts : List Turn). Hearing asks ts []) (append_assoc answered (Renew ∷ []) waiting)
-      (hearing-all asks (answered ++ Renew ∷ []) waiting (hearing-renewed asks answered waiting h ends (accepted_renewal answered accepted.0)) (subst EndsAtRenewal (sym ends) tt) accepted.1)
+      (hearing-all asks (answered ++ Renew ∷ []) waiting (hearing-renewed asks answered waiting h ends (accepted_renewal answered accepted.0))
+      (subst EndsAtRenewal (sym ends) tt) accepted.1)

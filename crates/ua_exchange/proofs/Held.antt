@@ -40,7 +40,8 @@ fourth_false false false false d e = e
 sizes_within : (limits : Limits) (a : Ack) → is_outside limits a ≡ false → SendsWithin limits (Some a)
 sizes_within limits a e =
     ltb-false limits.receive_buffer_size a.send_buffer_size
-    (fourth_false (ltb a.receive_buffer_size 8192) (ltb a.send_buffer_size 8192) (ltb limits.send_buffer_size a.receive_buffer_size) (ltb limits.receive_buffer_size a.send_buffer_size) e)
+    (fourth_false (ltb a.receive_buffer_size 8192) (ltb a.send_buffer_size 8192) (ltb limits.send_buffer_size a.receive_buffer_size)
+    (ltb limits.receive_buffer_size a.send_buffer_size) e)
 
 -- the second of a table of reasons, if there is one, does not hold
 abbrev SecondFails : {A : Type 0} → List (A × Bool) → Type 0
@@ -79,11 +80,13 @@ acks_within limits asks start (f ∷ fs) good =
     (taken_within limits (received start) (asked_before (end_of start f) asks) (content f) good.0.accepted)
     (acks_within limits asks (start ++ f ∷ []) fs good.1)
 
-latest_within : (limits : Limits) (o : Option Ack) (found : List Ack) → SendsWithin limits o → AllByRecursion (λ (a : Ack). SendsWithin limits (Some a)) found → SendsWithin limits (latest_behind o found)
+latest_within : (limits : Limits) (o : Option Ack) (found : List Ack) → SendsWithin limits o → AllByRecursion (λ (a : Ack). SendsWithin limits (Some a)) found
+    → SendsWithin limits (latest_behind o found)
 latest_within limits o [] first all = first
 latest_within limits o (a ∷ found) first all = latest_within limits (Some a) found all.0 all.1
 
-ack_within : (limits : Limits) (asks : List Placed) (frames : List Frame) → AllAfter (Fits (client_rules limits asks)) frames → SendsWithin limits (received frames).ack
+ack_within : (limits : Limits) (asks : List Placed) (frames : List Frame) → AllAfter (Fits (client_rules limits asks)) frames
+    → SendsWithin limits (received frames).ack
 unfolding AllAfter received acks
 ack_within limits asks frames good = latest_within limits None (acks frames) tt (acks_within limits asks [] frames good)
 
@@ -91,5 +94,6 @@ most_behind : (limits : Limits) (o : Option Ack) → AreOurs limits → SendsWit
 most_behind limits None ours within = omega arith
 most_behind limits (Some a) ours within = omega (arith, ours.receives, ours.takes_octets, within)
 
-pub client_most : (limits : Limits) (asks : List Placed) (frames : List Frame) → AreOurs limits → AllAfter (Fits (client_rules limits asks)) frames → client_bound_behind limits (received frames).ack ≤ most_held
+pub client_most : (limits : Limits) (asks : List Placed) (frames : List Frame) → AreOurs limits → AllAfter (Fits (client_rules limits asks)) frames
+    → client_bound_behind limits (received frames).ack ≤ most_held
 client_most limits asks frames ours good = most_behind limits (received frames).ack ours (ack_within limits asks frames good)

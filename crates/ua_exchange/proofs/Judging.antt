@@ -1,6 +1,7 @@
 -- That a client takes the turns that are accepted, and refuses the first that is not for the reason that is given; but for a renewal that is
 -- asked with requests in front of it.
-use Rattle.std.proofs.Common.{◌≡◌, ℕ, Bool, true, false, leb, List, [], ◌∷◌, ◌++◌, Option, Some, None, option_map, length, take, nat_le, refl, sym, ◌∙◌, ap, subst, arith, append_assoc}
+use Rattle.std.proofs.Common.{◌≡◌, ℕ, Bool, true, false, leb, List, [], ◌∷◌, ◌++◌, Option, Some, None}
+use Rattle.std.proofs.Common.{option_map, length, take, nat_le, refl, sym, ◌∙◌, ap, subst, arith, append_assoc}
 use Rattle.std.proofs.lemmas.Bool.{leb-false, lt-leb}
 use Rattle.std.proofs.lemmas.List.{length-map, take_at}
 use Rattle.ua_builtin.specs.Reasons.{first_reason}
@@ -38,12 +39,14 @@ fewer before room =
     lt-leb most_tokens (judged.tokens_held 1 (served_turns before)) (omega (arith, few, held-within before))
 
 -- where there is room for it, a turn is judged by what counts as held as by what is held
-same-judged : (before : List Turn) (t : Turn) → is_crowded before t ≡ false → first_reason (judged.turn_reasons acknowledged (tokens_counted before) (id_behind before) (served_turn t)) ≡ refusal_served before t
+same-judged : (before : List Turn) (t : Turn) → is_crowded before t ≡ false
+    → first_reason (judged.turn_reasons acknowledged (tokens_counted before) (id_behind before) (served_turn t)) ≡ refusal_served before t
 same-judged before (Ask m) room = refl
 same-judged before Renew room =
     ap (λ (b : Bool). first_reason ((client.TooManyTokens, b) ∷ (client.Exhausted, nat_le no_id (id_behind before)) ∷ [])) (room ∙ sym (fewer before room))
 
-refusal-same : (before : List Turn) (t : Turn) → is_crowded before t ≡ false → turn_refusal before t ≡ option_map (fault_at (length before)) (refusal_served before t)
+refusal-same : (before : List Turn) (t : Turn) → is_crowded before t ≡ false
+    → turn_refusal before t ≡ option_map (fault_at (length before)) (refusal_served before t)
 refusal-same before t room =
     first_reason-map (fault_at (length before)) (judged.turn_reasons acknowledged (tokens_counted before) (id_behind before) (served_turn t))
     ∙ ap (option_map (fault_at (length before))) (same-judged before t room)
@@ -67,10 +70,12 @@ record Parted (turns : List Turn) (front : List (Option (List Message))) (one : 
   pub before_is : served_turns before ≡ front
   pub turn_is : served_turn turn ≡ one
 
-parted : (turns : List Turn) (front : List (Option (List Message))) (one : Option (List Message)) (rest : List (Option (List Message))) → served_turns turns ≡ front ++ one ∷ rest → Parted turns front one
+parted : (turns : List Turn) (front : List (Option (List Message))) (one : Option (List Message)) (rest : List (Option (List Message)))
+    → served_turns turns ≡ front ++ one ∷ rest → Parted turns front one
 parted [] [] one rest e = absurd cc
 parted [] (f ∷ front) one rest e = absurd cc
-parted (t ∷ ts) [] one rest e = record { before = []; turn = t; behind = ts; parts = refl; before_is = refl; turn_is = head_is (served_turn t) one (served_turns ts) rest e }
+parted (t ∷ ts) [] one rest e =
+    record { before = []; turn = t; behind = ts; parts = refl; before_is = refl; turn_is = head_is (served_turn t) one (served_turns ts) rest e }
 parted (t ∷ ts) (f ∷ front) one rest e =
     let p = parted ts front one rest (tail_is (served_turn t) f (served_turns ts) (front ++ one ∷ rest) e) in
     record {
@@ -94,11 +99,13 @@ room-there before behind t room = (from-place (λ (b : List Turn) (u : Turn). is
 
 -- ---- by both
 
-accepted-from : (start turns : List Turn) → AllFrom (judged.IsAccepted acknowledged) (served_turns start) (served_turns turns) → AllFrom (λ (b : List Turn) (u : Turn). is_crowded b u ≡ false) start turns → AllFrom IsAccepted start turns
+accepted-from : (start turns : List Turn) → AllFrom (judged.IsAccepted acknowledged) (served_turns start) (served_turns turns)
+    → AllFrom (λ (b : List Turn) (u : Turn). is_crowded b u ≡ false) start turns → AllFrom IsAccepted start turns
 accepted-from start [] h room = tt
 accepted-from start (t ∷ ts) h room = (
   refusal-same start t room.0 ∙ ap (option_map (fault_at (length start))) h.0,
-  accepted-from (start ++ t ∷ []) ts (subst (λ (us : List (Option (List Message))). AllFrom (judged.IsAccepted acknowledged) us (served_turns ts)) (sym (served-push start t)) h.1) room.1,
+  accepted-from (start ++ t ∷ []) ts (subst (λ (us : List (Option (List Message))). AllFrom (judged.IsAccepted acknowledged) us (served_turns ts))
+      (sym (served-push start t)) h.1) room.1,
 )
 
 pub accepted-all : (turns : List Turn) → judged.AreAccepted acknowledged (served_turns turns) → HaveRoom turns → AreAccepted turns
@@ -118,7 +125,8 @@ served-from : (start turns : List Turn) → AllFrom IsAccepted start turns → A
 served-from start [] h = tt
 served-from start (t ∷ ts) h = (
   none_named (length start) (refusal_served start t) (sym (refusal-same start t (room-accepted start t h.0)) ∙ h.0),
-  subst (λ (us : List (Option (List Message))). AllFrom (judged.IsAccepted acknowledged) us (served_turns ts)) (served-push start t) (served-from (start ++ t ∷ []) ts h.1),
+  subst (λ (us : List (Option (List Message))). AllFrom (judged.IsAccepted acknowledged) us (served_turns ts)) (served-push start t)
+      (served-from (start ++ t ∷ []) ts h.1),
 )
 
 pub served-all : (turns : List Turn) → AreAccepted turns → judged.AreAccepted acknowledged (served_turns turns)
@@ -126,12 +134,14 @@ unfolding AllAfter
 served-all turns h = served-from [] turns h
 
 -- the first that is not taken
-refused-first : (turns : List Turn) (place : ℕ) (fault : ClientFault) → judged.FirstRefused acknowledged (served_turns turns) place fault → HaveRoom turns → FirstRefused turns (fault_at place fault)
+refused-first : (turns : List Turn) (place : ℕ) (fault : ClientFault) → judged.FirstRefused acknowledged (served_turns turns) place fault → HaveRoom turns
+    → FirstRefused turns (fault_at place fault)
 refused-first turns place fault r room =
     let p = parted turns r.before r.turn r.behind r.parts in
     let whole : HaveRoom (p.before ++ p.turn ∷ p.behind) = subst HaveRoom p.parts room in
     let there : refusal_served p.before p.turn ≡ Some fault =
-    ap (λ (ts : List (Option (List Message))). judged.turn_refusal acknowledged ts (served_turn p.turn)) p.before_is ∙ (ap (judged.turn_refusal acknowledged r.before) p.turn_is ∙ r.refused) in
+    ap (λ (ts : List (Option (List Message))). judged.turn_refusal acknowledged ts (served_turn p.turn)) p.before_is
+    ∙ (ap (judged.turn_refusal acknowledged r.before) p.turn_is ∙ r.refused) in
     let at : length p.before ≡ place = sym (length-map p.before served_turn) ∙ (ap length p.before_is ∙ r.place_is) in
     record {
       before = p.before;
@@ -139,7 +149,8 @@ refused-first turns place fault r room =
       behind = p.behind;
       parts = p.parts;
       accepted = accepted-all p.before (subst (judged.AreAccepted acknowledged) (sym p.before_is) r.accepted) (room-before p.before p.behind p.turn whole);
-      refused = refusal-same p.before p.turn (room-there p.before p.behind p.turn whole) ∙ (ap (option_map (fault_at (length p.before))) there ∙ ap (λ (n : ℕ). Some (fault_at n fault)) at);
+      refused = refusal-same p.before p.turn (room-there p.before p.behind p.turn whole)
+          ∙ (ap (option_map (fault_at (length p.before))) there ∙ ap (λ (n : ℕ). Some (fault_at n fault)) at);
     }
 
 -- among the first of more turns
@@ -154,11 +165,16 @@ refused-among asked more fault r = record {
 }
 
 -- a turn is not taken, or memory was refused
-pub refused-for : (asked more : List Turn) (place : ℕ) (fault : ClientFault) → (judged.IsTurnFault fault → judged.FirstRefused acknowledged (served_turns asked) place fault) → HaveRoom asked → IsRefusedFor (asked ++ more) (fault_at place fault)
+pub refused-for : (asked more : List Turn) (place : ℕ) (fault : ClientFault)
+    → (judged.IsTurnFault fault → judged.FirstRefused acknowledged (served_turns asked) place fault) → HaveRoom asked
+    → IsRefusedFor (asked ++ more) (fault_at place fault)
 refused-for asked more place client.NotWritable r room = refused-among asked more (NotWritable place) (refused-first asked place client.NotWritable (r tt) room)
-refused-for asked more place client.Exhausted r room = refused-among asked more (Request place Exhausted) (refused-first asked place client.Exhausted (r tt) room)
-refused-for asked more place client.TooLarge r room = refused-among asked more (Request place RequestTooLarge) (refused-first asked place client.TooLarge (r tt) room)
-refused-for asked more place client.TooManyTokens r room = refused-among asked more (Request place TooManyTokens) (refused-first asked place client.TooManyTokens (r tt) room)
+refused-for asked more place client.Exhausted r room = refused-among asked more (Request place Exhausted)
+    (refused-first asked place client.Exhausted (r tt) room)
+refused-for asked more place client.TooLarge r room = refused-among asked more (Request place RequestTooLarge)
+    (refused-first asked place client.TooLarge (r tt) room)
+refused-for asked more place client.TooManyTokens r room = refused-among asked more (Request place TooManyTokens)
+    (refused-first asked place client.TooManyTokens (r tt) room)
 refused-for asked more place (client.Peer code) r room = tt
 refused-for asked more place (client.Refused code) r room = tt
 refused-for asked more place (client.Service code) r room = tt
@@ -176,9 +192,11 @@ first-true : (n : ℕ) (b c : Bool) → b ≡ true → first_reason ((Request n 
 first-true n true c e = refl
 first-true n false c e = absurd cc
 
-crowded-refusal : (before : List Turn) (t : Turn) (place : ℕ) → is_crowded before t ≡ true → length before ≡ place → turn_refusal before t ≡ Some (Request place TooManyTokens)
+crowded-refusal : (before : List Turn) (t : Turn) (place : ℕ) → is_crowded before t ≡ true → length before ≡ place
+    → turn_refusal before t ≡ Some (Request place TooManyTokens)
 crowded-refusal before (Ask m) place e at = absurd cc
-crowded-refusal before Renew place e at = first-true (length before) (nat_le most_tokens (tokens_counted before)) (nat_le no_id (id_behind before)) e ∙ ap (λ (n : ℕ). Some (Request n TooManyTokens)) at
+crowded-refusal before Renew place e at = first-true (length before) (nat_le most_tokens (tokens_counted before)) (nat_le no_id (id_behind before)) e
+    ∙ ap (λ (n : ℕ). Some (Request n TooManyTokens)) at
 
 -- the turns in front of it
 pub front-is : (turns : List Turn) (place : ℕ) (f : FirstCrowded turns place) → take place turns ≡ f.before

@@ -28,15 +28,18 @@ use Rattle.ua_exchange.proofs.Words.{state-push, told-push, told_behind}
 
 -- how far the server is behind these turns, with this number next, and these moments left
 abbrev pub course_behind : State → DateTime → List Turn → ℕ → List DateTime → Course
-course_behind first moment turns number moments = record { state = state_behind first moment turns; number = number; moments = moments; agreement = Some agreement }
+course_behind first moment turns number moments =
+    record { state = state_behind first moment turns; number = number; moments = moments; agreement = Some agreement }
 
 -- the number of its next chunk
 abbrev pub NumberIs : State → DateTime → List Turn → ℕ → Type 0
-NumberIs first moment turns number = state_after channel first (asking_told turns) (times_of_answers (asking_told turns) moment) ≡ course_behind first moment turns number []
+NumberIs first moment turns number = state_after channel first (asking_told turns) (times_of_answers (asking_told turns) moment)
+    ≡ course_behind first moment turns number []
 
 module _ (first : State) (moment : DateTime) where
   -- before any turn
-  pub said-none : output_behind_turns first moment [] ≡ frame_octets (ack_frame acknowledged) ++ frame_octets (opened_frame channel 1 1 0 1 token_lifetime moment)
+  pub said-none : output_behind_turns first moment [] ≡ frame_octets (ack_frame acknowledged)
+      ++ frame_octets (opened_frame channel 1 1 0 1 token_lifetime moment)
   unfolding output_of
   said-none =
       append-nil (frame_octets (ack_frame acknowledged) ++ (frame_octets (opened_frame channel 1 1 0 1 token_lifetime moment) ++ []))
@@ -51,16 +54,20 @@ module _ (first : State) (moment : DateTime) where
     abbrev here : Turn → Course
     here t = course_behind first moment turns number (times_of_answers (told_behind turns t) moment)
 
-    left-push : (t : Turn) → state_after channel first (asking_told (turns ++ t ∷ [])) (times_of_answers (asking_told (turns ++ t ∷ [])) moment) ≡ course_after channel (here t) (told_behind turns t)
+    left-push : (t : Turn) → state_after channel first (asking_told (turns ++ t ∷ [])) (times_of_answers (asking_told (turns ++ t ∷ [])) moment)
+        ≡ course_after channel (here t) (told_behind turns t)
     left-push t =
         ap (λ (ts : List Told). state_after channel first ts (times_of_answers ts moment)) (told-push turns t)
-        ∙ (left_on (beginning first moment) (asking_told turns) (told_behind turns t) ∙ ap (λ (k : Course). course_after channel (with_more k (times_of_answers (told_behind turns t) moment)) (told_behind turns t)) is)
+        ∙ (left_on (beginning first moment) (asking_told turns) (told_behind turns t)
+        ∙ ap (λ (k : Course). course_after channel (with_more k (times_of_answers (told_behind turns t) moment)) (told_behind turns t)) is)
 
-    said-push : (t : Turn) → output_behind_turns first moment (turns ++ t ∷ []) ≡ output_behind_turns first moment turns ++ said_of channel (here t) (told_behind turns t)
+    said-push : (t : Turn) → output_behind_turns first moment (turns ++ t ∷ []) ≡ output_behind_turns first moment turns ++ said_of channel (here t)
+        (told_behind turns t)
     said-push t =
         ap (λ (ts : List Told). output_of channel first ts Going (times_of_answers ts moment)) (told-push turns t)
         ∙ (said_on (beginning first moment) (asking_told turns) (told_behind turns t)
-        ∙ ap (λ (k : Course). output_behind_turns first moment turns ++ said_of channel (with_more k (times_of_answers (told_behind turns t) moment)) (told_behind turns t)) is)
+        ∙ ap (λ (k : Course). output_behind_turns first moment turns ++ said_of channel (with_more k (times_of_answers (told_behind turns t) moment))
+        (told_behind turns t)) is)
 
     -- the reply to a request
     module _ (m : Request) (fits : IsTrue (request.encodable m)) where
@@ -71,25 +78,32 @@ module _ (first : State) (moment : DateTime) where
       said-call =
           said-push (Ask m)
           ∙ ap (λ (o : List ℕ). output_behind_turns first moment turns ++ o)
-          (append-nil (reply_with channel (token_behind turns) (id_behind turns) (here (Ask m)) (answered (state_behind first moment turns) moment (request.canonical m))).0
-          ∙ ap (λ (g : State × _). (reply_with channel (token_behind turns) (id_behind turns) (here (Ask m)) g).0) (answered_is (state_behind first moment turns) moment m fits))
+          (append-nil
+          (reply_with channel (token_behind turns) (id_behind turns) (here (Ask m))
+          (answered (state_behind first moment turns) moment (request.canonical m))).0
+          ∙ ap (λ (g : State × _). (reply_with channel (token_behind turns) (id_behind turns) (here (Ask m)) g).0)
+          (answered_is (state_behind first moment turns) moment m fits))
 
       pub number-call : NumberIs first moment (turns ++ Ask m ∷ []) out.1
       number-call =
           left-push (Ask m)
-          ∙ (ap (λ (g : State × _). (reply_with channel (token_behind turns) (id_behind turns) (here (Ask m)) g).1) (answered_is (state_behind first moment turns) moment m fits)
+          ∙ (ap (λ (g : State × _). (reply_with channel (token_behind turns) (id_behind turns) (here (Ask m)) g).1)
+          (answered_is (state_behind first moment turns) moment m fits)
           ∙ ap (λ (s : State). record { state = s; number = out.1; moments = []; agreement = Some agreement }) (sym (state-push first moment turns (Ask m))))
 
     -- the answer to a renewal
-    pub said-renewal : output_behind_turns first moment (turns ++ Renew ∷ []) ≡ output_behind_turns first moment turns ++ frame_octets (opened_frame channel number (id_behind turns) 0 (token_behind turns + 1) token_lifetime moment)
+    pub said-renewal : output_behind_turns first moment (turns ++ Renew ∷ []) ≡ output_behind_turns first moment turns
+        ++ frame_octets (opened_frame channel number (id_behind turns) 0 (token_behind turns + 1) token_lifetime moment)
     said-renewal =
         said-push Renew
-        ∙ ap (λ (o : List ℕ). output_behind_turns first moment turns ++ o) (append-nil (frame_octets (opened_frame channel number (id_behind turns) 0 (token_behind turns + 1) token_lifetime moment)))
+        ∙ ap (λ (o : List ℕ). output_behind_turns first moment turns ++ o)
+        (append-nil (frame_octets (opened_frame channel number (id_behind turns) 0 (token_behind turns + 1) token_lifetime moment)))
 
     pub number-renewal : NumberIs first moment (turns ++ Renew ∷ []) (next_number number)
     number-renewal =
         left-push Renew
-        ∙ ap (λ (s : State). record { state = s; number = next_number number; moments = []; agreement = Some agreement }) (sym (state-push first moment turns Renew))
+        ∙ ap (λ (s : State). record { state = s; number = next_number number; moments = []; agreement = Some agreement })
+        (sym (state-push first moment turns Renew))
 
   -- the CLO adds nothing to what is said
   pub said-closed : (turns : List Turn) → all_said first moment turns ≡ output_behind_turns first moment turns

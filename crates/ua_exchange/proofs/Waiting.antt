@@ -27,7 +27,8 @@ moved id n = omega arith
 
 pub calls-push : (id : ℕ) (ts : List Turn) (m : Request) → calls_from id (ts ++ Ask m ∷ []) ≡ calls_from id ts ++ (id + length ts) ∷ []
 calls-push id [] m = let same : id ≡ id + 0 = omega arith in ap (λ (k : ℕ). k ∷ []) same
-calls-push id (Ask q ∷ ts) m = ap (λ (ks : List ℕ). id ∷ ks) (calls-push (id + 1) ts m ∙ ap (λ (k : ℕ). calls_from (id + 1) ts ++ k ∷ []) (moved id (length ts)))
+calls-push id (Ask q ∷ ts) m =
+    ap (λ (ks : List ℕ). id ∷ ks) (calls-push (id + 1) ts m ∙ ap (λ (k : ℕ). calls_from (id + 1) ts ++ k ∷ []) (moved id (length ts)))
 calls-push id (Renew ∷ ts) m = calls-push (id + 1) ts m ∙ ap (λ (k : ℕ). calls_from (id + 1) ts ++ k ∷ []) (moved id (length ts))
 
 pub calls-renewal : (id : ℕ) (ts : List Turn) → calls_from id (ts ++ Renew ∷ []) ≡ calls_from id ts
@@ -38,7 +39,8 @@ calls-renewal id (Renew ∷ ts) = calls-renewal (id + 1) ts
 pub renewals-push : (id : ℕ) (ts : List Turn) → renewals_from id (ts ++ Renew ∷ []) ≡ renewals_from id ts ++ (id + length ts) ∷ []
 renewals-push id [] = let same : id ≡ id + 0 = omega arith in ap (λ (k : ℕ). k ∷ []) same
 renewals-push id (Ask q ∷ ts) = renewals-push (id + 1) ts ∙ ap (λ (k : ℕ). renewals_from (id + 1) ts ++ k ∷ []) (moved id (length ts))
-renewals-push id (Renew ∷ ts) = ap (λ (ks : List ℕ). id ∷ ks) (renewals-push (id + 1) ts ∙ ap (λ (k : ℕ). renewals_from (id + 1) ts ++ k ∷ []) (moved id (length ts)))
+renewals-push id (Renew ∷ ts) =
+    ap (λ (ks : List ℕ). id ∷ ks) (renewals-push (id + 1) ts ∙ ap (λ (k : ℕ). renewals_from (id + 1) ts ++ k ∷ []) (moved id (length ts)))
 
 pub renewals-call : (id : ℕ) (ts : List Turn) (m : Request) → renewals_from id (ts ++ Ask m ∷ []) ≡ renewals_from id ts
 renewals-call id [] m = refl
@@ -53,7 +55,8 @@ keep-one j id ids e = ap (λ (b : Bool). if not b then j ∷ without_id id ids e
 later-stay : (id k : ℕ) (ts : List Turn) → id < k → without_id id (calls_from k ts) ≡ calls_from k ts
 later-stay id k [] less = refl
 later-stay id k (Ask m ∷ ts) less =
-    keep-one k id (calls_from (k + 1) ts) (ne_eqb k id (λ e. omega (arith, e, less))) ∙ ap (λ (ks : List ℕ). k ∷ ks) (later-stay id (k + 1) ts (omega (arith, less)))
+    keep-one k id (calls_from (k + 1) ts) (ne_eqb k id (λ e. omega (arith, e, less)))
+    ∙ ap (λ (ks : List ℕ). k ∷ ks) (later-stay id (k + 1) ts (omega (arith, less)))
 later-stay id k (Renew ∷ ts) less = later-stay id (k + 1) ts (omega (arith, less))
 
 drop-one : (id : ℕ) (ids : List ℕ) → without_id id (id ∷ ids) ≡ without_id id ids

@@ -41,7 +41,8 @@ told-push turns t =
     ap (λ (ts : List Told). opening ++ ts) (ap (turns_told 1 2) (served-push turns t) ∙ told_push 1 2 (served_turns turns) (served_turn t))
     ∙ sym (append_assoc opening (turns_told 1 2 (served_turns turns)) (told_behind turns t))
 
-pub state-push : (s : State) (moment : DateTime) (turns : List Turn) (t : Turn) → state_behind s moment (turns ++ t ∷ []) ≡ turn_state (state_behind s moment turns) moment (served_turn t)
+pub state-push : (s : State) (moment : DateTime) (turns : List Turn) (t : Turn)
+    → state_behind s moment (turns ++ t ∷ []) ≡ turn_state (state_behind s moment turns) moment (served_turn t)
 state-push s moment turns t = ap (turns_state s moment) (served-push turns t) ∙ state_push s moment (served_turns turns) (served_turn t)
 
 -- ---- counts
@@ -72,7 +73,17 @@ token-few ts = let all = tokens-from 1 ts in let ids = id-is ts in omega (arith,
 -- limits of these sizes are those of the program, whatever shows that they may be set
 abbrev IsProgram : ℕ → ℕ → ℕ → ℕ → ℕ → Type 0
 IsProgram r s m c a = (p : 8192 ≤ r) (q : 8192 ≤ s) (o : 1 ≤ m) (k : 1 ≤ c)
-    → ◌≡◌ {A = Limits} (record { receive_buffer_size = r; send_buffer_size = s; max_message_size = m; max_chunk_count = c; max_response_size = a; receives = p; sends = q; takes_octets = o; takes_chunks = k }) program_limits
+    → ◌≡◌ {A = Limits} (record {
+      receive_buffer_size = r;
+      send_buffer_size = s;
+      max_message_size = m;
+      max_chunk_count = c;
+      max_response_size = a;
+      receives = p;
+      sends = q;
+      takes_octets = o;
+      takes_chunks = k;
+    }) program_limits
 
 is_program : IsProgram 65535 65535 1048576 256 0
 is_program p q o k = λ i. record {

@@ -50,7 +50,8 @@ fault_at place other = OutOfMemory
 -- a client does not take it that holds as many tokens as count as held, each told of the place of
 -- the operation
 abbrev pub turn_reasons : List Turn → Turn → List (PairFault × Bool)
-turn_reasons before turn = map (renamed_reason (fault_at (length before))) (judged.turn_reasons acknowledged (tokens_counted before) (id_behind before) (served_turn turn))
+turn_reasons before turn =
+    map (renamed_reason (fault_at (length before))) (judged.turn_reasons acknowledged (tokens_counted before) (id_behind before) (served_turn turn))
 
 -- the first of these reasons, if there is one
 abbrev pub turn_refusal : List Turn → Turn → Option PairFault

@@ -33,7 +33,8 @@ output_behind_turns first moment turns = output_of channel first (asking_told tu
 -- renewal brings
 abbrev pub heard_behind : State → DateTime → List Turn → Turn → List Heard
 heard_behind first moment before (Ask m) =
-    told_reply (cut_refusal (lane_back before) (response.canonical (response_behind first moment before m))) (id_behind before) (response.canonical (response_behind first moment before m)) ∷ []
+    told_reply (cut_refusal (lane_back before) (response.canonical (response_behind first moment before m))) (id_behind before)
+    (response.canonical (response_behind first moment before m)) ∷ []
 heard_behind first moment before Renew = heard.Renewed (token_behind before + 1) ∷ []
 
 -- of operations, in order

@@ -25,7 +25,8 @@ impl Last {
     /// Whether an operation after these is a renewal that is refused since too many tokens count as
     /// held.
     fn is_crowded(self, turn: &Turn) -> bool
-        ensures { (before : List Turn) → CountsLast before self.renewals self.calls → result ≡ is_crowded before turn.now }
+        ensures { (before : List Turn) → CountsLast before self.renewals self.calls
+            → result ≡ is_crowded before turn.now }
     {
         match turn {
             Turn::Ask(_) => false,
@@ -36,7 +37,8 @@ impl Last {
     /// The same with one operation more.
     fn with(self, turn: &Turn) -> Last
         requires { self.renewals + self.calls < 2 ^ 63 }
-        ensures counts { (before : List Turn) → CountsLast before self.renewals self.calls → CountsLast (before ++ turn.now ∷ []) result.renewals result.calls }
+        ensures counts { (before : List Turn) → CountsLast before self.renewals self.calls
+            → CountsLast (before ++ turn.now ∷ []) result.renewals result.calls }
         ensures few { result.renewals + result.calls ≤ self.renewals + self.calls + 1 }
     {
         let Last { renewals, calls } = self;

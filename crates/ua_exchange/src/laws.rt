@@ -11,7 +11,8 @@ ghost use Rattle.ua_channel.specs.Asks.{Placed};
 ghost use Rattle.ua_channel.specs.Client.{ClientStands, client_bound_behind, held_octets, client_limits};
 ghost use Rattle.ua_channel.specs.Received.{received};
 ghost use Rattle.ua_channel_laws.specs.ServerReads.{ServerCloses};
-ghost use Rattle.ua_channel.specs.ServerStands.{ChannelStands as ServerStands, bound_after, held_after, limits_of as server_limits};
+ghost use Rattle.ua_channel.specs.ServerStands.{ChannelStands as ServerStands, bound_after};
+ghost use Rattle.ua_channel.specs.ServerStands.{held_after, limits_of as server_limits};
 ghost use Rattle.ua_server.specs.Served.{channel_in};
 ghost use Rattle.ua_server.specs.State.{State};
 ghost use Rattle.ua_exchange.specs.Accepted.{AreAccepted};
@@ -27,7 +28,8 @@ use ua_server::Server;
 /// A server reads what a client sends of operations that are accepted: it refuses no frame of it,
 /// and its events are just these operations, in their order.
 pub fn turns_reach_the_server()
-    ensures { (limits : Limits) (moment : DateTime) (turns : List Turn) → AreOurs limits → IsTrue (date_time.encodable moment) → AreAccepted turns
+    ensures { (limits : Limits) (moment : DateTime) (turns : List Turn) → AreOurs limits
+        → IsTrue (date_time.encodable moment) → AreAccepted turns
         → ServerCloses limits channel (up_octets moment turns) (all_told turns) }
 {}
 
@@ -36,18 +38,22 @@ pub fn turns_reach_the_server()
 /// it refuses no frame of it, and its events are, in order, the reply to each request under its own
 /// RequestId, or that the server gave it up, and the token that each renewal brings.
 pub fn answers_reach_the_client()
-    ensures { (limits : Limits) (first : State) (moment : DateTime) (groups : List (List Turn)) → AreOurs limits → IsTrue (date_time.encodable moment)
+    ensures { (limits : Limits) (first : State) (moment : DateTime) (groups : List (List Turn)) → AreOurs limits
+        → IsTrue (date_time.encodable moment)
         → AllByRecursion EndsAtRenewal groups → AreAccepted (in_order groups)
-        → TellsClient limits (asks_of first moment groups) (all_said first moment (in_order groups)) (all_heard first moment (in_order groups)) }
+        → TellsClient limits (asks_of first moment groups) (all_said first moment (in_order groups))
+        (all_heard first moment (in_order groups)) }
 {}
 
 /// A server never holds more than was agreed, whatever came and however it was fragmented, and so
 /// after each prefix of what a client sends. With the limits of the program that is at most 4259839
 /// bytes. Once its connection ended it holds nothing, as [`Server::held`] says.
 pub fn server_holds_at_most(server: &Server)
-    ensures agreed { (octets : List ℕ) (frames : List Frame) (rest : List ℕ) → ServerStands (channel_in server.now) octets frames rest
+    ensures agreed { (octets : List ℕ) (frames : List Frame) (rest : List ℕ)
+        → ServerStands (channel_in server.now) octets frames rest
         → held_after (received frames) rest ≤ bound_after (server_limits (channel_in server.now)) (received frames) }
-    ensures most { (octets : List ℕ) (frames : List Frame) (rest : List ℕ) → AreOurs (server_limits (channel_in server.now)) → ServerStands (channel_in server.now) octets frames rest
+    ensures most { (octets : List ℕ) (frames : List Frame) (rest : List ℕ)
+        → AreOurs (server_limits (channel_in server.now)) → ServerStands (channel_in server.now) octets frames rest
         → bound_after (server_limits (channel_in server.now)) (received frames) ≤ most_held }
 {
     let _held = server.held();
@@ -55,9 +61,11 @@ pub fn server_holds_at_most(server: &Server)
 
 /// The same for a client, after each prefix of what a server sends it, and whatever else came.
 pub fn client_holds_at_most(client: &ClientChannel)
-    ensures agreed { (asks : List Placed) (octets : List ℕ) (frames : List Frame) (rest : List ℕ) → ClientStands client.now asks octets frames rest
+    ensures agreed { (asks : List Placed) (octets : List ℕ) (frames : List Frame) (rest : List ℕ)
+        → ClientStands client.now asks octets frames rest
         → held_octets frames rest ≤ client_bound_behind (client_limits client.now) (received frames).ack }
-    ensures most { (asks : List Placed) (octets : List ℕ) (frames : List Frame) (rest : List ℕ) → AreOurs (client_limits client.now) → ClientStands client.now asks octets frames rest
+    ensures most { (asks : List Placed) (octets : List ℕ) (frames : List Frame) (rest : List ℕ)
+        → AreOurs (client_limits client.now) → ClientStands client.now asks octets frames rest
         → client_bound_behind (client_limits client.now) (received frames).ack ≤ most_held }
 {
     let _held = client.held();

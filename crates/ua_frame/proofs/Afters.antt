@@ -5,7 +5,8 @@ use Rattle.ua_frame.specs.After.{AllFrom, each_from, AllAfter, each_after}
 
 AllFrom-push : {A : Type 0} (P : List A → A → Type 0) (start xs : List A) (y : A) → AllFrom P start xs → P (start ++ xs) y → AllFrom P start (xs ++ y ∷ [])
 AllFrom-push {A = A} P start [] y h p = (subst (λ (t : List A). P t y) (append-nil start) p, tt)
-AllFrom-push {A = A} P start (x ∷ xs) y h p = (h.0, AllFrom-push P (start ++ x ∷ []) xs y h.1 (subst (λ (t : List A). P t y) (sym (append_assoc start (x ∷ []) xs)) p))
+AllFrom-push {A = A} P start (x ∷ xs) y h p =
+    (h.0, AllFrom-push P (start ++ x ∷ []) xs y h.1 (subst (λ (t : List A). P t y) (sym (append_assoc start (x ∷ []) xs)) p))
 
 -- one item more
 pub AllAfter-push : {A : Type 0} (P : List A → A → Type 0) (xs : List A) (y : A) → AllAfter P xs → P xs y → AllAfter P (xs ++ y ∷ [])
@@ -16,7 +17,8 @@ pub AllAfter-nil : {A : Type 0} (P : List A → A → Type 0) → AllAfter P []
 unfolding AllAfter
 AllAfter-nil P = tt
 
-each_from-push : {A B : Type 0} (g : List A → A → List B) (start xs : List A) (y : A) → each_from g start (xs ++ y ∷ []) ≡ each_from g start xs ++ g (start ++ xs) y
+each_from-push : {A B : Type 0} (g : List A → A → List B) (start xs : List A) (y : A) → each_from g start (xs ++ y ∷ []) ≡ each_from g start xs
+    ++ g (start ++ xs) y
 each_from-push {A = A} g start [] y = append-nil (g start y) ∙ ap (λ (t : List A). g t y) (sym (append-nil start))
 each_from-push {A = A} {B = B} g start (x ∷ xs) y =
     ap (λ (t : List B). g start x ++ t) (each_from-push g (start ++ x ∷ []) xs y)

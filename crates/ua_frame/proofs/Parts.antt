@@ -1,5 +1,6 @@
 -- What a piece makes of the octets of a frame that isn't whole yet.
-use Rattle.std.proofs.Common.{◌≡◌, ℕ, ◌+◌, ◌-◌, ◌<◌, ◌≤◌, ◌⊎◌, inl, inr, max, min, List, [], ◌++◌, nat_lt, IsSome, Option, Some, None, Ok, length, take, drop, refl, sym, ◌∙◌, ap, subst, arith, append_assoc, append-nil, length-append, take-append-drop}
+use Rattle.std.proofs.Common.{◌≡◌, ℕ, ◌+◌, ◌-◌, ◌<◌, ◌≤◌, ◌⊎◌, inl, inr, max, min, List, [], ◌++◌, nat_lt, IsSome, Option, Some, None, Ok}
+use Rattle.std.proofs.Common.{length, take, drop, refl, sym, ◌∙◌, ap, subst, arith, append_assoc, append-nil, length-append, take-append-drop}
 use Rattle.std.proofs.Math.Seq.{take-add}
 use Rattle.std.proofs.lemmas.Bool.{ltb-false, cases_lt}
 use Rattle.std.proofs.lemmas.List.{take_all, length-take-le, length-take, length-drop, take_rest}
@@ -57,19 +58,25 @@ module _ (gate : Gate) (h body piece : List ℕ) (have : ℕ) (eight : length h 
   pub starved : Fails gate ((take have h ++ body) ++ piece) OutOfMemory
   starved = record { header = omega (arith, length_behind); why = inr (refl, fault_behind) }
 
-  module _ (n : ℕ) (count : n ≡ min (size_of h - 8 - length body) (length piece)) (part : 8 + length body < size_of h) (new : List ℕ) (added : new ≡ body ++ take n piece) where
+  module _ (n : ℕ) (count : n ≡ min (size_of h - 8 - length body) (length piece)) (part : 8 + length body < size_of h) (new : List ℕ)
+      (added : new ≡ body ++ take n piece) where
     length_new : length new ≡ length body + n
     length_new = ap length added ∙ omega (arith, length-append body (take n piece), length-take-le n piece (omega arith))
 
-    pub goes_on : length new < size_of h - 8 → (n ≡ length piece) × (take have h ++ new ≡ (take have h ++ body) ++ piece) × IsPartial gate ((take have h ++ body) ++ piece)
+    pub goes_on : length new < size_of h - 8 → (n ≡ length piece) × (take have h ++ new ≡ (take have h ++ body) ++ piece)
+        × IsPartial gate ((take have h ++ body) ++ piece)
     goes_on short =
         let n_is : n ≡ length piece = omega (arith, length_new) in
-        let all : take n piece ≡ piece = take_all n piece (omega arith) in
-        (n_is, ap (λ (t : List ℕ). take have h ++ t) (added ∙ ap (λ (t : List ℕ). body ++ t) all) ∙ sym (append_assoc (take have h) body piece), inr (fault_behind, omega (arith, length_behind, size_behind, length_new)))
+        let all : take n piece ≡ piece = take_all n piece (omega arith) in (
+          n_is,
+          ap (λ (t : List ℕ). take have h ++ t) (added ∙ ap (λ (t : List ℕ). body ++ t) all) ∙ sym (append_assoc (take have h) body piece),
+          inr (fault_behind, omega (arith, length_behind, size_behind, length_new)),
+        )
 
     pub completes : (f : Frame) → size_of h - 8 ≤ length new → h ++ new ≡ frame_octets f → IsSized f → Completes gate (take have h ++ body) piece n f
     completes f enough octets sized =
-        let joined : (take have h ++ body) ++ take n piece ≡ frame_octets f = ap (λ (t : List ℕ). (t ++ body) ++ take n piece) all_of ∙ (append_assoc h body (take n piece) ∙ (ap (λ (t : List ℕ). h ++ t) (sym added) ∙ octets)) in
+        let joined : (take have h ++ body) ++ take n piece ≡ frame_octets f = ap (λ (t : List ℕ). (t ++ body) ++ take n piece) all_of
+        ∙ (append_assoc h body (take n piece) ∙ (ap (λ (t : List ℕ). h ++ t) (sym added) ∙ octets)) in
         record {
           some = omega (arith, length_new);
           within = omega arith;
@@ -80,7 +87,8 @@ module _ (gate : Gate) (h body piece : List ℕ) (have : ℕ) (eight : length h 
 
 -- ---- at a header
 
-module _ (h h' body piece : List ℕ) (have n : ℕ) (eight : length h ≡ 8) (eight' : length h' ≡ 8) (none : body ≡ []) (below : have < 8) (count : n ≡ min (length h - have) (length piece)) (filled : take (have + n) h' ≡ take have h ++ take n piece) (reached : 8 ≤ have + n) where
+module _ (h h' body piece : List ℕ) (have n : ℕ) (eight : length h ≡ 8) (eight' : length h' ≡ 8) (none : body ≡ []) (below : have < 8)
+    (count : n ≡ min (length h - have) (length piece)) (filled : take (have + n) h' ≡ take have h ++ take n piece) (reached : 8 ≤ have + n) where
   reaches : have + n ≡ 8
   reaches = omega arith
 
@@ -107,7 +115,8 @@ module _ (h h' body piece : List ℕ) (have n : ℕ) (eight : length h ≡ 8) (e
   header_then =
       ap (λ (t : List ℕ). t ++ body) filled
       ∙ (ap (λ (t : List ℕ). (take have h ++ take n piece) ++ t) none
-      ∙ (append-nil (take have h ++ take n piece) ∙ sym (ap (λ (t : List ℕ). (take have h ++ t) ++ take n piece) none ∙ ap (λ (t : List ℕ). t ++ take n piece) (append-nil (take have h)))))
+      ∙ (append-nil (take have h ++ take n piece)
+      ∙ sym (ap (λ (t : List ℕ). (take have h ++ t) ++ take n piece) none ∙ ap (λ (t : List ℕ). t ++ take n piece) (append-nil (take have h)))))
 
 -- ---- what is made of the rest of a piece is what is made of the piece
 
@@ -118,12 +127,14 @@ module _ (gate : Gate) (old mid piece : List ℕ) (n : ℕ) (within : n ≤ leng
   pub whole_behind : mid ++ take (length piece - n) (drop n piece) ≡ old ++ piece
   whole_behind =
       ap (λ (t : List ℕ). mid ++ t) (take_rest piece n)
-      ∙ (ap (λ (t : List ℕ). t ++ drop n piece) mid_is ∙ (append_assoc old (take n piece) (drop n piece) ∙ ap (λ (t : List ℕ). old ++ t) (take-append-drop n piece)))
+      ∙ (ap (λ (t : List ℕ). t ++ drop n piece) mid_is
+      ∙ (append_assoc old (take n piece) (drop n piece) ∙ ap (λ (t : List ℕ). old ++ t) (take-append-drop n piece)))
 
   length_rest : length (take (length piece - n) (drop n piece)) ≡ length piece - n
   length_rest = ap length (take_rest piece n) ∙ length-drop n piece
 
-  pub makes_more : (m : ℕ) (frame : Option Frame) (new : List ℕ) → Makes gate mid (take (length piece - n) (drop n piece)) (Ok (m, frame)) new → Makes gate old piece (Ok (n + m, frame)) new
+  pub makes_more : (m : ℕ) (frame : Option Frame) (new : List ℕ) → Makes gate mid (take (length piece - n) (drop n piece)) (Ok (m, frame)) new
+      → Makes gate old piece (Ok (n + m, frame)) new
   makes_more m None new h = (omega (arith, h.0, length_rest), h.1 ∙ whole_behind, subst (λ (t : List ℕ). IsPartial gate t) whole_behind h.2)
   makes_more m (Some f) new h = (
     record {

@@ -1,5 +1,6 @@
 -- Streams by their sizes alone.
-use Rattle.std.proofs.Common.{◌≡◌, ℕ, ◌+◌, inl, inr, List, [], ◌∷◌, ◌++◌, IsSome, Option, Some, None, length, take, drop, refl, sym, ◌∙◌, ap, subst, arith, append_assoc, length-append, take-append-drop}
+use Rattle.std.proofs.Common.{◌≡◌, ℕ, ◌+◌, inl, inr, List, [], ◌∷◌, ◌++◌, IsSome, Option, Some, None, length, take}
+use Rattle.std.proofs.Common.{drop, refl, sym, ◌∙◌, ap, subst, arith, append_assoc, length-append, take-append-drop}
 use Rattle.std.specs.List.{flat_map, AllByRecursion}
 use Rattle.std.proofs.lemmas.List.{take_at, append_cancel_left, flat_map_more, length-take-le, length-drop}
 use Rattle.ua_frame.specs.declared.frame.Frame.{Frame}
@@ -7,7 +8,8 @@ use Rattle.ua_frame.specs.declared.gate.Gate.{Gate}
 use Rattle.ua_frame.specs.declared.kind.Kind.{Kind}
 use Rattle.ua_frame.specs.FirstWrong.{frame_named, frame_in, listed, frames_in}
 use Rattle.ua_frame.specs.Frames.{frame_octets, IsSized, LetsIn, kind_of, flag_of, size_of, header_fault, IsRawFrame, IsRest, Frames, joined}
-use Rattle.ua_frame.proofs.Fronts.{size_front, fault_front, length-frame_octets, size_of-frame, kind_of-frame, flag_of-frame, let_in-from_fault, frame_by, header_frame}
+use Rattle.ua_frame.proofs.Fronts.{size_front, fault_front, length-frame_octets, size_of-frame}
+use Rattle.ua_frame.proofs.Fronts.{kind_of-frame, flag_of-frame, let_in-from_fault, frame_by, header_frame}
 use Rattle.ua_frame.proofs.Parts.{good_header}
 use Rattle.ua_frame.proofs.Unique.{body_of-frame}
 
@@ -35,7 +37,8 @@ pub joined-nil : (x : List ℕ) → joined [] ++ x ≡ x
 unfolding joined
 joined-nil x = refl
 
-frames_same : (fs gs : List (List ℕ)) (x y : List ℕ) → joined fs ++ x ≡ joined gs ++ y → AllByRecursion IsRawFrame fs → AllByRecursion IsRawFrame gs → IsRest x → IsRest y → (fs ≡ gs) × (x ≡ y)
+frames_same : (fs gs : List (List ℕ)) (x y : List ℕ) → joined fs ++ x ≡ joined gs ++ y → AllByRecursion IsRawFrame fs → AllByRecursion IsRawFrame gs → IsRest x
+    → IsRest y → (fs ≡ gs) × (x ≡ y)
 frames_same [] [] x y e p q r s = (refl, sym (joined-nil x) ∙ (e ∙ joined-nil y))
 frames_same [] (b ∷ gs) x y e p q r s = absurd (no_raw_rest b (joined gs ++ y) q.0 (subst IsRest (sym (joined-nil x) ∙ (e ∙ joined-cons b gs y)) r))
 frames_same (a ∷ fs) [] x y e p q r s = absurd (no_raw_rest a (joined fs ++ x) p.0 (subst IsRest (sym (joined-nil y) ∙ (sym e ∙ joined-cons a fs x)) s))
@@ -53,19 +56,24 @@ one_framing o fs gs x y r s = frames_same fs gs x y (sym r.whole ∙ s.whole) r.
 pub raw_of-frame : (f : Frame) → IsSized f → IsRawFrame (frame_octets f)
 raw_of-frame f h = record { header = omega (arith, length-frame_octets f); size = size_of-frame f h ∙ sym (length-frame_octets f) }
 
-named_at : (k : Option Kind) (k' : Kind) (octets : List ℕ) → k ≡ Some k' → frame_named k octets ≡ Some (record { kind = k'; flag = flag_of octets; body = drop 8 octets })
+named_at : (k : Option Kind) (k' : Kind) (octets : List ℕ) → k ≡ Some k'
+    → frame_named k octets ≡ Some (record { kind = k'; flag = flag_of octets; body = drop 8 octets })
 named_at k k' octets e = ap (λ (o : Option Kind). frame_named o octets) e
 
-same_frame : (f : Frame) (flag : ℕ) (body : List ℕ) → flag ≡ f.flag → body ≡ f.body → ◌≡◌ {A = Option Frame} (Some (record { kind = f.kind; flag = flag; body = body })) (Some f)
-same_frame f flag body p q = ap (λ (x : ℕ). Some (record { kind = f.kind; flag = x; body = body })) p ∙ ap (λ (x : List ℕ). Some (record { kind = f.kind; flag = f.flag; body = x })) q
+same_frame : (f : Frame) (flag : ℕ) (body : List ℕ) → flag ≡ f.flag → body ≡ f.body
+    → ◌≡◌ {A = Option Frame} (Some (record { kind = f.kind; flag = flag; body = body })) (Some f)
+same_frame f flag body p q = ap (λ (x : ℕ). Some (record { kind = f.kind; flag = x; body = body })) p
+    ∙ ap (λ (x : List ℕ). Some (record { kind = f.kind; flag = f.flag; body = x })) q
 
 pub frame_in-frame : (f : Frame) → frame_in (frame_octets f) ≡ Some f
-frame_in-frame f = named_at (kind_of (frame_octets f)) f.kind (frame_octets f) (kind_of-frame f) ∙ same_frame f (flag_of (frame_octets f)) (drop 8 (frame_octets f)) (flag_of-frame f) (body_of-frame f)
+frame_in-frame f = named_at (kind_of (frame_octets f)) f.kind (frame_octets f) (kind_of-frame f)
+    ∙ same_frame f (flag_of (frame_octets f)) (drop 8 (frame_octets f)) (flag_of-frame f) (body_of-frame f)
 
 pub frames_in-push : (start : List (List ℕ)) (raw : List ℕ) (f : Frame) → frame_in raw ≡ Some f → frames_in (start ++ raw ∷ []) ≡ frames_in start ++ f ∷ []
 unfolding frames_in
 frames_in-push start raw f e =
-    sym (flat_map_more (λ (t : List ℕ). listed (frame_in t)) [] start raw) ∙ ap (λ (o : Option Frame). flat_map (λ (t : List ℕ). listed (frame_in t)) start ++ listed o) e
+    sym (flat_map_more (λ (t : List ℕ). listed (frame_in t)) [] start raw)
+    ∙ ap (λ (o : Option Frame). flat_map (λ (t : List ℕ). listed (frame_in t)) start ++ listed o) e
 
 -- octets that are a frame, with a good header
 pub record IsGood (gate : Gate) (raw : List ℕ) : Type 0 where
@@ -74,11 +82,18 @@ pub record IsGood (gate : Gate) (raw : List ℕ) : Type 0 where
   pub sized : IsSized frame
   pub let_in : LetsIn gate frame
 
-good_by : (gate : Gate) (h body : List ℕ) (k : Option Kind) → kind_of h ≡ k → IsSome k → length h ≡ 8 → size_of h ≡ 8 + length body → header_fault gate h ≡ None → IsGood gate (h ++ body)
+good_by : (gate : Gate) (h body : List ℕ) (k : Option Kind) → kind_of h ≡ k → IsSome k → length h ≡ 8 → size_of h ≡ 8 + length body → header_fault gate h ≡ None
+    → IsGood gate (h ++ body)
 good_by gate h body None named some len size good = absurd cc
 good_by gate h body (Some k) named some len size good =
     let made = header_frame h body k len named size in
-    record { frame = frame_by k h body; octets = made.0; sized = made.1; let_in = let_in-from_fault gate (frame_by k h body) made.1 (ap (header_fault gate) (sym made.0) ∙ (fault_front gate h body (omega arith) ∙ good)) }
+    record {
+      frame = frame_by k h body;
+      octets = made.0;
+      sized = made.1;
+      let_in = let_in-from_fault gate (frame_by k h body) made.1
+          (ap (header_fault gate) (sym made.0) ∙ (fault_front gate h body (omega arith) ∙ good));
+    }
 
 pub good_raw : (gate : Gate) (raw : List ℕ) → IsRawFrame raw → header_fault gate raw ≡ None → IsGood gate raw
 good_raw gate raw r good =
@@ -86,6 +101,7 @@ good_raw gate raw r good =
     let body : List ℕ = drop 8 raw in
     let parts : h ++ body ≡ raw = take-append-drop 8 raw in
     let len : length h ≡ 8 = length-take-le 8 raw r.header in
-    let size : size_of h ≡ 8 + length body = sym (size_front h body (omega (arith, len))) ∙ (ap size_of parts ∙ (r.size ∙ omega (arith, length-drop 8 raw, r.header))) in
+    let size : size_of h ≡ 8 + length body = sym (size_front h body (omega (arith, len)))
+    ∙ (ap size_of parts ∙ (r.size ∙ omega (arith, length-drop 8 raw, r.header))) in
     let fault : header_fault gate h ≡ None = sym (fault_front gate h body (omega (arith, len))) ∙ (ap (header_fault gate) parts ∙ good) in
     subst (λ (t : List ℕ). IsGood gate t) parts (good_by gate h body (kind_of h) refl (good_header gate h fault).0 len size fault)

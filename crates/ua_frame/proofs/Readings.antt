@@ -1,5 +1,6 @@
 -- Each stream has a reading.
-use Rattle.std.proofs.Common.{◌≡◌, ℕ, zero, suc, ◌<◌, ◌≤◌, ◌⊎◌, inl, inr, List, [], ◌∷◌, ◌++◌, Bool, false, true, Option, Some, None, length, take, drop, refl, sym, ◌∙◌, ap, subst, arith, append_assoc, append-nil, length-append, take-append-drop}
+use Rattle.std.proofs.Common.{◌≡◌, ℕ, zero, suc, ◌<◌, ◌≤◌, ◌⊎◌, inl, inr, List, [], ◌∷◌, ◌++◌, Bool, false, true, Option, Some, None, length}
+use Rattle.std.proofs.Common.{take, drop, refl, sym, ◌∙◌, ap, subst, arith, append_assoc, append-nil, length-append, take-append-drop}
 use Rattle.std.proofs.lemmas.Bool.{cases_lt}
 use Rattle.std.proofs.lemmas.List.{length-take-le}
 use Rattle.ua_frame.specs.declared.frame.Frame.{Frame}
@@ -47,9 +48,12 @@ ends_here R start o end e = record {
   ends = subst (λ (t : List Frame). EndsIn R t o end) (sym (append-nil start)) e;
 }
 
-module _ {E X : Type 0} (R : Rules E X) (bound : ℕ) (rec : (start : List Frame) (o : List ℕ) → length o < bound → ReadFrom R start o) (start : List Frame) (o : List ℕ) (below : length o < suc bound) where
-  by_frame : R.over start ≡ false → (f : Frame) (rest : List ℕ) → o ≡ frame_octets f ++ rest → IsSized f → LetsIn (R.gate start) f → (r : Option X) → refusal R start f ≡ r → ReadFrom R start o
-  by_frame goes_on f rest parts sized let_in (Some why) e = ends_here R start o (Stopped why) (goes_on, inr (record { frame = f; more = rest; parts = parts; sized = sized; let_in = let_in; refused = e }))
+module _ {E X : Type 0} (R : Rules E X) (bound : ℕ) (rec : (start : List Frame) (o : List ℕ) → length o < bound → ReadFrom R start o) (start : List Frame)
+    (o : List ℕ) (below : length o < suc bound) where
+  by_frame : R.over start ≡ false → (f : Frame) (rest : List ℕ) → o ≡ frame_octets f ++ rest → IsSized f → LetsIn (R.gate start) f → (r : Option X)
+      → refusal R start f ≡ r → ReadFrom R start o
+  by_frame goes_on f rest parts sized let_in (Some why) e =
+      ends_here R start o (Stopped why) (goes_on, inr (record { frame = f; more = rest; parts = parts; sized = sized; let_in = let_in; refused = e }))
   by_frame goes_on f rest parts sized let_in None e =
       let s = rec (start ++ f ∷ []) rest (omega (arith, below, ap length parts, length-append (frame_octets f) rest, length-frame_octets f)) in
       record {
@@ -67,13 +71,17 @@ module _ {E X : Type 0} (R : Rules E X) (bound : ℕ) (rec : (start : List Frame
       let least = (good_header (R.gate start) o good).1 in
       let raw : List ℕ = take (size_of o) o in
       let is_raw : IsRawFrame raw = raw_front o (omega (arith, least)) enough in
-      let fault : header_fault (R.gate start) raw ≡ None = sym (fault_front (R.gate start) raw (drop (size_of o) o) is_raw.header) ∙ (ap (header_fault (R.gate start)) (sym (parts_of o)) ∙ good) in
+      let fault : header_fault (R.gate start) raw ≡ None = sym (fault_front (R.gate start) raw (drop (size_of o) o) is_raw.header)
+      ∙ (ap (header_fault (R.gate start)) (sym (parts_of o)) ∙ good) in
       let g = good_raw (R.gate start) raw is_raw fault in
-      by_frame goes_on g.frame (drop (size_of o) o) (parts_of o ∙ ap (λ (t : List ℕ). t ++ drop (size_of o) o) g.octets) g.sized g.let_in (refusal R start g.frame) refl
+      by_frame goes_on g.frame (drop (size_of o) o) (parts_of o ∙ ap (λ (t : List ℕ). t ++ drop (size_of o) o) g.octets) g.sized g.let_in
+      (refusal R start g.frame) refl
 
   by_header : R.over start ≡ false → 8 ≤ length o → IsJudged (R.gate start) o → ReadFrom R start o
   by_header goes_on whole (Good good) = by_size goes_on good (cases_lt (length o) (size_of o))
-  by_header goes_on whole (Bad fault code is code_is) = ends_here R start o (Stopped (R.of_header code)) (goes_on, inl (record { fault = fault; code = code; whole = whole; fault_is = is; code_is = code_is; why_is = refl }))
+  by_header goes_on whole (Bad fault code is code_is) =
+      ends_here R start o (Stopped (R.of_header code))
+      (goes_on, inl (record { fault = fault; code = code; whole = whole; fault_is = is; code_is = code_is; why_is = refl }))
 
   by_length : R.over start ≡ false → ((length o < 8) ⊎ (8 ≤ length o)) → ReadFrom R start o
   by_length goes_on (inl short) = ends_here R start o Going (goes_on, inl short)

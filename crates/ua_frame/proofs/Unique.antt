@@ -1,5 +1,6 @@
 -- A stream has one reading.
-use Rattle.std.proofs.Common.{◌≡◌, ℕ, ◌+◌, ◌⊎◌, inl, inr, List, [], ◌∷◌, ◌++◌, Bool, false, true, Option, Some, None, length, take, drop, refl, sym, ◌∙◌, ap, subst, arith, append_assoc, append-nil, length-append}
+use Rattle.std.proofs.Common.{◌≡◌, ℕ, ◌+◌, ◌⊎◌, inl, inr, List, [], ◌∷◌, ◌++◌, Bool, false, true, Option, Some, None}
+use Rattle.std.proofs.Common.{length, take, drop, refl, sym, ◌∙◌, ap, subst, arith, append_assoc, append-nil, length-append}
 use Rattle.std.proofs.lemmas.List.{take_at, drop_at, drop-drop, append_cancel_left}
 use Rattle.ua_wire.specs.Number.{number_octets}
 use Rattle.ua_wire.proofs.Readers.{some_is}
@@ -20,9 +21,11 @@ pub body_of-frame : (f : Frame) → drop 8 (frame_octets f) ≡ f.body
 unfolding frame_octets
 body_of-frame f =
     sym (drop-drop 4 4 (frame_octets f))
-    ∙ (ap (drop 4) (behind_first f.kind f.flag (number_octets 4 (frame_size f) ++ f.body)) ∙ drop_at (number_octets 4 (frame_size f)) f.body 4 (length-number_octets 4 (frame_size f)))
+    ∙ (ap (drop 4) (behind_first f.kind f.flag (number_octets 4 (frame_size f) ++ f.body))
+    ∙ drop_at (number_octets 4 (frame_size f)) f.body 4 (length-number_octets 4 (frame_size f)))
 
-same_fields : (k k' : Kind) (flag flag' : ℕ) (body body' : List ℕ) → k ≡ k' → flag ≡ flag' → body ≡ body' → ◌≡◌ {A = Frame} (record { kind = k; flag = flag; body = body }) (record { kind = k'; flag = flag'; body = body' })
+same_fields : (k k' : Kind) (flag flag' : ℕ) (body body' : List ℕ) → k ≡ k' → flag ≡ flag' → body ≡ body'
+    → ◌≡◌ {A = Frame} (record { kind = k; flag = flag; body = body }) (record { kind = k'; flag = flag'; body = body' })
 same_fields k k' flag flag' body body' p q r = cc
 
 -- frames of the same octets are one
@@ -37,7 +40,8 @@ pub one_frame : (f g : Frame) (x y : List ℕ) → IsSized f → IsSized g → f
 one_frame f g x y p q e =
     let size : frame_size f ≡ frame_size g = sym (size_of-frame_more f x p) ∙ (ap size_of e ∙ size_of-frame_more g y q) in
     let len : length (frame_octets f) ≡ length (frame_octets g) = length-frame_octets f ∙ (size ∙ sym (length-frame_octets g)) in
-    let same : frame_octets f ≡ frame_octets g = sym (take_at (frame_octets f) x (length (frame_octets g)) len) ∙ (ap (take (length (frame_octets g))) e ∙ take_at (frame_octets g) y (length (frame_octets g)) refl) in
+    let same : frame_octets f ≡ frame_octets g = sym (take_at (frame_octets f) x (length (frame_octets g)) len)
+    ∙ (ap (take (length (frame_octets g))) e ∙ take_at (frame_octets g) y (length (frame_octets g)) refl) in
     (frame-from_octets f g same, append_cancel_left (frame_octets g) x y (ap (λ (t : List ℕ). t ++ x) (sym same) ∙ e))
 
 -- ---- where a frame begins that a gate lets in
@@ -61,18 +65,21 @@ some_not_none o a e n = let c : Some a ≡ None = sym e ∙ n in cc
 not_both : (b : Bool) → b ≡ false → b ≡ true → ⊥
 not_both b f t = let c : false ≡ true = sym f ∙ t in cc
 
-no_end : {E X : Type 0} (R : Rules E X) (before : List Frame) (x : List ℕ) (end : End X) (g : Frame) (more : List ℕ) → Fits R before g → x ≡ frame_octets g ++ more → EndsIn R before x end → ⊥
+no_end : {E X : Type 0} (R : Rules E X) (before : List Frame) (x : List ℕ) (end : End X) (g : Frame) (more : List ℕ) → Fits R before g
+    → x ≡ frame_octets g ++ more → EndsIn R before x end → ⊥
 no_end R before x Going g more fits e ends = no_part (R.gate before) g more fits.sized (subst (λ (t : List ℕ). IsPartial (R.gate before) t) e ends.1)
 no_end R before x Over g more fits e ends = not_both (R.over before) fits.goes_on ends
 no_end R before x (Stopped why) g more fits e (goes_on, inl w) =
-    some_not_none (header_fault (R.gate before) x) w.fault w.fault_is (ap (header_fault (R.gate before)) e ∙ frame_more_fault (R.gate before) g more fits.sized fits.let_in)
+    some_not_none (header_fault (R.gate before) x) w.fault w.fault_is (ap (header_fault (R.gate before)) e
+    ∙ frame_more_fault (R.gate before) g more fits.sized fits.let_in)
 no_end R before x (Stopped why) g more fits e (goes_on, inr w) =
     let same = (one_frame w.frame g w.more more w.sized fits.sized (sym w.parts ∙ e)).0 in
     some_not_none (refusal R before w.frame) why w.refused (ap (refusal R before) same ∙ fits.accepted)
 
 -- ---- how it goes on after the same frames
 
-no_part_wrong : {E X : Type 0} (R : Rules E X) (fs : List Frame) (x : List ℕ) (why : X) → IsPartial (R.gate fs) x → (WrongHeader R fs x why ⊎ WrongFrame R fs x why) → ⊥
+no_part_wrong : {E X : Type 0} (R : Rules E X) (fs : List Frame) (x : List ℕ) (why : X) → IsPartial (R.gate fs) x
+    → (WrongHeader R fs x why ⊎ WrongFrame R fs x why) → ⊥
 no_part_wrong R fs x why (inl short) (inl w) = omega (arith, w.whole)
 no_part_wrong R fs x why (inr part) (inl w) = some_not_none (header_fault (R.gate fs) x) w.fault w.fault_is part.0
 no_part_wrong R fs x why part (inr w) = no_part (R.gate fs) w.frame w.more w.sized (subst (λ (t : List ℕ). IsPartial (R.gate fs) t) w.parts part)
@@ -80,7 +87,8 @@ no_part_wrong R fs x why part (inr w) = no_part (R.gate fs) w.frame w.more w.siz
 wrong_frame_good : {E X : Type 0} (R : Rules E X) (fs : List Frame) (x : List ℕ) (why : X) (w : WrongFrame R fs x why) → header_fault (R.gate fs) x ≡ None
 wrong_frame_good R fs x why w = ap (header_fault (R.gate fs)) w.parts ∙ frame_more_fault (R.gate fs) w.frame w.more w.sized w.let_in
 
-one_wrong : {E X : Type 0} (R : Rules E X) (fs : List Frame) (x : List ℕ) (c d : X) → (WrongHeader R fs x c ⊎ WrongFrame R fs x c) → (WrongHeader R fs x d ⊎ WrongFrame R fs x d) → c ≡ d
+one_wrong : {E X : Type 0} (R : Rules E X) (fs : List Frame) (x : List ℕ) (c d : X) → (WrongHeader R fs x c ⊎ WrongFrame R fs x c)
+    → (WrongHeader R fs x d ⊎ WrongFrame R fs x d) → c ≡ d
 one_wrong R fs x c d (inl v) (inl w) =
     let same : v.fault ≡ w.fault = some_is v.fault w.fault (sym v.fault_is ∙ w.fault_is) in
     let code : v.code ≡ w.code = some_is v.code w.code (sym v.code_is ∙ (ap header_code same ∙ w.code_is)) in
@@ -118,7 +126,8 @@ front_none x = refl
 same_more : {X : Type 0} (f g : Frame) (fs gs : List Frame) (x y : List ℕ) (e d : End X) → f ≡ g → IsSame fs gs x y e d → IsSame (f ∷ fs) (g ∷ gs) x y e d
 same_more f g fs gs x y e d p s = let frames = s.frames in record { frames = cc; rests = s.rests; ends = s.ends }
 
-unique_from : {E X : Type 0} (R : Rules E X) (start fs gs : List Frame) (x y : List ℕ) (e d : End X) → frames_octets fs ++ x ≡ frames_octets gs ++ y → AllFrom (Fits R) start fs → AllFrom (Fits R) start gs → EndsIn R (start ++ fs) x e → EndsIn R (start ++ gs) y d → IsSame fs gs x y e d
+unique_from : {E X : Type 0} (R : Rules E X) (start fs gs : List Frame) (x y : List ℕ) (e d : End X) → frames_octets fs ++ x ≡ frames_octets gs ++ y
+    → AllFrom (Fits R) start fs → AllFrom (Fits R) start gs → EndsIn R (start ++ fs) x e → EndsIn R (start ++ gs) y d → IsSame fs gs x y e d
 unique_from R start [] [] x y e d o p q r s =
     let same : x ≡ y = sym (front_none x) ∙ (o ∙ front_none y) in
     record { frames = refl; rests = same; ends = one_end R (start ++ []) y e d (subst (λ (t : List ℕ). EndsIn R (start ++ []) t e) same r) s }
@@ -129,11 +138,13 @@ unique_from R start (f ∷ fs) [] x y e d o p q r s =
 unique_from R start (f ∷ fs) (g ∷ gs) x y e d o p q r s =
     let one = one_frame f g (frames_octets fs ++ x) (frames_octets gs ++ y) p.0.sized q.0.sized (sym (front_frame f fs x) ∙ (o ∙ front_frame g gs y)) in
     let q' : AllFrom (Fits R) (start ++ f ∷ []) gs = subst (λ (h : Frame). AllFrom (Fits R) (start ++ h ∷ []) gs) (sym one.0) q.1 in
-    let s' : EndsIn R ((start ++ f ∷ []) ++ gs) y d = subst (λ (t : List Frame). EndsIn R t y d) (ap (λ (h : Frame). start ++ h ∷ gs) (sym one.0) ∙ sym (append_assoc start (f ∷ []) gs)) s in
+    let s' : EndsIn R ((start ++ f ∷ []) ++ gs) y d = subst (λ (t : List Frame). EndsIn R t y d) (ap (λ (h : Frame). start ++ h ∷ gs) (sym one.0)
+    ∙ sym (append_assoc start (f ∷ []) gs)) s in
     let r' : EndsIn R ((start ++ f ∷ []) ++ fs) x e = subst (λ (t : List Frame). EndsIn R t x e) (sym (append_assoc start (f ∷ []) fs)) r in
     same_more f g fs gs x y e d one.0 (unique_from R (start ++ f ∷ []) fs gs x y e d one.1 p.1 q' r' s')
 
 -- a stream has one reading
-pub unique : {E X : Type 0} (R : Rules E X) (o : List ℕ) (fs gs : List Frame) (x y : List ℕ) (e d : End X) → Run R o fs x e → Run R o gs y d → IsSame fs gs x y e d
+pub unique : {E X : Type 0} (R : Rules E X) (o : List ℕ) (fs gs : List Frame) (x y : List ℕ) (e d : End X) → Run R o fs x e → Run R o gs y d
+    → IsSame fs gs x y e d
 unfolding AllAfter
 unique R o fs gs x y e d r s = unique_from R [] fs gs x y e d (sym r.whole ∙ s.whole) r.good s.good r.ends s.ends

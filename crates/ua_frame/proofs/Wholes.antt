@@ -7,10 +7,12 @@ use Rattle.ua_frame.specs.Whole.{if_nothing_left, whole_of, body_of}
 
 -- ---- by an exact reader
 
-all_read : {A : Type 0} (encodes : A → List ℕ → Type 0) (decode : List ℕ → Option (A × List ℕ)) → Exact encodes decode → (octets : List ℕ) (v : A) → encodes v octets → if_nothing_left (decode octets) ≡ Some v
+all_read : {A : Type 0} (encodes : A → List ℕ → Type 0) (decode : List ℕ → Option (A × List ℕ)) → Exact encodes decode → (octets : List ℕ) (v : A)
+    → encodes v octets → if_nothing_left (decode octets) ≡ Some v
 all_read encodes decode exact octets v h = ap if_nothing_left (ap decode (sym (append-nil octets)) ∙ exact.complete v octets [] h)
 
-found_all : {A : Type 0} (encodes : A → List ℕ → Type 0) (decode : List ℕ → Option (A × List ℕ)) → Exact encodes decode → (octets : List ℕ) (v : A) (found : Option (A × List ℕ)) → decode octets ≡ found → if_nothing_left found ≡ Some v → encodes v octets
+found_all : {A : Type 0} (encodes : A → List ℕ → Type 0) (decode : List ℕ → Option (A × List ℕ)) → Exact encodes decode
+    → (octets : List ℕ) (v : A) (found : Option (A × List ℕ)) → decode octets ≡ found → if_nothing_left found ≡ Some v → encodes v octets
 found_all encodes decode exact octets v None e is = absurd cc
 found_all encodes decode exact octets v (Some (w, [])) e is =
     let s = exact.sound octets w [] e in
@@ -29,7 +31,8 @@ pub encodes_whole : {A : Type 0} (f : Flat A) → IsSound f → (octets : List �
 unfolding whole_of
 encodes_whole f sound octets v h = found_all f.encodes f.decode sound.exact octets v (f.decode octets) refl h
 
-no_value : {A : Type 0} (f : Flat A) → IsSound f → (octets : List ℕ) → IsWhole (flat f) octets None → (o : Option A) → whole_of f octets ≡ o → whole_of f octets ≡ None
+no_value : {A : Type 0} (f : Flat A) → IsSound f → (octets : List ℕ) → IsWhole (flat f) octets None → (o : Option A) → whole_of f octets ≡ o
+    → whole_of f octets ≡ None
 no_value f sound octets h None e = e
 no_value f sound octets h (Some v) e = absurd (h v (omega arith) (encodes_whole f sound octets v e))
 
@@ -41,13 +44,16 @@ whole_read f sound octets (Some v) h = whole_encodes f sound octets v h.0
 -- ---- of any format
 
 -- what the octets encode, within the levels that are read, is the body that they are
-pub body_encodes : {A : Type 0} (f : Format A) → IsLawful f → (octets : List ℕ) (v : A) → f.depth v ≤ most_levels → f.encodes v octets → body_of f octets ≡ Some v
+pub body_encodes : {A : Type 0} (f : Format A) → IsLawful f → (octets : List ℕ) (v : A) → f.depth v ≤ most_levels → f.encodes v octets
+    → body_of f octets ≡ Some v
 unfolding body_of
 body_encodes f lawful octets v within h = all_read (Within f.encodes f.depth most_levels) (f.decode most_levels) (lawful.exact most_levels) octets v (h, within)
 
-pub encodes_body : {A : Type 0} (f : Format A) → IsLawful f → (octets : List ℕ) (v : A) → body_of f octets ≡ Some v → f.encodes v octets × (f.depth v ≤ most_levels)
+pub encodes_body : {A : Type 0} (f : Format A) → IsLawful f → (octets : List ℕ) (v : A) → body_of f octets ≡ Some v
+    → f.encodes v octets × (f.depth v ≤ most_levels)
 unfolding body_of
-encodes_body f lawful octets v h = found_all (Within f.encodes f.depth most_levels) (f.decode most_levels) (lawful.exact most_levels) octets v (f.decode most_levels octets) refl h
+encodes_body f lawful octets v h = found_all (Within f.encodes f.depth most_levels) (f.decode most_levels) (lawful.exact most_levels) octets v
+    (f.decode most_levels octets) refl h
 
 no_body : {A : Type 0} (f : Format A) → IsLawful f → (octets : List ℕ) → IsWhole f octets None → (o : Option A) → body_of f octets ≡ o → body_of f octets ≡ None
 no_body f lawful octets h None e = e

@@ -1,5 +1,6 @@
 -- Frames (UA TCP messages) as bytes, and what a header tells.
-use Rattle.std.specs.Prelude.{◌≡◌, ℕ, ◌+◌, ◌<◌, ◌≤◌, ◌^◌, ◌⊎◌, List, [], ◌∷◌, ◌++◌, Bool, true, false, ◌&&◌, not, nat_eq, nat_lt, IsTrue, Option, Some, None, find, length, slice_index, take, drop}
+use Rattle.std.specs.Prelude.{◌≡◌, ℕ, ◌+◌, ◌<◌, ◌≤◌, ◌^◌, ◌⊎◌, List, [], ◌∷◌, ◌++◌, Bool, true, false, ◌&&◌, not}
+use Rattle.std.specs.Prelude.{nat_eq, nat_lt, IsTrue, Option, Some, None, find, length, slice_index, take, drop}
 use Rattle.std.specs.List.{flat_map, AllByRecursion}
 use Rattle.ua_builtin.specs.Number.{number_octets, number_at}
 use Rattle.ua_frame.specs.declared.fault.FrameFault.{FrameFault}

@@ -2,7 +2,9 @@
 
 ghost use Rattle.std.specs.Prelude.{◌≡◌, ◌≤◌, ◌↔◌, List, ℕ, Some};
 ghost use Rattle.ua_builtin.specs.Format.{most_levels};
-ghost use Rattle.ua_frame.specs.Laws.{HasReadings, HasOneReading, HaveFrames, FramesAreOne, ReadsFirstFrames, ReadsAllFrames, StopsAtFirstWrong, EndsStay, ReadsAlike, EndsAlike, ReadsByOtherNames};
+ghost use Rattle.ua_frame.specs.Laws.{HasReadings, HasOneReading, HaveFrames, FramesAreOne};
+ghost use Rattle.ua_frame.specs.Laws.{ReadsFirstFrames, ReadsAllFrames, StopsAtFirstWrong};
+ghost use Rattle.ua_frame.specs.Laws.{EndsStay, ReadsAlike, EndsAlike, ReadsByOtherNames};
 ghost use Rattle.ua_frame.specs.Run.{Rules};
 ghost use Rattle.ua_frame.specs.Whole.{body_of};
 

@@ -1,5 +1,6 @@
 -- That what a server answers to a turn is what its client waits for.
-use Rattle.std.proofs.Common.{◌≡◌, ℕ, ◌+◌, ◌<◌, ◌≤◌, Bool, true, false, not, ◌||◌, ◌&&◌, eqb, leb, IsTrue, List, [], ◌∷◌, ◌++◌, Option, Some, None, length, refl, sym, ◌∙◌, ap, arith, append_assoc, append-nil}
+use Rattle.std.proofs.Common.{◌≡◌, ℕ, ◌+◌, ◌<◌, ◌≤◌, Bool, true, false, not, ◌||◌, ◌&&◌, eqb, leb, IsTrue, List, [], ◌∷◌}
+use Rattle.std.proofs.Common.{◌++◌, Option, Some, None, length, refl, sym, ◌∙◌, ap, arith, append_assoc, append-nil}
 use Rattle.std.specs.Prelude.{if◌then◌else◌}
 use Rattle.std.specs.List.{AllByRecursion}
 use Rattle.std.proofs.lemmas.Bool.{eq-eqb, leb-false, ne_eqb}
@@ -165,7 +166,8 @@ first_goes id os = gone_one (eqb id id) id (without_id id (call_ids (id + 1) os)
 
 -- ---- tokens
 
-all_by : (P : ℕ → Type 0) (stays : Bool) (m : ℕ) (ms from : List ℕ) → P m → AllByRecursion P ms → AllByRecursion P from → AllByRecursion P (if stays then m ∷ ms else from)
+all_by : (P : ℕ → Type 0) (stays : Bool) (m : ℕ) (ms from : List ℕ) → P m → AllByRecursion P ms → AllByRecursion P from
+    → AllByRecursion P (if stays then m ∷ ms else from)
 all_by P true m ms from one h k = (one, h)
 all_by P false m ms from one h k = k
 
@@ -180,7 +182,8 @@ neither a b p q = cc
 -- a token past all of these is none of them
 none_past : (most : ℕ) (tokens : List ℕ) → AllByRecursion (λ (token : ℕ). token ≤ most) tokens → is_in (most + 1) tokens ≡ false
 none_past most [] h = refl
-none_past most (token ∷ tokens) h = neither (eqb token (most + 1)) (is_in (most + 1) tokens) (ne_eqb token (most + 1) (λ e. omega (arith, e, h.0))) (none_past most tokens h.1)
+none_past most (token ∷ tokens) h = neither (eqb token (most + 1)) (is_in (most + 1) tokens) (ne_eqb token (most + 1) (λ e. omega (arith, e, h.0)))
+    (none_past most tokens h.1)
 
 -- ---- the answers
 
@@ -200,7 +203,8 @@ pub record CanAnswer (lane : Lane) (c : AtClient) (answers : List Answer) (issue
   pub none_waits : (client_answered_all lane c answers).renewals ≡ []
   pub below : AllByRecursion (λ (token : ℕ). token ≤ issued) (client_answered_all lane c answers).tokens
 
-pub can_answer : (lane : Lane) (c : AtClient) (s : State) (times : List DateTime) (issued id : ℕ) (os : List Outgoing) → IsWaiting c issued id os → AreDated times
+pub can_answer : (lane : Lane) (c : AtClient) (s : State) (times : List DateTime) (issued id : ℕ) (os : List Outgoing) → IsWaiting c issued id os
+    → AreDated times
     → CanAnswer lane c (answers_to s times issued id os) (issued_behind issued os)
 can_answer lane c s times issued id [] w d = record { may = tt; none_pending = w.calls; none_waits = w.renewals; below = w.below }
 can_answer lane c s times issued id (CallWith body ∷ os) w d =
@@ -216,9 +220,15 @@ can_answer lane c s times issued id (CallWith body ∷ os) w d =
       below = all_held (λ (token : ℕ). token ≤ issued) lane.token c.tokens w.below;
     }) (dated_behind times d) in
     let is_waiting : is_in id c.pending ≡ true = ap (is_in id) w.calls ∙ ap (λ (b : Bool). b || is_in id (call_ids (id + 1) os)) (eq-eqb id id refl) in
-    record { may = ((is_waiting, omega (arith, w.ids), response_takes_some given.1), rest.may); none_pending = rest.none_pending; none_waits = rest.none_waits; below = rest.below }
+    record {
+      may = ((is_waiting, omega (arith, w.ids), response_takes_some given.1), rest.may);
+      none_pending = rest.none_pending;
+      none_waits = rest.none_waits;
+      below = rest.below;
+    }
 can_answer lane c s times issued id (RenewalAt time ∷ os) w d =
-    let rest = can_answer lane (client_answered lane c (TokenFor id 0 (issued + 1) token_lifetime (first_of times))) s (behind_first times) (issued + 1) (id + 1) os
+    let rest = can_answer lane (client_answered lane c (TokenFor id 0 (issued + 1) token_lifetime (first_of times))) s (behind_first times) (issued + 1)
+    (id + 1) os
     (record {
       calls = w.calls;
       renewals = sym w.one.0;
@@ -234,7 +244,13 @@ can_answer lane c s times issued id (RenewalAt time ∷ os) w d =
         (
           w.renewals ∙ ap (λ (ids : List ℕ). id ∷ ids) w.one.0,
           none_past issued c.tokens w.below,
-          record { id_small = omega (arith, w.ids); handle_small = omega arith; token_small = omega (arith, w.ids, w.spare); lifetime_small = omega arith; moment_fits = dated_first times d },
+          record {
+            id_small = omega (arith, w.ids);
+            handle_small = omega arith;
+            token_small = omega (arith, w.ids, w.spare);
+            lifetime_small = omega arith;
+            moment_fits = dated_first times d;
+          },
         ),
         rest.may,
       );
@@ -244,10 +260,12 @@ can_answer lane c s times issued id (RenewalAt time ∷ os) w d =
     }
 
 -- the token that is brought is the newest
-pub brings : (n : ℕ) (s : State) (times : List DateTime) (issued id : ℕ) (os : List Outgoing) → n ≡ issued_behind issued os → HasOneRenewal id os → AllByRecursion (BringsToken n) (answers_to s times issued id os)
+pub brings : (n : ℕ) (s : State) (times : List DateTime) (issued id : ℕ) (os : List Outgoing) → n ≡ issued_behind issued os → HasOneRenewal id os
+    → AllByRecursion (BringsToken n) (answers_to s times issued id os)
 brings n s times issued id [] e one = tt
 brings n s times issued id (CallWith body ∷ os) e one = (tt, brings n (answered s (first_of times) body).0 (behind_first times) issued (id + 1) os e one)
-brings n s times issued id (RenewalAt time ∷ os) e one = (sym (e ∙ none_issued (issued + 1) (id + 1) os one.0), brings n s (behind_first times) (issued + 1) (id + 1) os e one.1)
+brings n s times issued id (RenewalAt time ∷ os) e one =
+    (sym (e ∙ none_issued (issued + 1) (id + 1) os one.0), brings n s (behind_first times) (issued + 1) (id + 1) os e one.1)
   where
     none_issued : (issued id : ℕ) (os : List Outgoing) → renewal_ids id os ≡ [] → issued_behind issued os ≡ issued
     none_issued issued id [] h = refl

@@ -6,7 +6,8 @@ use Rattle.ua_builtin.specs.declared.date_time.DateTime.{DateTime}
 use Rattle.ua_chunk.specs.declared.lane.Lane.{Lane}
 use Rattle.ua_channel.specs.declared.client.fault.AskFault.{AskFault}
 use Rattle.ua_channel_laws.specs.ClientReads.{AtClient, lane_from}
-use Rattle.ua_channel_laws.specs.Outgoing.{AreWritable, CanBeWritten, Outgoing, client_past, issued_past, number_past, one_octets, one_reasons, one_told, outgoing_octets, outgoing_refusal, outgoing_told}
+use Rattle.ua_channel_laws.specs.Outgoing.{AreWritable, CanBeWritten, Outgoing, client_past, issued_past, number_past}
+use Rattle.ua_channel_laws.specs.Outgoing.{one_octets, one_reasons, one_told, outgoing_octets, outgoing_refusal, outgoing_told}
 use Rattle.ua_channel_laws.specs.Rounds.{BothEnds, round_behind, rounds_up}
 use Rattle.ua_server.specs.State.{State}
 use Rattle.ua_headline.specs.Talk.{AreAccepted, AreFirstOf, Ends, IsPrefix, left_by, rounds_from}
@@ -31,32 +32,43 @@ first_judged : (c : AtClient) (id : ℕ) (os more : List Outgoing) → outgoing_
 first_judged c id [] more h = refl
 first_judged c id (o ∷ os) more h =
     let parts = or_none (first_reason (one_reasons c id o)) (outgoing_refusal (client_past c id o) (id + 1) (os ++ more)) h in
-    ap (λ (r : Option AskFault). or_else r (outgoing_refusal (client_past c id o) (id + 1) os)) parts.0 ∙ first_judged (client_past c id o) (id + 1) os more parts.1
+    ap (λ (r : Option AskFault). or_else r (outgoing_refusal (client_past c id o) (id + 1) os)) parts.0
+    ∙ first_judged (client_past c id o) (id + 1) os more parts.1
 
 octets_first : (lane : Option Lane) (n id : ℕ) (os more : List Outgoing) → IsPrefix (outgoing_octets lane n id os) (outgoing_octets lane n id (os ++ more))
 octets_first lane n id [] more = (outgoing_octets lane n id more, refl)
-octets_first lane n id (o ∷ os) more = behind_both (one_octets lane n id o) (outgoing_octets lane (number_past lane n o) (id + 1) os) (outgoing_octets lane (number_past lane n o) (id + 1) (os ++ more)) (octets_first lane (number_past lane n o) (id + 1) os more)
+octets_first lane n id (o ∷ os) more = behind_both (one_octets lane n id o) (outgoing_octets lane (number_past lane n o) (id + 1) os)
+    (outgoing_octets lane (number_past lane n o) (id + 1) (os ++ more)) (octets_first lane (number_past lane n o) (id + 1) os more)
 
 told_first : (token issued id : ℕ) (os more : List Outgoing) → IsPrefix (outgoing_told token issued id os) (outgoing_told token issued id (os ++ more))
 told_first token issued id [] more = (outgoing_told token issued id more, refl)
 told_first token issued id (o ∷ os) more =
-    behind_both (one_told token issued id o ∷ []) (outgoing_told token (issued_past issued o) (id + 1) os) (outgoing_told token (issued_past issued o) (id + 1) (os ++ more))
+    behind_both (one_told token issued id o ∷ []) (outgoing_told token (issued_past issued o) (id + 1) os)
+    (outgoing_told token (issued_past issued o) (id + 1) (os ++ more))
     (told_first token (issued_past issued o) (id + 1) os more)
 
 -- ---- the first turns
 
 module _ (e : Ends) where
-  pub accepted_first : (at : BothEnds) (s : State) (times : List DateTime) (first turns : List (List Outgoing)) → AreFirstOf first turns → AreAccepted e at (rounds_from e at s times turns) → AreAccepted e at (rounds_from e at s times first)
+  pub accepted_first : (at : BothEnds) (s : State) (times : List DateTime) (first turns : List (List Outgoing)) → AreFirstOf first turns
+      → AreAccepted e at (rounds_from e at s times turns) → AreAccepted e at (rounds_from e at s times first)
   accepted_first at s times [] turns f h = tt
   accepted_first at s times (os ∷ []) [] f h = absurd f
   accepted_first at s times (os ∷ (next ∷ first)) [] f h = absurd f
   accepted_first at s times (os ∷ []) (us ∷ turns) f h = (
-    (all_first CanBeWritten os f.0 (subst AreWritable f.1 h.0.0), first_judged at.client at.id os f.0 (subst (λ (l : List Outgoing). outgoing_refusal at.client at.id l ≡ None) f.1 h.0.1)),
+    (
+      all_first CanBeWritten os f.0 (subst AreWritable f.1 h.0.0),
+      first_judged at.client at.id os f.0 (subst (λ (l : List Outgoing). outgoing_refusal at.client at.id l ≡ None) f.1 h.0.1),
+    ),
     tt,
   )
   accepted_first at s times (os ∷ (next ∷ first)) (us ∷ turns) f h =
-      let same : AreAccepted e at (rounds_from e at s times (os ∷ turns)) = subst (λ (l : List Outgoing). AreAccepted e at (rounds_from e at s times (l ∷ turns))) (sym f.0) h in
-      (same.0, accepted_first (round_behind e.server e.channel at (turn e at s times os)) (left_by s times os).0 (left_by s times os).1 (next ∷ first) turns f.1 same.1)
+      let same : AreAccepted e at (rounds_from e at s times (os ∷ turns)) =
+      subst (λ (l : List Outgoing). AreAccepted e at (rounds_from e at s times (l ∷ turns))) (sym f.0) h in (
+        same.0,
+        accepted_first (round_behind e.server e.channel at (turn e at s times os)) (left_by s times os).0 (left_by s times os).1
+            (next ∷ first) turns f.1 same.1,
+      )
 
   abbrev up : BothEnds → State → List DateTime → List (List Outgoing) → List ℕ
   up at s times turns = rounds_up e.server e.channel at (rounds_from e at s times turns)
@@ -72,10 +84,12 @@ module _ (e : Ends) where
       let p = octets_first (Some (lane_from at.client)) at.server.next at.id os f.0 in (
         p.0 ++ rest,
         ap (λ (l : List Outgoing). octets l ++ rest) f.1
-            ∙ (ap (λ (o : List ℕ). o ++ rest) p.1 ∙ (append_assoc (octets os) p.0 rest ∙ ap (λ (o : List ℕ). o ++ (p.0 ++ rest)) (sym (append-nil (octets os))))),
+            ∙ (ap (λ (o : List ℕ). o ++ rest) p.1
+            ∙ (append_assoc (octets os) p.0 rest ∙ ap (λ (o : List ℕ). o ++ (p.0 ++ rest)) (sym (append-nil (octets os))))),
       )
   sent_first at s times (os ∷ (next ∷ first)) (us ∷ turns) f =
       let now : BothEnds = round_behind e.server e.channel at (turn e at s times os) in
       let left : State × List DateTime = left_by s times os in
       subst (λ (l : List Outgoing). IsPrefix (up at s times (os ∷ (next ∷ first))) (up at s times (l ∷ turns))) f.0
-      (behind_both (outgoing_octets (Some (lane_from at.client)) at.server.next at.id os) (up now left.0 left.1 (next ∷ first)) (up now left.0 left.1 turns) (sent_first now left.0 left.1 (next ∷ first) turns f.1))
+      (behind_both (outgoing_octets (Some (lane_from at.client)) at.server.next at.id os) (up now left.0 left.1 (next ∷ first)) (up now left.0 left.1 turns)
+      (sent_first now left.0 left.1 (next ∷ first) turns f.1))

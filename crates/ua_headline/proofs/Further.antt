@@ -22,8 +22,11 @@ fits_behind R fs gs g h = record { goes_on = h.goes_on; sized = h.sized; let_in 
 
 all_behind : {E X : Type 0} (R : Rules E X) (fs start gs : List Frame) → AllFrom (Fits (behind R fs)) start gs → AllFrom (Fits R) (fs ++ start) gs
 all_behind R fs start [] h = tt
-all_behind R fs start (g ∷ gs) h =
-    (fits_behind R fs start g h.0, subst (λ (t : List Frame). AllFrom (Fits R) t gs) (sym (append_assoc fs start (g ∷ []))) (all_behind R fs (start ++ g ∷ []) gs h.1))
+all_behind R fs start (g ∷ gs) h = (
+  fits_behind R fs start g h.0,
+  subst (λ (t : List Frame). AllFrom (Fits R) t gs) (sym (append_assoc fs start (g ∷ [])))
+      (all_behind R fs (start ++ g ∷ []) gs h.1),
+)
 
 end_behind : {E X : Type 0} (R : Rules E X) (fs gs : List Frame) (rest : List ℕ) (end : End X) → EndsIn (behind R fs) gs rest end → EndsIn R (fs ++ gs) rest end
 end_behind R fs gs rest Going e = e

@@ -1,5 +1,6 @@
 -- Of which calls the answers to a turn tell.
-use Rattle.std.proofs.Common.{◌≡◌, ◌⊎◌, inl, inr, ℕ, ◌+◌, ◌<◌, ◌≤◌, Bool, true, false, List, [], ◌∷◌, ◌++◌, Option, Some, None, length, map, refl, sym, ◌∙◌, ap, subst, arith}
+use Rattle.std.proofs.Common.{◌≡◌, ◌⊎◌, inl, inr, ℕ, ◌+◌, ◌<◌, ◌≤◌, Bool, true, false, List, [], ◌∷◌}
+use Rattle.std.proofs.Common.{◌++◌, Option, Some, None, length, map, refl, sym, ◌∙◌, ap, subst, arith}
 use Rattle.std.specs.Prelude.{cond}
 use Rattle.std.proofs.lemmas.Bool.{cases_lt, eq-eqb, ne_eqb}
 use Rattle.ua_builtin.specs.declared.date_time.DateTime.{DateTime}
@@ -38,12 +39,14 @@ some_more true x xs some = omega arith
 some_more false x xs some = some
 
 -- of none behind the turn
-pub later_none : (lane : Lane) (s : State) (times : List DateTime) (issued id : ℕ) (os : List Outgoing) (k : ℕ) → id + length os ≤ k → told_of k (answers_told lane (answers_to s times issued id os)) ≡ []
+pub later_none : (lane : Lane) (s : State) (times : List DateTime) (issued id : ℕ) (os : List Outgoing) (k : ℕ) → id + length os ≤ k
+    → told_of k (answers_told lane (answers_to s times issued id os)) ≡ []
 later_none lane s times issued id [] k past = refl
 later_none lane s times issued id (CallWith body ∷ os) k past =
     let given : State × Response = answered s (first_of times) body in
     let reply : List ℕ = response.canonical given.1 in
-    skip k (told_reply (cut_refusal lane reply) id reply) (answers_told lane (answers_to given.0 (behind_first times) issued (id + 1) os)) (other_id (cut_refusal lane reply) id k reply (λ e. omega (arith, past, e)))
+    skip k (told_reply (cut_refusal lane reply) id reply) (answers_told lane (answers_to given.0 (behind_first times) issued (id + 1) os))
+    (other_id (cut_refusal lane reply) id k reply (λ e. omega (arith, past, e)))
     ∙ later_none lane given.0 (behind_first times) issued (id + 1) os k (omega (arith, past))
 later_none lane s times issued id (RenewalAt time ∷ os) k past = later_none lane s (behind_first times) (issued + 1) (id + 1) os k (omega (arith, past))
 
@@ -51,18 +54,22 @@ later_none lane s times issued id (RenewalAt time ∷ os) k past = later_none la
 pub each_told : (lane : Lane) (s : State) (times : List DateTime) (issued id : ℕ) (bodies : List (List ℕ)) (k : ℕ) → id ≤ k → k < id + length bodies
     → 0 < length (told_of k (answers_told lane (answers_to s times issued id (map CallWith bodies))))
 each_told lane s times issued id [] k from to = absurd (omega (arith, from, to))
-each_told lane s times issued id (body ∷ bodies) k from to = by (λ later. each_told lane given.0 (behind_first times) issued (id + 1) bodies k (omega (arith, later)) (omega (arith, to))) (cases_lt id k)
+each_told lane s times issued id (body ∷ bodies) k from to =
+    by (λ later. each_told lane given.0 (behind_first times) issued (id + 1) bodies k (omega (arith, later)) (omega (arith, to))) (cases_lt id k)
   where
     given : State × Response
     given = answered s (first_of times) body
 
-    by : (id < k → 0 < length (told_of k (answers_told lane (answers_to given.0 (behind_first times) issued (id + 1) (map CallWith bodies))))) → ((id < k) ⊎ (k ≤ id))
+    by : (id < k → 0 < length (told_of k (answers_told lane (answers_to given.0 (behind_first times) issued (id + 1) (map CallWith bodies)))))
+        → ((id < k) ⊎ (k ≤ id))
         → 0 < length (told_of k (answers_told lane (answers_to s times issued id (map CallWith (body ∷ bodies)))))
     by rest (inl later) =
-        some_more (is_told_of k (told_reply (cut_refusal lane (response.canonical given.1)) id (response.canonical given.1))) (told_reply (cut_refusal lane (response.canonical given.1)) id (response.canonical given.1))
+        some_more (is_told_of k (told_reply (cut_refusal lane (response.canonical given.1)) id (response.canonical given.1)))
+        (told_reply (cut_refusal lane (response.canonical given.1)) id (response.canonical given.1))
         (told_of k (answers_told lane (answers_to given.0 (behind_first times) issued (id + 1) (map CallWith bodies)))) (rest later)
     by rest (inr here) =
-        some_one k (told_reply (cut_refusal lane (response.canonical given.1)) id (response.canonical given.1)) (answers_told lane (answers_to given.0 (behind_first times) issued (id + 1) (map CallWith bodies)))
+        some_one k (told_reply (cut_refusal lane (response.canonical given.1)) id (response.canonical given.1))
+        (answers_told lane (answers_to given.0 (behind_first times) issued (id + 1) (map CallWith bodies)))
         (own_id (cut_refusal lane (response.canonical given.1)) id k (response.canonical given.1) (omega (arith, from, here)))
 
 -- nothing of a call before the last

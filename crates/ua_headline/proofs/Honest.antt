@@ -14,8 +14,11 @@ use Rattle.ua_headline.specs.Talk.{Ends, GotOf, IsPrefix, TookOf}
 
 -- what a list is found to start with is a prefix of it
 begun : (xs needle : List ℕ) → true ≡ pointwise nat_eq needle (take (length needle) xs) → IsPrefix needle xs
-begun xs needle h =
-    (drop (length needle) xs, sym (take-append-drop (length needle) xs) ∙ ap (λ (o : List ℕ). o ++ drop (length needle) xs) (sym (same_text needle (take (length needle) xs) h)))
+begun xs needle h = (
+  drop (length needle) xs,
+  sym (take-append-drop (length needle) xs)
+      ∙ ap (λ (o : List ℕ). o ++ drop (length needle) xs) (sym (same_text needle (take (length needle) xs) h)),
+)
 
 pub starts : (b : Bool) (xs needle : List ℕ) → b ≡ pointwise nat_eq needle (take (length needle) xs) → b ≡ true → IsPrefix needle xs
 starts b xs needle is holds = begun xs needle (sym holds ∙ is)
@@ -23,7 +26,8 @@ starts b xs needle is holds = begun xs needle (sym holds ∙ is)
 pub as_kept : (xs ys us vs : List ℕ) → xs ≡ us → ys ≡ vs → IsPrefix xs ys → IsPrefix us vs
 as_kept xs ys us vs p q h = (h.0, sym q ∙ (h.1 ∙ ap (λ (o : List ℕ). o ++ h.0) p))
 
-pub took_of : (e : Ends) (turns : List (List Outgoing)) (x : ServerChannel) (sent took : List ℕ) → IsPrefix took sent → AreSent e turns x sent → TookOf e turns x took
+pub took_of : (e : Ends) (turns : List (List Outgoing)) (x : ServerChannel) (sent took : List ℕ) → IsPrefix took sent → AreSent e turns x sent
+    → TookOf e turns x took
 took_of e turns x sent took p s = record {
   can = s.can;
   accepted = s.accepted;
@@ -34,7 +38,8 @@ took_of e turns x sent took p s = record {
   took_is = p;
 }
 
-pub got_of : (e : Ends) (turns : List (List Outgoing)) (x : ServerChannel) (y : ClientChannel) (sent took wrote got : List ℕ) (told : List Told) (asks : List Placed)
+pub got_of : (e : Ends) (turns : List (List Outgoing)) (x : ServerChannel) (y : ClientChannel) (sent took wrote got : List ℕ) (told : List Told)
+    (asks : List Placed)
     → IsPrefix took sent → IsPrefix got wrote → AreSent e turns x sent → Goes x took told → AreGiven e turns told y asks wrote → GotOf e turns x y asks got
 got_of e turns x y sent took wrote got told asks up down s goes g = record {
   took = took;

@@ -1,5 +1,6 @@
 -- That a server is told something at the last octet of what a client sends, so that it is not told of a request before all its octets came.
-use Rattle.std.proofs.Common.{◌≡◌, ℕ, pos, ◌+◌, ◌<◌, ◌≤◌, ◌^◌, leb, IsTrue, List, [], ◌∷◌, ◌++◌, Option, Some, None, length, refl, sym, subst, arith, append-nil, append_assoc}
+use Rattle.std.proofs.Common.{◌≡◌, ℕ, pos, ◌+◌, ◌<◌, ◌≤◌, ◌^◌, leb, IsTrue, List, [], ◌∷◌, ◌++◌, Option}
+use Rattle.std.proofs.Common.{Some, None, length, refl, sym, subst, arith, append-nil, append_assoc}
 use Rattle.std.specs.List.{AllByRecursion}
 use Rattle.std.proofs.lemmas.Bool.{leb-false}
 use Rattle.ua_builtin.specs.DateTime.{date_time}
@@ -43,12 +44,15 @@ use Rattle.ua_headline.proofs.Tells.{TellsLast, all_last, chunks_tell, frame_tel
 
 -- ---- a call
 
-module _ (limits : Limits) (channel : ℕ) (octets : List ℕ) (told : List Told) (at : AtServer) (r : ServerReads limits channel octets told at) (on : channel < 2 ^ 32) (id : ℕ) (few : id < 2 ^ 32) where
+module _ (limits : Limits) (channel : ℕ) (octets : List ℕ) (told : List Told) (at : AtServer) (r : ServerReads limits channel octets told at)
+    (on : channel < 2 ^ 32) (id : ℕ) (few : id < 2 ^ 32) where
   abbrev R : Rules Told ℕ
   R = server_rules limits channel
 
-  whole_tells : (before : List Frame) (f : Frame) (c : Chunk) → content f ≡ Sends c → c.flag ≡ F → 0 < length (server_tells limits (received before) (content f))
-  whole_tells before f c e flag = subst (λ (k : Content). 0 < length (server_tells limits (received before) k)) (sym e) (given_some (told_under c.token) c.flag (received before).messages c flag)
+  whole_tells : (before : List Frame) (f : Frame) (c : Chunk) → content f ≡ Sends c → c.flag ≡ F
+      → 0 < length (server_tells limits (received before) (content f))
+  whole_tells before f c e flag = subst (λ (k : Content). 0 < length (server_tells limits (received before) k)) (sym e)
+      (given_some (told_under c.token) c.flag (received before).messages c flag)
 
   module _ (lane : Lane) (to : IsLaneTo limits channel at lane) where
     numbered_of : (c : Chunk) → IsOf lane id c → IsNumbered c
@@ -64,7 +68,8 @@ module _ (limits : Limits) (channel : ℕ) (octets : List ℕ) (told : List Told
         let ps = some_pieces lane.room body w.some in
         let l = numbered_last lane at.next id ps.first ps.others in
         let are : AllByRecursion (IsOf lane id) (numbered lane at.next id (ps.first ∷ ps.others)) =
-        subst (λ (t : List (List ℕ)). AllByRecursion (IsOf lane id) (numbered lane at.next id t)) ps.are (chunks_are lane body at.next id r.next_small to.some w.some) in
+        subst (λ (t : List (List ℕ)). AllByRecursion (IsOf lane id) (numbered lane at.next id t)) ps.are
+        (chunks_are lane body at.next id r.next_small to.some w.some) in
         subst (λ (t : List (List ℕ)). TellsLast R (octets ++ chunks_octets (numbered lane at.next id t))) (sym ps.are)
         (chunks_tell R whole_tells octets r.frames r.run (numbered lane at.next id (ps.first ∷ ps.others)) l
         (numbered_of l.last (all_last (IsOf lane id) l.front l.last (subst (AllByRecursion (IsOf lane id)) l.parts are)))
@@ -72,13 +77,19 @@ module _ (limits : Limits) (channel : ℕ) (octets : List ℕ) (told : List Told
 
   -- ---- a renewal
 
-  renewal_tells : (moment : DateTime) → 0 < at.issued → at.issued < 4294967295 → IsTrue (date_time.encodable moment) → TellsLast R (octets ++ frame_octets (renewal_frame channel at.next id moment))
+  renewal_tells : (moment : DateTime) → 0 < at.issued → at.issued < 4294967295 → IsTrue (date_time.encodable moment)
+      → TellsLast R (octets ++ frame_octets (renewal_frame channel at.next id moment))
   renewal_tells moment some left fits =
       let q = reads_renewal limits channel octets told at id moment r some left on few fits in
-      frame_tells R octets r.frames q.frames told (Opened id 0 (at.issued + 1) 3600000) (renewal_frame channel at.next id moment) sized r.run r.told_is q.run q.told_is
+      frame_tells R octets r.frames q.frames told (Opened id 0 (at.issued + 1) 3600000) (renewal_frame channel at.next id moment) sized r.run r.told_is q.run
+      q.told_is
     where
       sized : IsSized (renewal_frame channel at.next id moment)
-      sized = omega (arith, opening_size channel at.next id ((message 446 open_request).canonical (open_request_of (pos 1) moment 0 token_lifetime)), open_request_length (pos 1) moment 0 token_lifetime)
+      sized = omega (
+        arith,
+        opening_size channel at.next id ((message 446 open_request).canonical (open_request_of (pos 1) moment 0 token_lifetime)),
+        open_request_length (pos 1) moment 0 token_lifetime,
+      )
 
 -- ---- all that is sent in a turn
 
@@ -108,8 +119,10 @@ module _ (server client : Limits) (url : Option (List ℕ)) (channel : ℕ) (on 
   abbrev S : Rules Told ℕ
   S = server_rules server channel
 
-  pub turn_tells : (octets : List ℕ) (told : List Told) (s : AtServer) (c : AtClient) (id : ℕ) (os : List Outgoing) → ServerReads server channel octets told s → AreInStep server client url channel s c → latest c.tokens ≡ Some c.newest
-      → AreSendable c.ack id os → issued_behind s.issued os < 2 ^ 32 → TellsLast (server_rules server channel) octets → TellsLast (server_rules server channel) (octets ++ outgoing_octets (Some (lane_from c)) s.next id os)
+  pub turn_tells : (octets : List ℕ) (told : List Told) (s : AtServer) (c : AtClient) (id : ℕ) (os : List Outgoing) → ServerReads server channel octets told s
+      → AreInStep server client url channel s c → latest c.tokens ≡ Some c.newest
+      → AreSendable c.ack id os → issued_behind s.issued os < 2 ^ 32 → TellsLast (server_rules server channel) octets
+      → TellsLast (server_rules server channel) (octets ++ outgoing_octets (Some (lane_from c)) s.next id os)
   turn_tells octets told s c id [] r t newest can few last = subst (TellsLast S) (sym (append-nil octets)) last
   turn_tells octets told s c id (CallWith body ∷ os) r t newest can few last =
       let lane : Lane = lane_from c in
@@ -118,7 +131,8 @@ module _ (server client : Limits) (url : Option (List ℕ)) (channel : ℕ) (on 
       let w = body_for server client url channel s c t body can.1.0 can.1.1 in
       subst (TellsLast S) (append_assoc octets chunks (outgoing_octets (Some lane) (with_message s lane body).next (id + 1) os))
       (turn_tells (octets ++ chunks) (told ++ Asked id lane.token body ∷ []) (with_message s lane body) (with_call c id) (id + 1) os
-      (reads_message server channel octets told s lane body id on (omega (arith, can.0)) r to w) (in_step_call server client url channel s c t body id newest) newest can.2 few
+      (reads_message server channel octets told s lane body id on (omega (arith, can.0)) r to w) (in_step_call server client url channel s c t body id newest)
+      newest can.2 few
       (call_tells server channel octets told s r on id (omega (arith, can.0)) lane to body w))
   turn_tells octets told s c id (RenewalAt moment ∷ os) r t newest can few last =
       let more : s.issued + 1 ≤ issued_behind (s.issued + 1) os = no_fewer (s.issued + 1) os in
@@ -126,21 +140,32 @@ module _ (server client : Limits) (url : Option (List ℕ)) (channel : ℕ) (on 
       let left : s.issued < 4294967295 = omega (arith, few, more) in
       let opn : List ℕ = frame_octets (renewal_frame c.channel s.next id moment) in
       let read =
-      subst (λ (k : ℕ). ServerReads server channel (octets ++ frame_octets (renewal_frame k s.next id moment)) (told ++ Opened id 0 (s.issued + 1) 3600000 ∷ []) (with_token s)) (sym t.channel_is)
+      subst (λ (k : ℕ). ServerReads server channel (octets ++ frame_octets (renewal_frame k s.next id moment)) (told ++ Opened id 0 (s.issued + 1) 3600000 ∷ [])
+      (with_token s)) (sym t.channel_is)
       (reads_renewal server channel octets told s id moment r some left on (omega (arith, can.0)) can.1) in
       let tells =
-      subst (λ (k : ℕ). TellsLast S (octets ++ frame_octets (renewal_frame k s.next id moment))) (sym t.channel_is) (renewal_tells server channel octets told s r on id (omega (arith, can.0)) moment some left can.1) in
+      subst (λ (k : ℕ). TellsLast S (octets ++ frame_octets (renewal_frame k s.next id moment))) (sym t.channel_is)
+      (renewal_tells server channel octets told s r on id (omega (arith, can.0)) moment some left can.1) in
       subst (TellsLast S) (append_assoc octets opn (outgoing_octets (Some (lane_from c)) (with_token s).next (id + 1) os))
-      (turn_tells (octets ++ opn) (told ++ Opened id 0 (s.issued + 1) 3600000 ∷ []) (with_token s) (with_renewal c id) (id + 1) os read (in_step_renewal server client url channel s c t id) newest can.2 few tells)
+      (turn_tells (octets ++ opn) (told ++ Opened id 0 (s.issued + 1) 3600000 ∷ []) (with_token s) (with_renewal c id) (id + 1) os read
+      (in_step_renewal server client url channel s c t id) newest can.2 few tells)
 
 -- ---- the opening
 
-pub opening_tells : (limits : Limits) (channel : ℕ) (client : Limits) (url : Option (List ℕ)) (moment : DateTime) → IsTrue (hello.encodable (hello_to client url)) → url_length url ≤ 4095 → IsTrue (date_time.encodable moment)
+pub opening_tells : (limits : Limits) (channel : ℕ) (client : Limits) (url : Option (List ℕ)) (moment : DateTime)
+    → IsTrue (hello.encodable (hello_to client url)) → url_length url ≤ 4095 → IsTrue (date_time.encodable moment)
     → TellsLast (server_rules limits channel) (frame_octets (hello_frame (hello_to client url)) ++ frame_octets (first_open moment))
 opening_tells limits channel client url moment fits short dated =
     let greeted = reads_hello limits channel client url fits short in
-    let opened = reads_first limits channel (frame_octets (hello_frame (hello_to client url))) (Agreed (agreement_of limits (hello_to client url)) ∷ []) (greeted_at (hello_to client url)) moment greeted refl refl dated in
-    frame_tells (server_rules limits channel) (frame_octets (hello_frame (hello_to client url))) greeted.frames opened.frames (Agreed (agreement_of limits (hello_to client url)) ∷ []) (Opened 1 0 1 3600000) (first_open moment) sized greeted.run greeted.told_is opened.run opened.told_is
+    let opened = reads_first limits channel (frame_octets (hello_frame (hello_to client url))) (Agreed (agreement_of limits (hello_to client url)) ∷ [])
+    (greeted_at (hello_to client url)) moment greeted refl refl dated in
+    frame_tells (server_rules limits channel) (frame_octets (hello_frame (hello_to client url))) greeted.frames opened.frames
+    (Agreed (agreement_of limits (hello_to client url)) ∷ []) (Opened 1 0 1 3600000) (first_open moment) sized greeted.run greeted.told_is opened.run
+    opened.told_is
   where
     sized : IsSized (first_open moment)
-    sized = omega (arith, opening_size 0 1 1 ((message 446 open_request).canonical (open_request_of (pos 0) moment 0 token_lifetime)), open_request_length (pos 0) moment 0 token_lifetime)
+    sized = omega (
+      arith,
+      opening_size 0 1 1 ((message 446 open_request).canonical (open_request_of (pos 0) moment 0 token_lifetime)),
+      open_request_length (pos 0) moment 0 token_lifetime,
+    )

@@ -21,6 +21,7 @@ meets {A = A} (x ∷ xs) (y ∷ ys) us vs e =
     let parts = same_next x y (xs ++ us) (ys ++ vs) e in
     by parts.0 (meets xs ys us vs parts.1)
   where
-    by : x ≡ y → (((more : List A) × (ys ≡ xs ++ more)) ⊎ ((more : List A) × (xs ≡ ys ++ more))) → ((more : List A) × (y ∷ ys ≡ (x ∷ xs) ++ more)) ⊎ ((more : List A) × (x ∷ xs ≡ (y ∷ ys) ++ more))
+    by : x ≡ y → (((more : List A) × (ys ≡ xs ++ more)) ⊎ ((more : List A) × (xs ≡ ys ++ more))) → ((more : List A) × (y ∷ ys ≡ (x ∷ xs) ++ more))
+        ⊎ ((more : List A) × (x ∷ xs ≡ (y ∷ ys) ++ more))
     by same (inl p) = inl (p.0, ap (λ z. z ∷ ys) (sym same) ∙ ap (λ zs. x ∷ zs) p.1)
     by same (inr p) = inr (p.0, ap (λ z. z ∷ xs) same ∙ ap (λ zs. y ∷ zs) p.1)

@@ -56,16 +56,20 @@ module _ (channel used token : ℕ) (g : Agreement) where
   back = lane_of channel used g
 
   pub said_turn : (s : State) (n : ℕ) (times : List DateTime) (issued id : ℕ) (os : List Outgoing) → AreUnder used token os
-      → said_of channel (course s n times (Some g)) (outgoing_told token issued id os) ≡ answers_octets (lane_of channel used g) n (answers_to s times issued id os)
+      → said_of channel (course s n times (Some g)) (outgoing_told token issued id os) ≡ answers_octets (lane_of channel used g) n
+      (answers_to s times issued id os)
   said_turn s n times issued id [] u = refl
   said_turn s n times issued id (CallWith body ∷ os) u =
       let given : State × Response = answered s (first_of times) body in
       let reply : List ℕ = response.canonical given.1 in
       ap
-      (λ (t : ℕ). (replied (lane_of channel t g) reply n id).0 ++ said_of channel (course given.0 (replied (lane_of channel t g) reply n id).1 (behind_first times) (Some g)) (outgoing_told token issued (id + 1) os)) (sym u.0)
+      (λ (t : ℕ). (replied (lane_of channel t g) reply n id).0
+      ++ said_of channel (course given.0 (replied (lane_of channel t g) reply n id).1 (behind_first times) (Some g))
+      (outgoing_told token issued (id + 1) os)) (sym u.0)
       ∙ ap (λ (o : List ℕ). (replied back reply n id).0 ++ o) (said_turn given.0 (replied back reply n id).1 (behind_first times) issued (id + 1) os u.1)
   said_turn s n times issued id (RenewalAt time ∷ os) u =
-      ap (λ (o : List ℕ). frame_octets (opened_frame channel n id 0 (issued + 1) token_lifetime (first_of times)) ++ o) (said_turn s (next_number n) (behind_first times) (issued + 1) (id + 1) os u)
+      ap (λ (o : List ℕ). frame_octets (opened_frame channel n id 0 (issued + 1) token_lifetime (first_of times)) ++ o)
+      (said_turn s (next_number n) (behind_first times) (issued + 1) (id + 1) os u)
 
   -- and how far it is then
   pub left_turn : (c : AtClient) (s : State) (times : List DateTime) (issued id : ℕ) (os : List Outgoing) → AreUnder used token os
@@ -75,7 +79,8 @@ module _ (channel used token : ℕ) (g : Agreement) where
   left_turn c s times issued id (CallWith body ∷ os) u =
       let given : State × Response = answered s (first_of times) body in
       let reply : List ℕ = response.canonical given.1 in
-      ap (λ (t : ℕ). course_after channel (course given.0 (replied (lane_of channel t g) reply c.next id).1 (behind_first times) (Some g)) (outgoing_told token issued (id + 1) os)) (sym u.0)
+      ap (λ (t : ℕ). course_after channel (course given.0 (replied (lane_of channel t g) reply c.next id).1 (behind_first times) (Some g))
+      (outgoing_told token issued (id + 1) os)) (sym u.0)
       ∙ left_turn (client_answered back c (ReplyTo id reply)) given.0 (behind_first times) issued (id + 1) os u.1
   left_turn c s times issued id (RenewalAt time ∷ os) u =
       left_turn (client_answered back c (TokenFor id 0 (issued + 1) token_lifetime (first_of times))) s (behind_first times) (issued + 1) (id + 1) os u

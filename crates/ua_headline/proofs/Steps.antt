@@ -43,7 +43,8 @@ use Rattle.ua_headline.proofs.Turning.{IsBetween, IsSaid, between_then, is_round
 
 -- both ends are connected between two turns: these octets were sent to the server and told it this; those were sent to the client, which asked so and
 -- was told that, of no call behind the last
-pub record AreHere (e : Ends) (at : BothEnds) (s : State) (times : List DateTime) (up : List ℕ) (ts : List Told) (asks : List Placed) (down : List ℕ) (hs : List ClientTold) : Type 0 where
+pub record AreHere (e : Ends) (at : BothEnds) (s : State) (times : List DateTime) (up : List ℕ) (ts : List Told) (asks : List Placed) (down : List ℕ)
+    (hs : List ClientTold) : Type 0 where
   pub connected : AreConnected e.server e.client e.url e.channel up ts asks down hs at
   pub between : IsBetween e at
   pub dated : AreDated times
@@ -59,10 +60,12 @@ next_asks asks place id os = omega (arith, next-append asks (asks_at place id os
 
 length_answers : (s : State) (times : List DateTime) (issued id : ℕ) (os : List Outgoing) → length (answers_to s times issued id os) ≡ length os
 length_answers s times issued id [] = refl
-length_answers s times issued id (CallWith body ∷ os) = omega (arith, length_answers (answered s (first_of times) body).0 (behind_first times) issued (id + 1) os)
+length_answers s times issued id (CallWith body ∷ os) =
+    omega (arith, length_answers (answered s (first_of times) body).0 (behind_first times) issued (id + 1) os)
 length_answers s times issued id (RenewalAt time ∷ os) = omega (arith, length_answers s (behind_first times) (issued + 1) (id + 1) os)
 
-module _ (e : Ends) (on : e.channel < 2 ^ 32) (at : BothEnds) (s : State) (times : List DateTime) (up : List ℕ) (ts : List Told) (asks : List Placed) (down : List ℕ) (hs : List ClientTold)
+module _ (e : Ends) (on : e.channel < 2 ^ 32) (at : BothEnds) (s : State) (times : List DateTime) (up : List ℕ) (ts : List Told) (asks : List Placed)
+    (down : List ℕ) (hs : List ClientTold)
     (h : AreHere e at s times up ts asks down hs) (os : List Outgoing) (writable : AreWritable os) (judged : outgoing_refusal at.client at.id os ≡ None) where
   abbrev sent : BothEnds
   sent = both_sent at os
@@ -76,8 +79,10 @@ module _ (e : Ends) (on : e.channel < 2 ^ 32) (at : BothEnds) (s : State) (times
   round : IsRound e.server e.channel at (turn e at s times os)
   round = is_round e at s times os h.between h.dated writable judged
 
-  server_then : ServerReads e.server e.channel (up ++ round_up at (turn e at s times os)) (ts ++ outgoing_told at.client.newest at.server.issued at.id os) sent.server × AreInStep e.server e.client e.url e.channel sent.server sent.client
-  server_then = reads_outgoing e.server e.client e.url e.channel on up ts at.server at.client at.id os h.connected.server_reads h.connected.in_step h.connected.client_reads.newest_is writable judged round.few
+  server_then : ServerReads e.server e.channel (up ++ round_up at (turn e at s times os)) (ts ++ outgoing_told at.client.newest at.server.issued at.id os)
+      sent.server × AreInStep e.server e.client e.url e.channel sent.server sent.client
+  server_then = reads_outgoing e.server e.client e.url e.channel on up ts at.server at.client at.id os h.connected.server_reads h.connected.in_step
+      h.connected.client_reads.newest_is writable judged round.few
 
   client_then : ClientReads e.client asks_then down hs sent.client
   client_then =
@@ -90,8 +95,10 @@ module _ (e : Ends) (on : e.channel < 2 ^ 32) (at : BothEnds) (s : State) (times
       (omega (arith, server_then.0.few_issued, server_then.1.taken.not_before, server_then.1.taken.issued))
 
   -- both are connected behind it
-  pub here_then : AreHere e (round_behind e.server e.channel at (turn e at s times os)) (left_by s times os).0 (left_by s times os).1 (up ++ round_up at (turn e at s times os)) (ts ++ outgoing_told at.client.newest at.server.issued at.id os)
-      (asks ++ asks_at (length down) at.id os) (down ++ round_down e.server e.channel at (turn e at s times os)) (hs ++ answers_told (answers_lane e.server e.channel at os) (answers_to s times at.server.issued at.id os))
+  pub here_then : AreHere e (round_behind e.server e.channel at (turn e at s times os)) (left_by s times os).0 (left_by s times os).1
+      (up ++ round_up at (turn e at s times os)) (ts ++ outgoing_told at.client.newest at.server.issued at.id os)
+      (asks ++ asks_at (length down) at.id os) (down ++ round_down e.server e.channel at (turn e at s times os))
+      (hs ++ answers_told (answers_lane e.server e.channel at os) (answers_to s times at.server.issued at.id os))
   here_then = record {
     connected = record {
       server_reads = server_then.0;
@@ -109,34 +116,44 @@ module _ (e : Ends) (on : e.channel < 2 ^ 32) (at : BothEnds) (s : State) (times
   }
 
   -- and the client is told something at the last octet of the answers
-  pub tells_then : 0 < length os → TellsLast (client_rules e.client (asks ++ asks_at (length down) at.id os)) (down ++ round_down e.server e.channel at (turn e at s times os))
-  tells_then some = answers_tell e.client asks_then (answers_lane e.server e.channel at os) down hs sent.client answers client_then back round.answered (omega (arith, some, length_answers s times at.server.issued at.id os))
+  pub tells_then : 0 < length os → TellsLast (client_rules e.client (asks ++ asks_at (length down) at.id os))
+      (down ++ round_down e.server e.channel at (turn e at s times os))
+  tells_then some = answers_tell e.client asks_then (answers_lane e.server e.channel at os) down hs sent.client answers client_then back round.answered
+      (omega (arith, some, length_answers s times at.server.issued at.id os))
 
 -- ---- a server that took a prefix of what was sent
 
 -- where it took all of these octets, it was told what they tell
-pub told_further : (x : ServerChannel) (took octets : List ℕ) (told ts : List Told) (at : AtServer) → Goes x took told → ServerReads (limits_of x) (channel_of x) octets ts at → IsPrefix octets took → IsPrefix ts told
+pub told_further : (x : ServerChannel) (took octets : List ℕ) (told ts : List Told) (at : AtServer) → Goes x took told
+    → ServerReads (limits_of x) (channel_of x) octets ts at → IsPrefix octets took → IsPrefix ts told
 told_further x took octets told ts at g r p =
     let R : Rules Told ℕ = rules_of x in
     let s = reading (behind R r.frames) p.0 in
     let run = run_further R octets p.0 r.frames s.frames [] s.rest s.end r.run s.run in
-    let same = unique R took g.frames (r.frames ++ s.frames) g.rest s.rest Going s.end g.stands.run (subst (λ (o : List ℕ). Run R o (r.frames ++ s.frames) s.rest s.end) (sym p.1) run) in (
+    let same = unique R took g.frames (r.frames ++ s.frames) g.rest s.rest Going s.end g.stands.run
+    (subst (λ (o : List ℕ). Run R o (r.frames ++ s.frames) s.rest s.end) (sym p.1) run) in (
       each_from R.tells r.frames s.frames,
-      sym g.told_is ∙ (ap (events R) same.frames ∙ (events_on R r.frames s.frames ∙ ap (λ (us : List Told). us ++ each_from R.tells r.frames s.frames) r.told_is)),
+      sym g.told_is
+          ∙ (ap (events R) same.frames ∙ (events_on R r.frames s.frames ∙ ap (λ (us : List Told). us ++ each_from R.tells r.frames s.frames) r.told_is)),
     )
 
 -- what it says of more that it is told begins with what it said before
 said_first : (e : Ends) (ts more : List Told) → IsPrefix (output_of e.channel e.first ts Going e.times) (output_of e.channel e.first (ts ++ more) Going e.times)
 said_first e ts more = (said_of e.channel (state_after e.channel e.first ts e.times) more ++ [], said-append e.channel e.first ts more Going e.times)
 
-module _ (e : Ends) (x : ServerChannel) (limits_are : limits_of x ≡ e.server) (channel_is : channel_of x ≡ e.channel) (took : List ℕ) (told : List Told) (g : Goes x took told) where
-  pub as_own : (octets : List ℕ) (ts : List Told) (s : AtServer) → ServerReads e.server e.channel octets ts s → ServerReads (limits_of x) (channel_of x) octets ts s
+module _ (e : Ends) (x : ServerChannel) (limits_are : limits_of x ≡ e.server) (channel_is : channel_of x ≡ e.channel) (took : List ℕ) (told : List Told)
+    (g : Goes x took told) where
+  pub as_own : (octets : List ℕ) (ts : List Told) (s : AtServer) → ServerReads e.server e.channel octets ts s
+      → ServerReads (limits_of x) (channel_of x) octets ts s
   as_own octets ts s r =
-      subst (λ (l : Limits). ServerReads l (channel_of x) octets ts s) (sym limits_are) (subst (λ (k : ℕ). ServerReads e.server k octets ts s) (sym channel_is) r)
+      subst (λ (l : Limits). ServerReads l (channel_of x) octets ts s) (sym limits_are)
+      (subst (λ (k : ℕ). ServerReads e.server k octets ts s) (sym channel_is) r)
 
   -- of two beginnings of what was sent one begins the other, and so of what is said of them
-  said_beside : (up down : List ℕ) (ts : List Told) (s : AtServer) → ServerReads e.server e.channel up ts s → output_of e.channel e.first ts Going e.times ≡ down
-      → (((more : List ℕ) × (up ≡ took ++ more)) ⊎ ((more : List ℕ) × (took ≡ up ++ more))) → IsPrefix (output_of e.channel e.first told Going e.times) down ⊎ IsPrefix down (output_of e.channel e.first told Going e.times)
+  said_beside : (up down : List ℕ) (ts : List Told) (s : AtServer) → ServerReads e.server e.channel up ts s
+      → output_of e.channel e.first ts Going e.times ≡ down
+      → (((more : List ℕ) × (up ≡ took ++ more)) ⊎ ((more : List ℕ) × (took ≡ up ++ more))) → IsPrefix (output_of e.channel e.first told Going e.times) down
+      ⊎ IsPrefix down (output_of e.channel e.first told Going e.times)
   said_beside up down ts s r is (inl m) =
       let p = server_begins x took m.0 told ts s g (subst (λ (o : List ℕ). ServerReads (limits_of x) (channel_of x) o ts s) m.1 (as_own up ts s r)) in
       let q = said_first e told p.0 in
@@ -147,14 +164,17 @@ module _ (e : Ends) (x : ServerChannel) (limits_are : limits_of x ≡ e.server) 
       inr (q.0, ap (λ (us : List Told). output_of e.channel e.first us Going e.times) p.1 ∙ (q.1 ∙ ap (λ (o : List ℕ). o ++ q.0) is))
 
   -- so what the client got of it and what is said of the first octets that were sent begin each other
-  pub got_beside : (all got up down : List ℕ) (ts : List Told) (s : AtServer) → IsPrefix took all → IsPrefix got (output_of e.channel e.first told Going e.times) → IsPrefix up all → ServerReads e.server e.channel up ts s
+  pub got_beside : (all got up down : List ℕ) (ts : List Told) (s : AtServer) → IsPrefix took all
+      → IsPrefix got (output_of e.channel e.first told Going e.times) → IsPrefix up all → ServerReads e.server e.channel up ts s
       → output_of e.channel e.first ts Going e.times ≡ down → ((more : List ℕ) × (down ≡ got ++ more)) ⊎ ((more : List ℕ) × (got ≡ down ++ more))
   got_beside all got up down ts s t w u r is = by (said_beside up down ts s r is (swap (meets up took u.0 t.0 (sym u.1 ∙ t.1))))
     where
-      swap : (((more : List ℕ) × (took ≡ up ++ more)) ⊎ ((more : List ℕ) × (up ≡ took ++ more))) → ((more : List ℕ) × (up ≡ took ++ more)) ⊎ ((more : List ℕ) × (took ≡ up ++ more))
+      swap : (((more : List ℕ) × (took ≡ up ++ more)) ⊎ ((more : List ℕ) × (up ≡ took ++ more))) → ((more : List ℕ) × (up ≡ took ++ more))
+          ⊎ ((more : List ℕ) × (took ≡ up ++ more))
       swap (inl m) = inr m
       swap (inr m) = inl m
 
-      by : IsPrefix (output_of e.channel e.first told Going e.times) down ⊎ IsPrefix down (output_of e.channel e.first told Going e.times) → ((more : List ℕ) × (down ≡ got ++ more)) ⊎ ((more : List ℕ) × (got ≡ down ++ more))
+      by : IsPrefix (output_of e.channel e.first told Going e.times) down ⊎ IsPrefix down (output_of e.channel e.first told Going e.times)
+          → ((more : List ℕ) × (down ≡ got ++ more)) ⊎ ((more : List ℕ) × (got ≡ down ++ more))
       by (inl m) = inl (w.0 ++ m.0, m.1 ∙ (ap (λ (o : List ℕ). o ++ m.0) w.1 ∙ append_assoc got w.0 m.0))
       by (inr m) = meets got down w.0 m.0 (sym w.1 ∙ m.1)

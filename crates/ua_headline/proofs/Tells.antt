@@ -1,5 +1,6 @@
 -- Octets that are whole frames, the last of which tells something; and that what was taken up to the last thing that is waited for is all that tells it.
-use Rattle.std.proofs.Common.{◌≡◌, ◌⊎◌, inl, inr, ℕ, ◌+◌, ◌<◌, ◌≤◌, ◌^◌, List, [], ◌∷◌, ◌++◌, length, map, refl, sym, ◌∙◌, ap, subst, arith, append-nil, append_assoc, length-append}
+use Rattle.std.proofs.Common.{◌≡◌, ◌⊎◌, inl, inr, ℕ, ◌+◌, ◌<◌, ◌≤◌, ◌^◌, List, [], ◌∷◌, ◌++◌, length, map}
+use Rattle.std.proofs.Common.{refl, sym, ◌∙◌, ap, subst, arith, append-nil, append_assoc, length-append}
 use Rattle.std.specs.List.{AllByRecursion}
 use Rattle.std.proofs.lemmas.List.{append_cancel_left, nil_from_length}
 use Rattle.ua_frame.specs.After.{AllAfter, AllFrom, each_from}
@@ -38,7 +39,12 @@ unfolding frames_octets
 frames_none = refl
 
 some_octets : (f : Frame) (fs : List Frame) → frames_octets [] ≡ frames_octets (f ∷ fs) → ⊥
-some_octets f fs e = omega (arith, ap length (sym frames_none ∙ (e ∙ frames_cons f fs)), length-append (frame_octets f) (frames_octets fs), length-frame_octets f)
+some_octets f fs e = omega (
+  arith,
+  ap length (sym frames_none ∙ (e ∙ frames_cons f fs)),
+  length-append (frame_octets f) (frames_octets fs),
+  length-frame_octets f,
+)
 
 same_list : (f g : Frame) (fs gs : List Frame) → f ≡ g → fs ≡ gs → f ∷ fs ≡ g ∷ gs
 same_list f g fs gs p q = cc
@@ -61,7 +67,8 @@ sized_behind R start [] gs h = all_sized R start gs h
 sized_behind R start (f ∷ fs) gs h = sized_behind R (start ++ f ∷ []) fs gs h.1
 
 -- where octets begin others, their frames are the first of those
-pub front_sized : (fs gs : List Frame) (rest : List ℕ) → AllByRecursion IsSized fs → AllByRecursion IsSized gs → frames_octets fs ++ rest ≡ frames_octets gs → (later : List Frame) × (gs ≡ fs ++ later)
+pub front_sized : (fs gs : List Frame) (rest : List ℕ) → AllByRecursion IsSized fs → AllByRecursion IsSized gs → frames_octets fs ++ rest ≡ frames_octets gs
+    → (later : List Frame) × (gs ≡ fs ++ later)
 front_sized [] gs rest p q e = (gs, refl)
 front_sized (f ∷ fs) [] rest p q e =
     absurd (omega (
@@ -79,7 +86,8 @@ front_sized (f ∷ fs) (g ∷ gs) rest p q e =
     (more.0, same_list g f gs (fs ++ more.0) (sym one.0) more.1)
 
 -- the frames of octets behind others
-frames_behind : {E X : Type 0} (R : Rules E X) (octets : List ℕ) (fs all gs : List Frame) → Run R octets fs [] Going → Run R (octets ++ frames_octets gs) all [] Going → AllByRecursion IsSized gs → all ≡ fs ++ gs
+frames_behind : {E X : Type 0} (R : Rules E X) (octets : List ℕ) (fs all gs : List Frame) → Run R octets fs [] Going
+    → Run R (octets ++ frames_octets gs) all [] Going → AllByRecursion IsSized gs → all ≡ fs ++ gs
 unfolding AllAfter
 frames_behind R octets fs all gs r s sized =
     let later = begins_run R octets (frames_octets gs) fs all [] Going r s in
@@ -107,10 +115,12 @@ abbrev pub TellsLast : {E X : Type 0} → Rules E X → List ℕ → Type 0
 TellsLast R octets = (frames : List Frame) → Run R octets frames [] Going → EndTelling R frames
 
 -- a frame at which something more was told
-pub frame_tells : {E X : Type 0} (R : Rules E X) (octets : List ℕ) (fs gs : List Frame) (told : List E) (t : E) (f : Frame) → IsSized f → Run R octets fs [] Going → events R fs ≡ told
+pub frame_tells : {E X : Type 0} (R : Rules E X) (octets : List ℕ) (fs gs : List Frame) (told : List E) (t : E) (f : Frame) → IsSized f
+    → Run R octets fs [] Going → events R fs ≡ told
     → Run R (octets ++ frame_octets f) gs [] Going → events R gs ≡ told ++ t ∷ [] → TellsLast R (octets ++ frame_octets f)
 frame_tells {E = E} R octets fs gs told t f sized r told_is s then_is frames run =
-    let parts : frames ≡ fs ++ f ∷ [] = frames_behind R octets fs frames (f ∷ []) r (subst (λ (o : List ℕ). Run R (octets ++ o) frames [] Going) (sym (one_octets f)) run) (sized, tt) in
+    let parts : frames ≡ fs ++ f ∷ [] =
+    frames_behind R octets fs frames (f ∷ []) r (subst (λ (o : List ℕ). Run R (octets ++ o) frames [] Going) (sym (one_octets f)) run) (sized, tt) in
     let same : gs ≡ frames = (unique R (octets ++ frame_octets f) gs frames [] [] Going Going s run).frames in
     let all : told ++ t ∷ [] ≡ told ++ R.tells fs f =
     sym then_is ∙ (ap (events R) (same ∙ parts) ∙ (events-push R fs f ∙ ap (λ (ts : List E). ts ++ R.tells fs f) told_is)) in
@@ -135,7 +145,8 @@ pub all_last : {A : Type 0} (P : A → Type 0) (xs : List A) (y : A) → AllByRe
 all_last P [] y h = h.0
 all_last P (x ∷ xs) y h = all_last P xs y h.1
 
-pub sized_chunks : (lane : Lane) (id size : ℕ) (cs : List Chunk) → 24 + lane.room ≤ size → size < 2 ^ 32 → AllByRecursion (IsOf lane id) cs → AllByRecursion IsSized (map frame_of cs)
+pub sized_chunks : (lane : Lane) (id size : ℕ) (cs : List Chunk) → 24 + lane.room ≤ size → size < 2 ^ 32 → AllByRecursion (IsOf lane id) cs
+    → AllByRecursion IsSized (map frame_of cs)
 sized_chunks lane id size [] fits small h = tt
 sized_chunks lane id size (c ∷ cs) fits small h = (omega (arith, chunk_size c, h.0.fits, fits, small), sized_chunks lane id size cs fits small h.1)
 
@@ -145,8 +156,10 @@ given_some tell C cs c is = absurd cc
 given_some tell A cs c is = absurd cc
 
 -- chunks of which the last tells something
-pub chunks_tell : {E X : Type 0} (R : Rules E X) → ((before : List Frame) (f : Frame) (c : Chunk) → content f ≡ Sends c → c.flag ≡ F → 0 < length (R.tells before f))
-    → (octets : List ℕ) (fs : List Frame) → Run R octets fs [] Going → (cs : List Chunk) (l : LastIsF cs) → IsNumbered l.last → AllByRecursion IsSized (map frame_of cs) → TellsLast R (octets ++ chunks_octets cs)
+pub chunks_tell : {E X : Type 0} (R : Rules E X)
+    → ((before : List Frame) (f : Frame) (c : Chunk) → content f ≡ Sends c → c.flag ≡ F → 0 < length (R.tells before f))
+    → (octets : List ℕ) (fs : List Frame) → Run R octets fs [] Going → (cs : List Chunk) (l : LastIsF cs) → IsNumbered l.last
+    → AllByRecursion IsSized (map frame_of cs) → TellsLast R (octets ++ chunks_octets cs)
 chunks_tell R whole octets fs r cs l small sized frames run = record {
   before = fs ++ map frame_of l.front;
   last = frame_of l.last;
@@ -167,7 +180,8 @@ pub record ComesLast {E X : Type 0} (R : Rules E X) (octets : List ℕ) (before 
   pub told_is : events R frames ≡ before
   pub tells : R.tells frames frame ≡ last ∷ []
 
-module _ {E X : Type 0} (R : Rules E X) (all : List ℕ) (gs : List Frame) (told : List E) (q : Run R all gs [] Going) (told_is : events R gs ≡ told) (ends : EndTelling R gs)
+module _ {E X : Type 0} (R : Rules E X) (all : List ℕ) (gs : List Frame) (told : List E) (q : Run R all gs [] Going) (told_is : events R gs ≡ told)
+    (ends : EndTelling R gs)
     (took : List ℕ) (before : List E) (last : E) (t : ComesLast R took before last)
     (missing : (later : List E) → before ≡ told ++ later → ⊥) (enough : (l : E) (later : List E) → told ≡ (before ++ last ∷ []) ++ (l ∷ later) → ⊥) where
   abbrev taken : List Frame
@@ -183,7 +197,8 @@ module _ {E X : Type 0} (R : Rules E X) (all : List ℕ) (gs : List Frame) (told
       let same = ap (λ (hs : List Frame). length (frames_octets hs)) (append-nil fs) in
       sym (append-nil octets)
       ∙ ap (λ (o : List ℕ). octets ++ o)
-      (sym (nil_from_length more (omega (arith, whole, other, same, length-append octets more, length-append (frames_octets fs) [], length-append (frames_octets (fs ++ [])) []))))
+      (sym (nil_from_length more
+      (omega (arith, whole, other, same, length-append octets more, length-append (frames_octets fs) [], length-append (frames_octets (fs ++ [])) []))))
 
   some_list : (xs ys : List E) → 0 < length ys → (l : E) × (later : List E) × (xs ++ ys ≡ l ∷ later)
   some_list [] [] some = absurd (omega (arith, some))
@@ -212,7 +227,9 @@ module _ {E X : Type 0} (R : Rules E X) (all : List ℕ) (gs : List Frame) (told
           ∙ (events-push R ends.before ends.last
           ∙ (ap (λ (fs : List Frame). events R fs ++ R.tells ends.before ends.last) middle.1
           ∙ (ap (λ (ts : List E). ts ++ R.tells ends.before ends.last) (events_on R taken middle.0)
-          ∙ (append_assoc (events R taken) extra (R.tells ends.before ends.last) ∙ (ap (λ (ts : List E). ts ++ (extra ++ R.tells ends.before ends.last)) taken_told ∙ ap (λ (ts : List E). (before ++ last ∷ []) ++ ts) some.2))))))))
+          ∙ (append_assoc (events R taken) extra (R.tells ends.before ends.last)
+          ∙ (ap (λ (ts : List E). ts ++ (extra ++ R.tells ends.before ends.last)) taken_told
+          ∙ ap (λ (ts : List E). (before ++ last ∷ []) ++ ts) some.2))))))))
 
   -- and no more where all of it is a front of what it took
   took_behind : (more : List ℕ) → took ≡ all ++ more → took ≡ all
@@ -228,7 +245,8 @@ module _ {E X : Type 0} (R : Rules E X) (all : List ℕ) (gs : List Frame) (told
       by [] e = is ∙ sym (same_octets all more gs q (subst (λ (fs : List Frame). Run R (all ++ more) fs [] Going) e run_on))
       by (h ∷ hs) e =
           let middle = split_last t.frames gs hs t.frame h e in
-          absurd (missing (each_from R.tells gs middle.0) (sym t.told_is ∙ (ap (events R) middle.1 ∙ (events_on R gs middle.0 ∙ ap (λ (ts : List E). ts ++ each_from R.tells gs middle.0) told_is))))
+          absurd (missing (each_from R.tells gs middle.0) (sym t.told_is
+          ∙ (ap (events R) middle.1 ∙ (events_on R gs middle.0 ∙ ap (λ (ts : List E). ts ++ each_from R.tells gs middle.0) told_is))))
 
   -- where both begin the same octets it took just that
   pub took_just : (((more : List ℕ) × (all ≡ took ++ more)) ⊎ ((more : List ℕ) × (took ≡ all ++ more))) → took ≡ all

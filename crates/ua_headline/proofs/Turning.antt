@@ -1,5 +1,6 @@
 -- That turns and the answers of a server to them are rounds, and what the server says of them.
-use Rattle.std.proofs.Common.{◌≡◌, ℕ, ◌+◌, ◌<◌, ◌≤◌, List, [], ◌∷◌, ◌++◌, Option, Some, None, length, refl, sym, ◌∙◌, ap, subst, arith, append-nil, append_assoc}
+use Rattle.std.proofs.Common.{◌≡◌, ℕ, ◌+◌, ◌<◌, ◌≤◌, List, [], ◌∷◌, ◌++◌, Option, Some, None}
+use Rattle.std.proofs.Common.{length, refl, sym, ◌∙◌, ap, subst, arith, append-nil, append_assoc}
 use Rattle.std.specs.List.{AllByRecursion}
 use Rattle.ua_builtin.specs.declared.date_time.DateTime.{DateTime}
 use Rattle.ua_frame.specs.Agreement.{ack_to}
@@ -21,7 +22,8 @@ use Rattle.ua_server.specs.Said.{Course, behind_first, course_after, first_of, o
 use Rattle.ua_server.specs.State.{State}
 use Rattle.ua_server.proofs.SaidInParts.{course, left-append, said-append}
 use Rattle.ua_headline.specs.Talk.{AreAccepted, Ends, answers_to, both_opened, left_by, opening_answer, rounds_from, state_from}
-use Rattle.ua_headline.proofs.Answered.{AreDated, CanAnswer, IsWaiting, brings, call_ids, calls_all, can_answer, dated_left, ids_left, issued_few, next_stays, one_renewal, renewal_ids, renewals_all, tokens_stay}
+use Rattle.ua_headline.proofs.Answered.{AreDated, CanAnswer, IsWaiting, brings, call_ids, calls_all, can_answer, dated_left}
+use Rattle.ua_headline.proofs.Answered.{ids_left, issued_few, next_stays, one_renewal, renewal_ids, renewals_all, tokens_stay}
 use Rattle.ua_headline.proofs.Served.{hello_stays, issued_there, left_turn, said_turn, under}
 
 -- ---- where both ends are between two turns
@@ -112,15 +114,18 @@ module _ (e : Ends) (at : BothEnds) (s : State) (times : List DateTime) (os : Li
     left_is : state_after e.channel e.first told e.times ≡ course s sent.client.next times (Some there)
     left_is =
         x.left
-        ∙ (ap (λ (n : ℕ). course s n times (Some (agreed e))) (sym (next_stays at.client at.id os)) ∙ ap (λ (o : Option Agreement). course s sent.client.next times o) agreement_is)
+        ∙ (ap (λ (n : ℕ). course s n times (Some (agreed e))) (sym (next_stays at.client at.id os))
+        ∙ ap (λ (o : Option Agreement). course s sent.client.next times o) agreement_is)
 
-    pub said_then : IsSaid e (round_behind e.server e.channel at turn) (told ++ more) (left_by s times os).0 (left_by s times os).1 (down ++ round_down e.server e.channel at turn)
+    pub said_then : IsSaid e (round_behind e.server e.channel at turn) (told ++ more) (left_by s times os).0 (left_by s times os).1
+        (down ++ round_down e.server e.channel at turn)
     said_then = record {
       left =
           left-append e.channel e.first told more e.times
           ∙ (ap (λ (k : Course). course_after e.channel k more) left_is
           ∙ (left_turn e.channel sent.server.used lane.token there sent.client s times at.server.issued at.id os (under lane at.server os)
-          ∙ ap (λ (o : Option Agreement). course (left_by s times os).0 (round_behind e.server e.channel at turn).client.next (left_by s times os).1 o) (sym agreement_is)));
+          ∙ ap (λ (o : Option Agreement). course (left_by s times os).0 (round_behind e.server e.channel at turn).client.next (left_by s times os).1 o)
+          (sym agreement_is)));
       said =
           said-append e.channel e.first told more Going e.times
           ∙ (ap (λ (o : List ℕ). o ++ (said_of e.channel (state_after e.channel e.first told e.times) more ++ [])) x.said
@@ -138,17 +143,21 @@ pub record AreSaid (e : Ends) (told : List Told) (s : State) (down : List ℕ) :
   pub said : output_of e.channel e.first told Going e.times ≡ down
 
 module _ (e : Ends) where
-  pub are_rounds : (at : BothEnds) (s : State) (times : List DateTime) (turns : List (List Outgoing)) → IsBetween e at → AreDated times → AreAccepted e at (rounds_from e at s times turns)
+  pub are_rounds : (at : BothEnds) (s : State) (times : List DateTime) (turns : List (List Outgoing)) → IsBetween e at → AreDated times
+      → AreAccepted e at (rounds_from e at s times turns)
       → AreRounds e.server e.channel at (rounds_from e at s times turns)
   are_rounds at s times [] b d h = tt
   are_rounds at s times (os ∷ turns) b d h = (
     is_round e at s times os b d h.0.0 h.0.1,
-    are_rounds (round_behind e.server e.channel at (turn e at s times os)) (left_by s times os).0 (left_by s times os).1 turns (between_then e at s times os b d h.0.0 h.0.1) (dated_left s times os d) h.1,
+    are_rounds (round_behind e.server e.channel at (turn e at s times os)) (left_by s times os).0 (left_by s times os).1 turns
+        (between_then e at s times os b d h.0.0 h.0.1) (dated_left s times os d) h.1,
   )
 
-  pub are_said : (at : BothEnds) (s : State) (times : List DateTime) (turns : List (List Outgoing)) (told : List Told) (down : List ℕ) → IsBetween e at → AreDated times → AreAccepted e at (rounds_from e at s times turns)
+  pub are_said : (at : BothEnds) (s : State) (times : List DateTime) (turns : List (List Outgoing)) (told : List Told) (down : List ℕ) → IsBetween e at
+      → AreDated times → AreAccepted e at (rounds_from e at s times turns)
       → IsSaid e at told s times down
-      → AreSaid e (told ++ rounds_told e.server e.channel at (rounds_from e at s times turns)) (state_from s times turns) (down ++ rounds_down e.server e.channel at (rounds_from e at s times turns))
+      → AreSaid e (told ++ rounds_told e.server e.channel at (rounds_from e at s times turns)) (state_from s times turns)
+      (down ++ rounds_down e.server e.channel at (rounds_from e at s times turns))
   are_said at s times [] told down b d h x =
       subst (λ (t : List Told). AreSaid e t s (down ++ [])) (sym (append-nil told))
       (subst (λ (o : List ℕ). AreSaid e told s o) (sym (append-nil down)) (record { state = ap (λ (k : Course). k.state) x.left; said = x.said }))
@@ -158,10 +167,13 @@ module _ (e : Ends) where
       let out : List ℕ = round_down e.server e.channel at (turn e at s times os) in
       let left : State × List DateTime = left_by s times os in
       let rest =
-      are_said now left.0 left.1 turns (told ++ more) (down ++ out) (between_then e at s times os b d h.0.0 h.0.1) (dated_left s times os d) h.1 (said_then e at s times os b told down x) in
-      subst (λ (t : List Told). AreSaid e t (state_from left.0 left.1 turns) (down ++ (out ++ rounds_down e.server e.channel now (rounds_from e now left.0 left.1 turns))))
+      are_said now left.0 left.1 turns (told ++ more) (down ++ out) (between_then e at s times os b d h.0.0 h.0.1) (dated_left s times os d) h.1
+      (said_then e at s times os b told down x) in
+      subst (λ (t : List Told).
+      AreSaid e t (state_from left.0 left.1 turns) (down ++ (out ++ rounds_down e.server e.channel now (rounds_from e now left.0 left.1 turns))))
       (append_assoc told more (rounds_told e.server e.channel now (rounds_from e now left.0 left.1 turns)))
-      (subst (λ (o : List ℕ). AreSaid e ((told ++ more) ++ rounds_told e.server e.channel now (rounds_from e now left.0 left.1 turns)) (state_from left.0 left.1 turns) o)
+      (subst (λ (o : List ℕ). AreSaid e ((told ++ more) ++ rounds_told e.server e.channel now (rounds_from e now left.0 left.1 turns))
+      (state_from left.0 left.1 turns) o)
       (append_assoc down out (rounds_down e.server e.channel now (rounds_from e now left.0 left.1 turns))) rest)
 
   -- ---- the opening

@@ -4,10 +4,12 @@
 ghost use Rattle.std.specs.Prelude.{◌≡◌, ◌↔◌, ◌≤◌, ℕ, List, map, Option};
 ghost use Rattle.ua_frame.specs.declared.frame.Frame.{Frame};
 ghost use Rattle.ua_channel.specs.Asks.{Placed};
-ghost use Rattle.ua_channel.specs.Client.{ClientEnded, ClientGoes, ClientStands, client_bound_behind, client_limits, held_octets};
+ghost use Rattle.ua_channel.specs.Client.{ClientEnded, ClientGoes, ClientStands};
+ghost use Rattle.ua_channel.specs.Client.{client_bound_behind, client_limits, held_octets};
 ghost use Rattle.ua_channel.specs.ClientTold.{ClientTold, Why};
 ghost use Rattle.ua_channel.specs.Received.{received};
-ghost use Rattle.ua_channel.specs.ServerStands.{ChannelStands, ClosedAt, Goes, RefusedAt, bound_after, held_after, limits_of};
+ghost use Rattle.ua_channel.specs.ServerStands.{ChannelStands, ClosedAt, Goes, RefusedAt};
+ghost use Rattle.ua_channel.specs.ServerStands.{bound_after, held_after, limits_of};
 ghost use Rattle.ua_channel.specs.ServerTold.{Told};
 ghost use Rattle.ua_channel_laws.specs.Outgoing.{Outgoing};
 ghost use Rattle.ua_server.specs.Served.{channel_in};
@@ -15,7 +17,8 @@ ghost use Rattle.ua_server.specs.State.{State};
 ghost use Rattle.ua_server.specs.Stepping.{ServerStands};
 ghost use Rattle.ua_headline.specs.Clients.{Deed, IsLinked, turn_of, turns_of};
 ghost use Rattle.ua_headline.specs.Example.{example_ends, example_told, example_turns};
-ghost use Rattle.ua_headline.specs.Talk.{AreAccepted, AreFirstOf, CanOpen, Ends, GotOf, IsPrefix, TookOf, both_opened, heard_in, rounds_in, sent_in, state_in, told_in};
+ghost use Rattle.ua_headline.specs.Talk.{AreAccepted, AreFirstOf, CanOpen, Ends, GotOf, IsPrefix, TookOf};
+ghost use Rattle.ua_headline.specs.Talk.{both_opened, heard_in, rounds_in, sent_in, state_in, told_in};
 
 use ua_channel::ClientChannel;
 use ua_channel_laws::asking_laws::client_asks_earlier;

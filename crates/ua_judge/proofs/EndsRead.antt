@@ -28,7 +28,8 @@ ends_more octets rest frame more place start new e parts raw is = record {
   ends = e.ends ++ (length octets - length more) ∷ [];
   read = read_more end_alone octets rest frame more e.ends _ e.read parts raw refl;
   start_is =
-      is ∙ (ap (λ (s : ℕ). cond (nat_lt (length octets - length more) place) (length octets - length more) s) e.start_is ∙ sym (last_more place 0 e.ends (length octets - length more)));
+      is ∙ (ap (λ (s : ℕ). cond (nat_lt (length octets - length more) place) (length octets - length more) s) e.start_is
+      ∙ sym (last_more place 0 e.ends (length octets - length more)));
 }
 
 pub ends_all : (octets rest : List ℕ) (place start : ℕ) → EndsTo octets rest place start → IsRest rest → StartsAt octets place start

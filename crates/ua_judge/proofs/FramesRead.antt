@@ -1,5 +1,6 @@
 -- Going over the frames of bytes, one after the other.
-use Rattle.std.proofs.Common.{◌≡◌, ℕ, ◌+◌, ◌-◌, ◌≤◌, List, [], ◌∷◌, ◌++◌, length, take, drop, refl, sym, ◌∙◌, ap, subst, arith, append_assoc, append-nil, length-append, take-append-drop}
+use Rattle.std.proofs.Common.{◌≡◌, ℕ, ◌+◌, ◌-◌, ◌≤◌, List, [], ◌∷◌, ◌++◌, length, take, drop, refl, sym, ◌∙◌}
+use Rattle.std.proofs.Common.{ap, subst, arith, append_assoc, append-nil, length-append, take-append-drop}
 use Rattle.std.specs.List.{AllByRecursion}
 use Rattle.std.proofs.lemmas.List.{length-take-le}
 use Rattle.ua_frame.specs.Frames.{IsRawFrame, IsRest, Frames, joined, size_of}
@@ -63,24 +64,32 @@ read_none give octets out none = record { frames = []; whole = sym (joined-nil o
 pub read_more : {A : Type 0} (give : ℕ → List ℕ → List A) (octets rest frame more : List ℕ) (out new : List A) → ReadTo give octets rest out
     → rest ≡ frame ++ more → IsRawFrame frame → new ≡ out ++ give (length octets - length more) frame → ReadTo give octets more new
 read_more {A = A} give octets rest frame more out new r parts raw added =
-    let whole : octets ≡ joined (r.frames ++ frame ∷ []) ++ more = r.whole ∙ (ap (λ (t : List ℕ). joined r.frames ++ t) parts ∙ sym (joined_more r.frames frame more)) in
+    let whole : octets ≡ joined (r.frames ++ frame ∷ []) ++ more = r.whole
+    ∙ (ap (λ (t : List ℕ). joined r.frames ++ t) parts ∙ sym (joined_more r.frames frame more)) in
     let split : octets ≡ joined r.frames ++ (frame ++ more) = r.whole ∙ ap (λ (t : List ℕ). joined r.frames ++ t) parts in
-    let place : length octets - length more ≡ 0 + length (joined r.frames) + length frame = omega (arith, ap length split, length-append (joined r.frames) (frame ++ more), length-append frame more) in
+    let place : length octets - length more ≡ 0 + length (joined r.frames) + length frame =
+    omega (arith, ap length split, length-append (joined r.frames) (frame ++ more), length-append frame more) in
     record {
       frames = r.frames ++ frame ∷ [];
       whole = whole;
       each = all_more IsRawFrame r.frames frame r.each raw;
-      out_is = added ∙ (ap (λ (n : ℕ). out ++ give n frame) place ∙ (ap (λ (t : List A). t ++ give (0 + length (joined r.frames) + length frame) frame) r.out_is ∙ sym (each_more give 0 r.frames frame)));
+      out_is = added
+          ∙ (ap (λ (n : ℕ). out ++ give n frame) place ∙ (ap (λ (t : List A). t ++ give (0 + length (joined r.frames) + length frame) frame) r.out_is
+          ∙ sym (each_more give 0 r.frames frame)));
     }
 
-pub read_all : {A : Type 0} (give : ℕ → List ℕ → List A) (octets rest : List ℕ) (out : List A) (r : ReadTo give octets rest out) → IsRest rest → Frames octets r.frames rest
+pub read_all : {A : Type 0} (give : ℕ → List ℕ → List A) (octets rest : List ℕ) (out : List A) (r : ReadTo give octets rest out) → IsRest rest
+    → Frames octets r.frames rest
 read_all give octets rest out r partial = record { whole = r.whole; each = r.each; partial = partial }
 
-pub read_shorter : {A : Type 0} (give : ℕ → List ℕ → List A) (octets rest frame more : List ℕ) (out : List A) → ReadTo give octets rest out → rest ≡ frame ++ more → length more ≤ length octets
-read_shorter give octets rest frame more out r parts = omega (arith, ap length r.whole, length-append (joined r.frames) rest, ap length parts, length-append frame more)
+pub read_shorter : {A : Type 0} (give : ℕ → List ℕ → List A) (octets rest frame more : List ℕ) (out : List A) → ReadTo give octets rest out
+    → rest ≡ frame ++ more → length more ≤ length octets
+read_shorter give octets rest frame more out r parts =
+    omega (arith, ap length r.whole, length-append (joined r.frames) rest, ap length parts, length-append frame more)
 
 -- a raw frame and what follows it, by the size in the header
-pub split_raw : (o front back : List ℕ) (n : ℕ) → n ≡ size_of o → front ≡ take n o → back ≡ drop n o → 8 ≤ n → n ≤ length o → (o ≡ front ++ back) × IsRawFrame front
+pub split_raw : (o front back : List ℕ) (n : ℕ) → n ≡ size_of o → front ≡ take n o → back ≡ drop n o → 8 ≤ n → n ≤ length o
+    → (o ≡ front ++ back) × IsRawFrame front
 split_raw o front back n is f b least enough =
     let raw : IsRawFrame (take (size_of o) o) = raw_front o (omega (arith, is)) (omega (arith, is)) in
     let same : take (size_of o) o ≡ front = ap (λ (k : ℕ). take k o) (sym is) ∙ sym f in

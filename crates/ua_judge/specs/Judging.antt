@@ -34,7 +34,8 @@ TakesUpTo limits asks octets place at new None = (min place (length octets) ≤ 
 TakesUpTo limits asks octets place at new (Some verdict) = IsVerdictOn limits asks octets verdict
 
 -- the bytes up to here were taken and the request was sent, or there is a verdict
-pub record GoesOn (limits : Limits) (asks : List Placed) (request : Named) (octets : List ℕ) (at : ℕ) (new : ClientChannel) (found : Option Verdict) : Type 0 where
+pub record GoesOn (limits : Limits) (asks : List Placed) (request : Named) (octets : List ℕ) (at : ℕ) (new : ClientChannel) (found : Option Verdict) : Type
+    0 where
   pub goes : found ≡ None → Follows new (asks ++ (request.place, asking request.opens (next_id (asked_in asks))) ∷ []) (take at octets)
   pub decides : (verdict : Verdict) → found ≡ Some verdict → IsVerdictOn limits asks octets verdict
 
@@ -50,7 +51,8 @@ verdict_at end other = None
 
 -- some bytes of a fragment were taken after these, with an event that ends the channel or does not
 abbrev pub TakesSome : ℕ → ClientEvent → Limits → ClientChannel → List Placed → List ℕ → List ℕ → Type 0
-TakesSome n (event.Failed code peer) limits new asks piece octets = EndWrong (client_rules limits asks) (octets ++ take n piece) (record { code = code.code; peer = peer })
+TakesSome n (event.Failed code peer) limits new asks piece octets = EndWrong (client_rules limits asks) (octets ++ take n piece)
+    (record { code = code.code; peer = peer })
 TakesSome n other limits new asks piece octets = Follows new asks (octets ++ take n piece)
 
 -- ---- of a client
@@ -71,7 +73,8 @@ IsOutcome end (Ok e) found = found ≡ closed_at end e
 IsOutcome end (Err why) found = IsRefusal end why found
 
 -- bytes were taken of a fragment after these, with this answer
-pub record Advances (limits : Limits) (channel : ℕ) (new : ServerChannel) (piece octets : List ℕ) (n : ℕ) (answer : Result ServerEvent ChannelFault) : Type 0 where
+pub record Advances (limits : Limits) (channel : ℕ) (new : ServerChannel) (piece octets : List ℕ) (n : ℕ) (answer : Result ServerEvent ChannelFault) : Type
+    0 where
   pub limits_are : limits_of new ≡ limits
   pub channel_is : channel_of new ≡ channel
   pub id : ℕ

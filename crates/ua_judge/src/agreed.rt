@@ -3,7 +3,8 @@
 ghost use Rattle.std.specs.Prelude.{◌≡◌, ◌≤◌, None, Some, length, option_map, IfOk, IfSome, MatchOption};
 ghost use Rattle.ua_frame.specs.Messages.{ack, hello};
 ghost use Rattle.ua_frame.specs.Whole.{whole_of};
-ghost use Rattle.ua_judge.specs.Agreed.{IsFirst, ack_of, hello_of, HasAck, HasHello, AckLimits, HelloLimits, AreServerLimits, AreClientLimits};
+ghost use Rattle.ua_judge.specs.Agreed.{IsFirst, ack_of, hello_of, HasAck, HasHello, AckLimits};
+ghost use Rattle.ua_judge.specs.Agreed.{HelloLimits, AreServerLimits, AreClientLimits};
 
 use crate::limits::limits_with;
 use crate::raw_frame::{kind_of, split_frame};

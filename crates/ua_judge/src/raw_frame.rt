@@ -60,7 +60,8 @@ pub fn kind_of(frame: &[u8]) -> Option<Kind>
 
 /// The bytes after the security header of an OPN.
 fn split_policy(body: &[u8]) -> Option<&[u8]>
-    ensures { MatchOption result (rest_of (policy_header.decode body.now) ≡ None) (λ r. rest_of (policy_header.decode body.now) ≡ Some r.now) }
+    ensures { MatchOption result (rest_of (policy_header.decode body.now) ≡ None)
+        (λ r. rest_of (policy_header.decode body.now) ≡ Some r.now) }
 {
     let (_, rest) = split_number(body)?;
     let (_, rest) = split_counted(rest)?;

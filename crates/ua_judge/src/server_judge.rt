@@ -1,6 +1,7 @@
 //! A server, judged as a client would.
 
-ghost use Rattle.std.specs.Prelude.{◌≡◌, ◌<◌, ◌≤◌, ◌-◌, ◌++◌, ◌∷◌, [], ℕ, List, None, Some, length, take, drop, min, is_some, IfOk, MatchResult};
+ghost use Rattle.std.specs.Prelude.{◌≡◌, ◌<◌, ◌≤◌, ◌-◌, ◌++◌, ◌∷◌, [], ℕ, List, None, Some};
+ghost use Rattle.std.specs.Prelude.{length, take, drop, min, is_some, IfOk, MatchResult};
 ghost use Rattle.ua_channel.specs.Asks.{Placed, asked_in, next_id};
 ghost use Rattle.ua_channel.specs.Asks.Asking.{Call, Renewal};
 ghost use Rattle.ua_channel.specs.Client.{client_limits};
@@ -19,7 +20,8 @@ use ua_frame::Limits;
 /// Sends a renewal.
 fn renew(client: &mut ClientChannel) -> Result<(), AskFault>
     ensures asks { (asks : List Placed) (octets : List ℕ) → Follows client.old asks octets
-        → MatchResult result (λ _. Follows client.new (asks ++ (length octets, Renewal (next_id (asked_in asks))) ∷ []) octets) (λ _. Follows client.new asks octets) }
+        → MatchResult result (λ _. Follows client.new (asks ++ (length octets, Renewal (next_id (asked_in asks))) ∷ [])
+        octets) (λ _. Follows client.new asks octets) }
     ensures limits { client_limits client.new ≡ client_limits client.old }
 {
     let asked = client.renew(DateTime { ticks: 0 })?;
@@ -30,7 +32,8 @@ fn renew(client: &mut ClientChannel) -> Result<(), AskFault>
 /// Sends a call, with a body that does not matter.
 fn call(client: &mut ClientChannel) -> Result<(), AskFault>
     ensures asks { (asks : List Placed) (octets : List ℕ) → Follows client.old asks octets
-        → MatchResult result (λ _. Follows client.new (asks ++ (length octets, Call (next_id (asked_in asks))) ∷ []) octets) (λ _. Follows client.new asks octets) }
+        → MatchResult result (λ _. Follows client.new (asks ++ (length octets, Call (next_id (asked_in asks))) ∷ [])
+        octets) (λ _. Follows client.new asks octets) }
     ensures limits { client_limits client.new ≡ client_limits client.old }
 {
     let asked = client.ask(&[0])?;
@@ -41,7 +44,9 @@ fn call(client: &mut ClientChannel) -> Result<(), AskFault>
 /// Sends the next request of the recorded client.
 fn ask(client: &mut ClientChannel, opens: bool) -> Result<(), AskFault>
     ensures asks { (asks : List Placed) (octets : List ℕ) → Follows client.old asks octets
-        → MatchResult result (λ _. Follows client.new (asks ++ (length octets, asking opens (next_id (asked_in asks))) ∷ []) octets) (λ _. Follows client.new asks octets) }
+        → MatchResult result
+        (λ _. Follows client.new (asks ++ (length octets, asking opens (next_id (asked_in asks))) ∷ []) octets)
+        (λ _. Follows client.new asks octets) }
     ensures limits { client_limits client.new ≡ client_limits client.old }
 {
     if opens {
@@ -140,7 +145,9 @@ fn take_to(
 /// Sends a request of the recorded client where the bytes that were taken end at its place.
 fn send(client: &mut ClientChannel, request: &Named, at: usize) -> Result<(), AskFault>
     ensures asks { (asks : List Placed) (octets : List ℕ) → length octets ≡ at → Follows client.old asks octets
-        → MatchResult result (λ _. Follows client.new (asks ++ (request.now.place, asking request.now.opens (next_id (asked_in asks))) ∷ []) octets) (λ _. Follows client.new asks octets) }
+        → MatchResult result
+        (λ _. Follows client.new (asks ++ (request.now.place, asking request.now.opens (next_id (asked_in asks)))
+        ∷ []) octets) (λ _. Follows client.new asks octets) }
     ensures limits { client_limits client.new ≡ client_limits client.old }
 {
     if request.place == at {

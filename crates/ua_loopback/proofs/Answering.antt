@@ -1,5 +1,6 @@
 -- That a client reads what a server answers to its requests.
-use Rattle.std.proofs.Common.{◌≡◌, ◌⊎◌, inl, inr, ℕ, zero, suc, ◌+◌, ◌<◌, ◌≤◌, ◌^◌, Bool, true, false, not, ◌||◌, ◌&&◌, eqb, List, [], ◌∷◌, ◌++◌, Option, Some, None, length, refl, sym, ◌∙◌, ap, subst, arith, append-nil, append_assoc}
+use Rattle.std.proofs.Common.{◌≡◌, ◌⊎◌, inl, inr, ℕ, zero, suc, ◌+◌, ◌<◌, ◌≤◌, ◌^◌, Bool, true, false, not, ◌||◌, ◌&&◌, eqb, List}
+use Rattle.std.proofs.Common.{[], ◌∷◌, ◌++◌, Option, Some, None, length, refl, sym, ◌∙◌, ap, subst, arith, append-nil, append_assoc}
 use Rattle.std.specs.Prelude.{cond, if◌then◌else◌}
 use Rattle.std.specs.List.{AllByRecursion}
 use Rattle.std.proofs.lemmas.Bool.{cases_lt, eq-eqb, eqb-true, ne_eqb}
@@ -44,15 +45,18 @@ abbrev pub with_calls : AtClient → ℕ → List (List ℕ) → AtClient
 with_calls c id [] = c
 with_calls c id (body ∷ bodies) = with_calls (with_call c id) (id + 1) bodies
 
-pub calls_asked : (limits : Limits) (asks : List Placed) (octets : List ℕ) (told : List Heard) (c : AtClient) → ClientReads limits asks octets told c → (bodies : List (List ℕ))
+pub calls_asked : (limits : Limits) (asks : List Placed) (octets : List ℕ) (told : List Heard) (c : AtClient) → ClientReads limits asks octets told c
+    → (bodies : List (List ℕ))
     → ClientReads limits (asks ++ calls_at (length octets) (next_id (asked_in asks)) bodies) octets told (with_calls c (next_id (asked_in asks)) bodies)
 calls_asked limits asks octets told c r [] = subst (λ (a : List Placed). ClientReads limits a octets told c) (sym (append-nil asks)) r
 calls_asked limits asks octets told c r (body ∷ bodies) =
     let id : ℕ = next_id (asked_in asks) in
     let one : List Placed = asks ++ (length octets, Call id) ∷ [] in
     let others : List Placed = calls_at (length octets) (id + 1) bodies in
-    subst (λ (a : List Placed). ClientReads limits a octets told (with_calls (with_call c id) (id + 1) bodies)) (append_assoc asks ((length octets, Call id) ∷ []) others)
-    (subst (λ (n : ℕ). ClientReads limits (one ++ calls_at (length octets) n bodies) octets told (with_calls (with_call c id) n bodies)) (next-calls asks (length octets) id (body ∷ []))
+    subst (λ (a : List Placed). ClientReads limits a octets told (with_calls (with_call c id) (id + 1) bodies))
+    (append_assoc asks ((length octets, Call id) ∷ []) others)
+    (subst (λ (n : ℕ). ClientReads limits (one ++ calls_at (length octets) n bodies) octets told (with_calls (with_call c id) n bodies))
+    (next-calls asks (length octets) id (body ∷ []))
     (calls_asked limits one octets told (with_call c id) (reads_call limits asks octets told c r) bodies))
 
 or_true : (b : Bool) → (b || true) ≡ true
@@ -71,12 +75,14 @@ pub waits : (c : AtClient) (id : ℕ) (bodies : List (List ℕ)) (k : ℕ) → i
 waits c id [] k from to = absurd (omega (arith, from, to))
 waits c id (body ∷ bodies) k from to = by (λ later. waits (with_call c id) (id + 1) bodies k (omega (arith, later)) (omega (arith, to))) (cases_lt id k)
   where
-    by : (id < k → is_in k (with_calls (with_call c id) (id + 1) bodies).pending ≡ true) → ((id < k) ⊎ (k ≤ id)) → is_in k (with_calls (with_call c id) (id + 1) bodies).pending ≡ true
+    by : (id < k → is_in k (with_calls (with_call c id) (id + 1) bodies).pending ≡ true) → ((id < k) ⊎ (k ≤ id))
+        → is_in k (with_calls (with_call c id) (id + 1) bodies).pending ≡ true
     by rest (inl later) = rest later
     by rest (inr here) = stays_waiting (with_call c id) (id + 1) bodies k (in_last k id c.pending (omega (arith, from, here)))
 
 -- a call stays unanswered where one before it is answered
-kept_by : (gone same : Bool) (id k m : ℕ) (ms : List ℕ) → (gone ≡ true → same ≡ false) → eqb m k ≡ same → (is_in k ms ≡ true → is_in k (without_id id ms) ≡ true) → (same || is_in k ms) ≡ true
+kept_by : (gone same : Bool) (id k m : ℕ) (ms : List ℕ) → (gone ≡ true → same ≡ false) → eqb m k ≡ same
+    → (is_in k ms ≡ true → is_in k (without_id id ms) ≡ true) → (same || is_in k ms) ≡ true
     → is_in k (if not gone then m ∷ without_id id ms else without_id id ms) ≡ true
 kept_by true true id k m ms apart is rest e = let no : true ≡ false = apart refl in absurd cc
 kept_by true false id k m ms apart is rest e = rest e
@@ -90,11 +96,13 @@ kept_in id k (m ∷ ms) less e =
 
 -- ---- in step
 
-pub calls_in_step : (server client : Limits) (url : Option (List ℕ)) (channel : ℕ) (s : AtServer) (c : AtClient) (id : ℕ) → AreInStep server client url channel s c → latest c.tokens ≡ Some c.newest → (bodies : List (List ℕ))
+pub calls_in_step : (server client : Limits) (url : Option (List ℕ)) (channel : ℕ) (s : AtServer) (c : AtClient) (id : ℕ)
+    → AreInStep server client url channel s c → latest c.tokens ≡ Some c.newest → (bodies : List (List ℕ))
     → AreInStep server client url channel (behind_calls s (lane_from c) bodies) (with_calls c id bodies)
 calls_in_step server client url channel s c id h newest [] = h
 calls_in_step server client url channel s c id h newest (body ∷ bodies) =
-    calls_in_step server client url channel (with_message s (lane_from c) body) (with_call c id) (id + 1) (in_step_call server client url channel s c h body id newest) newest bodies
+    calls_in_step server client url channel (with_message s (lane_from c) body) (with_call c id) (id + 1)
+    (in_step_call server client url channel s c h body id newest) newest bodies
 
 pub used_last : (s : AtServer) (lane : Lane) (bodies : List (List ℕ)) → 0 < length bodies → (behind_calls s lane bodies).used ≡ lane.token
 used_last s lane [] some = absurd (omega (arith, some))
@@ -117,7 +125,8 @@ pub tokens_stay : (c : AtClient) (id : ℕ) (bodies : List (List ℕ)) → (with
 tokens_stay c id [] = refl
 tokens_stay c id (body ∷ bodies) = tokens_stay (with_call c id) (id + 1) bodies
 
-all_by : (P : ℕ → Type 0) (stays : Bool) (m : ℕ) (ms from : List ℕ) → P m → AllByRecursion P ms → AllByRecursion P from → AllByRecursion P (if stays then m ∷ ms else from)
+all_by : (P : ℕ → Type 0) (stays : Bool) (m : ℕ) (ms from : List ℕ) → P m → AllByRecursion P ms → AllByRecursion P from
+    → AllByRecursion P (if stays then m ∷ ms else from)
 all_by P true m ms from one h k = (one, h)
 all_by P false m ms from one h k = k
 
@@ -161,30 +170,39 @@ answer_told back id m = told_reply (cut_refusal back (response.canonical m)) id 
 abbrev pub answers_told : Lane → State → List DateTime → ℕ → List (List ℕ) → List Heard
 answers_told back state moments id [] = []
 answers_told back state moments id (body ∷ bodies) =
-    answer_told back id (answered state (first_of moments) body).1 ∷ answers_told back (answered state (first_of moments) body).0 (behind_first moments) (id + 1) bodies
+    answer_told back id (answered state (first_of moments) body).1 ∷ answers_told back (answered state (first_of moments) body).0 (behind_first moments)
+    (id + 1) bodies
 
 cond_some : (b : Bool) (t : Heard) (ts : List Heard) → 0 < length ts → 0 < length (cond b (t ∷ ts) ts)
 cond_some true t ts some = omega arith
 cond_some false t ts some = some
 
 first_told : (o : Option CutFault) (id k : ℕ) (body : List ℕ) (ts : List Heard) → k ≡ id → 0 < length (told_of k (told_reply o id body ∷ ts))
-first_told None id k body ts same = subst (λ (b : Bool). 0 < length (cond b (told_reply None id body ∷ told_of k ts) (told_of k ts))) (sym (eq-eqb id k (sym same))) (omega arith)
-first_told (Some fault) id k body ts same = subst (λ (b : Bool). 0 < length (cond b (told_reply (Some fault) id body ∷ told_of k ts) (told_of k ts))) (sym (eq-eqb id k (sym same))) (omega arith)
+first_told None id k body ts same = subst (λ (b : Bool). 0 < length (cond b (told_reply None id body ∷ told_of k ts) (told_of k ts)))
+    (sym (eq-eqb id k (sym same))) (omega arith)
+first_told (Some fault) id k body ts same = subst (λ (b : Bool). 0 < length (cond b (told_reply (Some fault) id body ∷ told_of k ts) (told_of k ts)))
+    (sym (eq-eqb id k (sym same))) (omega arith)
 
 -- something of each of the calls
-pub told_each : (back : Lane) (state : State) (moments : List DateTime) (id : ℕ) (bodies : List (List ℕ)) (k : ℕ) → id ≤ k → k < id + length bodies → 0 < length (told_of k (answers_told back state moments id bodies))
+pub told_each : (back : Lane) (state : State) (moments : List DateTime) (id : ℕ) (bodies : List (List ℕ)) (k : ℕ) → id ≤ k → k < id + length bodies
+    → 0 < length (told_of k (answers_told back state moments id bodies))
 told_each back state moments id [] k from to = absurd (omega (arith, from, to))
-told_each back state moments id (body ∷ bodies) k from to = by (λ later. told_each back given.0 (behind_first moments) (id + 1) bodies k (omega (arith, later)) (omega (arith, to))) (cases_lt id k)
+told_each back state moments id (body ∷ bodies) k from to =
+    by (λ later. told_each back given.0 (behind_first moments) (id + 1) bodies k (omega (arith, later)) (omega (arith, to))) (cases_lt id k)
   where
     given : State × Response
     given = answered state (first_of moments) body
 
-    by : (id < k → 0 < length (told_of k (answers_told back given.0 (behind_first moments) (id + 1) bodies))) → ((id < k) ⊎ (k ≤ id)) → 0 < length (told_of k (answers_told back state moments id (body ∷ bodies)))
-    by rest (inl later) = cond_some (is_told_of k (answer_told back id given.1)) (answer_told back id given.1) (told_of k (answers_told back given.0 (behind_first moments) (id + 1) bodies)) (rest later)
-    by rest (inr here) = first_told (cut_refusal back (response.canonical given.1)) id k (response.canonical given.1) (answers_told back given.0 (behind_first moments) (id + 1) bodies) (omega (arith, from, here))
+    by : (id < k → 0 < length (told_of k (answers_told back given.0 (behind_first moments) (id + 1) bodies))) → ((id < k) ⊎ (k ≤ id))
+        → 0 < length (told_of k (answers_told back state moments id (body ∷ bodies)))
+    by rest (inl later) = cond_some (is_told_of k (answer_told back id given.1)) (answer_told back id given.1)
+        (told_of k (answers_told back given.0 (behind_first moments) (id + 1) bodies)) (rest later)
+    by rest (inr here) = first_told (cut_refusal back (response.canonical given.1)) id k (response.canonical given.1)
+        (answers_told back given.0 (behind_first moments) (id + 1) bodies) (omega (arith, from, here))
 
 -- what is said of so many calls is read, by a client that held so many tokens and whose calls go under this one, and tells it this
-pub record AreHeard (server client : Limits) (url : Option (List ℕ)) (channel : ℕ) (s : AtServer) (count had token : ℕ) (asks : List Placed) (octets : List ℕ) (heard : List Heard) (number : ℕ) (agreement : Option Agreement) : Type 0 where
+pub record AreHeard (server client : Limits) (url : Option (List ℕ)) (channel : ℕ) (s : AtServer) (count had token : ℕ) (asks : List Placed) (octets : List ℕ)
+    (heard : List Heard) (number : ℕ) (agreement : Option Agreement) : Type 0 where
   pub at : AtClient
   pub reads : ClientReads client asks octets heard at
   pub in_step : AreInStep server client url channel s at
@@ -195,12 +213,15 @@ pub record AreHeard (server client : Limits) (url : Option (List ℕ)) (channel 
   pub held : length at.tokens ≡ held_behind_calls had count
   pub ends : 0 < count → LastChunk client asks octets
 
-ends_behind : (client : Limits) (asks : List Placed) (octets : List ℕ) (channel : ℕ) (k : Course) (lane : Lane) (id : ℕ) (bodies : List (List ℕ)) → LastChunk client asks octets
-    → (0 < length bodies → LastChunk client asks (octets ++ said_of channel k (calls_told lane.token id bodies))) → LastChunk client asks (octets ++ said_of channel k (calls_told lane.token id bodies))
+ends_behind : (client : Limits) (asks : List Placed) (octets : List ℕ) (channel : ℕ) (k : Course) (lane : Lane) (id : ℕ) (bodies : List (List ℕ))
+    → LastChunk client asks octets
+    → (0 < length bodies → LastChunk client asks (octets ++ said_of channel k (calls_told lane.token id bodies)))
+    → LastChunk client asks (octets ++ said_of channel k (calls_told lane.token id bodies))
 ends_behind client asks octets channel k lane id [] one rest = subst (LastChunk client asks) (sym (append-nil octets)) one
 ends_behind client asks octets channel k lane id (body ∷ bodies) one rest = rest (omega arith)
 
-module _ (server client : Limits) (url : Option (List ℕ)) (channel : ℕ) (on : channel < 2 ^ 32) (s : AtServer) (few_used : s.used < 2 ^ 32) (lane : Lane) (used_is : s.used ≡ lane.token) where
+module _ (server client : Limits) (url : Option (List ℕ)) (channel : ℕ) (on : channel < 2 ^ 32) (s : AtServer) (few_used : s.used < 2 ^ 32) (lane : Lane)
+    (used_is : s.used ≡ lane.token) where
   abbrev g : Agreement
   g = agreement_of server s.hello
 
@@ -211,14 +232,32 @@ module _ (server client : Limits) (url : Option (List ℕ)) (channel : ℕ) (on 
   lane_here c h = subst (λ (t : ℕ). IsLaneBack client c (lane_of channel t g)) used_is (lane_from_server server client url channel s c h on few_used)
 
   step_here : (c : AtClient) → AreInStep server client url channel s c → (id next : ℕ) → AreInStep server client url channel s (with_reply c lane.token id next)
-  step_here c h id next = subst (λ (t : ℕ). AreInStep server client url channel s (with_reply c t id next)) used_is (in_step_reply server client url channel s c h id next)
+  step_here c h id next = subst (λ (t : ℕ). AreInStep server client url channel s (with_reply c t id next)) used_is
+      (in_step_reply server client url channel s c h id next)
 
-  pub replies_read : (asks : List Placed) (octets : List ℕ) (told : List Heard) (c : AtClient) (state : State) (n : ℕ) (moments : List DateTime) (id : ℕ) (bodies : List (List ℕ))
-      → ClientReads client asks octets told c → AreInStep server client url channel s c → n ≡ c.next → ((k : ℕ) → id ≤ k → k < id + length bodies → is_in k c.pending ≡ true) → id + length bodies ≤ 4294967295 → AllByRecursion (λ (token : ℕ). token ≤ s.issued) c.tokens → c.newest ≡ lane.token
-      → AreHeard server client url channel s (length bodies) (length c.tokens) c.newest asks (octets ++ said_of channel (course state n moments (Some g)) (calls_told lane.token id bodies)) (told ++ answers_told back state moments id bodies)
-      (course_after channel (course state n moments (Some g)) (calls_told lane.token id bodies)).number (course_after channel (course state n moments (Some g)) (calls_told lane.token id bodies)).agreement
+  pub replies_read : (asks : List Placed) (octets : List ℕ) (told : List Heard) (c : AtClient) (state : State) (n : ℕ) (moments : List DateTime) (id : ℕ)
+      (bodies : List (List ℕ))
+      → ClientReads client asks octets told c → AreInStep server client url channel s c → n ≡ c.next
+      → ((k : ℕ) → id ≤ k → k < id + length bodies → is_in k c.pending ≡ true) → id + length bodies ≤ 4294967295
+      → AllByRecursion (λ (token : ℕ). token ≤ s.issued) c.tokens → c.newest ≡ lane.token
+      → AreHeard server client url channel s (length bodies) (length c.tokens) c.newest asks
+      (octets ++ said_of channel (course state n moments (Some g)) (calls_told lane.token id bodies)) (told ++ answers_told back state moments id bodies)
+      (course_after channel (course state n moments (Some g)) (calls_told lane.token id bodies)).number
+      (course_after channel (course state n moments (Some g)) (calls_told lane.token id bodies)).agreement
   replies_read asks octets told c state n moments id [] r h next waiting few issued newest =
-      record { at = c; reads = subst (λ (o : List ℕ). ClientReads client asks o (told ++ []) c) (sym (append-nil octets)) (subst (λ (t : List Heard). ClientReads client asks octets t c) (sym (append-nil told)) r); in_step = h; number_is = next; agreed = refl; issued = issued; newest = refl; held = refl; ends = λ some. absurd (omega (arith, some)) }
+      record {
+        at = c;
+        reads = subst (λ (o : List ℕ). ClientReads client asks o (told ++ []) c) (sym (append-nil octets))
+            (subst (λ (t : List Heard). ClientReads client asks octets t c) (sym (append-nil told)) r);
+        in_step = h;
+        number_is = next;
+        agreed = refl;
+        issued =
+            issued;
+        newest = refl;
+        held = refl;
+        ends = λ some. absurd (omega (arith, some));
+      }
   replies_read asks octets told c state n moments id (body ∷ bodies) r h next waiting few issued newest =
       let given : State × Response = answered state (first_of moments) body in
       let reply : List ℕ = response.canonical given.1 in
@@ -226,27 +265,36 @@ module _ (server client : Limits) (url : Option (List ℕ)) (channel : ℕ) (on 
       let heard : List Heard = told ++ answer_told back id given.1 ∷ [] in
       let now : AtClient = with_reply c lane.token id out.1 in
       let one : ClientReads client asks (octets ++ out.0) heard now =
-      subst (λ (m : ℕ). ClientReads client asks (octets ++ (replied back reply m id).0) heard (with_reply c lane.token id (replied back reply m id).1)) (sym next)
-      (reads_replied client asks octets told c back id r (lane_here c h) (waiting id (omega arith) (omega arith)) (omega (arith, few)) reply (response_takes_some given.1)) in
+      subst (λ (m : ℕ). ClientReads client asks (octets ++ (replied back reply m id).0) heard (with_reply c lane.token id (replied back reply m id).1))
+      (sym next)
+      (reads_replied client asks octets told c back id r (lane_here c h) (waiting id (omega arith) (omega arith)) (omega (arith, few)) reply
+      (response_takes_some given.1)) in
       let last : LastChunk client asks (octets ++ out.0) =
       subst (λ (m : ℕ). LastChunk client asks (octets ++ (replied back reply m id).0)) (sym next)
       (replied_ends client asks octets told c back id r (lane_here c h) (omega (arith, few)) reply (response_takes_some given.1)) in
       let rest =
       replies_read asks (octets ++ out.0) heard now given.0 out.1 (behind_first moments) (id + 1) bodies one (step_here c h id out.1) refl
-      (λ k from to. kept_in id k c.pending (omega (arith, from)) (waiting k (omega (arith, from)) (omega (arith, to)))) (omega (arith, few)) (all_held (λ (token : ℕ). token ≤ s.issued) lane.token c.tokens issued) newest in
+      (λ k from to. kept_in id k c.pending (omega (arith, from)) (waiting k (omega (arith, from)) (omega (arith, to)))) (omega (arith, few))
+      (all_held (λ (token : ℕ). token ≤ s.issued) lane.token c.tokens issued) newest in
       record {
         at = rest.at;
         reads =
-            subst (λ (t : List Heard). ClientReads client asks (octets ++ said_of channel (course state n moments (Some g)) (calls_told lane.token id (body ∷ bodies))) t rest.at)
+            subst (λ (t : List Heard).
+            ClientReads client asks (octets ++ said_of channel (course state n moments (Some g)) (calls_told lane.token id (body ∷ bodies))) t rest.at)
             (append_assoc told (answer_told back id given.1 ∷ []) (answers_told back given.0 (behind_first moments) (id + 1) bodies))
             (subst (λ (o : List ℕ). ClientReads client asks o (heard ++ answers_told back given.0 (behind_first moments) (id + 1) bodies) rest.at)
-            (append_assoc octets out.0 (said_of channel (course given.0 out.1 (behind_first moments) (Some g)) (calls_told lane.token (id + 1) bodies))) rest.reads);
+            (append_assoc octets out.0 (said_of channel (course given.0 out.1 (behind_first moments) (Some g)) (calls_told lane.token (id + 1) bodies)))
+            rest.reads);
         in_step = rest.in_step;
         number_is = rest.number_is;
         agreed = rest.agreed;
         issued = rest.issued;
         newest = rest.newest;
-        held = rest.held ∙ (ap (λ (n : ℕ). held_behind_calls n (length bodies)) (ap length (from_latest lane.token c.tokens (r.newest_is ∙ ap (λ (n : ℕ). Some n) newest))) ∙ one_held (length bodies));
-        ends = λ some. subst (LastChunk client asks) (append_assoc octets out.0 (said_of channel (course given.0 out.1 (behind_first moments) (Some g)) (calls_told lane.token (id + 1) bodies)))
+        held = rest.held
+            ∙ (ap (λ (n : ℕ). held_behind_calls n (length bodies)) (ap length (from_latest lane.token c.tokens (r.newest_is ∙ ap (λ (n : ℕ). Some n) newest)))
+            ∙ one_held (length bodies));
+        ends = λ some.
+            subst (LastChunk client asks)
+            (append_assoc octets out.0 (said_of channel (course given.0 out.1 (behind_first moments) (Some g)) (calls_told lane.token (id + 1) bodies)))
             (ends_behind client asks (octets ++ out.0) channel (course given.0 out.1 (behind_first moments) (Some g)) lane (id + 1) bodies last rest.ends);
       }

@@ -65,20 +65,28 @@ no_asks = refl
 
 -- ---- it took all that the server says of the opening
 
-module _ (b : Beginning) (url : Option (List ℕ)) (x : ClientChannel) (octets : List ℕ) (moment : DateTime) (o : IsOpened x octets) (can : CanOpen b (client_limits x) url moment) (front : Extends octets (opening_answer b (client_limits x) url)) where
+module _ (b : Beginning) (url : Option (List ℕ)) (x : ClientChannel) (octets : List ℕ) (moment : DateTime) (o : IsOpened x octets)
+    (can : CanOpen b (client_limits x) url moment) (front : Extends octets (opening_answer b (client_limits x) url)) where
   abbrev opn : Frame
   opn = opened_frame b.channel 1 1 0 1 3600000 b.moment
 
   abbrev acked : List ℕ
   acked = frame_octets (ack_frame (ack_to (hello_to (client_limits x) url) b.limits))
 
-  agrees : ClientAgrees (client_limits x) acked (heard.Agreed (ack_to (hello_to (client_limits x) url) b.limits) ∷ []) (ack_to (hello_to (client_limits x) url) b.limits)
+  agrees : ClientAgrees (client_limits x) acked (heard.Agreed (ack_to (hello_to (client_limits x) url) b.limits) ∷ [])
+      (ack_to (hello_to (client_limits x) url) b.limits)
   agrees = reads_ack (client_limits x) b.limits url can.ack_fits
 
   sized : IsSized opn
-  sized = omega (arith, opening_size b.channel 1 1 ((message 449 open_response).canonical (open_response_of b.moment 0 b.channel 1 3600000)), open_response_length b.moment 0 b.channel 1 3600000)
+  sized = omega (
+    arith,
+    opening_size b.channel 1 1 ((message 449 open_response).canonical (open_response_of b.moment 0 b.channel 1 3600000)),
+    open_response_length b.moment 0 b.channel 1 3600000,
+  )
 
-  read : ClientReads (client_limits x) [] (opening_answer b (client_limits x) url) (heard.Agreed (ack_to (hello_to (client_limits x) url) b.limits) ∷ (heard.Opened b.channel 1 ∷ [])) (opened_at (ack_to (hello_to (client_limits x) url) b.limits) b.channel 1 (next_number 1))
+  read : ClientReads (client_limits x) [] (opening_answer b (client_limits x) url)
+      (heard.Agreed (ack_to (hello_to (client_limits x) url) b.limits) ∷ (heard.Opened b.channel 1 ∷ []))
+      (opened_at (ack_to (hello_to (client_limits x) url) b.limits) b.channel 1 (next_number 1))
   read = answer_read b (client_limits x) url can.ack_fits can.on can.answered
 
   frames_are : read.frames ≡ agrees.frames ++ opn ∷ []
@@ -90,12 +98,15 @@ module _ (b : Beginning) (url : Option (List ℕ)) (x : ClientChannel) (octets :
   here = o.tells.frames ++ o.tells.frame ∷ []
 
   here_told : events (client_rules_of x []) here ≡ heard.Agreed o.ack ∷ (heard.Opened o.channel o.token ∷ [])
-  here_told = told_behind (client_rules_of x []) o.tells.frames o.tells.frame (heard.Agreed o.ack ∷ []) (heard.Opened o.channel o.token) o.tells.told_is o.tells.tells
+  here_told = told_behind (client_rules_of x []) o.tells.frames o.tells.frame (heard.Agreed o.ack ∷ []) (heard.Opened o.channel o.token) o.tells.told_is
+      o.tells.tells
 
   -- the frames of the ACK tell less
   not_within : (more : List Frame) → agrees.frames ≡ here ++ more → ⊥
   not_within more e =
-      let all = sym agrees.told_is ∙ (ap (events (client_rules_of x [])) e ∙ (events_on (client_rules_of x []) here more ∙ ap (λ (ts : List Heard). ts ++ each_from (client_rules_of x []).tells here more) here_told)) in
+      let all = sym agrees.told_is
+      ∙ (ap (events (client_rules_of x [])) e
+      ∙ (events_on (client_rules_of x []) here more ∙ ap (λ (ts : List Heard). ts ++ each_from (client_rules_of x []).tells here more) here_told)) in
       omega (arith, ap length all)
 
   took_by : (later : List Frame) → read.frames ≡ here ++ later → octets ≡ opening_answer b (client_limits x) url
@@ -106,7 +117,17 @@ module _ (b : Beginning) (url : Option (List ℕ)) (x : ClientChannel) (octets :
       let same = ap (λ (fs : List Frame). length (frames_octets fs)) (e ∙ append-nil here) in
       sym (front.parts
       ∙ (ap (λ (t : List ℕ). octets ++ t)
-      (nil_from_length front.more (omega (arith, whole, part, more, same, length-append (frames_octets read.frames) [], length-append (frames_octets here) [], length-append octets front.more)))
+      (nil_from_length front.more
+      (omega (
+        arith,
+        whole,
+        part,
+        more,
+        same,
+        length-append (frames_octets read.frames) [],
+        length-append (frames_octets here) [],
+        length-append octets front.more,
+      )))
       ∙ append-nil octets))
   took_by (f ∷ later) e =
       let middle = split_last agrees.frames here later opn f (sym frames_are ∙ e) in
@@ -114,16 +135,19 @@ module _ (b : Beginning) (url : Option (List ℕ)) (x : ClientChannel) (octets :
 
   pub opening_taken : octets ≡ opening_answer b (client_limits x) url
   opening_taken =
-      let later = begins_run (client_rules_of x []) octets front.more here read.frames [] Going o.tells.stands.run (subst (λ (t : List ℕ). Run (client_rules_of x []) t read.frames [] Going) front.parts read.run) in
+      let later = begins_run (client_rules_of x []) octets front.more here read.frames [] Going o.tells.stands.run
+      (subst (λ (t : List ℕ). Run (client_rules_of x []) t read.frames [] Going) front.parts read.run) in
       took_by later.0 later.1
 
 -- ---- both are in step
 
-module _ (b : Beginning) (limits : Limits) (url : Option (List ℕ)) (moment : DateTime) (first after : Option Traffic) (client : Client) (law : SettlesOpened) (o : OpensClient limits url moment first after (Ok client)) (able : CanOpen b limits url moment) (line : IsLineTo b [] [] first) where
+module _ (b : Beginning) (limits : Limits) (url : Option (List ℕ)) (moment : DateTime) (first after : Option Traffic) (client : Client) (law : SettlesOpened)
+    (o : OpensClient limits url moment first after (Ok client)) (able : CanOpen b limits url moment) (line : IsLineTo b [] [] first) where
   abbrev l : Limits
   l = client_limits (channel_of o.last)
 
-  at : OpensAt (hello_octets (client_limits (channel_of o.begun)) (url_of (channel_of o.begun))) (open_octets moment) (channel_of o.last) o.opens.sent o.opens.moves.taken (Ok client)
+  at : OpensAt (hello_octets (client_limits (channel_of o.begun)) (url_of (channel_of o.begun))) (open_octets moment) (channel_of o.last) o.opens.sent
+      o.opens.moves.taken (Ok client)
   at = o.opens.answers o.fresh.goes
 
   -- where it stands
@@ -143,10 +167,12 @@ module _ (b : Beginning) (limits : Limits) (url : Option (List ℕ)) (moment : D
   sent_is =
       at.0
       ∙ ap (λ (t : List ℕ). t ++ open_octets moment)
-      (ap (λ (m : Limits). hello_octets m (url_of (channel_of o.begun))) o.fresh.limits_are ∙ ap (λ (u : Option (List ℕ)). hello_octets limits u) o.fresh.url_is)
+      (ap (λ (m : Limits). hello_octets m (url_of (channel_of o.begun))) o.fresh.limits_are
+      ∙ ap (λ (u : Option (List ℕ)). hello_octets limits u) o.fresh.url_is)
 
   got_is : o.opens.moves.got ≡ settled_there.0.octets ++ untaken_of o.last
-  got_is = ap (λ (t : List ℕ). t ++ o.opens.moves.got) (sym o.fresh.untaken) ∙ (o.opens.moves.parts ∙ ap (λ (t : List ℕ). t ++ untaken_of o.last) (sym settled_there.1))
+  got_is = ap (λ (t : List ℕ). t ++ o.opens.moves.got) (sym o.fresh.untaken)
+      ∙ (o.opens.moves.parts ∙ ap (λ (t : List ℕ). t ++ untaken_of o.last) (sym settled_there.1))
 
   carried_so : (sent : List ℕ) → o.opens.sent ≡ sent → IfTrafficKnown (Carries o.opens.moves.got sent) first after
   carried_so sent is = carried-as o.opens.moves.got o.opens.sent o.opens.moves.got sent first after refl is o.opens.moves.carried
@@ -167,10 +193,13 @@ module _ (b : Beginning) (limits : Limits) (url : Option (List ℕ)) (moment : D
   said_is = opening_said b l url moment can.hello_fits short can.dated
 
   octets_are : settled_there.0.octets ≡ server_output b (opening_octets l url moment)
-  octets_are = opening_taken b url (channel_of o.last) settled_there.0.octets moment opens_there can (subst (Extends settled_there.0.octets) said_is front_is) ∙ sym said_is
+  octets_are = opening_taken b url (channel_of o.last) settled_there.0.octets moment opens_there can (subst (Extends settled_there.0.octets) said_is front_is)
+      ∙ sym said_is
 
-  serves : AreServing b url (opening_octets l url moment) (opening_told b.limits l url) (with_token (greeted_at (hello_to l url))) (channel_of o.last) settled_there.0 (opened_at (ack_to (hello_to l url) b.limits) b.channel 1 (next_number 1))
-  serves = begin_together b url moment (channel_of o.last) settled_there.0 can.hello_fits short can.dated can.ack_fits can.on can.answered settled_there.3 settled_there.2 octets_are (o.opens.keeps.next ∙ o.fresh.next_is)
+  serves : AreServing b url (opening_octets l url moment) (opening_told b.limits l url) (with_token (greeted_at (hello_to l url)))
+      (channel_of o.last) settled_there.0 (opened_at (ack_to (hello_to l url) b.limits) b.channel 1 (next_number 1))
+  serves = begin_together b url moment (channel_of o.last) settled_there.0 can.hello_fits short can.dated can.ack_fits can.on can.answered settled_there.3
+      settled_there.2 octets_are (o.opens.keeps.next ∙ o.fresh.next_is)
 
   first_id : id_at settled_there.0 ≡ 2
   first_id = ap (λ (p : List Placed). next_id (asked_in p)) settled_there.2 ∙ ap next_id no_asks
@@ -195,17 +224,21 @@ module _ (b : Beginning) (limits : Limits) (url : Option (List ℕ)) (moment : D
     };
   }
 
-  opened_talks : (octets : List ℕ) → opening_octets limits url moment ≡ octets → TalksAt (record { server = b; limits = limits; url = url; turns = []; octets = octets }) settled_there.0 o.last after
+  opened_talks : (octets : List ℕ) → opening_octets limits url moment ≡ octets
+      → TalksAt (record { server = b; limits = limits; url = url; turns = []; octets = octets }) settled_there.0 o.last after
   opened_talks octets is = record {
     url_is = sym o.opens.keeps.same.url ∙ o.fresh.url_is;
     dated = able.answered;
     accepted = AllAfter-nil (IsAccepted (acknowledged b.limits limits url));
     number_is = sym settled_there.3.number_is ∙ (o.opens.keeps.next ∙ o.fresh.next_is);
-    state_is = ap (λ (ts : List Told). state_told b ts) (append-nil (opening_told b.limits limits url)) ∙ state_first_two b (agreement_of b.limits (hello_to limits url));
+    state_is = ap (λ (ts : List Told). state_told b ts) (append-nil (opening_told b.limits limits url))
+        ∙ state_first_two b (agreement_of b.limits (hello_to limits url));
     talking =
-        talking_as b limits url (opening_octets limits url moment) octets (opening_told b.limits limits url) (opening_told b.limits limits url ++ []) 1 1 2 2 1 1 settled_there.0 o.last after
+        talking_as b limits url (opening_octets limits url moment) octets (opening_told b.limits limits url) (opening_told b.limits limits url ++ []) 1 1 2 2 1
+        1 settled_there.0 o.last after
         is (sym (append-nil (opening_told b.limits limits url))) refl refl refl
-        (subst (λ (m : Limits). AreTalking b m url (opening_octets m url moment) (opening_told b.limits m url) 1 2 1 settled_there.0 o.last after) limits_are talks_by);
+        (subst (λ (m : Limits). AreTalking b m url (opening_octets m url moment) (opening_told b.limits m url) 1 2 1 settled_there.0 o.last after) limits_are
+        talks_by);
   }
 
   pub went_first : Went b limits url moment (connection_of client) first after
@@ -232,7 +265,8 @@ module _ (b : Beginning) (limits : Limits) (url : Option (List ℕ)) (moment : D
 
   -- the talk as it begins
   pub opened_talk : TalksAt (opening b limits url moment) settled_there.0 (connection_of client) after
-  opened_talk = subst (λ (c : Connection). TalksAt (opening b limits url moment) settled_there.0 c after) (sym o.over.0) (opened_talks (opening_octets limits url moment) refl)
+  opened_talk = subst (λ (c : Connection). TalksAt (opening b limits url moment) settled_there.0 c after) (sym o.over.0)
+      (opened_talks (opening_octets limits url moment) refl)
 
   pub opened_ready : IsReady client
   opened_ready = o.over.1

@@ -1,5 +1,6 @@
 -- That a server reads all that a client says whose turns are accepted, by what it says alone.
-use Rattle.std.proofs.Common.{◌≡◌, ℕ, ◌+◌, ◌<◌, ◌≤◌, ◌^◌, leb, eqb, Bool, false, ◌||◌, IsTrue, List, [], ◌∷◌, ◌++◌, Option, Some, None, length, refl, sym, ◌∙◌, ap, subst, arith, append-nil, append_assoc}
+use Rattle.std.proofs.Common.{◌≡◌, ℕ, ◌+◌, ◌<◌, ◌≤◌, ◌^◌, leb, eqb, Bool, false, ◌||◌, IsTrue, List, [], ◌∷◌, ◌++◌}
+use Rattle.std.proofs.Common.{Option, Some, None, length, refl, sym, ◌∙◌, ap, subst, arith, append-nil, append_assoc}
 use Rattle.std.proofs.lemmas.Bool.{eq-eqb, leb-false}
 use Rattle.ua_builtin.specs.DateTime.{date_time}
 use Rattle.ua_builtin.specs.Reasons.{first_reason}
@@ -40,7 +41,8 @@ used_within : (most : ℕ) (s : AtServer) (lane : Lane) (bodies : List (List ℕ
 used_within most s lane [] used token = used
 used_within most s lane (body ∷ bodies) used token = used_within most (with_message s lane body) lane bodies token token
 
-module _ (server client : Limits) (url : Option (List ℕ)) (channel : ℕ) (moment : DateTime) (on : channel < 2 ^ 32) (dated : IsTrue (date_time.encodable moment)) where
+module _ (server client : Limits) (url : Option (List ℕ)) (channel : ℕ) (moment : DateTime) (on : channel < 2 ^ 32)
+    (dated : IsTrue (date_time.encodable moment)) where
   abbrev a : Ack
   a = acknowledged server client url
 
@@ -86,7 +88,8 @@ module _ (server client : Limits) (url : Option (List ℕ)) (channel : ℕ) (mom
       asked : AreAsked a id requests
       asked = not_refused a id requests judged
 
-      requests_read : AreRead (octets ++ calls_octets (Some (lane_under token)) number id bodies) told_then token (numbers_behind (Some (lane_under token)) number bodies) (id + length requests)
+      requests_read : AreRead (octets ++ calls_octets (Some (lane_under token)) number id bodies) told_then token
+          (numbers_behind (Some (lane_under token)) number bodies) (id + length requests)
       requests_read = record {
         at = now;
         reads =
@@ -104,7 +107,8 @@ module _ (server client : Limits) (url : Option (List ℕ)) (channel : ℕ) (mom
 
     -- a renewal more
     renewal_read : (held : ℕ) → first_reason (turn_reasons a held id None) ≡ None
-        → AreRead (octets ++ frame_octets (renewal_frame channel number id moment)) (told ++ Opened id 0 (token + 1) 3600000 ∷ []) (token + 1) (next_number number) (id + 1)
+        → AreRead (octets ++ frame_octets (renewal_frame channel number id moment)) (told ++ Opened id 0 (token + 1) 3600000 ∷ []) (token + 1)
+        (next_number number) (id + 1)
     renewal_read held judged =
         let one = none_parts (leb most_tokens held) _ _ judged in
         let two = none_parts (leb no_id id) _ _ one.1 in
@@ -112,9 +116,12 @@ module _ (server client : Limits) (url : Option (List ℕ)) (channel : ℕ) (mom
         record {
           at = with_token r.at;
           reads =
-              subst (λ (n : ℕ). ServerReads server channel (octets ++ frame_octets (renewal_frame channel n id moment)) (told ++ Opened id 0 (token + 1) 3600000 ∷ []) (with_token r.at)) r.next_is
-              (subst (λ (k : ℕ). ServerReads server channel (octets ++ frame_octets (renewal_frame channel r.at.next id moment)) (told ++ Opened id 0 (k + 1) 3600000 ∷ []) (with_token r.at)) r.issued_is
-              (reads_renewal server channel octets told r.at id moment r.reads (omega (arith, r.reads.some_used, r.used_before)) (omega (arith, r.issued_is, r.spare, used)) on (omega (arith, used)) dated));
+              subst (λ (n : ℕ). ServerReads server channel (octets ++ frame_octets (renewal_frame channel n id moment))
+              (told ++ Opened id 0 (token + 1) 3600000 ∷ []) (with_token r.at)) r.next_is
+              (subst (λ (k : ℕ). ServerReads server channel (octets ++ frame_octets (renewal_frame channel r.at.next id moment))
+              (told ++ Opened id 0 (k + 1) 3600000 ∷ []) (with_token r.at)) r.issued_is
+              (reads_renewal server channel octets told r.at id moment r.reads (omega (arith, r.reads.some_used, r.used_before))
+              (omega (arith, r.issued_is, r.spare, used)) on (omega (arith, used)) dated));
           hello_is = r.hello_is;
           issued_is = ap (λ (n : ℕ). n + 1) r.issued_is;
           used_before = omega (arith, r.used_before);
@@ -125,10 +132,12 @@ module _ (server client : Limits) (url : Option (List ℕ)) (channel : ℕ) (mom
 
     -- a turn more
     turn_read : (held : ℕ) (t : Option (List Request)) → first_reason (turn_reasons a held id t) ≡ None
-        → AreRead (octets ++ turn_octets (lane_under token) number id moment t) (told ++ turn_told token id t) (token_behind token t) (turn_number (lane_under token) number t) (id_behind id t)
+        → AreRead (octets ++ turn_octets (lane_under token) number id moment t) (told ++ turn_told token id t) (token_behind token t)
+        (turn_number (lane_under token) number t) (id_behind id t)
     turn_read held (Some requests) judged = requests_read held requests judged
     turn_read held None judged =
-        subst (λ (o : List ℕ). AreRead (octets ++ o) (told ++ turn_told token id None) (token + 1) (next_number number) (id + 1)) (sym (append-nil (frame_octets (renewal_frame channel number id moment)))) (renewal_read held judged)
+        subst (λ (o : List ℕ). AreRead (octets ++ o) (told ++ turn_told token id None) (token + 1) (next_number number) (id + 1))
+        (sym (append-nil (frame_octets (renewal_frame channel number id moment)))) (renewal_read held judged)
 
     -- the CLO
     closing_read : ServerCloses server channel (octets ++ frame_octets (close_frame channel token number id moment)) (told ++ Closed ∷ [])
@@ -137,19 +146,26 @@ module _ (server client : Limits) (url : Option (List ℕ)) (channel : ℕ) (mom
         (reads_close server channel octets told r.at token id moment r.reads step.taken on (omega (arith, r.few)))
 
   -- turns behind others
-  turns_read : (before turns : List (Option (List Request))) (octets : List ℕ) (told : List Told) (token number id : ℕ) → ids_behind 2 before ≡ id → AreRead octets told token number id → AllFrom (IsAccepted a) before turns
-      → AreRead (octets ++ turns_octets a channel moment token number id turns) (told ++ turns_told token id turns) (tokens_behind token turns) (turns_number a channel token number turns) (ids_behind id turns)
+  turns_read : (before turns : List (Option (List Request))) (octets : List ℕ) (told : List Told) (token number id : ℕ) → ids_behind 2 before ≡ id
+      → AreRead octets told token number id → AllFrom (IsAccepted a) before turns
+      → AreRead (octets ++ turns_octets a channel moment token number id turns) (told ++ turns_told token id turns) (tokens_behind token turns)
+      (turns_number a channel token number turns) (ids_behind id turns)
   turns_read before [] octets told token number id same r accepted =
-      subst (λ (o : List ℕ). AreRead o (told ++ []) token number id) (sym (append-nil octets)) (subst (λ (ts : List Told). AreRead octets ts token number id) (sym (append-nil told)) r)
+      subst (λ (o : List ℕ). AreRead o (told ++ []) token number id) (sym (append-nil octets))
+      (subst (λ (ts : List Told). AreRead octets ts token number id) (sym (append-nil told)) r)
   turns_read before (t ∷ ts) octets told token number id same r accepted =
       let one : List ℕ = turn_octets (lane_under token) number id moment t in
       let k : ℕ = token_behind token t in
       let n : ℕ = turn_number (lane_under token) number t in
       let i : ℕ = id_behind id t in
-      let judged : first_reason (turn_reasons a (tokens_held 1 before) id t) ≡ None = ap (λ (m : ℕ). first_reason (turn_reasons a (tokens_held 1 before) m t)) (sym same) ∙ accepted.0 in
-      subst (λ (o : List ℕ). AreRead o (told ++ turns_told token id (t ∷ ts)) (tokens_behind k ts) (turns_number a channel k n ts) (ids_behind i ts)) (append_assoc octets one (turns_octets a channel moment k n i ts))
-      (subst (λ (us : List Told). AreRead ((octets ++ one) ++ turns_octets a channel moment k n i ts) us (tokens_behind k ts) (turns_number a channel k n ts) (ids_behind i ts)) (append_assoc told (turn_told token id t) (turns_told k i ts))
-      (turns_read (before ++ t ∷ []) ts (octets ++ one) (told ++ turn_told token id t) k n i (ids_push 2 before t ∙ ap (λ (m : ℕ). id_behind m t) same) (turn_read octets told token number id r (tokens_held 1 before) t judged) accepted.1))
+      let judged : first_reason (turn_reasons a (tokens_held 1 before) id t) ≡ None = ap (λ (m : ℕ). first_reason (turn_reasons a (tokens_held 1 before) m t))
+      (sym same) ∙ accepted.0 in
+      subst (λ (o : List ℕ). AreRead o (told ++ turns_told token id (t ∷ ts)) (tokens_behind k ts) (turns_number a channel k n ts) (ids_behind i ts))
+      (append_assoc octets one (turns_octets a channel moment k n i ts))
+      (subst (λ (us : List Told). AreRead ((octets ++ one) ++ turns_octets a channel moment k n i ts) us (tokens_behind k ts) (turns_number a channel k n ts)
+      (ids_behind i ts)) (append_assoc told (turn_told token id t) (turns_told k i ts))
+      (turns_read (before ++ t ∷ []) ts (octets ++ one) (told ++ turn_told token id t) k n i (ids_push 2 before t ∙ ap (λ (m : ℕ). id_behind m t) same)
+      (turn_read octets told token number id r (tokens_held 1 before) t judged) accepted.1))
 
   -- from the HEL to the CLO
   pub conversation_read : IsTrue (hello.encodable (hello_to client url)) → url_length url ≤ 4095 → (turns : List (Option (List Request))) → AreAccepted a turns
@@ -169,5 +185,7 @@ module _ (server client : Limits) (url : Option (List ℕ)) (channel : ℕ) (mom
         few = omega arith;
       } in
       let last = turns_read [] turns opening (opening_told server client url) 1 2 2 refl first accepted in
-      subst (λ (o : List ℕ). ServerCloses server channel o (conversation_told server client url turns)) (append_assoc opening sent (closing_behind a channel moment turns))
-      (closing_read (opening ++ sent) (opening_told server client url ++ turns_told 1 2 turns) (tokens_behind 1 turns) (turns_number a channel 1 2 turns) (ids_behind 2 turns) last)
+      subst (λ (o : List ℕ). ServerCloses server channel o (conversation_told server client url turns))
+      (append_assoc opening sent (closing_behind a channel moment turns))
+      (closing_read (opening ++ sent) (opening_told server client url ++ turns_told 1 2 turns) (tokens_behind 1 turns) (turns_number a channel 1 2 turns)
+      (ids_behind 2 turns) last)

@@ -1,5 +1,6 @@
 -- A client's turns over a line, one behind the other.
-use Rattle.std.proofs.Common.{◌≡◌, ◌⊎◌, inl, inr, ℕ, ◌+◌, ◌<◌, ◌≤◌, IsTrue, List, [], ◌∷◌, ◌++◌, Option, Some, None, Result, Ok, Err, get_or, length, map, take, drop, refl, sym, ◌∙◌, ap, subst, append-nil, append_assoc, arith, length-append}
+use Rattle.std.proofs.Common.{◌≡◌, ◌⊎◌, inl, inr, ℕ, ◌+◌, ◌<◌, ◌≤◌, IsTrue, List, [], ◌∷◌, ◌++◌, Option, Some, None, Result, Ok, Err}
+use Rattle.std.proofs.Common.{get_or, length, map, take, drop, refl, sym, ◌∙◌, ap, subst, append-nil, append_assoc, arith, length-append}
 use Rattle.std.specs.Prelude.{IfErr, OnOk}
 use Rattle.std.proofs.lemmas.List.{length-map, length-take-le, map-append, take-append-drop, take_all, take_more}
 use Rattle.ua_builtin.specs.DateTime.{date_time}
@@ -46,7 +47,8 @@ use Rattle.ua_loopback.specs.declared.stage.Stage.{Stage}
 use Rattle.ua_loopback.specs.declared.stage.Stage.TheVariants as stage
 use Rattle.ua_loopback.proofs.Begun.{SettlesOpened, went_first}
 use Rattle.ua_loopback.proofs.Faults.{fails_by, misanswers_in, sent_both, sent_over}
-use Rattle.ua_loopback.proofs.OneTurn.{calls_refused, calls_replied, calls_sent, calls_talk, closes_read, closes_silent, closing_is, first_at, first_octets, first_replied, first_sent, first_talk, renewing_not, renewing_sent, renewing_talks, talk_left}
+use Rattle.ua_loopback.proofs.OneTurn.{calls_refused, calls_replied, calls_sent, calls_talk, closes_read, closes_silent, closing_is, first_at}
+use Rattle.ua_loopback.proofs.OneTurn.{first_octets, first_replied, first_sent, first_talk, renewing_not, renewing_sent, renewing_talks, talk_left}
 use Rattle.ua_loopback.proofs.Pushes.{octets_push, replies_push}
 use Rattle.ua_loopback.proofs.Replying.{some-append, state_closed}
 use Rattle.ua_loopback.proofs.Saying.{end_is, left_by_run}
@@ -55,7 +57,8 @@ use Rattle.ua_loopback.proofs.Talks.{breaks_refused, got_on, rounds_octets}
 -- ---- a turn that is refused
 
 -- none of a group's replies is kept
-none_kept : (requests : List Request) (s : ClientPlace) (new : Connection) (taken : List ℕ) (f : ClientFault) (n : ℕ) (kept : List Reply) → IsTurnFault f → KeepsAt requests s new taken f n kept → kept ≡ []
+none_kept : (requests : List Request) (s : ClientPlace) (new : Connection) (taken : List ℕ) (f : ClientFault) (n : ℕ) (kept : List Reply) → IsTurnFault f
+    → KeepsAt requests s new taken f n kept → kept ≡ []
 none_kept requests s new taken fault.NotWritable n kept reason h = h.1
 none_kept requests s new taken fault.Exhausted n kept reason h = h.1
 none_kept requests s new taken fault.TooLarge n kept reason h = h.1
@@ -72,7 +75,8 @@ none_kept requests s new taken fault.OutOfMemory n kept reason h = absurd reason
 none_kept requests s new taken fault.Closed n kept reason h = absurd reason
 
 -- a renewal that is refused is not asked
-is_refusal : (s : ClientPlace) (moment : DateTime) (new : ClientChannel) (sent taken : List ℕ) (f : ClientFault) → IsTurnFault f → RenewsAt {A = Unit {0}} s moment new sent taken (Err f) → IsRefusal {A = Unit {0}} (Err f)
+is_refusal : (s : ClientPlace) (moment : DateTime) (new : ClientChannel) (sent taken : List ℕ) (f : ClientFault) → IsTurnFault f
+    → RenewsAt {A = Unit {0}} s moment new sent taken (Err f) → IsRefusal {A = Unit {0}} (Err f)
 is_refusal s moment new sent taken fault.NotWritable reason h = absurd h
 is_refusal s moment new sent taken fault.Exhausted reason h = tt
 is_refusal s moment new sent taken fault.TooLarge reason h = absurd h
@@ -95,7 +99,8 @@ groups_front (g ∷ groups) group h = (h.0, h.1, λ some. h.2 (omega (arith, som
 
 -- ---- a turn
 
-module _ (b : Beginning) (limits : Limits) (url : Option (List ℕ)) (moment : DateTime) (opened : ClientPlace) (turns : List (Option (List Request))) (x y : Connection) (first now after : Option Traffic) (had have : List Reply) (s : StaysTalking b limits url moment opened turns x first now had) where
+module _ (b : Beginning) (limits : Limits) (url : Option (List ℕ)) (moment : DateTime) (opened : ClientPlace) (turns : List (Option (List Request)))
+    (x y : Connection) (first now after : Option Traffic) (had have : List Reply) (s : StaysTalking b limits url moment opened turns x first now had) where
   abbrev opening : List ℕ
   opening = opening_octets limits url moment
 
@@ -106,13 +111,16 @@ module _ (b : Beginning) (limits : Limits) (url : Option (List ℕ)) (moment : D
   talk = record { server = b; limits = limits; url = url; turns = turns; octets = opening ++ was.sent }
 
   -- what was sent with this turn
-  more_sent : (turn : Option (List Request)) (sent : List ℕ) → sent ≡ octets_of talk moment turn → was.sent ++ sent ≡ turns_octets (acked_in talk) b.channel moment 1 2 2 (turns ++ turn ∷ [])
+  more_sent : (turn : Option (List Request)) (sent : List ℕ) → sent ≡ octets_of talk moment turn
+      → was.sent ++ sent ≡ turns_octets (acked_in talk) b.channel moment 1 2 2 (turns ++ turn ∷ [])
   more_sent turn sent is =
       ap (λ (o : List ℕ). o ++ sent) s.sent_is
-      ∙ (ap (λ (o : List ℕ). turns_octets (acked_in talk) b.channel moment 1 2 2 turns ++ o) is ∙ sym (octets_push (acked_in talk) b.channel moment 1 2 2 turns turn))
+      ∙ (ap (λ (o : List ℕ). turns_octets (acked_in talk) b.channel moment 1 2 2 turns ++ o) is
+      ∙ sym (octets_push (acked_in talk) b.channel moment 1 2 2 turns turn))
 
   -- the replies with it
-  more_replied : (turn : Option (List Request)) (added : List Reply) → have ≡ had ++ added → map (λ (r : Reply). Some r) added ≡ turn_replies (lane_back b limits url (newest_in talk)) (state_in talk) b.moment turn
+  more_replied : (turn : Option (List Request)) (added : List Reply) → have ≡ had ++ added
+      → map (λ (r : Reply). Some r) added ≡ turn_replies (lane_back b limits url (newest_in talk)) (state_in talk) b.moment turn
       → map (λ (r : Reply). Some r) have ≡ turns_replies b limits url b.first 1 (turns ++ turn ∷ [])
   more_replied turn added have_is replied =
       ap (λ (rs : List Reply). map (λ (r : Reply). Some r) rs) have_is
@@ -121,22 +129,27 @@ module _ (b : Beginning) (limits : Limits) (url : Option (List ℕ)) (moment : D
       ∙ (ap (λ (os : List (Option Reply)). turns_replies b limits url b.first 1 turns ++ os) replied ∙ sym (replies_push b limits url b.first 1 turns turn))))
 
   -- where both ends are behind it
-  talks_on : (turn : Option (List Request)) (u : ClientPlace) (sent : List ℕ) → sent ≡ octets_of talk moment turn → TalksAt (with_turn talk moment turn) u y after
+  talks_on : (turn : Option (List Request)) (u : ClientPlace) (sent : List ℕ) → sent ≡ octets_of talk moment turn
+      → TalksAt (with_turn talk moment turn) u y after
       → TalksAt (record { server = b; limits = limits; url = url; turns = turns ++ turn ∷ []; octets = opening ++ (was.sent ++ sent) }) u y after
   talks_on turn u sent is talks =
       subst (λ (o : List ℕ). TalksAt (record { server = b; limits = limits; url = url; turns = turns ++ turn ∷ []; octets = o }) u y after)
       (ap (λ (o : List ℕ). (opening ++ was.sent) ++ o) (sym is) ∙ append_assoc opening was.sent sent) talks
 
-  carried_on : (got sent : List ℕ) → IfTrafficKnown (Carries got sent) now after → IfTrafficKnown (Carries (was.got ++ got) (opening ++ (was.sent ++ sent))) first after
+  carried_on : (got sent : List ℕ) → IfTrafficKnown (Carries got sent) now after
+      → IfTrafficKnown (Carries (was.got ++ got) (opening ++ (was.sent ++ sent))) first after
   carried_on got sent carried =
-      carried-as (was.got ++ got) ((opening ++ was.sent) ++ sent) (was.got ++ got) (opening ++ (was.sent ++ sent)) first after refl (append_assoc opening was.sent sent)
+      carried-as (was.got ++ got) ((opening ++ was.sent) ++ sent) (was.got ++ got) (opening ++ (was.sent ++ sent)) first after refl
+      (append_assoc opening was.sent sent)
       (carried-then was.got (opening ++ was.sent) got sent first now after was.carried carried)
 
   -- requests are asked
-  asked_on : NonePending → (requests : List Request) (done : Unit {0}) → CallsInto {A = Unit {0}} requests x y now after (Ok done) had have → StaysTalking b limits url moment opened (turns ++ Some requests ∷ []) y first after have
+  asked_on : NonePending → (requests : List Request) (done : Unit {0}) → CallsInto {A = Unit {0}} requests x y now after (Ok done) had have
+      → StaysTalking b limits url moment opened (turns ++ Some requests ∷ []) y first after have
   asked_on law requests done c =
       let a = c.answers was.site was.at in
-      let sent_is : c.sent ≡ octets_of talk moment (Some requests) = calls_sent talk was.site x now s.talks y after c.sent c.moves c.same law moment requests c.added a in
+      let sent_is : c.sent ≡ octets_of talk moment (Some requests) = calls_sent talk was.site x now s.talks y after c.sent c.moves c.same law moment requests
+      c.added a in
       record {
         stays = record {
           site = a.behind;
@@ -146,15 +159,20 @@ module _ (b : Beginning) (limits : Limits) (url : Option (List ℕ)) (moment : D
               (Asked (Some requests) a.groups was.course (ap (λ (rs : List Request). Some rs) a.parts) a.sized a.rounds);
           got = was.got ++ c.moves.got;
           carried = carried_on c.moves.got c.sent c.moves.carried;
-          got_is = got_on was.got c.moves.got was.site.octets (untaken_of x) c.moves.taken (untaken_of y) was.got_is c.moves.parts ∙ ap (λ (o : List ℕ). o ++ untaken_of y) (sym (rounds_octets a.rounds));
+          got_is = got_on was.got c.moves.got was.site.octets (untaken_of x) c.moves.taken (untaken_of y) was.got_is c.moves.parts
+              ∙ ap (λ (o : List ℕ). o ++ untaken_of y) (sym (rounds_octets a.rounds));
         };
         sent_is = more_sent (Some requests) c.sent sent_is;
-        replied = more_replied (Some requests) c.added c.have_is (calls_replied talk was.site x now s.talks y after c.sent c.moves c.same law moment requests c.added a);
-        talks = talks_on (Some requests) a.behind c.sent sent_is (calls_talk talk was.site x now s.talks y after c.sent c.moves c.same law moment requests c.added a);
+        replied =
+            more_replied (Some requests) c.added c.have_is
+            (calls_replied talk was.site x now s.talks y after c.sent c.moves c.same law moment requests c.added a);
+        talks = talks_on (Some requests) a.behind c.sent sent_is
+            (calls_talk talk was.site x now s.talks y after c.sent c.moves c.same law moment requests c.added a);
       }
 
   -- the token is renewed
-  renewed_on : IsTrue (date_time.encodable moment) → (done : Unit {0}) → Renews {A = Unit {0}} moment x y now after (Ok done) → have ≡ had → StaysTalking b limits url moment opened (turns ++ None ∷ []) y first after have
+  renewed_on : IsTrue (date_time.encodable moment) → (done : Unit {0}) → Renews {A = Unit {0}} moment x y now after (Ok done) → have ≡ had
+      → StaysTalking b limits url moment opened (turns ++ None ∷ []) y first after have
   renewed_on dated done c same =
       let a = c.answers was.site was.at in
       let u : ClientPlace = a.1.0 in
@@ -166,10 +184,12 @@ module _ (b : Beginning) (limits : Limits) (url : Option (List ℕ)) (moment : D
           at = renewed.at;
           sent = was.sent ++ c.sent;
           course = subst (λ (o : List ℕ). Course moment opened (turns ++ None ∷ []) u (was.sent ++ o) have) (sym a.0)
-              (subst (λ (r : List Reply). Course moment opened (turns ++ None ∷ []) u (was.sent ++ renewal_at was.site moment) r) (sym same) (Renewed None (channel_of y) was.course refl renewed));
+              (subst (λ (r : List Reply). Course moment opened (turns ++ None ∷ []) u (was.sent ++ renewal_at was.site moment) r) (sym same)
+              (Renewed None (channel_of y) was.course refl renewed));
           got = was.got ++ c.moves.got;
           carried = carried_on c.moves.got c.sent c.moves.carried;
-          got_is = got_on was.got c.moves.got was.site.octets (untaken_of x) c.moves.taken (untaken_of y) was.got_is c.moves.parts ∙ ap (λ (o : List ℕ). o ++ untaken_of y) (sym renewed.octets);
+          got_is = got_on was.got c.moves.got was.site.octets (untaken_of x) c.moves.taken (untaken_of y) was.got_is c.moves.parts
+              ∙ ap (λ (o : List ℕ). o ++ untaken_of y) (sym renewed.octets);
         };
         sent_is = more_sent None c.sent sent_is;
         replied = more_replied None [] (same ∙ sym (append-nil had)) refl;
@@ -177,33 +197,44 @@ module _ (b : Beginning) (limits : Limits) (url : Option (List ℕ)) (moment : D
       }
 
   -- a turn that asks these requests, or none
-  pub stays_asked : NonePending → (t : Option (List Request)) (requests : List Request) (done : Unit {0}) → t ≡ Some requests → CallsInto {A = Unit {0}} requests x y now after (Ok done) had have → StaysTalking b limits url moment opened (turns ++ t ∷ []) y first after have
-  stays_asked law t requests done is c = subst (λ (o : Option (List Request)). StaysTalking b limits url moment opened (turns ++ o ∷ []) y first after have) (sym is) (asked_on law requests done c)
+  pub stays_asked : NonePending → (t : Option (List Request)) (requests : List Request) (done : Unit {0}) → t ≡ Some requests
+      → CallsInto {A = Unit {0}} requests x y now after (Ok done) had have → StaysTalking b limits url moment opened (turns ++ t ∷ []) y first after have
+  stays_asked law t requests done is c = subst (λ (o : Option (List Request)). StaysTalking b limits url moment opened (turns ++ o ∷ []) y first after have)
+      (sym is) (asked_on law requests done c)
 
-  pub stays_renewed : IsTrue (date_time.encodable moment) → (t : Option (List Request)) (done : Unit {0}) → t ≡ None → Renews {A = Unit {0}} moment x y now after (Ok done) → have ≡ had → StaysTalking b limits url moment opened (turns ++ t ∷ []) y first after have
-  stays_renewed dated t done is c same = subst (λ (o : Option (List Request)). StaysTalking b limits url moment opened (turns ++ o ∷ []) y first after have) (sym is) (renewed_on dated done c same)
+  pub stays_renewed : IsTrue (date_time.encodable moment) → (t : Option (List Request)) (done : Unit {0}) → t ≡ None
+      → Renews {A = Unit {0}} moment x y now after (Ok done) → have ≡ had → StaysTalking b limits url moment opened (turns ++ t ∷ []) y first after have
+  stays_renewed dated t done is c same = subst (λ (o : Option (List Request)). StaysTalking b limits url moment opened (turns ++ o ∷ []) y first after have)
+      (sym is) (renewed_on dated done c same)
 
   -- or it is not taken, by the first reason against it
 
-  pub asked_not : NonePending → (t : Option (List Request)) (requests : List Request) (f : CallsFault) → t ≡ Some requests → CallsInto {A = Unit {0}} requests x y now after (Err f) had have → IsTurnFault f.fault → turn_refusal (acked_in talk) turns t ≡ Some f.fault
+  pub asked_not : NonePending → (t : Option (List Request)) (requests : List Request) (f : CallsFault) → t ≡ Some requests
+      → CallsInto {A = Unit {0}} requests x y now after (Err f) had have → IsTurnFault f.fault → turn_refusal (acked_in talk) turns t ≡ Some f.fault
   asked_not law t requests f is c reason =
-      ap (turn_refusal (acked_in talk) turns) is ∙ calls_refused talk was.site x now s.talks y after c.sent c.moves c.same law moment requests f.fault reason (c.answers was.site was.at).broken
+      ap (turn_refusal (acked_in talk) turns) is ∙ calls_refused talk was.site x now s.talks y after c.sent c.moves c.same law moment requests f.fault reason
+      (c.answers was.site was.at).broken
 
-  pub renewed_not : (t : Option (List Request)) (f : ClientFault) → t ≡ None → Renews {A = Unit {0}} moment x y now after (Err f) → IsTurnFault f → turn_refusal (acked_in talk) turns t ≡ Some f
+  pub renewed_not : (t : Option (List Request)) (f : ClientFault) → t ≡ None → Renews {A = Unit {0}} moment x y now after (Err f) → IsTurnFault f
+      → turn_refusal (acked_in talk) turns t ≡ Some f
   renewed_not t f is c reason = ap (turn_refusal (acked_in talk) turns) is ∙ renewing_not talk was.site x now s.talks y after moment f reason c was.at
 
   -- and what stands before it was done
 
-  asked_before : NonePending → (requests : List Request) (f : CallsFault) → CallsInto {A = Unit {0}} requests x y now after (Err f) had have → IsTurnFault f.fault → StaysBehind b limits url moment opened turns (Some requests) y first after have
+  asked_before : NonePending → (requests : List Request) (f : CallsFault) → CallsInto {A = Unit {0}} requests x y now after (Err f) had have
+      → IsTurnFault f.fault → StaysBehind b limits url moment opened turns (Some requests) y first after have
   asked_before law requests f c reason =
       let q = c.answers was.site was.at in
       let a = q.broken in
       let asked : List Request = all_of a.groups in
       let none = breaks_refused a.group a.behind y a.sent_then a.taken_then f.fault reason a.breaks in
-      let added_is : c.added ≡ a.replies = q.added_is ∙ (ap (λ (rs : List Reply). a.replies ++ rs) (none_kept a.group a.behind y a.taken_then f.fault q.place q.kept reason q.keeps) ∙ append-nil a.replies) in
+      let added_is : c.added ≡ a.replies = q.added_is
+      ∙ (ap (λ (rs : List Reply). a.replies ++ rs) (none_kept a.group a.behind y a.taken_then f.fault q.place q.kept reason q.keeps) ∙ append-nil a.replies)
+      in
       let have_is : have ≡ had ++ a.replies = c.have_is ∙ ap (λ (rs : List Reply). had ++ rs) added_is in
       let before_is : c.sent ≡ a.sent_before = a.sent_parts ∙ (ap (λ (o : List ℕ). a.sent_before ++ o) none.0 ∙ append-nil a.sent_before) in
-      let sent_is : c.sent ≡ octets_of talk moment (Some asked) = first_sent talk was.site x now s.talks y after c.sent c.moves c.same law moment requests f.fault reason a in
+      let sent_is : c.sent ≡ octets_of talk moment (Some asked) = first_sent talk was.site x now s.talks y after c.sent c.moves c.same law moment requests
+      f.fault reason a in
       let octets_are = first_octets talk was.site x now s.talks y after c.sent c.moves c.same law moment requests f.fault reason a in
       record {
         done = turns ++ Some asked ∷ [];
@@ -218,19 +249,26 @@ module _ (b : Beginning) (limits : Limits) (url : Option (List ℕ)) (moment : D
                 (Asked (Some asked) a.groups was.course refl (groups_front a.groups a.group a.sized) a.rounds));
             got = was.got ++ c.moves.got;
             carried = carried_on c.moves.got c.sent c.moves.carried;
-            got_is = got_on was.got c.moves.got was.site.octets (untaken_of x) c.moves.taken (untaken_of y) was.got_is c.moves.parts ∙ ap (λ (o : List ℕ). o ++ untaken_of y) (sym octets_are);
+            got_is = got_on was.got c.moves.got was.site.octets (untaken_of x) c.moves.taken (untaken_of y) was.got_is c.moves.parts
+                ∙ ap (λ (o : List ℕ). o ++ untaken_of y) (sym octets_are);
           };
           sent_is = more_sent (Some asked) c.sent sent_is;
-          replied = more_replied (Some asked) a.replies have_is (first_replied talk was.site x now s.talks y after c.sent c.moves c.same law moment requests f.fault reason a);
-          talks = talks_on (Some asked) a.behind c.sent sent_is (first_talk talk was.site x now s.talks y after c.sent c.moves c.same law moment requests f.fault reason a);
+          replied =
+              more_replied (Some asked) a.replies have_is
+              (first_replied talk was.site x now s.talks y after c.sent c.moves c.same law moment requests f.fault reason a);
+          talks = talks_on (Some asked) a.behind c.sent sent_is
+              (first_talk talk was.site x now s.talks y after c.sent c.moves c.same law moment requests f.fault reason a);
         };
       }
 
-  pub stays_before : NonePending → (t : Option (List Request)) (requests : List Request) (f : CallsFault) → t ≡ Some requests → CallsInto {A = Unit {0}} requests x y now after (Err f) had have → IsTurnFault f.fault
+  pub stays_before : NonePending → (t : Option (List Request)) (requests : List Request) (f : CallsFault) → t ≡ Some requests
+      → CallsInto {A = Unit {0}} requests x y now after (Err f) had have → IsTurnFault f.fault
       → StaysBehind b limits url moment opened turns t y first after have
-  stays_before law t requests f is c reason = subst (λ (o : Option (List Request)). StaysBehind b limits url moment opened turns o y first after have) (sym is) (asked_before law requests f c reason)
+  stays_before law t requests f is c reason = subst (λ (o : Option (List Request)). StaysBehind b limits url moment opened turns o y first after have) (sym is)
+      (asked_before law requests f c reason)
 
-  pub renewed_before : (t : Option (List Request)) (f : ClientFault) → t ≡ None → Renews {A = Unit {0}} moment x y now after (Err f) → (IsRefusal {A = Unit {0}} (Err f) → (y ≡ x) × (after ≡ now)) → have ≡ had → IsTurnFault f
+  pub renewed_before : (t : Option (List Request)) (f : ClientFault) → t ≡ None → Renews {A = Unit {0}} moment x y now after (Err f)
+      → (IsRefusal {A = Unit {0}} (Err f) → (y ≡ x) × (after ≡ now)) → have ≡ had → IsTurnFault f
       → StaysBehind b limits url moment opened turns t y first after have
   renewed_before t f is c unchanged same reason =
       let u = unchanged (is_refusal was.site moment (channel_of y) c.sent c.moves.taken f reason (c.answers was.site was.at)) in
@@ -243,8 +281,10 @@ module _ (b : Beginning) (limits : Limits) (url : Option (List ℕ)) (moment : D
       })
 
 -- why it fails that a client talks to a server and takes this turn
-pub asked_fails : (b : Beginning) (limits : Limits) (url : Option (List ℕ)) (moment : DateTime) (opened : ClientPlace) (turns : List (Option (List Request))) (x : Client) (first now : Option Traffic) (had : List Reply) → StaysTalking b limits url moment opened turns (connection_of x) first now had
-    → IsReady x → (t asked : Option (List Request)) → t ≡ asked → (f : ClientFault) → ((talk : SoFar) → IsTalking talk x now → FailsBehind (HasMisanswer (state_in talk) talk.server.moment asked) f)
+pub asked_fails : (b : Beginning) (limits : Limits) (url : Option (List ℕ)) (moment : DateTime) (opened : ClientPlace) (turns : List (Option (List Request)))
+    (x : Client) (first now : Option Traffic) (had : List Reply) → StaysTalking b limits url moment opened turns (connection_of x) first now had
+    → IsReady x → (t asked : Option (List Request)) → t ≡ asked → (f : ClientFault)
+    → ((talk : SoFar) → IsTalking talk x now → FailsBehind (HasMisanswer (state_in talk) talk.server.moment asked) f)
     → FailsBehind (HasMisanswer (turns_state b.first b.moment turns) b.moment t) f
 asked_fails b limits url moment opened turns x first now had s ready t asked is f fails =
     let talk : SoFar = record { server = b; limits = limits; url = url; turns = turns; octets = opening_octets limits url moment ++ s.stays.sent } in
@@ -252,19 +292,24 @@ asked_fails b limits url moment opened turns x first now had s ready t asked is 
     (fails talk (record { ready = ready; site = s.stays.site; talks = s.talks }))
 
 -- and what the server makes of all that was sent
-pub asked_stops : (b : Beginning) (limits : Limits) (url : Option (List ℕ)) (moment : DateTime) (opened : ClientPlace) (turns : List (Option (List Request))) (x : Client) (first now after : Option Traffic) (had : List Reply)
-    → StaysTalking b limits url moment opened turns (connection_of x) first now had → IsReady x → (f : ClientFault) → ((talk : SoFar) → IsTalking talk x now → StopsOver f talk.server talk.octets now after) → StopsOver f b [] first after
+pub asked_stops : (b : Beginning) (limits : Limits) (url : Option (List ℕ)) (moment : DateTime) (opened : ClientPlace) (turns : List (Option (List Request)))
+    (x : Client) (first now after : Option Traffic) (had : List Reply)
+    → StaysTalking b limits url moment opened turns (connection_of x) first now had → IsReady x → (f : ClientFault)
+    → ((talk : SoFar) → IsTalking talk x now → StopsOver f talk.server talk.octets now after) → StopsOver f b [] first after
 asked_stops b limits url moment opened turns x first now after had s ready f stops =
     let before : List ℕ = opening_octets limits url moment ++ s.stays.sent in
-    let there = stops (record { server = b; limits = limits; url = url; turns = turns; octets = before }) (record { ready = ready; site = s.stays.site; talks = s.talks }) in
+    let there = stops (record { server = b; limits = limits; url = url; turns = turns; octets = before })
+    (record { ready = ready; site = s.stays.site; talks = s.talks }) in
     (before ++ there.0, sent_both before there.0 first now after (sent_over s.stays.got before before first now refl s.stays.carried) there.1, there.2)
 
 -- ---- the end
 
 -- it closes
-pub talked_all : (b : Beginning) (limits : Limits) (url : Option (List ℕ)) (moment : DateTime) (turns : List (Option (List Request))) (x : Connection) (first now after : Option Traffic) (replies : List Reply)
+pub talked_all : (b : Beginning) (limits : Limits) (url : Option (List ℕ)) (moment : DateTime) (turns : List (Option (List Request))) (x : Connection)
+    (first now after : Option Traffic) (replies : List Reply)
     (w : Went b limits url moment x first now) (y : Connection) (later : Option Traffic) (done : Unit {0})
-    → StaysTalking b limits url moment w.opened turns y first later replies → Closes {A = Unit {0}} moment (channel_of y) later after (Ok done) → Talked b limits url moment turns first after replies
+    → StaysTalking b limits url moment w.opened turns y first later replies → Closes {A = Unit {0}} moment (channel_of y) later after (Ok done)
+    → Talked b limits url moment turns first after replies
 talked_all b limits url moment turns x first now after replies w y later done s c =
     let opening : List ℕ = opening_octets limits url moment in
     let was = s.stays in
@@ -282,8 +327,10 @@ talked_all b limits url moment turns x first now after replies w y later done s 
       sent = was.sent;
       course = was.course;
       got = was.got;
-      carried = carried-as (was.got ++ []) ((opening ++ was.sent) ++ c.sent) was.got (opening ++ (was.sent ++ closing_at was.site moment)) first after (append-nil was.got)
-          (ap (λ (o : List ℕ). (opening ++ was.sent) ++ o) sent_is ∙ append_assoc opening was.sent (closing_at was.site moment)) (carried-then was.got (opening ++ was.sent) [] c.sent first later after was.carried c.carried);
+      carried = carried-as (was.got ++ []) ((opening ++ was.sent) ++ c.sent) was.got (opening ++ (was.sent ++ closing_at was.site moment)) first after
+          (append-nil was.got)
+          (ap (λ (o : List ℕ). (opening ++ was.sent) ++ o) sent_is ∙ append_assoc opening was.sent (closing_at was.site moment))
+          (carried-then was.got (opening ++ was.sent) [] c.sent first later after was.carried c.carried);
       accepted = s.talks.accepted;
       replied = s.replied;
       state_is = s.talks.state_is;
@@ -291,12 +338,15 @@ talked_all b limits url moment turns x first now after replies w y later done s 
           ap (λ (o : List ℕ). opening ++ (o ++ closing_at was.site moment)) s.sent_is
           ∙ ap (λ (o : List ℕ). opening ++ (turns_octets (acked_in talk) b.channel moment 1 2 2 turns ++ o)) closing;
       took = s.talks.talking.served.serving.taken ∙ (sym (closes_silent talk was.site y later s.talks moment) ∙ ap (server_output b) (sym all));
-      closes = subst (λ (o : List ℕ). ServerCloses b.limits b.channel o (conversation_told b.limits limits url turns)) (sym all) (closes_read talk was.site y later s.talks moment);
+      closes = subst (λ (o : List ℕ). ServerCloses b.limits b.channel o (conversation_told b.limits limits url turns)) (sym all)
+          (closes_read talk was.site y later s.talks moment);
     }
 
 -- over a line to a server
-pub conversed : (b : Beginning) (limits : Limits) (url : Option (List ℕ)) (moment : DateTime) (turns : List (Option (List Request))) (old new : Served) (replies : List Reply) → old.up ≡ []
-    → Talked b limits url moment turns (Some (traffic_of b old)) (Some (traffic_of b new)) replies → Converses limits url moment turns new.up (server_output b new.up) replies
+pub conversed : (b : Beginning) (limits : Limits) (url : Option (List ℕ)) (moment : DateTime) (turns : List (Option (List Request))) (old new : Served)
+    (replies : List Reply) → old.up ≡ []
+    → Talked b limits url moment turns (Some (traffic_of b old)) (Some (traffic_of b new)) replies
+    → Converses limits url moment turns new.up (server_output b new.up) replies
 conversed b limits url moment turns old new replies none t =
     let sent : List ℕ = opening_octets limits url moment ++ (t.sent ++ closing_at t.last moment) in
     let up_is : new.up ≡ sent = t.carried.written ∙ ap (λ (o : List ℕ). o ++ sent) none in
@@ -313,15 +363,18 @@ conversed b limits url moment turns old new replies none t =
     }
 
 -- and the server was told just this
-pub closed_by : (b : Beginning) (limits : Limits) (url : Option (List ℕ)) (moment : DateTime) (turns : List (Option (List Request))) (old new : Served) (replies : List Reply) → old.up ≡ []
-    → Talked b limits url moment turns (Some (traffic_of b old)) (Some (traffic_of b new)) replies → ServerCloses b.limits b.channel new.up (conversation_told b.limits limits url turns)
+pub closed_by : (b : Beginning) (limits : Limits) (url : Option (List ℕ)) (moment : DateTime) (turns : List (Option (List Request))) (old new : Served)
+    (replies : List Reply) → old.up ≡ []
+    → Talked b limits url moment turns (Some (traffic_of b old)) (Some (traffic_of b new)) replies
+    → ServerCloses b.limits b.channel new.up (conversation_told b.limits limits url turns)
 closed_by b limits url moment turns old new replies none t =
     subst (λ (o : List ℕ). ServerCloses b.limits b.channel o (conversation_told b.limits limits url turns))
     (sym (t.carried.written ∙ ap (λ (o : List ℕ). o ++ (opening_octets limits url moment ++ (t.sent ++ closing_at t.last moment))) none)) t.closes
 
 -- the line as it begins
 pub line_begins : (b : Beginning) (old : Served) → old.up ≡ [] → old.read ≡ 0 → IsLineTo b [] [] (Some (traffic_of b old))
-line_begins b old none nothing_read = λ more. sym (ap (λ (n : ℕ). drop n (server_output b (old.up ++ more))) nothing_read ∙ ap (λ (u : List ℕ). server_output b (u ++ more)) none)
+line_begins b old none nothing_read = λ more. sym (ap (λ (n : ℕ). drop n (server_output b (old.up ++ more))) nothing_read
+    ∙ ap (λ (u : List ℕ). server_output b (u ++ more)) none)
 
 -- ---- turns, one behind the other
 
@@ -329,36 +382,45 @@ line_begins b old none nothing_read = λ more. sym (ap (λ (n : ℕ). drop n (se
 module _ {A : Type 0} (turn_of : A → Option (List Request)) where
   -- so many turns were taken
   pub record TakenSoFar (moment : DateTime) (turns : List A) (index : ℕ) (x y : Client) (before now : Option Traffic) (had have : List Reply) : Type 0 where
-    pub stays : (b : Beginning) (limits : Limits) (url : Option (List ℕ)) (opened : ClientPlace) (first : Option Traffic) → StaysTalking b limits url moment opened [] (connection_of x) first before had
+    pub stays : (b : Beginning) (limits : Limits) (url : Option (List ℕ)) (opened : ClientPlace) (first : Option Traffic)
+        → StaysTalking b limits url moment opened [] (connection_of x) first before had
         → StaysTalking b limits url moment opened (map turn_of (take index turns)) (connection_of y) first now have
     pub ready : IsReady y
 
-  pub taken_none : (moment : DateTime) (turns : List A) (x : Client) (before : Option Traffic) (had : List Reply) → IsReady x → TakenSoFar moment turns 0 x x before before had had
+  pub taken_none : (moment : DateTime) (turns : List A) (x : Client) (before : Option Traffic) (had : List Reply) → IsReady x
+      → TakenSoFar moment turns 0 x x before before had had
   taken_none moment turns x before had ready = record { stays = λ b limits url opened first s. s; ready = ready }
 
   -- the turns up to the next one
-  turns_on : (turns : List A) (index : ℕ) (t : A) → index < length turns → t ≡ get_or turns index t → map turn_of (take (index + 1) turns) ≡ map turn_of (take index turns) ++ turn_of t ∷ []
+  turns_on : (turns : List A) (index : ℕ) (t : A) → index < length turns → t ≡ get_or turns index t
+      → map turn_of (take (index + 1) turns) ≡ map turn_of (take index turns) ++ turn_of t ∷ []
   turns_on turns index t less is =
       ap (map turn_of) (take_more turns index t less ∙ ap (λ (u : A). take index turns ++ u ∷ []) (sym is)) ∙ map-append turn_of (take index turns) (t ∷ [])
 
-  pub taken_more : (moment : DateTime) (turns : List A) (index : ℕ) (x y z : Client) (before now after : Option Traffic) (had have later : List Reply) (t : A) → TakenSoFar moment turns index x y before now had have
+  pub taken_more : (moment : DateTime) (turns : List A) (index : ℕ) (x y z : Client) (before now after : Option Traffic) (had have later : List Reply) (t : A)
+      → TakenSoFar moment turns index x y before now had have
       → index < length turns → t ≡ get_or turns index t
-      → ((b : Beginning) (limits : Limits) (url : Option (List ℕ)) (opened : ClientPlace) (done : List (Option (List Request))) (first : Option Traffic) → StaysTalking b limits url moment opened done (connection_of y) first now have
+      → ((b : Beginning) (limits : Limits) (url : Option (List ℕ)) (opened : ClientPlace) (done : List (Option (List Request))) (first : Option Traffic)
+      → StaysTalking b limits url moment opened done (connection_of y) first now have
       → StaysTalking b limits url moment opened (done ++ turn_of t ∷ []) (connection_of z) first after later)
       → IsReady z → TakenSoFar moment turns (index + 1) x z before after had later
   taken_more moment turns index x y z before now after had have later t so less is turn ready = record {
     stays = λ b limits url opened first s.
-        subst (λ (ts : List (Option (List Request))). StaysTalking b limits url moment opened ts (connection_of z) first after later) (sym (turns_on turns index t less is))
+        subst (λ (ts : List (Option (List Request))). StaysTalking b limits url moment opened ts (connection_of z) first after later)
+        (sym (turns_on turns index t less is))
         (turn b limits url opened (map turn_of (take index turns)) first (so.stays b limits url opened first s));
     ready = ready;
   }
 
   -- the next one is not taken
-  pub refused_next : (moment : DateTime) (turns : List A) (index : ℕ) (x y : Client) (before now : Option Traffic) (had have : List Reply) (t : A) (f : ClientFault) → TakenSoFar moment turns index x y before now had have
+  pub refused_next : (moment : DateTime) (turns : List A) (index : ℕ) (x y : Client) (before now : Option Traffic) (had have : List Reply) (t : A)
+      (f : ClientFault) → TakenSoFar moment turns index x y before now had have
       → index < length turns → t ≡ get_or turns index t
-      → ((b : Beginning) (limits : Limits) (url : Option (List ℕ)) (opened : ClientPlace) (done : List (Option (List Request))) (first : Option Traffic) → StaysTalking b limits url moment opened done (connection_of y) first now have
+      → ((b : Beginning) (limits : Limits) (url : Option (List ℕ)) (opened : ClientPlace) (done : List (Option (List Request))) (first : Option Traffic)
+      → StaysTalking b limits url moment opened done (connection_of y) first now have
       → turn_refusal (acknowledged b.limits limits url) done (turn_of t) ≡ Some f)
-      → (b : Beginning) (limits : Limits) (url : Option (List ℕ)) (opened : ClientPlace) (first : Option Traffic) → StaysTalking b limits url moment opened [] (connection_of x) first before had
+      → (b : Beginning) (limits : Limits) (url : Option (List ℕ)) (opened : ClientPlace) (first : Option Traffic)
+      → StaysTalking b limits url moment opened [] (connection_of x) first before had
       → FirstRefused (acknowledged b.limits limits url) (map turn_of turns) index f
   refused_next moment turns index x y before now had have t f so less is refused b limits url opened first s =
       let done = so.stays b limits url opened first s in
@@ -377,11 +439,14 @@ module _ {A : Type 0} (turn_of : A → Option (List Request)) where
       }
 
   -- what stands before it was done
-  pub before_next : (moment : DateTime) (turns : List A) (index : ℕ) (x y z : Client) (before now after : Option Traffic) (had have later : List Reply) (t : A) → TakenSoFar moment turns index x y before now had have
+  pub before_next : (moment : DateTime) (turns : List A) (index : ℕ) (x y z : Client) (before now after : Option Traffic) (had have later : List Reply) (t : A)
+      → TakenSoFar moment turns index x y before now had have
       → index < length turns → t ≡ get_or turns index t
-      → ((b : Beginning) (limits : Limits) (url : Option (List ℕ)) (opened : ClientPlace) (done : List (Option (List Request))) (first : Option Traffic) → StaysTalking b limits url moment opened done (connection_of y) first now have
+      → ((b : Beginning) (limits : Limits) (url : Option (List ℕ)) (opened : ClientPlace) (done : List (Option (List Request))) (first : Option Traffic)
+      → StaysTalking b limits url moment opened done (connection_of y) first now have
       → StaysBehind b limits url moment opened done (turn_of t) (connection_of z) first after later)
-      → (b : Beginning) (limits : Limits) (url : Option (List ℕ)) (opened : ClientPlace) (first : Option Traffic) → StaysTalking b limits url moment opened [] (connection_of x) first before had
+      → (b : Beginning) (limits : Limits) (url : Option (List ℕ)) (opened : ClientPlace) (first : Option Traffic)
+      → StaysTalking b limits url moment opened [] (connection_of x) first before had
       → StaysBefore b limits url moment opened (map turn_of turns) index (connection_of z) first after later
   before_next moment turns index x y z before now after had have later t so less is refused b limits url opened first s =
       let behind = refused b limits url opened (map turn_of (take index turns)) first (so.stays b limits url opened first s) in
@@ -403,11 +468,14 @@ module _ {A : Type 0} (turn_of : A → Option (List Request)) where
       }
 
   -- or fails
-  pub fails_next : (moment : DateTime) (turns : List A) (index : ℕ) (x y : Client) (before now : Option Traffic) (had have : List Reply) (t : A) (f : ClientFault) → TakenSoFar moment turns index x y before now had have
+  pub fails_next : (moment : DateTime) (turns : List A) (index : ℕ) (x y : Client) (before now : Option Traffic) (had have : List Reply) (t : A)
+      (f : ClientFault) → TakenSoFar moment turns index x y before now had have
       → index < length turns → t ≡ get_or turns index t
-      → ((b : Beginning) (limits : Limits) (url : Option (List ℕ)) (opened : ClientPlace) (done : List (Option (List Request))) (first : Option Traffic) → StaysTalking b limits url moment opened done (connection_of y) first now have
+      → ((b : Beginning) (limits : Limits) (url : Option (List ℕ)) (opened : ClientPlace) (done : List (Option (List Request))) (first : Option Traffic)
+      → StaysTalking b limits url moment opened done (connection_of y) first now have
       → FailsBehind (HasMisanswer (turns_state b.first b.moment done) b.moment (turn_of t)) f)
-      → (b : Beginning) (limits : Limits) (url : Option (List ℕ)) (opened : ClientPlace) (first : Option Traffic) → StaysTalking b limits url moment opened [] (connection_of x) first before had
+      → (b : Beginning) (limits : Limits) (url : Option (List ℕ)) (opened : ClientPlace) (first : Option Traffic)
+      → StaysTalking b limits url moment opened [] (connection_of x) first before had
       → FailsBehind (HaveMisanswers b.first b.moment (map turn_of turns)) f
   fails_next moment turns index x y before now had have t f so less is fails b limits url opened first s =
       let done : List (Option (List Request)) = map turn_of (take index turns) in
@@ -417,31 +485,39 @@ module _ {A : Type 0} (turn_of : A → Option (List Request)) where
       ∙ (map-append turn_of (take (index + 1) turns) (drop (index + 1) turns)
       ∙ (ap (λ (ts : List (Option (List Request))). ts ++ rest) (turns_on turns index t less is) ∙ append_assoc done (turn_of t ∷ []) rest)) in
       fails_by (HasMisanswer (turns_state b.first b.moment done) b.moment (turn_of t)) (HaveMisanswers b.first b.moment (map turn_of turns)) f
-      (λ h. subst (λ (ts : List (Option (List Request))). HaveMisanswers b.first b.moment ts) (sym parts) (misanswers_in b.first b.moment done (turn_of t) rest h))
+      (λ h. subst (λ (ts : List (Option (List Request))). HaveMisanswers b.first b.moment ts) (sym parts)
+      (misanswers_in b.first b.moment done (turn_of t) rest h))
       (fails b limits url opened done first (so.stays b limits url opened first s))
 
-  pub taken_all : (moment : DateTime) (turns : List A) (index : ℕ) (x y : Client) (before now : Option Traffic) (had have : List Reply) → TakenSoFar moment turns index x y before now had have → length turns ≤ index
-      → (b : Beginning) (limits : Limits) (url : Option (List ℕ)) (opened : ClientPlace) (first : Option Traffic) → StaysTalking b limits url moment opened [] (connection_of x) first before had
+  pub taken_all : (moment : DateTime) (turns : List A) (index : ℕ) (x y : Client) (before now : Option Traffic) (had have : List Reply)
+      → TakenSoFar moment turns index x y before now had have → length turns ≤ index
+      → (b : Beginning) (limits : Limits) (url : Option (List ℕ)) (opened : ClientPlace) (first : Option Traffic)
+      → StaysTalking b limits url moment opened [] (connection_of x) first before had
       → StaysTalking b limits url moment opened (map turn_of turns) (connection_of y) first now have
   taken_all moment turns index x y before now had have so enough b limits url opened first s =
-      subst (λ (ts : List A). StaysTalking b limits url moment opened (map turn_of ts) (connection_of y) first now have) (take_all index turns enough) (so.stays b limits url opened first s)
+      subst (λ (ts : List A). StaysTalking b limits url moment opened (map turn_of ts) (connection_of y) first now have) (take_all index turns enough)
+      (so.stays b limits url opened first s)
 
 -- ---- what calls of a client say
 
 -- it opened
 pub went_by : (limits : Limits) (url : Option (List ℕ)) (moment : DateTime) (before after : Option Traffic) (client : Client) → SettlesOpened
-    → (OpensNothing before after (Ok client) ⊎ OpensClient limits url moment before after (Ok client)) → (b : Beginning) → CanOpen b limits url moment → IsLineTo b [] [] before → Went b limits url moment (connection_of client) before after
-went_by limits url moment before after client law (inl nothing) b able line = let none : ◌≡◌ {A = Result Client ClientFault} (Ok client) (Err OutOfMemory) = nothing.0 in absurd cc
+    → (OpensNothing before after (Ok client) ⊎ OpensClient limits url moment before after (Ok client)) → (b : Beginning) → CanOpen b limits url moment
+    → IsLineTo b [] [] before → Went b limits url moment (connection_of client) before after
+went_by limits url moment before after client law (inl nothing) b able line = let none : ◌≡◌ {A = Result Client ClientFault} (Ok client) (Err OutOfMemory) =
+    nothing.0 in absurd cc
 went_by limits url moment before after client law (inr o) b able line = went_first b limits url moment before after client law o able line
 
 pub ready_by : (limits : Limits) (url : Option (List ℕ)) (moment : DateTime) (before after : Option Traffic) (client : Client)
     → (OpensNothing before after (Ok client) ⊎ OpensClient limits url moment before after (Ok client)) → IsReady client
-ready_by limits url moment before after client (inl nothing) = let none : ◌≡◌ {A = Result Client ClientFault} (Ok client) (Err OutOfMemory) = nothing.0 in absurd cc
+ready_by limits url moment before after client (inl nothing) = let none : ◌≡◌ {A = Result Client ClientFault} (Ok client) (Err OutOfMemory) =
+    nothing.0 in absurd cc
 ready_by limits url moment before after client (inr o) = o.over.1
 
 -- neither its opening nor its close fails for a reason against a turn
 
-pub opens_by : (limits : Limits) (url : Option (List ℕ)) (moment : DateTime) (before after : Option Traffic) (f : ClientFault) → IsTurnFault f → (OpensNothing before after (Err f) ⊎ OpensClient limits url moment before after (Err f)) → ⊥
+pub opens_by : (limits : Limits) (url : Option (List ℕ)) (moment : DateTime) (before after : Option Traffic) (f : ClientFault) → IsTurnFault f
+    → (OpensNothing before after (Err f) ⊎ OpensClient limits url moment before after (Err f)) → ⊥
 opens_by limits url moment before after f is (inl nothing) = memory_not f is (err_is f OutOfMemory nothing.0)
   where
     err_is : (g h : ClientFault) → ◌≡◌ {A = Result Client ClientFault} (Err g) (Err h) → g ≡ h
@@ -494,7 +570,8 @@ ends_closed b (stage.Ended ending.Cut) up e over = absurd e
 ends_closed b stage.Broken up e over = let no : ◌≡◌ {A = End ℕ} Going Over = sym e ∙ over in absurd cc
 
 -- where a CLO closed its channel, by that
-pub closed_well : (r : Result (Unit {0}) ClientFault) (b : Beginning) (limits : Limits) (channel : ℕ) (first : State) (moment : DateTime) (s : Stage) (up : List ℕ) (told : List Told) → b ≡ record { limits = limits; channel = channel; first = first; moment = moment }
+pub closed_well : (r : Result (Unit {0}) ClientFault) (b : Beginning) (limits : Limits) (channel : ℕ) (first : State) (moment : DateTime) (s : Stage)
+    (up : List ℕ) (told : List Told) → b ≡ record { limits = limits; channel = channel; first = first; moment = moment }
     → EndsAt s b up → OnOk r (ServerCloses limits channel up told) → OnOk r (s ≡ stage.Ended ending.Closed)
 closed_well (Err f) b limits channel first moment s up told is e q = tt
 closed_well (Ok done) b limits channel first moment s up told is e q =
@@ -502,15 +579,19 @@ closed_well (Ok done) b limits channel first moment s up told is e q =
     ends_closed b s up e (end_is b up here.frames [] Over here.run)
 
 -- and the services are what it left
-pub left_well : (r : Result (Unit {0}) ClientFault) (b : Beginning) (s : Stage) (up : List ℕ) (now : State) → LeavesAt s b up now → OnOk r (s ≡ stage.Ended ending.Closed) → OnOk r (now ≡ services_after b up)
+pub left_well : (r : Result (Unit {0}) ClientFault) (b : Beginning) (s : Stage) (up : List ℕ) (now : State) → LeavesAt s b up now
+    → OnOk r (s ≡ stage.Ended ending.Closed) → OnOk r (now ≡ services_after b up)
 left_well (Err f) b s up now leaves closed = tt
 left_well (Ok done) b s up now leaves closed = subst (λ (t : Stage). LeavesAt t b up now) closed leaves
 
 -- ---- where it did all
 
-module _ (b : Beginning) (limits : Limits) (channel : ℕ) (services : State) (url : Option (List ℕ)) (moment : DateTime) (turns : List (Option (List Request))) (old new : Served) (replies : List Reply) (is : b ≡ record { limits = limits; channel = channel; first = services; moment = moment })
-    (able : CanOpen (record { limits = limits; channel = channel; first = services; moment = moment }) limits url moment) (none : old.up ≡ []) (nothing_read : old.read ≡ 0)
-    (t : (b' : Beginning) → CanOpen b' limits url moment → IsLineTo b' [] [] (Some (traffic_of b old)) → Talked b' limits url moment turns (Some (traffic_of b old)) (Some (traffic_of b new)) replies) where
+module _ (b : Beginning) (limits : Limits) (channel : ℕ) (services : State) (url : Option (List ℕ)) (moment : DateTime) (turns : List (Option (List Request)))
+    (old new : Served) (replies : List Reply) (is : b ≡ record { limits = limits; channel = channel; first = services; moment = moment })
+    (able : CanOpen (record { limits = limits; channel = channel; first = services; moment = moment }) limits url moment) (none : old.up ≡ [])
+    (nothing_read : old.read ≡ 0)
+    (t : (b' : Beginning) → CanOpen b' limits url moment → IsLineTo b' [] [] (Some (traffic_of b old))
+    → Talked b' limits url moment turns (Some (traffic_of b old)) (Some (traffic_of b new)) replies) where
   talked : Talked b limits url moment turns (Some (traffic_of b old)) (Some (traffic_of b new)) replies
   talked = t b (subst (λ (d : Beginning). CanOpen d limits url moment) (sym is) able) (line_begins b old none nothing_read)
 
@@ -527,9 +608,11 @@ module _ (b : Beginning) (limits : Limits) (channel : ℕ) (services : State) (u
       ∙ (talked.up_is ∙ ap (λ (d : Beginning). conversation_octets d.limits limits url d.channel moment turns) is)))
 
   all_closed_there : (up : List ℕ) → up ≡ new.up → ServerCloses b.limits b.channel up (conversation_told b.limits limits url turns)
-  all_closed_there up p = subst (λ (u : List ℕ). ServerCloses b.limits b.channel u (conversation_told b.limits limits url turns)) (sym p) (closed_by b limits url moment turns old new replies none talked)
+  all_closed_there up p = subst (λ (u : List ℕ). ServerCloses b.limits b.channel u (conversation_told b.limits limits url turns)) (sym p)
+      (closed_by b limits url moment turns old new replies none talked)
 
-  all_replied : map (λ (r : Reply). Some r) replies ≡ turns_replies (record { limits = limits; channel = channel; first = services; moment = moment }) limits url services 1 turns
+  all_replied : map (λ (r : Reply). Some r) replies ≡ turns_replies (record { limits = limits; channel = channel; first = services; moment = moment }) limits
+      url services 1 turns
   all_replied = talked.replied ∙ ap (λ (d : Beginning). turns_replies d limits url d.first 1 turns) is
 
   -- the state that all of it leaves
@@ -538,7 +621,8 @@ module _ (b : Beginning) (limits : Limits) (channel : ℕ) (services : State) (u
       let q = all_closed_there up p in
       left_by_run b up q.frames [] Over q.run
       ∙ (ap (λ (ts : List Told). state_told b ts) q.told_is
-      ∙ (state_closed b (opening_told b.limits limits url ++ turns_told 1 2 turns) ∙ (talked.state_is ∙ ap (λ (d : Beginning). turns_state d.first d.moment turns) is)))
+      ∙ (state_closed b (opening_told b.limits limits url ++ turns_told 1 2 turns)
+      ∙ (talked.state_is ∙ ap (λ (d : Beginning). turns_state d.first d.moment turns) is)))
 
   all_accepted : AreAccepted (acknowledged limits limits url) turns
   all_accepted = subst (λ (d : Beginning). AreAccepted (acknowledged d.limits limits url) turns) is talked.accepted
@@ -548,43 +632,59 @@ module _ (b : Beginning) (limits : Limits) (channel : ℕ) (services : State) (u
       subst (λ (d : Beginning). ServerCloses d.limits d.channel up (conversation_told d.limits limits url turns)) is (all_closed_there up p)
 
 -- what went over the line
-pub conversed_on : (r : Result (Unit {0}) ClientFault) (b : Beginning) (limits : Limits) (channel : ℕ) (services : State) (url : Option (List ℕ)) (moment : DateTime) (turns : List (Option (List Request))) (old new : Served) (replies : List Reply) (up down : List ℕ)
-    → b ≡ record { limits = limits; channel = channel; first = services; moment = moment } → CanOpen (record { limits = limits; channel = channel; first = services; moment = moment }) limits url moment → old.up ≡ [] → old.read ≡ 0
-    → OnOk r ((b' : Beginning) → CanOpen b' limits url moment → IsLineTo b' [] [] (Some (traffic_of b old)) → Talked b' limits url moment turns (Some (traffic_of b old)) (Some (traffic_of b new)) replies)
+pub conversed_on : (r : Result (Unit {0}) ClientFault) (b : Beginning) (limits : Limits) (channel : ℕ) (services : State) (url : Option (List ℕ))
+    (moment : DateTime) (turns : List (Option (List Request))) (old new : Served) (replies : List Reply) (up down : List ℕ)
+    → b ≡ record { limits = limits; channel = channel; first = services; moment = moment }
+    → CanOpen (record { limits = limits; channel = channel; first = services; moment = moment }) limits url moment → old.up ≡ [] → old.read ≡ 0
+    → OnOk r ((b' : Beginning) → CanOpen b' limits url moment → IsLineTo b' [] [] (Some (traffic_of b old))
+    → Talked b' limits url moment turns (Some (traffic_of b old)) (Some (traffic_of b new)) replies)
     → up ≡ new.up → down ≡ server_output b new.up → OnOk r (Converses limits url moment turns up down replies)
 conversed_on (Err f) b limits channel services url moment turns old new replies up down is able none nothing_read t p q = tt
 conversed_on (Ok found) b limits channel services url moment turns old new replies up down is able none nothing_read t p q =
     all_conversed b limits channel services url moment turns old new replies is able none nothing_read t up down p q
 
 -- and what it told the server
-pub closed_on : (r : Result (Unit {0}) ClientFault) (b : Beginning) (limits : Limits) (channel : ℕ) (services : State) (url : Option (List ℕ)) (moment : DateTime) (turns : List (Option (List Request))) (old new : Served) (replies : List Reply) (up : List ℕ)
-    → b ≡ record { limits = limits; channel = channel; first = services; moment = moment } → CanOpen (record { limits = limits; channel = channel; first = services; moment = moment }) limits url moment → old.up ≡ [] → old.read ≡ 0
-    → OnOk r ((b' : Beginning) → CanOpen b' limits url moment → IsLineTo b' [] [] (Some (traffic_of b old)) → Talked b' limits url moment turns (Some (traffic_of b old)) (Some (traffic_of b new)) replies)
+pub closed_on : (r : Result (Unit {0}) ClientFault) (b : Beginning) (limits : Limits) (channel : ℕ) (services : State) (url : Option (List ℕ))
+    (moment : DateTime) (turns : List (Option (List Request))) (old new : Served) (replies : List Reply) (up : List ℕ)
+    → b ≡ record { limits = limits; channel = channel; first = services; moment = moment }
+    → CanOpen (record { limits = limits; channel = channel; first = services; moment = moment }) limits url moment → old.up ≡ [] → old.read ≡ 0
+    → OnOk r ((b' : Beginning) → CanOpen b' limits url moment → IsLineTo b' [] [] (Some (traffic_of b old))
+    → Talked b' limits url moment turns (Some (traffic_of b old)) (Some (traffic_of b new)) replies)
     → up ≡ new.up → OnOk r (ServerCloses limits channel up (conversation_told limits limits url turns))
 closed_on (Err f) b limits channel services url moment turns old new replies up is able none nothing_read t p = tt
 closed_on (Ok found) b limits channel services url moment turns old new replies up is able none nothing_read t p =
     all_closed b limits channel services url moment turns old new replies is able none nothing_read t up p
 
 -- and each turn was accepted
-pub accepted_on : (r : Result (Unit {0}) ClientFault) (b : Beginning) (limits : Limits) (channel : ℕ) (services : State) (url : Option (List ℕ)) (moment : DateTime) (turns : List (Option (List Request))) (old new : Served) (replies : List Reply)
-    → b ≡ record { limits = limits; channel = channel; first = services; moment = moment } → CanOpen (record { limits = limits; channel = channel; first = services; moment = moment }) limits url moment → old.up ≡ [] → old.read ≡ 0
-    → OnOk r ((b' : Beginning) → CanOpen b' limits url moment → IsLineTo b' [] [] (Some (traffic_of b old)) → Talked b' limits url moment turns (Some (traffic_of b old)) (Some (traffic_of b new)) replies)
+pub accepted_on : (r : Result (Unit {0}) ClientFault) (b : Beginning) (limits : Limits) (channel : ℕ) (services : State) (url : Option (List ℕ))
+    (moment : DateTime) (turns : List (Option (List Request))) (old new : Served) (replies : List Reply)
+    → b ≡ record { limits = limits; channel = channel; first = services; moment = moment }
+    → CanOpen (record { limits = limits; channel = channel; first = services; moment = moment }) limits url moment → old.up ≡ [] → old.read ≡ 0
+    → OnOk r ((b' : Beginning) → CanOpen b' limits url moment → IsLineTo b' [] [] (Some (traffic_of b old))
+    → Talked b' limits url moment turns (Some (traffic_of b old)) (Some (traffic_of b new)) replies)
     → OnOk r (AreAccepted (acknowledged limits limits url) turns)
 accepted_on (Err f) b limits channel services url moment turns old new replies is able none nothing_read t = tt
-accepted_on (Ok found) b limits channel services url moment turns old new replies is able none nothing_read t = all_accepted b limits channel services url moment turns old new replies is able none nothing_read t
+accepted_on (Ok found) b limits channel services url moment turns old new replies is able none nothing_read t =
+    all_accepted b limits channel services url moment turns old new replies is able none nothing_read t
 
 -- or the first that is not is named
-pub refused_on : (r : Result (Unit {0}) ClientFault) (b : Beginning) (limits : Limits) (channel : ℕ) (services : State) (url : Option (List ℕ)) (moment : DateTime) (turns : List (Option (List Request))) (old : Served) (place : ℕ)
-    → b ≡ record { limits = limits; channel = channel; first = services; moment = moment } → CanOpen (record { limits = limits; channel = channel; first = services; moment = moment }) limits url moment → old.up ≡ [] → old.read ≡ 0
-    → IfErr r (λ f. IsTurnFault f → (b' : Beginning) → CanOpen b' limits url moment → IsLineTo b' [] [] (Some (traffic_of b old)) → FirstRefused (acknowledged b'.limits limits url) turns place f)
+pub refused_on : (r : Result (Unit {0}) ClientFault) (b : Beginning) (limits : Limits) (channel : ℕ) (services : State) (url : Option (List ℕ))
+    (moment : DateTime) (turns : List (Option (List Request))) (old : Served) (place : ℕ)
+    → b ≡ record { limits = limits; channel = channel; first = services; moment = moment }
+    → CanOpen (record { limits = limits; channel = channel; first = services; moment = moment }) limits url moment → old.up ≡ [] → old.read ≡ 0
+    → IfErr r (λ f. IsTurnFault f → (b' : Beginning) → CanOpen b' limits url moment → IsLineTo b' [] [] (Some (traffic_of b old))
+    → FirstRefused (acknowledged b'.limits limits url) turns place f)
     → IfErr r (λ f. IsTurnFault f → FirstRefused (acknowledged limits limits url) turns place f)
 refused_on (Ok found) b limits channel services url moment turns old place is able none nothing_read t = tt
 refused_on (Err f) b limits channel services url moment turns old place is able none nothing_read t = λ reason.
-    subst (λ (d : Beginning). FirstRefused (acknowledged d.limits limits url) turns place f) is (t reason b (subst (λ (d : Beginning). CanOpen d limits url moment) (sym is) able) (line_begins b old none nothing_read))
+    subst (λ (d : Beginning). FirstRefused (acknowledged d.limits limits url) turns place f) is
+    (t reason b (subst (λ (d : Beginning). CanOpen d limits url moment) (sym is) able) (line_begins b old none nothing_read))
 
 -- and what stands before it was done, and no more
-behind_refused : (b : Beginning) (limits : Limits) (url : Option (List ℕ)) (moment : DateTime) (turns : List (Option (List Request))) (place : ℕ) (old new : Served) (replies : List Reply) → old.up ≡ []
-    → WentBefore b limits url moment turns place (Some (traffic_of b old)) (Some (traffic_of b new)) replies → BehindRefused b limits url moment turns place new.up replies
+behind_refused : (b : Beginning) (limits : Limits) (url : Option (List ℕ)) (moment : DateTime) (turns : List (Option (List Request))) (place : ℕ)
+    (old new : Served) (replies : List Reply) → old.up ≡ []
+    → WentBefore b limits url moment turns place (Some (traffic_of b old)) (Some (traffic_of b new)) replies
+    → BehindRefused b limits url moment turns place new.up replies
 behind_refused b limits url moment turns place old new replies none w =
     let s = w.stays.stays in
     let opening : List ℕ = opening_octets limits url moment in
@@ -599,7 +699,8 @@ behind_refused b limits url moment turns place old new replies none w =
     }
 
 -- the server refused nothing of it, and waits for more
-pub waits_refused : (b : Beginning) (limits : Limits) (url : Option (List ℕ)) (moment : DateTime) (turns : List (Option (List Request))) (place : ℕ) (old new : Served) (replies : List Reply) → old.up ≡ []
+pub waits_refused : (b : Beginning) (limits : Limits) (url : Option (List ℕ)) (moment : DateTime) (turns : List (Option (List Request))) (place : ℕ)
+    (old new : Served) (replies : List Reply) → old.up ≡ []
     → WentBefore b limits url moment turns place (Some (traffic_of b old)) (Some (traffic_of b new)) replies → end_by b new.up ≡ Going
 waits_refused b limits url moment turns place old new replies none w =
     let s = w.stays.stays in
@@ -608,36 +709,56 @@ waits_refused b limits url moment turns place old new replies none w =
     let r = s.talks.talking.served.serving.together.server_reads in
     ap (end_by b) up_is ∙ end_is b octets r.frames [] Going r.run
 
-pub before_on : (r : Result (Unit {0}) ClientFault) (b : Beginning) (limits : Limits) (channel : ℕ) (services : State) (url : Option (List ℕ)) (moment : DateTime) (turns : List (Option (List Request))) (old new : Served) (place : ℕ) (replies : List Reply) (up : List ℕ)
-    → b ≡ record { limits = limits; channel = channel; first = services; moment = moment } → CanOpen (record { limits = limits; channel = channel; first = services; moment = moment }) limits url moment → old.up ≡ [] → old.read ≡ 0
-    → IfErr r (λ f. IsTurnFault f → (b' : Beginning) → CanOpen b' limits url moment → IsLineTo b' [] [] (Some (traffic_of b old)) → WentBefore b' limits url moment turns place (Some (traffic_of b old)) (Some (traffic_of b new)) replies)
-    → up ≡ new.up → IfErr r (λ f. IsTurnFault f → BehindRefused (record { limits = limits; channel = channel; first = services; moment = moment }) limits url moment turns place up replies)
+pub before_on : (r : Result (Unit {0}) ClientFault) (b : Beginning) (limits : Limits) (channel : ℕ) (services : State) (url : Option (List ℕ))
+    (moment : DateTime) (turns : List (Option (List Request))) (old new : Served) (place : ℕ) (replies : List Reply) (up : List ℕ)
+    → b ≡ record { limits = limits; channel = channel; first = services; moment = moment }
+    → CanOpen (record { limits = limits; channel = channel; first = services; moment = moment }) limits url moment → old.up ≡ [] → old.read ≡ 0
+    → IfErr r (λ f. IsTurnFault f → (b' : Beginning) → CanOpen b' limits url moment → IsLineTo b' [] [] (Some (traffic_of b old))
+    → WentBefore b' limits url moment turns place (Some (traffic_of b old)) (Some (traffic_of b new)) replies)
+    → up ≡ new.up
+    → IfErr r (λ f. IsTurnFault f → BehindRefused (record { limits = limits; channel = channel; first = services; moment = moment }) limits url moment turns
+    place up replies)
 before_on (Ok found) b limits channel services url moment turns old new place replies up is able none nothing_read t p = tt
 before_on (Err f) b limits channel services url moment turns old new place replies up is able none nothing_read t p = λ reason.
-    subst (λ (u : List ℕ). BehindRefused (record { limits = limits; channel = channel; first = services; moment = moment }) limits url moment turns place u replies) (sym p)
+    subst (λ (u : List ℕ). BehindRefused (record { limits = limits; channel = channel; first = services; moment = moment }) limits url moment turns place u
+    replies) (sym p)
     (subst (λ (d : Beginning). BehindRefused d limits url moment turns place new.up replies) is
-    (behind_refused b limits url moment turns place old new replies none (t reason b (subst (λ (d : Beginning). CanOpen d limits url moment) (sym is) able) (line_begins b old none nothing_read))))
+    (behind_refused b limits url moment turns place old new replies none
+    (t reason b (subst (λ (d : Beginning). CanOpen d limits url moment) (sym is) able) (line_begins b old none nothing_read))))
 
 -- and the client sent just these octets
-pub sent_on : (r : Result (Unit {0}) ClientFault) (b : Beginning) (limits : Limits) (channel : ℕ) (services : State) (url : Option (List ℕ)) (moment : DateTime) (turns : List (Option (List Request))) (old new : Served) (replies : List Reply) (up : List ℕ)
-    → b ≡ record { limits = limits; channel = channel; first = services; moment = moment } → CanOpen (record { limits = limits; channel = channel; first = services; moment = moment }) limits url moment → old.up ≡ [] → old.read ≡ 0
-    → OnOk r ((b' : Beginning) → CanOpen b' limits url moment → IsLineTo b' [] [] (Some (traffic_of b old)) → Talked b' limits url moment turns (Some (traffic_of b old)) (Some (traffic_of b new)) replies)
+pub sent_on : (r : Result (Unit {0}) ClientFault) (b : Beginning) (limits : Limits) (channel : ℕ) (services : State) (url : Option (List ℕ)) (moment : DateTime)
+    (turns : List (Option (List Request))) (old new : Served) (replies : List Reply) (up : List ℕ)
+    → b ≡ record { limits = limits; channel = channel; first = services; moment = moment }
+    → CanOpen (record { limits = limits; channel = channel; first = services; moment = moment }) limits url moment → old.up ≡ [] → old.read ≡ 0
+    → OnOk r ((b' : Beginning) → CanOpen b' limits url moment → IsLineTo b' [] [] (Some (traffic_of b old))
+    → Talked b' limits url moment turns (Some (traffic_of b old)) (Some (traffic_of b new)) replies)
     → up ≡ new.up → OnOk r (up ≡ conversation_octets limits limits url channel moment turns)
 sent_on (Err f) b limits channel services url moment turns old new replies up is able none nothing_read t p = tt
-sent_on (Ok found) b limits channel services url moment turns old new replies up is able none nothing_read t p = all_sent b limits channel services url moment turns old new replies is able none nothing_read t up p
+sent_on (Ok found) b limits channel services url moment turns old new replies up is able none nothing_read t p =
+    all_sent b limits channel services url moment turns old new replies is able none nothing_read t up p
 
 -- each request has the reply that is worked out of the services
-pub replied_on : (r : Result (Unit {0}) ClientFault) (b : Beginning) (limits : Limits) (channel : ℕ) (services : State) (url : Option (List ℕ)) (moment : DateTime) (turns : List (Option (List Request))) (old new : Served) (replies : List Reply)
-    → b ≡ record { limits = limits; channel = channel; first = services; moment = moment } → CanOpen (record { limits = limits; channel = channel; first = services; moment = moment }) limits url moment → old.up ≡ [] → old.read ≡ 0
-    → OnOk r ((b' : Beginning) → CanOpen b' limits url moment → IsLineTo b' [] [] (Some (traffic_of b old)) → Talked b' limits url moment turns (Some (traffic_of b old)) (Some (traffic_of b new)) replies)
-    → OnOk r (map (λ (x : Reply). Some x) replies ≡ turns_replies (record { limits = limits; channel = channel; first = services; moment = moment }) limits url services 1 turns)
+pub replied_on : (r : Result (Unit {0}) ClientFault) (b : Beginning) (limits : Limits) (channel : ℕ) (services : State) (url : Option (List ℕ))
+    (moment : DateTime) (turns : List (Option (List Request))) (old new : Served) (replies : List Reply)
+    → b ≡ record { limits = limits; channel = channel; first = services; moment = moment }
+    → CanOpen (record { limits = limits; channel = channel; first = services; moment = moment }) limits url moment → old.up ≡ [] → old.read ≡ 0
+    → OnOk r ((b' : Beginning) → CanOpen b' limits url moment → IsLineTo b' [] [] (Some (traffic_of b old))
+    → Talked b' limits url moment turns (Some (traffic_of b old)) (Some (traffic_of b new)) replies)
+    → OnOk r (map (λ (x : Reply). Some x) replies ≡ turns_replies (record { limits = limits; channel = channel; first = services; moment = moment }) limits url
+    services 1 turns)
 replied_on (Err f) b limits channel services url moment turns old new replies is able none nothing_read t = tt
-replied_on (Ok found) b limits channel services url moment turns old new replies is able none nothing_read t = all_replied b limits channel services url moment turns old new replies is able none nothing_read t
+replied_on (Ok found) b limits channel services url moment turns old new replies is able none nothing_read t =
+    all_replied b limits channel services url moment turns old new replies is able none nothing_read t
 
 -- and the services are as the turns leave them
-pub state_on : (r : Result (Unit {0}) ClientFault) (b : Beginning) (limits : Limits) (channel : ℕ) (services : State) (url : Option (List ℕ)) (moment : DateTime) (turns : List (Option (List Request))) (old new : Served) (replies : List Reply) (up : List ℕ) (now : State)
-    → b ≡ record { limits = limits; channel = channel; first = services; moment = moment } → CanOpen (record { limits = limits; channel = channel; first = services; moment = moment }) limits url moment → old.up ≡ [] → old.read ≡ 0
-    → OnOk r ((b' : Beginning) → CanOpen b' limits url moment → IsLineTo b' [] [] (Some (traffic_of b old)) → Talked b' limits url moment turns (Some (traffic_of b old)) (Some (traffic_of b new)) replies)
+pub state_on : (r : Result (Unit {0}) ClientFault) (b : Beginning) (limits : Limits) (channel : ℕ) (services : State) (url : Option (List ℕ))
+    (moment : DateTime) (turns : List (Option (List Request))) (old new : Served) (replies : List Reply) (up : List ℕ) (now : State)
+    → b ≡ record { limits = limits; channel = channel; first = services; moment = moment }
+    → CanOpen (record { limits = limits; channel = channel; first = services; moment = moment }) limits url moment → old.up ≡ [] → old.read ≡ 0
+    → OnOk r ((b' : Beginning) → CanOpen b' limits url moment → IsLineTo b' [] [] (Some (traffic_of b old))
+    → Talked b' limits url moment turns (Some (traffic_of b old)) (Some (traffic_of b new)) replies)
     → up ≡ new.up → OnOk r (now ≡ services_after b up) → OnOk r (now ≡ turns_state services moment turns)
 state_on (Err f) b limits channel services url moment turns old new replies up now is able none nothing_read t p q = tt
-state_on (Ok found) b limits channel services url moment turns old new replies up now is able none nothing_read t p q = q ∙ all_left b limits channel services url moment turns old new replies is able none nothing_read t up p
+state_on (Ok found) b limits channel services url moment turns old new replies up now is able none nothing_read t p q = q
+    ∙ all_left b limits channel services url moment turns old new replies is able none nothing_read t up p

@@ -1,5 +1,6 @@
 -- That what a server answers to requests ends with the chunk of a reply.
-use Rattle.std.proofs.Common.{◌≡◌, ℕ, ◌+◌, ◌<◌, ◌≤◌, ◌^◌, List, [], ◌∷◌, ◌++◌, Option, Some, None, length, map, refl, sym, ◌∙◌, ap, subst, arith, append-nil, append_assoc, length-append}
+use Rattle.std.proofs.Common.{◌≡◌, ℕ, ◌+◌, ◌<◌, ◌≤◌, ◌^◌, List, [], ◌∷◌, ◌++◌, Option, Some, None, length}
+use Rattle.std.proofs.Common.{map, refl, sym, ◌∙◌, ap, subst, arith, append-nil, append_assoc, length-append}
 use Rattle.std.specs.List.{AllByRecursion}
 use Rattle.std.proofs.lemmas.List.{append_cancel_left}
 use Rattle.ua_wire.specs.Counted.{counted, text}
@@ -45,7 +46,12 @@ unfolding frames_octets
 frames_none = refl
 
 some_octets : (f : Frame) (fs : List Frame) → frames_octets [] ≡ frames_octets (f ∷ fs) → ⊥
-some_octets f fs e = omega (arith, ap length (sym frames_none ∙ (e ∙ frames_cons f fs)), length-append (frame_octets f) (frames_octets fs), length-frame_octets f)
+some_octets f fs e = omega (
+  arith,
+  ap length (sym frames_none ∙ (e ∙ frames_cons f fs)),
+  length-append (frame_octets f) (frames_octets fs),
+  length-frame_octets f,
+)
 
 same_list : (f g : Frame) (fs gs : List Frame) → f ≡ g → fs ≡ gs → f ∷ fs ≡ g ∷ gs
 same_list f g fs gs p q = cc
@@ -68,7 +74,8 @@ sized_behind R start [] gs h = all_sized R start gs h
 sized_behind R start (f ∷ fs) gs h = sized_behind R (start ++ f ∷ []) fs gs h.1
 
 -- the frames of octets behind others
-pub frames_behind : {E X : Type 0} (R : Rules E X) (octets : List ℕ) (fs all gs : List Frame) → Run R octets fs [] Going → Run R (octets ++ frames_octets gs) all [] Going → AllByRecursion IsSized gs → all ≡ fs ++ gs
+pub frames_behind : {E X : Type 0} (R : Rules E X) (octets : List ℕ) (fs all gs : List Frame) → Run R octets fs [] Going
+    → Run R (octets ++ frames_octets gs) all [] Going → AllByRecursion IsSized gs → all ≡ fs ++ gs
 unfolding AllAfter
 frames_behind R octets fs all gs r s sized =
     let later = begins_run R octets (frames_octets gs) fs all [] Going r s in
@@ -114,13 +121,16 @@ pub record EndsInChunk (frames : List Frame) : Type 0 where
 abbrev pub LastChunk : Limits → List Placed → List ℕ → Type 0
 LastChunk limits asks octets = (frames : List Frame) → Run (client_rules limits asks) octets frames [] Going → EndsInChunk frames
 
-sized_chunks : (lane : Lane) (id size : ℕ) (cs : List Chunk) → 24 + lane.room ≤ size → size < 2 ^ 32 → AllByRecursion (IsOf lane id) cs → AllByRecursion IsSized (map frame_of cs)
+sized_chunks : (lane : Lane) (id size : ℕ) (cs : List Chunk) → 24 + lane.room ≤ size → size < 2 ^ 32 → AllByRecursion (IsOf lane id) cs
+    → AllByRecursion IsSized (map frame_of cs)
 sized_chunks lane id size [] fits small h = tt
 sized_chunks lane id size (c ∷ cs) fits small h = (omega (arith, chunk_size c, h.0.fits, fits, small), sized_chunks lane id size cs fits small h.1)
 
-module _ (limits : Limits) (asks : List Placed) (octets : List ℕ) (told : List ClientTold) (at : AtClient) (lane : Lane) (id : ℕ) (r : ClientReads limits asks octets told at) (back : IsLaneBack limits at lane) (few : id < 2 ^ 32) where
+module _ (limits : Limits) (asks : List Placed) (octets : List ℕ) (told : List ClientTold) (at : AtClient) (lane : Lane) (id : ℕ)
+    (r : ClientReads limits asks octets told at) (back : IsLaneBack limits at lane) (few : id < 2 ^ 32) where
   -- behind chunks of which the last is numbered
-  ends_with : (cs : List Chunk) (l : Last cs) → IsNumbered l.last → AllByRecursion IsSized (map frame_of cs) → LastChunk limits asks (octets ++ chunks_octets cs)
+  ends_with : (cs : List Chunk) (l : Last cs) → IsNumbered l.last → AllByRecursion IsSized (map frame_of cs)
+      → LastChunk limits asks (octets ++ chunks_octets cs)
   ends_with cs l small sized frames run = record {
     before = r.frames ++ map frame_of l.front;
     frame = frame_of l.last;
@@ -128,7 +138,8 @@ module _ (limits : Limits) (asks : List Placed) (octets : List ℕ) (told : List
     parts =
         frames_behind (client_rules limits asks) octets r.frames frames (map frame_of cs) r.run run sized
         ∙ (ap (λ (us : List Chunk). r.frames ++ map frame_of us) l.parts
-        ∙ (ap (λ (fs : List Frame). r.frames ++ fs) (map_push frame_of l.front (l.last ∷ [])) ∙ sym (append_assoc r.frames (map frame_of l.front) (frame_of l.last ∷ []))));
+        ∙ (ap (λ (fs : List Frame). r.frames ++ fs) (map_push frame_of l.front (l.last ∷ []))
+        ∙ sym (append_assoc r.frames (map frame_of l.front) (frame_of l.last ∷ []))));
     carries = chunk_carried l.last small;
   }
 
@@ -144,7 +155,8 @@ module _ (limits : Limits) (asks : List Placed) (octets : List ℕ) (told : List
   reply_ends body some =
       let ps = some_pieces lane.room body some in
       let are : AllByRecursion (IsOf lane id) (numbered lane at.next id (ps.first ∷ ps.others)) =
-      subst (λ (t : List (List ℕ)). AllByRecursion (IsOf lane id) (numbered lane at.next id t)) ps.are (chunks_are lane body at.next id r.next_small back.some some) in
+      subst (λ (t : List (List ℕ)). AllByRecursion (IsOf lane id) (numbered lane at.next id t)) ps.are
+      (chunks_are lane body at.next id r.next_small back.some some) in
       let l : Last (numbered lane at.next id (ps.first ∷ ps.others)) = last_of _ _ in
       subst (λ (t : List (List ℕ)). LastChunk limits asks (octets ++ chunks_octets (numbered lane at.next id t))) (sym ps.are)
       (ends_with (numbered lane at.next id (ps.first ∷ ps.others)) l
@@ -153,7 +165,12 @@ module _ (limits : Limits) (asks : List Placed) (octets : List ℕ) (told : List
 
   abort_length : (code : StatusCode) → length (abort_body.canonical (code, None)) ≡ 8
   unfolding abort_body status_code text counted
-  abort_length code = omega (arith, length-append (number_octets 4 code.code) (number_octets 4 0xFFFF_FFFF), length-number_octets 4 code.code, length-number_octets 4 0xFFFF_FFFF)
+  abort_length code = omega (
+    arith,
+    length-append (number_octets 4 code.code) (number_octets 4 0xFFFF_FFFF),
+    length-number_octets 4 code.code,
+    length-number_octets 4 0xFFFF_FFFF,
+  )
 
   abort_ends : (code : StatusCode) → LastChunk limits asks (octets ++ frame_octets (frame_of (abort_chunk lane at.next id code)))
   abort_ends code =

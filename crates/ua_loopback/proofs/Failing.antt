@@ -47,7 +47,8 @@ told_so : (far : Stage) (f : ClientFault) → broken_fault f ≡ f → FailsAt f
 told_so far f same fails = subst (FailsAt far) (sym (as_it_is far f same)) fails
 
 -- a reason against a turn is told where the connection waits and goes on; over a broken line that memory was refused
-told_turn : (far : Stage) (f : ClientFault) (b : Beginning) (up : List ℕ) → end_by b up ≡ Going → EndsAt far b up → FailsAt stage.Going f → broken_fault f ≡ fault.OutOfMemory → FailsAt far (fault_at far f)
+told_turn : (far : Stage) (f : ClientFault) (b : Beginning) (up : List ℕ) → end_by b up ≡ Going → EndsAt far b up → FailsAt stage.Going f
+    → broken_fault f ≡ fault.OutOfMemory → FailsAt far (fault_at far f)
 told_turn stage.Going f b up goes ends going broken = going
 told_turn (stage.Ended ending.Closed) f b up goes ends going broken = let no : ◌≡◌ {A = End ℕ} Over Going = sym ends ∙ goes in absurd cc
 told_turn (stage.Ended (ending.Refused code)) f b up goes ends going broken = let no : ◌≡◌ {A = End ℕ} (Stopped code.code) Going = sym ends ∙ goes in absurd cc
@@ -56,7 +57,8 @@ told_turn (stage.Ended ending.Cut) f b up goes ends going broken = absurd ends
 told_turn stage.Broken f b up goes ends going broken = subst (FailsAt stage.Broken) (sym broken) tt
 
 -- at such a server every fault is want of memory, or a reason against a turn
-fails_at : (M : Type 0) (far : Stage) (f : ClientFault) (b : Beginning) (up : List ℕ) → (M → ⊥) → FailsBehind M f → StopsAfter f b up → (IsTurnFault f → end_by b up ≡ Going) → EndsAt far b up → (is_line_fault f ≡ true → IsOver far) → length (server_output b up) < most_reads
+fails_at : (M : Type 0) (far : Stage) (f : ClientFault) (b : Beginning) (up : List ℕ) → (M → ⊥) → FailsBehind M f → StopsAfter f b up
+    → (IsTurnFault f → end_by b up ≡ Going) → EndsAt far b up → (is_line_fault f ≡ true → IsOver far) → length (server_output b up) < most_reads
     → FailsAt far (fault_at far f)
 fails_at M far fault.Read b up none h stops waits ends over few = told_so far fault.Read refl (broken_if far b up (stops.read refl) ends (over refl))
 fails_at M far fault.Write b up none h stops waits ends over few = told_so far fault.Write refl (broken_if far b up (stops.write refl) ends (over refl))
@@ -79,16 +81,24 @@ some_failures f old new none is line =
     let one : new ≡ 1 = is ∙ (ap (λ (n : ℕ). failures_behind {A = Unit {0}} n (Err f)) none ∙ ap (λ (t : Bool). cond t (one_more 0) 0) line) in
     omega (arith, one)
 
-pub fails_on : (r told : Result (Unit {0}) ClientFault) (far : Stage) (b : Beginning) (limits : Limits) (channel : ℕ) (services : State) (url : Option (List ℕ)) (moment : DateTime) (turns : List (Option (List Request))) (place : ℕ) (old new : Served) (replies : List Reply)
-    → told ≡ outcome_at far r → b ≡ record { limits = limits; channel = channel; first = services; moment = moment } → CanOpen (record { limits = limits; channel = channel; first = services; moment = moment }) limits url moment → IsSoundState services
-    → old.up ≡ [] → old.read ≡ 0 → old.failures ≡ 0 → new.failures ≡ failures_behind old.failures r → (0 < new.failures → IsOver far) → EndsAt far b new.up → length (server_output b new.up) < most_reads
-    → IfErr r (λ f. (b' : Beginning) → CanOpen b' limits url moment → IsLineTo b' [] [] (Some (traffic_of b old)) → url_length url ≤ 4095 → FailsBehind (HaveMisanswers b'.first b'.moment turns) f)
-    → IfErr r (λ f. (b' : Beginning) → CanOpen b' limits url moment → IsLineTo b' [] [] (Some (traffic_of b old)) → url_length url ≤ 4095 → StopsOver f b' [] (Some (traffic_of b old)) (Some (traffic_of b new)))
-    → IfErr r (λ f. IsTurnFault f → (b' : Beginning) → CanOpen b' limits url moment → IsLineTo b' [] [] (Some (traffic_of b old)) → WentBefore b' limits url moment turns place (Some (traffic_of b old)) (Some (traffic_of b new)) replies)
+pub fails_on : (r told : Result (Unit {0}) ClientFault) (far : Stage) (b : Beginning) (limits : Limits) (channel : ℕ) (services : State) (url : Option (List ℕ))
+    (moment : DateTime) (turns : List (Option (List Request))) (place : ℕ) (old new : Served) (replies : List Reply)
+    → told ≡ outcome_at far r → b ≡ record { limits = limits; channel = channel; first = services; moment = moment }
+    → CanOpen (record { limits = limits; channel = channel; first = services; moment = moment }) limits url moment → IsSoundState services
+    → old.up ≡ [] → old.read ≡ 0 → old.failures ≡ 0 → new.failures ≡ failures_behind old.failures r → (0 < new.failures → IsOver far) → EndsAt far b new.up
+    → length (server_output b new.up) < most_reads
+    → IfErr r (λ f. (b' : Beginning) → CanOpen b' limits url moment → IsLineTo b' [] [] (Some (traffic_of b old)) → url_length url ≤ 4095
+    → FailsBehind (HaveMisanswers b'.first b'.moment turns) f)
+    → IfErr r (λ f. (b' : Beginning) → CanOpen b' limits url moment → IsLineTo b' [] [] (Some (traffic_of b old)) → url_length url ≤ 4095
+    → StopsOver f b' [] (Some (traffic_of b old)) (Some (traffic_of b new)))
+    → IfErr r (λ f. IsTurnFault f → (b' : Beginning) → CanOpen b' limits url moment → IsLineTo b' [] [] (Some (traffic_of b old))
+    → WentBefore b' limits url moment turns place (Some (traffic_of b old)) (Some (traffic_of b new)) replies)
     → IfErr told (λ f. url_length url ≤ 4095 → FailsAt far f)
-fails_on (Ok found) told far b limits channel services url moment turns place old new replies told_is is able sound none nothing_read no_failure failed over ends few t u before =
+fails_on (Ok found) told far b limits channel services url moment turns place old new replies told_is is able sound none nothing_read no_failure failed over
+    ends few t u before =
     subst (λ (r : Result (Unit {0}) ClientFault). IfErr r (λ f. url_length url ≤ 4095 → FailsAt far f)) (sym told_is) tt
-fails_on (Err f) told far b limits channel services url moment turns place old new replies told_is is able sound none nothing_read no_failure failed over ends few t u before =
+fails_on (Err f) told far b limits channel services url moment turns place old new replies told_is is able sound none nothing_read no_failure failed over ends
+    few t u before =
     subst (λ (r : Result (Unit {0}) ClientFault). IfErr r (λ g. url_length url ≤ 4095 → FailsAt far g)) (sym told_is) (λ short.
     let begun : Beginning = record { limits = limits; channel = channel; first = services; moment = moment } in
     let can : CanOpen b limits url moment = subst (λ (d : Beginning). CanOpen d limits url moment) (sym is) able in
@@ -96,7 +106,8 @@ fails_on (Err f) told far b limits channel services url moment turns place old n
     let stops = u b can line short in
     let up_is : stops.0 ≡ new.up = ap (λ (o : List ℕ). o ++ stops.0) (sym none) ∙ sym stops.1 in
     let sound_first : IsSoundState b.first = subst (λ (d : Beginning). IsSoundState d.first) (sym is) sound in
-    let waits : IsTurnFault f → end_by b new.up ≡ Going = λ reason. waits_refused b limits url moment turns place old new replies none (before reason b can line) in
+    let waits : IsTurnFault f → end_by b new.up ≡ Going = λ reason. waits_refused b limits url moment turns place old new replies none
+    (before reason b can line) in
     fails_at (HaveMisanswers b.first b.moment turns) far f b new.up (turns_answered b.first b.moment turns sound_first can.answered) (t b can line short)
     (subst (StopsAfter f b) up_is stops.2) waits ends (λ line_failed. over (some_failures f old.failures new.failures no_failure failed line_failed)) few)
 
@@ -125,7 +136,8 @@ same_reason stage.Broken (fault.Peer code) reason = refl
 same_reason stage.Broken (fault.Refused code) reason = refl
 same_reason stage.Broken (fault.Service code) reason = refl
 
-pub reason_told : (far : Stage) (r told : Result (Unit {0}) ClientFault) (P : ClientFault → Type 0) → told ≡ outcome_at far r → IfErr r (λ f. IsTurnFault f → P f) → IfErr told (λ f. IsTurnFault f → P f)
+pub reason_told : (far : Stage) (r told : Result (Unit {0}) ClientFault) (P : ClientFault → Type 0) → told ≡ outcome_at far r
+    → IfErr r (λ f. IsTurnFault f → P f) → IfErr told (λ f. IsTurnFault f → P f)
 reason_told far (Ok done) told P told_is p = subst (λ (o : Result (Unit {0}) ClientFault). IfErr o (λ g. IsTurnFault g → P g)) (sym told_is) tt
 reason_told far (Err f) told P told_is p =
     subst (λ (o : Result (Unit {0}) ClientFault). IfErr o (λ g. IsTurnFault g → P g)) (sym told_is)

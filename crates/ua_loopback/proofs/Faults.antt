@@ -1,5 +1,6 @@
 -- That a call of a client behind a talk does not fail for what the server says.
-use Rattle.std.proofs.Common.{◌≡◌, ◌⊎◌, inl, inr, ℕ, ◌+◌, ◌<◌, ◌≤◌, true, false, IsTrue, List, [], ◌∷◌, ◌++◌, Option, Some, None, Result, Err, length, length-append, refl, sym, ◌∙◌, ap, subst, arith, append-nil, append_assoc}
+use Rattle.std.proofs.Common.{◌≡◌, ◌⊎◌, inl, inr, ℕ, ◌+◌, ◌<◌, ◌≤◌, true, false, IsTrue, List, [], ◌∷◌, ◌++◌, Option, Some, None}
+use Rattle.std.proofs.Common.{Result, Err, length, length-append, refl, sym, ◌∙◌, ap, subst, arith, append-nil, append_assoc}
 use Rattle.std.specs.List.{list_any}
 use Rattle.std.proofs.lemmas.List.{append_cancel_left}
 use Rattle.ua_wire.specs.Format.{Extends}
@@ -106,7 +107,8 @@ memory_stops b up f is = record {
 
 -- ---- what is sent
 
-pub sent_over : (got sent octets : List ℕ) (before after : Option Traffic) → sent ≡ octets → IfTrafficKnown (Carries got sent) before after → IsSentOver octets before after
+pub sent_over : (got sent octets : List ℕ) (before after : Option Traffic) → sent ≡ octets → IfTrafficKnown (Carries got sent) before after
+    → IsSentOver octets before after
 sent_over got sent octets None after is carried = carried
 sent_over got sent octets (Some f) None is carried = absurd carried
 sent_over got sent octets (Some f) (Some g) is carried = carried.written ∙ ap (λ (o : List ℕ). f.written ++ o) is
@@ -117,7 +119,8 @@ nothing_sent (Some f) (Some g) is = let same : g ≡ f = cc in ap (λ (t : Traff
 nothing_sent (Some f) None is = let no : None ≡ Some f = is in absurd cc
 
 -- these octets and then those
-pub sent_both : (first second : List ℕ) (before mid after : Option Traffic) → IsSentOver first before mid → IsSentOver second mid after → IsSentOver (first ++ second) before after
+pub sent_both : (first second : List ℕ) (before mid after : Option Traffic) → IsSentOver first before mid → IsSentOver second mid after
+    → IsSentOver (first ++ second) before after
 sent_both first second (Some f) (Some g) (Some h) p q = q ∙ (ap (λ (o : List ℕ). o ++ second) p ∙ append_assoc f.written first second)
 sent_both first second (Some f) (Some g) None p q = absurd q
 sent_both first second (Some f) None after p q = absurd p
@@ -130,7 +133,8 @@ front_of_front : (octets more all : List ℕ) → Extends (octets ++ more) all �
 front_of_front octets more all e = record { more = more ++ e.more; parts = e.parts ∙ append_assoc octets more e.more }
 
 -- where all that came is taken and nothing is to come, that is all that the server says
-took_said : (b : Beginning) (now : Option Traffic) (sent got taken untaken : List ℕ) → IsLineTo b sent got now → got ≡ taken ++ untaken → untaken ≡ [] → IsAtEnd now → taken ≡ server_output b sent
+took_said : (b : Beginning) (now : Option Traffic) (sent got taken untaken : List ℕ) → IsLineTo b sent got now → got ≡ taken ++ untaken → untaken ≡ []
+    → IsAtEnd now → taken ≡ server_output b sent
 took_said b None sent got taken untaken line is none end = absurd line
 took_said b (Some g) sent got taken untaken line is none end =
     let said_is : server_output b sent ≡ got ++ g.coming [] = ap (server_output b) (sym (append-nil sent)) ∙ line [] in
@@ -138,7 +142,8 @@ took_said b (Some g) sent got taken untaken line is none end =
     sym (said_is ∙ (ap (λ (o : List ℕ). got ++ o) end ∙ (append-nil got ∙ got_is)))
 
 -- what was got of it the server said
-said_enough : (b : Beginning) (now : Option Traffic) (sent got more : List ℕ) (n : ℕ) → IsLineTo b sent (got ++ more) now → n ≤ length more → n ≤ length (server_output b sent)
+said_enough : (b : Beginning) (now : Option Traffic) (sent got more : List ℕ) (n : ℕ) → IsLineTo b sent (got ++ more) now → n ≤ length more
+    → n ≤ length (server_output b sent)
 said_enough b None sent got more n line few = absurd line
 said_enough b (Some g) sent got more n line few =
     let said_is : server_output b sent ≡ (got ++ more) ++ g.coming [] = ap (server_output b) (sym (append-nil sent)) ∙ line [] in
@@ -146,8 +151,10 @@ said_enough b (Some g) sent got more n line few =
 
 -- ---- behind a talk
 
-module _ (b : Beginning) (limits : Limits) (url : Option (List ℕ)) (octets : List ℕ) (told : List Told) (token id held : ℕ) (site : ClientPlace) (x : Connection) (before : Option Traffic) (t : AreTalking b limits url octets told token id held site x before)
-    (y : Connection) (after : Option Traffic) (sent : List ℕ) (moves : MovesConnection x y sent before after) (same : SameClient (channel_of x) (channel_of y)) where
+module _ (b : Beginning) (limits : Limits) (url : Option (List ℕ)) (octets : List ℕ) (told : List Told) (token id held : ℕ) (site : ClientPlace)
+    (x : Connection) (before : Option Traffic) (t : AreTalking b limits url octets told token id held site x before)
+    (y : Connection) (after : Option Traffic) (sent : List ℕ) (moves : MovesConnection x y sent before after)
+    (same : SameClient (channel_of x) (channel_of y)) where
   limits_then : client_limits (channel_of y) ≡ limits
   limits_then = sym same.limits ∙ t.served.limits_are
 
@@ -165,8 +172,10 @@ module _ (b : Beginning) (limits : Limits) (url : Option (List ℕ)) (octets : L
 
   -- ---- requests, of which a group is not answered
 
-  module _ (law : NonePending) (never_before : ToldBehind) (groups : List (List Request)) (group : List Request) (behind : ClientPlace) (sent_before sent_then taken_before taken_then : List ℕ) (replies : List Reply)
-      (rounds : Rounds (channel_of y) site groups behind sent_before taken_before replies) (some : AreSome (groups ++ group ∷ [])) (sent_parts : sent ≡ sent_before ++ sent_then) (taken_parts : moves.taken ≡ taken_before ++ taken_then) where
+  module _ (law : NonePending) (never_before : ToldBehind) (groups : List (List Request)) (group : List Request) (behind : ClientPlace)
+      (sent_before sent_then taken_before taken_then : List ℕ) (replies : List Reply)
+      (rounds : Rounds (channel_of y) site groups behind sent_before taken_before replies) (some : AreSome (groups ++ group ∷ []))
+      (sent_parts : sent ≡ sent_before ++ sent_then) (taken_parts : moves.taken ≡ taken_before ++ taken_then) where
     abbrev all : List Request
     all = all_of groups
 
@@ -192,7 +201,8 @@ module _ (b : Beginning) (limits : Limits) (url : Option (List ℕ)) (octets : L
         let later = said_further b (octets ++ sent_before) sent_then in
         rounds_served b limits url octets told token id held law (channel_of x) t.served limits_then rounds
         (all_front (λ (g : List Request). 0 < length g) groups group some) (server_output b ((octets ++ sent_before) ++ sent_then))
-        (front_of_front behind.octets taken_then (server_output b ((octets ++ sent_before) ++ sent_then)) front_here) (record { more = later.further; parts = later.parts })
+        (front_of_front behind.octets taken_then (server_output b ((octets ++ sent_before) ++ sent_then)) front_here)
+        (record { more = later.further; parts = later.parts })
 
     some_here : 0 < length group
     some_here = all_last (λ (g : List Request). 0 < length g) groups group some
@@ -209,27 +219,35 @@ module _ (b : Beginning) (limits : Limits) (url : Option (List ℕ)) (octets : L
 
       fails_not : (heard : List Heard) (why : Why) → ClientEnded (channel_of y) (asked_at behind group) (behind.octets ++ taken_then) heard why → ⊥
       fails_not heard why ended =
-          asked_fails_not b url (octets ++ sent_before) told_here first.served.at_server first.channel behind first.served.at_client group first.served.on first.served.serving some_here judged
+          asked_fails_not b url (octets ++ sent_before) told_here first.served.at_server first.channel behind first.served.at_client group first.served.on
+          first.served.serving some_here judged
           (channel_of y) same_here (behind.octets ++ taken_then) heard why ended front_asked
 
-      misses_not : ClientGoesOn (channel_of y) (asked_at behind group) (behind.octets ++ taken_then) behind.told (AreAwaited group (id_at behind)) → untaken_of y ≡ [] → IsAtEnd after → ⊥
+      misses_not : ClientGoesOn (channel_of y) (asked_at behind group) (behind.octets ++ taken_then) behind.told (AreAwaited group (id_at behind))
+          → untaken_of y ≡ [] → IsAtEnd after → ⊥
       misses_not h none end =
-          asked_misses_not b url (octets ++ sent_before) told_here first.served.at_server first.channel behind first.served.at_client group first.served.on first.served.serving some_here judged
-          (channel_of y) same_here (behind.octets ++ taken_then) h (all_here none end ∙ ap (λ (o : List ℕ). server_output b ((octets ++ sent_before) ++ o)) sent_is)
+          asked_misses_not b url (octets ++ sent_before) told_here first.served.at_server first.channel behind first.served.at_client group first.served.on
+          first.served.serving some_here judged
+          (channel_of y) same_here (behind.octets ++ taken_then) h (all_here none end
+          ∙ ap (λ (o : List ℕ). server_output b ((octets ++ sent_before) ++ o)) sent_is)
 
       fits : AreWritable group
       fits =
           writable (acknowledged b.limits limits url) (id + length all) group
-          (sym (refused_there b limits url (octets ++ sent_before) told_here token (id + length all) (held_behind_calls held (length all)) behind first.channel first.served group) ∙ judged)
+          (sym (refused_there b limits url (octets ++ sent_before) told_here token (id + length all) (held_behind_calls held (length all)) behind first.channel
+          first.served group) ∙ judged)
 
-      misanswers : ClientGoesOn (channel_of y) (asked_at behind group) (behind.octets ++ taken_then) behind.told (IsMisanswered group (id_at behind)) → HaveMisanswer (state_told b told) b.moment (all ++ group)
+      misanswers : ClientGoesOn (channel_of y) (asked_at behind group) (behind.octets ++ taken_then) behind.told (IsMisanswered group (id_at behind))
+          → HaveMisanswer (state_told b told) b.moment (all ++ group)
       misanswers h =
-          let there = asked_misanswered b url (octets ++ sent_before) told_here first.served.at_server first.channel behind first.served.at_client group first.served.on first.served.serving some_here judged
+          let there = asked_misanswered b url (octets ++ sent_before) told_here first.served.at_server first.channel behind first.served.at_client group
+          first.served.on first.served.serving some_here judged
           (channel_of y) same_here (behind.octets ++ taken_then) never_before first.served.serving.together.stands h front_asked fits in
           let state_is = state_calls b told token id all (writable (acknowledged b.limits limits url) id all first.judged) in
           misanswered_behind (state_told b told) b.moment all group (subst (λ (s : State). HaveMisanswer s b.moment group) state_is there)
 
-    pub group_fails : (A : Type 0) (f : ClientFault) → BreaksAt group behind y sent_then taken_then f → StopsAt {A = A} most_reads most_reads moves.got y after (Err f) → FailsBehind (HaveMisanswer (state_told b told) b.moment (all ++ group)) f
+    pub group_fails : (A : Type 0) (f : ClientFault) → BreaksAt group behind y sent_then taken_then f
+        → StopsAt {A = A} most_reads most_reads moves.got y after (Err f) → FailsBehind (HaveMisanswer (state_told b told) b.moment (all ++ group)) f
     group_fails A (fault.Peer code) h stops = absurd (fails_not h.0.0 h.0.1 (behind.told ++ h.1.0) (peers code.code) h.1.1)
     group_fails A (fault.Refused code) h stops = absurd (fails_not h.0.0 h.0.1 (behind.told ++ h.1.0) (ours code.code) h.1.1)
     group_fails A fault.Ended h stops = absurd (misses_not h.0.0 h.0.1 h.1 stops.0 stops.1)
@@ -247,10 +265,12 @@ module _ (b : Beginning) (limits : Limits) (url : Option (List ℕ)) (octets : L
 
     reads_here : refusal_at behind group ≡ None → end_by b ((octets ++ sent_before) ++ sent_at behind group) ≡ Going
     reads_here judged =
-        let r = requests_read b.limits url b.channel (octets ++ sent_before) told_here first.served.at_server first.channel behind first.served.at_client first.served.on first.served.serving.together group judged in
+        let r = requests_read b.limits url b.channel (octets ++ sent_before) told_here first.served.at_server first.channel behind first.served.at_client
+        first.served.on first.served.serving.together group judged in
         end_is b ((octets ++ sent_before) ++ sent_at behind group) r.frames [] Going r.run
 
-    pub group_stops : (A : Type 0) (f : ClientFault) → BreaksAt group behind y sent_then taken_then f → StopsAt {A = A} most_reads most_reads moves.got y after (Err f) → StopsAfter f b (octets ++ sent)
+    pub group_stops : (A : Type 0) (f : ClientFault) → BreaksAt group behind y sent_then taken_then f
+        → StopsAt {A = A} most_reads most_reads moves.got y after (Err f) → StopsAfter f b (octets ++ sent)
     group_stops A f h stops = record {
       read = λ is.
           let there : BreaksAt group behind y sent_then taken_then fault.Read = subst (BreaksAt group behind y sent_then taken_then) is h in
@@ -259,24 +279,31 @@ module _ (b : Beginning) (limits : Limits) (url : Option (List ℕ)) (octets : L
           let there : BreaksAt group behind y sent_then taken_then fault.Write = subst (BreaksAt group behind y sent_then taken_then) is h in
           ap (end_by b) all_sent
           ∙ front_waits b ((octets ++ sent_before) ++ sent_then) there.1.more
-          (ap (end_by b) (append_assoc (octets ++ sent_before) sent_then there.1.more ∙ ap (λ (o : List ℕ). (octets ++ sent_before) ++ o) (sym there.1.parts)) ∙ reads_here there.0);
+          (ap (end_by b) (append_assoc (octets ++ sent_before) sent_then there.1.more ∙ ap (λ (o : List ℕ). (octets ++ sent_before) ++ o) (sym there.1.parts))
+          ∙ reads_here there.0);
       long = λ is.
-          let there : StopsAt {A = A} most_reads most_reads moves.got y after (Err fault.TooLong) = subst (λ (g : ClientFault). StopsAt {A = A} most_reads most_reads moves.got y after (Err g)) is stops in
+          let there : StopsAt {A = A} most_reads most_reads moves.got y after (Err fault.TooLong) =
+          subst (λ (g : ClientFault). StopsAt {A = A} most_reads most_reads moves.got y after (Err g)) is stops in
           said_enough b after (octets ++ sent) t.got moves.got most_reads line_then there.1;
     }
 
-  pub calls_fail : NonePending → ToldBehind → (requests : List Request) (f : ClientFault) → BrokenAll requests site y sent moves.taken f → (A : Type 0) → StopsAt {A = A} most_reads most_reads moves.got y after (Err f)
+  pub calls_fail : NonePending → ToldBehind → (requests : List Request) (f : ClientFault) → BrokenAll requests site y sent moves.taken f → (A : Type 0)
+      → StopsAt {A = A} most_reads most_reads moves.got y after (Err f)
       → FailsBehind (HaveMisanswer (state_told b told) b.moment requests) f
   calls_fail law never_before requests f q A stops =
       let asked : List Request = all_of q.groups ++ q.group in
       let parts : asked ++ q.others ≡ requests = append_assoc (all_of q.groups) q.group q.others ∙ sym q.parts in
       fails_by (HaveMisanswer (state_told b told) b.moment asked) (HaveMisanswer (state_told b told) b.moment requests) f
-      (λ h. subst (λ (ms : List Request). HaveMisanswer (state_told b told) b.moment ms) parts (misanswered_among (state_told b told) b.moment asked q.others h))
-      (group_fails law never_before q.groups q.group q.behind q.sent_before q.sent_then q.taken_before q.taken_then q.replies q.rounds (some_in (q.groups ++ q.group ∷ []) q.sized) q.sent_parts q.taken_parts A f q.breaks stops)
+      (λ h. subst (λ (ms : List Request). HaveMisanswer (state_told b told) b.moment ms) parts
+      (misanswered_among (state_told b told) b.moment asked q.others h))
+      (group_fails law never_before q.groups q.group q.behind q.sent_before q.sent_then q.taken_before q.taken_then q.replies q.rounds
+      (some_in (q.groups ++ q.group ∷ []) q.sized) q.sent_parts q.taken_parts A f q.breaks stops)
 
-  pub calls_stop : NonePending → ToldBehind → (requests : List Request) (f : ClientFault) → BrokenAll requests site y sent moves.taken f → (A : Type 0) → StopsAt {A = A} most_reads most_reads moves.got y after (Err f) → StopsAfter f b (octets ++ sent)
+  pub calls_stop : NonePending → ToldBehind → (requests : List Request) (f : ClientFault) → BrokenAll requests site y sent moves.taken f → (A : Type 0)
+      → StopsAt {A = A} most_reads most_reads moves.got y after (Err f) → StopsAfter f b (octets ++ sent)
   calls_stop law never_before requests f q A stops =
-      group_stops law never_before q.groups q.group q.behind q.sent_before q.sent_then q.taken_before q.taken_then q.replies q.rounds (some_in (q.groups ++ q.group ∷ []) q.sized) q.sent_parts q.taken_parts A f q.breaks stops
+      group_stops law never_before q.groups q.group q.behind q.sent_before q.sent_then q.taken_before q.taken_then q.replies q.rounds
+      (some_in (q.groups ++ q.group ∷ []) q.sized) q.sent_parts q.taken_parts A f q.breaks stops
 
   -- ---- a renewal
 
@@ -293,13 +320,15 @@ module _ (b : Beginning) (limits : Limits) (url : Option (List ℕ)) (octets : L
     abbrev now : AtClient
     now = with_answer (with_renewal c (id_at site)) (s.issued + 1) (next_number c.next)
 
-    reads_renewal : renewal_refusal site ≡ None → sent ≡ renewal_at site moment → ClientReads (client_limits (channel_of y)) (asks_renewed site) (server_output b (octets ++ sent)) renewed now
+    reads_renewal : renewal_refusal site ≡ None → sent ≡ renewal_at site moment
+        → ClientReads (client_limits (channel_of y)) (asks_renewed site) (server_output b (octets ++ sent)) renewed now
     reads_renewal judged sent_is =
         subst (λ (l : Limits). ClientReads l (asks_renewed site) (server_output b (octets ++ sent)) renewed now) (t.served.limits_are ∙ sym limits_then)
         (subst (λ (o : List ℕ). ClientReads (client_limits (channel_of x)) (asks_renewed site) (server_output b (octets ++ o)) renewed now) (sym sent_is)
         (renewal_heard b url octets told s (channel_of x) site c moment t.served.on t.served.serving judged dated t.served.settled answered))
 
-    renewing_fails_not : renewal_refusal site ≡ None → sent ≡ renewal_at site moment → (heard : List Heard) (why : Why) → ClientEnded (channel_of y) (asks_renewed site) (site.octets ++ moves.taken) heard why → ⊥
+    renewing_fails_not : renewal_refusal site ≡ None → sent ≡ renewal_at site moment → (heard : List Heard) (why : Why)
+        → ClientEnded (channel_of y) (asks_renewed site) (site.octets ++ moves.taken) heard why → ⊥
     renewing_fails_not judged sent_is heard why ended =
         client_not_failed (channel_of y) (asks_renewed site) (site.octets ++ moves.taken) front_then.more heard renewed now why ended
         (subst (λ (o : List ℕ). ClientReads (client_limits (channel_of y)) (asks_renewed site) o renewed now) front_then.parts (reads_renewal judged sent_is))
@@ -307,15 +336,18 @@ module _ (b : Beginning) (limits : Limits) (url : Option (List ℕ)) (octets : L
     never_true : true ≡ false → ⊥
     never_true e = cc
 
-    renewing_misses_not : renewal_refusal site ≡ None → sent ≡ renewal_at site moment → GoesWithout is_renewed (channel_of y) (asks_renewed site) (site.octets ++ moves.taken) site.told → untaken_of y ≡ [] → IsAtEnd after → ⊥
+    renewing_misses_not : renewal_refusal site ≡ None → sent ≡ renewal_at site moment
+        → GoesWithout is_renewed (channel_of y) (asks_renewed site) (site.octets ++ moves.taken) site.told → untaken_of y ≡ [] → IsAtEnd after → ⊥
     renewing_misses_not judged sent_is h none end =
         let told_is : site.told ++ h.heard ≡ renewed =
         client_told (channel_of y) (asks_renewed site) (site.octets ++ moves.taken) (site.told ++ h.heard) renewed now h.goes
-        (subst (λ (o : List ℕ). ClientReads (client_limits (channel_of y)) (asks_renewed site) o renewed now) (sym (all_then none end)) (reads_renewal judged sent_is)) in
+        (subst (λ (o : List ℕ). ClientReads (client_limits (channel_of y)) (asks_renewed site) o renewed now) (sym (all_then none end))
+        (reads_renewal judged sent_is)) in
         let heard_is : h.heard ≡ heard.Renewed (s.issued + 1) ∷ [] = append_cancel_left site.told h.heard (heard.Renewed (s.issued + 1) ∷ []) told_is in
         never_true (sym (ap (list_any is_renewed) heard_is) ∙ h.none)
 
-    renewal_by_fault : (A : Type 0) (f : ClientFault) → RenewsAt {A = A} site moment (channel_of y) sent moves.taken (Err f) → refused_by {A = A} (Err f) ≡ renewal_refusal site → StopsAt {A = A} most_reads most_reads moves.got y after (Err f) → FailsBehind ⊥ f
+    renewal_by_fault : (A : Type 0) (f : ClientFault) → RenewsAt {A = A} site moment (channel_of y) sent moves.taken (Err f)
+        → refused_by {A = A} (Err f) ≡ renewal_refusal site → StopsAt {A = A} most_reads most_reads moves.got y after (Err f) → FailsBehind ⊥ f
     renewal_by_fault A (fault.Peer code) h e stops = absurd (renewing_fails_not (sym e) h.0 (site.told ++ h.1.heard) (peers code.code) h.1.ended)
     renewal_by_fault A (fault.Refused code) h e stops = absurd (renewing_fails_not (sym e) h.0 (site.told ++ h.1.heard) (ours code.code) h.1.ended)
     renewal_by_fault A fault.Ended h e stops = absurd (renewing_misses_not (sym e) h.0 h.1 stops.0 stops.1)
@@ -331,7 +363,8 @@ module _ (b : Beginning) (limits : Limits) (url : Option (List ℕ)) (octets : L
     renewal_by_fault A (fault.Service code) h e stops = h
     renewal_by_fault A fault.Closed h e stops = h
 
-    pub renewal_fails : (A : Type 0) (f : ClientFault) → RenewsAt {A = A} site moment (channel_of y) sent moves.taken (Err f) → refused_by {A = A} (Err f) ≡ renewal_refusal site → StopsAt {A = A} most_reads most_reads moves.got y after (Err f) → FailsBehind ⊥ f
+    pub renewal_fails : (A : Type 0) (f : ClientFault) → RenewsAt {A = A} site moment (channel_of y) sent moves.taken (Err f)
+        → refused_by {A = A} (Err f) ≡ renewal_refusal site → StopsAt {A = A} most_reads most_reads moves.got y after (Err f) → FailsBehind ⊥ f
     renewal_fails A f h e stops = renewal_by_fault A f h e stops
 
     reads_renewed : renewal_refusal site ≡ None → end_by b (octets ++ renewal_at site moment) ≡ Going
@@ -339,30 +372,38 @@ module _ (b : Beginning) (limits : Limits) (url : Option (List ℕ)) (octets : L
         let r = server_renewed b url octets told s (channel_of x) site c moment t.served.on t.served.serving judged dated in
         end_is b (octets ++ renewal_at site moment) r.frames [] Going r.run
 
-    pub renewal_stops : (A : Type 0) (f : ClientFault) → RenewsAt {A = A} site moment (channel_of y) sent moves.taken (Err f) → refused_by {A = A} (Err f) ≡ renewal_refusal site → StopsAt {A = A} most_reads most_reads moves.got y after (Err f)
+    pub renewal_stops : (A : Type 0) (f : ClientFault) → RenewsAt {A = A} site moment (channel_of y) sent moves.taken (Err f)
+        → refused_by {A = A} (Err f) ≡ renewal_refusal site → StopsAt {A = A} most_reads most_reads moves.got y after (Err f)
         → StopsAfter f b (octets ++ sent)
     renewal_stops A f h e stops = record {
       read = λ is.
-          let there : RenewsAt {A = A} site moment (channel_of y) sent moves.taken (Err fault.Read) = subst (λ (g : ClientFault). RenewsAt {A = A} site moment (channel_of y) sent moves.taken (Err g)) is h in
+          let there : RenewsAt {A = A} site moment (channel_of y) sent moves.taken (Err fault.Read) =
+          subst (λ (g : ClientFault). RenewsAt {A = A} site moment (channel_of y) sent moves.taken (Err g)) is h in
           let judged : None ≡ renewal_refusal site = subst (λ (g : ClientFault). refused_by {A = A} (Err g) ≡ renewal_refusal site) is e in
           ap (λ (o : List ℕ). end_by b (octets ++ o)) there.0 ∙ reads_renewed (sym judged);
       write = λ is.
-          let there : RenewsAt {A = A} site moment (channel_of y) sent moves.taken (Err fault.Write) = subst (λ (g : ClientFault). RenewsAt {A = A} site moment (channel_of y) sent moves.taken (Err g)) is h in
+          let there : RenewsAt {A = A} site moment (channel_of y) sent moves.taken (Err fault.Write) =
+          subst (λ (g : ClientFault). RenewsAt {A = A} site moment (channel_of y) sent moves.taken (Err g)) is h in
           let judged : None ≡ renewal_refusal site = subst (λ (g : ClientFault). refused_by {A = A} (Err g) ≡ renewal_refusal site) is e in
-          front_waits b (octets ++ sent) there.0.0.more (ap (end_by b) (append_assoc octets sent there.0.0.more ∙ ap (λ (o : List ℕ). octets ++ o) (sym there.0.0.parts)) ∙ reads_renewed (sym judged));
+          front_waits b (octets ++ sent) there.0.0.more
+          (ap (end_by b) (append_assoc octets sent there.0.0.more ∙ ap (λ (o : List ℕ). octets ++ o) (sym there.0.0.parts)) ∙ reads_renewed (sym judged));
       long = λ is.
-          let there : StopsAt {A = A} most_reads most_reads moves.got y after (Err fault.TooLong) = subst (λ (g : ClientFault). StopsAt {A = A} most_reads most_reads moves.got y after (Err g)) is stops in
+          let there : StopsAt {A = A} most_reads most_reads moves.got y after (Err fault.TooLong) =
+          subst (λ (g : ClientFault). StopsAt {A = A} most_reads most_reads moves.got y after (Err g)) is stops in
           said_enough b after (octets ++ sent) t.got moves.got most_reads line_then there.1;
     }
 
 -- ---- the opening
 
 -- what a server says of the HEL alone
-said_first : (b : Beginning) (g : Agreement) → output_of b.channel b.first (Agreed g ∷ []) Going (times_of_answers (Agreed g ∷ []) b.moment) ≡ frame_octets (ack_frame g.ack)
+said_first : (b : Beginning) (g : Agreement) → output_of b.channel b.first (Agreed g ∷ []) Going (times_of_answers (Agreed g ∷ []) b.moment)
+    ≡ frame_octets (ack_frame g.ack)
 unfolding output_of
 said_first b g = append-nil (frame_octets (ack_frame g.ack) ++ []) ∙ append-nil (frame_octets (ack_frame g.ack))
 
-module _ (b : Beginning) (limits : Limits) (url : Option (List ℕ)) (moment : DateTime) (first after : Option Traffic) (why_not : ClientFault) (o : OpensClient limits url moment first after (Err why_not)) (able : CanOpen b limits url moment) (short : url_length url ≤ 4095) (line : IsLineTo b [] [] first) where
+module _ (b : Beginning) (limits : Limits) (url : Option (List ℕ)) (moment : DateTime) (first after : Option Traffic) (why_not : ClientFault)
+    (o : OpensClient limits url moment first after (Err why_not)) (able : CanOpen b limits url moment) (short : url_length url ≤ 4095)
+    (line : IsLineTo b [] [] first) where
   abbrev x : ClientChannel
   x = channel_of o.last
 
@@ -409,10 +450,12 @@ module _ (b : Beginning) (limits : Limits) (url : Option (List ℕ)) (moment : D
   said_hello =
       let r = reads_hello b.limits b.channel limits url able.hello_fits short in
       said_by_run b hello r.frames [] Going r.run
-      ∙ (ap (λ (t : List Told). output_of b.channel b.first t Going (times_of_answers t b.moment)) r.told_is ∙ said_first b (agreement_of b.limits (hello_to limits url)))
+      ∙ (ap (λ (t : List Told). output_of b.channel b.first t Going (times_of_answers t b.moment)) r.told_is
+      ∙ said_first b (agreement_of b.limits (hello_to limits url)))
 
   reads_all : ClientReads (client_limits x) [] (opening_answer b limits url) all_heard now_open
-  reads_all = subst (λ (l : Limits). ClientReads l [] (opening_answer b limits url) all_heard now_open) (sym limits_are) (answer_read b limits url able.ack_fits able.on able.answered)
+  reads_all = subst (λ (l : Limits). ClientReads l [] (opening_answer b limits url) all_heard now_open) (sym limits_are)
+      (answer_read b limits url able.ack_fits able.on able.answered)
 
   -- what it took is a front of the whole answer
   front_all : ((sent ≡ hello) ⊎ (sent ≡ hello ++ opening)) → Extends taken (opening_answer b limits url)
@@ -428,7 +471,8 @@ module _ (b : Beginning) (limits : Limits) (url : Option (List ℕ)) (moment : D
   opening_fails_not : ((sent ≡ hello) ⊎ (sent ≡ hello ++ opening)) → (told : List Heard) (why : Why) → ClientEnded x [] taken told why → ⊥
   opening_fails_not is told why ended =
       let front = front_all is in
-      client_not_failed x [] taken front.more told all_heard now_open why ended (subst (λ (u : List ℕ). ClientReads (client_limits x) [] u all_heard now_open) front.parts reads_all)
+      client_not_failed x [] taken front.more told all_heard now_open why ended
+      (subst (λ (u : List ℕ). ClientReads (client_limits x) [] u all_heard now_open) front.parts reads_all)
 
   -- behind the ACK it was told so
   agrees_then : sent ≡ hello → ClientGoes x [] taken [] → untaken_of o.last ≡ [] → IsAtEnd after → ⊥
@@ -436,21 +480,26 @@ module _ (b : Beginning) (limits : Limits) (url : Option (List ℕ)) (moment : D
       let whole : taken ≡ frame_octets (ack_frame acked) = all_is none end ∙ (ap (server_output b) is ∙ said_hello) in
       let agrees : ClientAgrees (client_limits x) taken (heard.Agreed acked ∷ []) acked =
       subst (λ (u : List ℕ). ClientAgrees (client_limits x) u (heard.Agreed acked ∷ []) acked) (sym whole)
-      (subst (λ (l : Limits). ClientAgrees l (frame_octets (ack_frame acked)) (heard.Agreed acked ∷ []) acked) (sym limits_are) (reads_ack limits b.limits url able.ack_fits)) in
-      let told_is : [] ≡ heard.Agreed acked ∷ [] = same_told (client_rules_of x []) taken goes.frames agrees.frames goes.rest [] [] (heard.Agreed acked ∷ []) goes.stands.run agrees.run goes.told_is agrees.told_is in
+      (subst (λ (l : Limits). ClientAgrees l (frame_octets (ack_frame acked)) (heard.Agreed acked ∷ []) acked) (sym limits_are)
+      (reads_ack limits b.limits url able.ack_fits)) in
+      let told_is : [] ≡ heard.Agreed acked ∷ [] = same_told (client_rules_of x []) taken goes.frames agrees.frames goes.rest [] [] (heard.Agreed acked ∷ [])
+      goes.stands.run agrees.run goes.told_is agrees.told_is in
       omega (arith, ap length told_is)
 
   -- behind the whole answer it was told that the channel is open
   opens_then : sent ≡ hello ++ opening → (told : Heard) → ClientGoes x [] taken (told ∷ []) → untaken_of o.last ≡ [] → IsAtEnd after → ⊥
   opens_then is told goes none end =
       let whole : taken ≡ opening_answer b limits url = all_is none end ∙ (ap (server_output b) is ∙ said_all) in
-      let told_is : told ∷ [] ≡ all_heard = client_told x [] taken (told ∷ []) all_heard now_open goes (subst (λ (u : List ℕ). ClientReads (client_limits x) [] u all_heard now_open) (sym whole) reads_all) in
+      let told_is : told ∷ [] ≡ all_heard = client_told x [] taken (told ∷ []) all_heard now_open goes
+      (subst (λ (u : List ℕ). ClientReads (client_limits x) [] u all_heard now_open) (sym whole) reads_all) in
       omega (arith, ap length told_is)
 
   hello_is : hello_octets (client_limits (channel_of o.begun)) (url_of (channel_of o.begun)) ≡ hello
-  hello_is = ap (λ (m : Limits). hello_octets m (url_of (channel_of o.begun))) o.fresh.limits_are ∙ ap (λ (u : Option (List ℕ)). hello_octets limits u) o.fresh.url_is
+  hello_is = ap (λ (m : Limits). hello_octets m (url_of (channel_of o.begun))) o.fresh.limits_are
+      ∙ ap (λ (u : Option (List ℕ)). hello_octets limits u) o.fresh.url_is
 
-  opening_by_fault : (A : Type 0) (f : ClientFault) → BreaksOpening hello opening x sent taken f → StopsAt {A = A} most_reads most_reads o.opens.moves.got o.last after (Err f) → IsOutside f
+  opening_by_fault : (A : Type 0) (f : ClientFault) → BreaksOpening hello opening x sent taken f
+      → StopsAt {A = A} most_reads most_reads o.opens.moves.got o.last after (Err f) → IsOutside f
   opening_by_fault A (fault.Peer code) (inl h) stops = absurd (opening_fails_not (inl h.0) [] (peers code.code) h.1)
   opening_by_fault A (fault.Peer code) (inr h) stops = absurd (opening_fails_not (inr h.0) (heard.Agreed h.1.0 ∷ []) (peers code.code) h.1.1)
   opening_by_fault A (fault.Refused code) (inl h) stops = absurd (opening_fails_not (inl h.0) [] (ours code.code) h.1)
@@ -489,20 +538,24 @@ module _ (b : Beginning) (limits : Limits) (url : Option (List ℕ)) (moment : D
   waits_written : BreaksSending hello opening x sent taken → end_by b sent ≡ Going
   waits_written (inl h) = waits_front (h.0.0.more ++ opening) (sym (append_assoc sent h.0.0.more opening) ∙ ap (λ (u : List ℕ). u ++ opening) (sym h.0.0.parts))
   waits_written (inr (part, is, front, ack)) =
-      waits_front front.0.more (ap (λ (u : List ℕ). u ++ front.0.more) is ∙ (append_assoc hello part front.0.more ∙ ap (λ (u : List ℕ). hello ++ u) (sym front.0.parts)))
+      waits_front front.0.more (ap (λ (u : List ℕ). u ++ front.0.more) is
+      ∙ (append_assoc hello part front.0.more ∙ ap (λ (u : List ℕ). hello ++ u) (sym front.0.parts)))
 
   opening_stops : StopsAfter why_not b sent
   opening_stops =
-      let breaks : BreaksOpening hello opening x sent taken why_not = subst (λ (h : List ℕ). BreaksOpening h opening x sent taken why_not) hello_is (o.opens.answers o.fresh.goes) in
+      let breaks : BreaksOpening hello opening x sent taken why_not = subst (λ (h : List ℕ). BreaksOpening h opening x sent taken why_not) hello_is
+      (o.opens.answers o.fresh.goes) in
       record {
         read = λ is. waits_read (subst (BreaksOpening hello opening x sent taken) is breaks);
         write = λ is. waits_written (subst (BreaksOpening hello opening x sent taken) is breaks);
         long = λ is.
-            let there : StopsAt {A = Client} most_reads most_reads o.opens.moves.got o.last after (Err fault.TooLong) = subst (λ (g : ClientFault). StopsAt {A = Client} most_reads most_reads o.opens.moves.got o.last after (Err g)) is o.opens.stops in
+            let there : StopsAt {A = Client} most_reads most_reads o.opens.moves.got o.last after (Err fault.TooLong) =
+            subst (λ (g : ClientFault). StopsAt {A = Client} most_reads most_reads o.opens.moves.got o.last after (Err g)) is o.opens.stops in
             said_enough b after sent [] o.opens.moves.got most_reads line_open there.1;
       }
 
-pub open_fails : (b : Beginning) (limits : Limits) (url : Option (List ℕ)) (moment : DateTime) (first after : Option Traffic) (f : ClientFault) → (OpensNothing first after (Err f) ⊎ OpensClient limits url moment first after (Err f))
+pub open_fails : (b : Beginning) (limits : Limits) (url : Option (List ℕ)) (moment : DateTime) (first after : Option Traffic) (f : ClientFault)
+    → (OpensNothing first after (Err f) ⊎ OpensClient limits url moment first after (Err f))
     → CanOpen b limits url moment → url_length url ≤ 4095 → IsLineTo b [] [] first → IsOutside f
 open_fails b limits url moment first after f (inl nothing) able short line = subst IsOutside (sym (same_fault f fault.OutOfMemory nothing.0)) tt
   where
@@ -510,13 +563,19 @@ open_fails b limits url moment first after f (inl nothing) able short line = sub
     same_fault g h e = cc
 open_fails b limits url moment first after f (inr o) able short line = opening_fails b limits url moment first after f o able short line
 
-pub open_stops : (b : Beginning) (limits : Limits) (url : Option (List ℕ)) (moment : DateTime) (first after : Option Traffic) (f : ClientFault) → (OpensNothing first after (Err f) ⊎ OpensClient limits url moment first after (Err f))
+pub open_stops : (b : Beginning) (limits : Limits) (url : Option (List ℕ)) (moment : DateTime) (first after : Option Traffic) (f : ClientFault)
+    → (OpensNothing first after (Err f) ⊎ OpensClient limits url moment first after (Err f))
     → CanOpen b limits url moment → url_length url ≤ 4095 → IsLineTo b [] [] first → StopsOver f b [] first after
-open_stops b limits url moment first after f (inl nothing) able short line = ([], nothing_sent first after nothing.1, memory_stops b [] f (same_fault f fault.OutOfMemory nothing.0))
+open_stops b limits url moment first after f (inl nothing) able short line =
+    ([], nothing_sent first after nothing.1, memory_stops b [] f (same_fault f fault.OutOfMemory nothing.0))
   where
     same_fault : (g h : ClientFault) → ◌≡◌ {A = Result Client ClientFault} (Err g) (Err h) → g ≡ h
     same_fault g h e = cc
-open_stops b limits url moment first after f (inr o) able short line = (o.opens.sent, sent_over o.opens.moves.got o.opens.sent o.opens.sent first after refl o.opens.moves.carried, opening_stops b limits url moment first after f o able short line)
+open_stops b limits url moment first after f (inr o) able short line = (
+  o.opens.sent,
+  sent_over o.opens.moves.got o.opens.sent o.opens.sent first after refl o.opens.moves.carried,
+  opening_stops b limits url moment first after f o able short line,
+)
 
 -- ---- the close
 
@@ -536,14 +595,16 @@ close_fails A s moment out fault.TooLarge h = h
 close_fails A s moment out fault.TooManyTokens h = h
 close_fails A s moment out fault.Closed h = h
 
-pub close_stops : (b : Beginning) (A : Type 0) (s : ClientPlace) (moment : DateTime) (octets sent : List ℕ) (told : List Told) (f : ClientFault) → ServerCloses b.limits b.channel (octets ++ closing_at s moment) told → ClosesAt {A = A} s moment sent (Err f)
+pub close_stops : (b : Beginning) (A : Type 0) (s : ClientPlace) (moment : DateTime) (octets sent : List ℕ) (told : List Told) (f : ClientFault)
+    → ServerCloses b.limits b.channel (octets ++ closing_at s moment) told → ClosesAt {A = A} s moment sent (Err f)
     → StopsAfter f b (octets ++ sent)
 close_stops b A s moment octets sent told f reads h = record {
   read = λ is. absurd (subst (λ (g : ClientFault). ClosesAt {A = A} s moment sent (Err g)) is h);
   write = λ is.
       let there : IsPart sent (closing_at s moment) = subst (λ (g : ClientFault). ClosesAt {A = A} s moment sent (Err g)) is h in
       closing_waits b (octets ++ sent) there.0.more told
-      (subst (λ (o : List ℕ). ServerCloses b.limits b.channel o told) (ap (λ (o : List ℕ). octets ++ o) there.0.parts ∙ sym (append_assoc octets sent there.0.more)) reads)
+      (subst (λ (o : List ℕ). ServerCloses b.limits b.channel o told) (ap (λ (o : List ℕ). octets ++ o) there.0.parts
+      ∙ sym (append_assoc octets sent there.0.more)) reads)
       (omega (arith, there.1, ap length there.0.parts, length-append sent there.0.more));
   long = λ is. absurd (subst (λ (g : ClientFault). ClosesAt {A = A} s moment sent (Err g)) is h);
 }
@@ -551,7 +612,8 @@ close_stops b A s moment octets sent told f reads h = record {
 -- ---- turns
 
 -- the answers to a turn are answers to turns of which it is one
-pub misanswers_in : (s : State) (moment : DateTime) (before : List (Option (List Request))) (turn : Option (List Request)) (behind : List (Option (List Request))) → HasMisanswer (turns_state s moment before) moment turn
+pub misanswers_in : (s : State) (moment : DateTime) (before : List (Option (List Request))) (turn : Option (List Request))
+    (behind : List (Option (List Request))) → HasMisanswer (turns_state s moment before) moment turn
     → HaveMisanswers s moment (before ++ turn ∷ behind)
 misanswers_in s moment [] turn behind h = inl h
 misanswers_in s moment (t ∷ before) turn behind h = inr (misanswers_in (turn_state s moment t) moment before turn behind h)

@@ -38,7 +38,8 @@ lesser : (n m : ℕ) → m < 4294967296 → min n m < 4294967296
 lesser n m less = omega (arith, less)
 
 -- what a client with these limits and a server send to open a channel can be written
-pub can_open_to : (b : Beginning) (limits : Limits) (url : Option (List ℕ)) (moment : DateTime) → CanBegin b → Fits w32 limits.receive_buffer_size → Fits w32 limits.send_buffer_size → Fits w32 limits.max_message_size → Fits w32 limits.max_chunk_count
+pub can_open_to : (b : Beginning) (limits : Limits) (url : Option (List ℕ)) (moment : DateTime) → CanBegin b → Fits w32 limits.receive_buffer_size
+    → Fits w32 limits.send_buffer_size → Fits w32 limits.max_message_size → Fits w32 limits.max_chunk_count
     → FitsSigned w64 moment.ticks → IsTrue (text.encodable url) → CanOpen b limits url moment
 unfolding hello ack
 can_open_to b limits url moment can receive send octets chunks dated url_fits = record {
@@ -46,12 +47,17 @@ can_open_to b limits url moment can receive send octets chunks dated url_fits = 
       and_from _ _ refl
       (and_from _ _ (lt-ltb limits.receive_buffer_size (256 ^ 4) (below limits.receive_buffer_size receive))
       (and_from _ _ (lt-ltb limits.send_buffer_size (256 ^ 4) (below limits.send_buffer_size send))
-      (and_from _ _ (lt-ltb limits.max_message_size (256 ^ 4) (below limits.max_message_size octets)) (and_from _ _ (lt-ltb limits.max_chunk_count (256 ^ 4) (below limits.max_chunk_count chunks)) url_fits))));
+      (and_from _ _ (lt-ltb limits.max_message_size (256 ^ 4) (below limits.max_message_size octets))
+      (and_from _ _ (lt-ltb limits.max_chunk_count (256 ^ 4) (below limits.max_chunk_count chunks)) url_fits))));
   url_fits = url_fits;
   ack_fits =
       and_from _ _ refl
-      (and_from _ _ (lt-ltb (min b.limits.receive_buffer_size limits.send_buffer_size) (256 ^ 4) (lesser b.limits.receive_buffer_size limits.send_buffer_size (below limits.send_buffer_size send)))
-      (and_from _ _ (lt-ltb (min b.limits.send_buffer_size limits.receive_buffer_size) (256 ^ 4) (lesser b.limits.send_buffer_size limits.receive_buffer_size (below limits.receive_buffer_size receive)))
+      (and_from _ _
+      (lt-ltb (min b.limits.receive_buffer_size limits.send_buffer_size) (256 ^ 4)
+      (lesser b.limits.receive_buffer_size limits.send_buffer_size (below limits.send_buffer_size send)))
+      (and_from _ _
+      (lt-ltb (min b.limits.send_buffer_size limits.receive_buffer_size) (256 ^ 4)
+      (lesser b.limits.send_buffer_size limits.receive_buffer_size (below limits.receive_buffer_size receive)))
       (and_from _ _ (lt-ltb b.limits.max_message_size (256 ^ 4) can.octets) (lt-ltb b.limits.max_chunk_count (256 ^ 4) can.chunks))));
   on = can.on;
   dated = moment_fits moment dated;
@@ -59,8 +65,15 @@ can_open_to b limits url moment can receive send octets chunks dated url_fits = 
 }
 
 -- the same of a server with the same limits
-pub can_open : (limits : Limits) (channel : ℕ) (first : State) (url : Option (List ℕ)) (moment : DateTime) → Fits w32 limits.receive_buffer_size → Fits w32 limits.send_buffer_size → Fits w32 limits.max_message_size → Fits w32 limits.max_chunk_count
-    → Fits w32 channel → FitsSigned w64 moment.ticks → IsTrue (text.encodable url) → CanOpen (record { limits = limits; channel = channel; first = first; moment = moment }) limits url moment
+pub can_open : (limits : Limits) (channel : ℕ) (first : State) (url : Option (List ℕ)) (moment : DateTime) → Fits w32 limits.receive_buffer_size
+    → Fits w32 limits.send_buffer_size → Fits w32 limits.max_message_size → Fits w32 limits.max_chunk_count
+    → Fits w32 channel → FitsSigned w64 moment.ticks → IsTrue (text.encodable url)
+    → CanOpen (record { limits = limits; channel = channel; first = first; moment = moment }) limits url moment
 can_open limits channel first url moment receive send octets chunks small dated url_fits =
     can_open_to (record { limits = limits; channel = channel; first = first; moment = moment }) limits url moment
-    (record { octets = below limits.max_message_size octets; chunks = below limits.max_chunk_count chunks; on = below channel small; dated = moment_fits moment dated }) receive send octets chunks dated url_fits
+    (record {
+      octets = below limits.max_message_size octets;
+      chunks = below limits.max_chunk_count chunks;
+      on = below channel small;
+      dated = moment_fits moment dated;
+    }) receive send octets chunks dated url_fits

@@ -36,15 +36,18 @@ use Rattle.ua_loopback.proofs.Replying.{state_closed, state_renewal}
 use Rattle.ua_loopback.proofs.Rounds.{Behind, closing_there}
 use Rattle.ua_loopback.proofs.Saying.{left_by_run, said_by_run, said_over}
 use Rattle.ua_loopback.proofs.Staying.{said_there}
-use Rattle.ua_loopback.proofs.Talks.{answered_behind, asked_refused, asked_state, first_behind, refused_at, refused_octets, renewal_sent, renewed_judged, renewing_refused, rounds_octets, talking_as, talks_asked, talks_renewed}
+use Rattle.ua_loopback.proofs.Talks.{answered_behind, asked_refused, asked_state, first_behind, refused_at, refused_octets, renewal_sent}
+use Rattle.ua_loopback.proofs.Talks.{renewed_judged, renewing_refused, rounds_octets, talking_as, talks_asked, talks_renewed}
 
 -- ---- what is told, and left
 
 -- with a turn more
-pub told_more : (t : SoFar) (moment : DateTime) (turn : Option (List Request)) → told_in (with_turn t moment turn) ≡ told_in t ++ turn_told (newest_in t) (id_in t) turn
+pub told_more : (t : SoFar) (moment : DateTime) (turn : Option (List Request))
+    → told_in (with_turn t moment turn) ≡ told_in t ++ turn_told (newest_in t) (id_in t) turn
 told_more t moment turn =
     let first : List Told = opening_told t.server.limits t.limits t.url in
-    ap (λ (ts : List Told). first ++ ts) (told_push 1 2 t.turns turn) ∙ sym (append_assoc first (turns_told 1 2 t.turns) (turn_told (newest_in t) (id_in t) turn))
+    ap (λ (ts : List Told). first ++ ts) (told_push 1 2 t.turns turn)
+    ∙ sym (append_assoc first (turns_told 1 2 t.turns) (turn_told (newest_in t) (id_in t) turn))
 
 -- the server reads all that was sent
 pub talk_read : (t : SoFar) (site : ClientPlace) (x : Connection) (now : Option Traffic) → TalksAt t site x now → Reads t.server t.octets (told_in t)
@@ -58,16 +61,19 @@ talk_left t site x now s =
 
 -- ---- the same behind a turn
 
-module _ (t : SoFar) (moment : DateTime) (turn : Option (List Request)) (site : ClientPlace) (y : Connection) (after : Option Traffic) (s : TalksAt (with_turn t moment turn) site y after) where
+module _ (t : SoFar) (moment : DateTime) (turn : Option (List Request)) (site : ClientPlace) (y : Connection) (after : Option Traffic)
+    (s : TalksAt (with_turn t moment turn) site y after) where
   pub turn_read : Reads t.server (with_turn t moment turn).octets (told_in t ++ turn_told (newest_in t) (id_in t) turn)
-  turn_read = subst (λ (ts : List Told). Reads t.server (with_turn t moment turn).octets ts) (told_more t moment turn) (talk_read (with_turn t moment turn) site y after s)
+  turn_read = subst (λ (ts : List Told). Reads t.server (with_turn t moment turn).octets ts) (told_more t moment turn)
+      (talk_read (with_turn t moment turn) site y after s)
 
   pub turn_left : services_after t.server (with_turn t moment turn).octets ≡ turn_state (state_in t) t.server.moment turn
   turn_left = talk_left (with_turn t moment turn) site y after s ∙ state_push t.server.first t.server.moment t.turns turn
 
 -- ---- one turn more
 
-module _ (t : SoFar) (site : ClientPlace) (x : Connection) (before : Option Traffic) (s : TalksAt t site x before) (y : Connection) (after : Option Traffic) (sent : List ℕ) where
+module _ (t : SoFar) (site : ClientPlace) (x : Connection) (before : Option Traffic) (s : TalksAt t site x before) (y : Connection) (after : Option Traffic)
+    (sent : List ℕ) where
   abbrev b : Beginning
   b = t.server
 
@@ -80,10 +86,13 @@ module _ (t : SoFar) (site : ClientPlace) (x : Connection) (before : Option Traf
   more_sent : (moment : DateTime) (turn : Option (List Request)) → sent ≡ turn_octets lane site.number (id_in t) moment turn → sent ≡ octets_of t moment turn
   more_sent moment turn is = is ∙ ap (λ (n : ℕ). turn_octets lane n (id_in t) moment turn) s.number_is
 
-  more_talking : SameClient (channel_of x) (channel_of y) → (moment : DateTime) (turn : Option (List Request)) (u : ClientPlace) → sent ≡ octets_of t moment turn
-      → AreTalking b t.limits t.url (t.octets ++ sent) (told_in t ++ turn_told (newest_in t) (id_in t) turn) (token_behind (newest_in t) turn) (id_behind (id_in t) turn) (held_behind held turn) u y after
+  more_talking : SameClient (channel_of x) (channel_of y) → (moment : DateTime) (turn : Option (List Request)) (u : ClientPlace)
+      → sent ≡ octets_of t moment turn
+      → AreTalking b t.limits t.url (t.octets ++ sent) (told_in t ++ turn_told (newest_in t) (id_in t) turn) (token_behind (newest_in t) turn)
+      (id_behind (id_in t) turn) (held_behind held turn) u y after
       → u.number ≡ turn_number lane site.number turn → first_reason (turn_reasons (acked_in t) held (id_in t) turn) ≡ None
-      → state_told b (told_in t ++ turn_told (newest_in t) (id_in t) turn) ≡ turn_state (state_told b (told_in t)) b.moment turn → TalksAt (with_turn t moment turn) u y after
+      → state_told b (told_in t ++ turn_told (newest_in t) (id_in t) turn) ≡ turn_state (state_told b (told_in t)) b.moment turn
+      → TalksAt (with_turn t moment turn) u y after
   more_talking same moment turn u sent_is talking number_is judged state = record {
     url_is = sym same.url ∙ s.url_is;
     dated = s.dated;
@@ -93,14 +102,17 @@ module _ (t : SoFar) (site : ClientPlace) (x : Connection) (before : Option Traf
         ap (λ (ts : List Told). state_told b ts) (told_more t moment turn)
         ∙ (state ∙ (ap (λ (st : State). turn_state st b.moment turn) s.state_is ∙ sym (state_push b.first b.moment t.turns turn)));
     talking =
-        talking_as b t.limits t.url (t.octets ++ sent) (t.octets ++ octets_of t moment turn) (told_in t ++ turn_told (newest_in t) (id_in t) turn) (told_in (with_turn t moment turn)) (token_behind (newest_in t) turn) (newest_in (with_turn t moment turn))
+        talking_as b t.limits t.url (t.octets ++ sent) (t.octets ++ octets_of t moment turn) (told_in t ++ turn_told (newest_in t) (id_in t) turn)
+        (told_in (with_turn t moment turn)) (token_behind (newest_in t) turn) (newest_in (with_turn t moment turn))
         (id_behind (id_in t) turn) (id_in (with_turn t moment turn)) (held_behind held turn) (tokens_held 1 (t.turns ++ turn ∷ [])) u y after
-        (ap (λ (o : List ℕ). t.octets ++ o) sent_is) (sym (told_more t moment turn)) (sym (tokens_push 1 t.turns turn)) (sym (ids_push 2 t.turns turn)) (sym (held_push 1 t.turns turn)) talking;
+        (ap (λ (o : List ℕ). t.octets ++ o) sent_is) (sym (told_more t moment turn)) (sym (tokens_push 1 t.turns turn)) (sym (ids_push 2 t.turns turn))
+        (sym (held_push 1 t.turns turn)) talking;
   }
 
   module _ (moves : MovesConnection x y sent before after) (same : SameClient (channel_of x) (channel_of y)) where
     -- requests are answered
-    module _ (moment : DateTime) (requests : List Request) (replies : List Reply) (u : ClientPlace) (at : StandsAt (channel_of y) u) (octets_are : u.octets ≡ site.octets ++ moves.taken)
+    module _ (moment : DateTime) (requests : List Request) (replies : List Reply) (u : ClientPlace) (at : StandsAt (channel_of y) u)
+        (octets_are : u.octets ≡ site.octets ++ moves.taken)
         (there : Behind b t.limits t.url t.octets (told_in t) (newest_in t) (id_in t) held site.number sent replies requests u) where
       pub asked_sent : sent ≡ octets_of t moment (Some requests)
       asked_sent = more_sent moment (Some requests) there.sent_is
@@ -108,16 +120,20 @@ module _ (t : SoFar) (site : ClientPlace) (x : Connection) (before : Option Traf
       pub asked_more : TalksAt (with_turn t moment (Some requests)) u y after
       asked_more =
           more_talking same moment (Some requests) u asked_sent
-          (talks_asked b t.limits t.url t.octets (told_in t) (newest_in t) (id_in t) held site x before s.talking y after sent moves same requests replies u at octets_are there) there.number_is there.judged
-          (asked_state b t.limits t.url t.octets (told_in t) (newest_in t) (id_in t) held site x before s.talking y after sent moves same requests replies u at octets_are there)
+          (talks_asked b t.limits t.url t.octets (told_in t) (newest_in t) (id_in t) held site x before s.talking y after sent moves same requests replies u at
+          octets_are there) there.number_is there.judged
+          (asked_state b t.limits t.url t.octets (told_in t) (newest_in t) (id_in t) held site x before s.talking y after sent moves same requests replies u at
+          octets_are there)
 
       asked_replies : map (λ (r : Reply). Some r) replies ≡ requests_replies (lane_back b t.limits t.url (newest_in t)) (state_in t) b.moment requests
       asked_replies = there.replies_are ∙ ap (λ (st : State). requests_replies (lane_back b t.limits t.url (newest_in t)) st b.moment requests) s.state_is
 
     -- all of them
-    module _ (law : NonePending) (moment : DateTime) (requests : List Request) (replies : List Reply) (q : AnsweredAll requests site (channel_of y) sent moves.taken replies) where
+    module _ (law : NonePending) (moment : DateTime) (requests : List Request) (replies : List Reply)
+        (q : AnsweredAll requests site (channel_of y) sent moves.taken replies) where
       there : Behind b t.limits t.url t.octets (told_in t) (newest_in t) (id_in t) held site.number sent replies requests q.behind
-      there = answered_behind b t.limits t.url t.octets (told_in t) (newest_in t) (id_in t) held site x before s.talking y after sent moves same law requests replies q
+      there = answered_behind b t.limits t.url t.octets (told_in t) (newest_in t) (id_in t) held site x before s.talking y after sent moves same law requests
+          replies q
 
       pub calls_sent : sent ≡ octets_of t moment (Some requests)
       calls_sent = asked_sent moment requests replies q.behind q.at (rounds_octets q.rounds) there
@@ -129,54 +145,68 @@ module _ (t : SoFar) (site : ClientPlace) (x : Connection) (before : Option Traf
       calls_replied = asked_replies moment requests replies q.behind q.at (rounds_octets q.rounds) there
 
     -- or the first of them, up to one that is refused
-    module _ (law : NonePending) (moment : DateTime) (requests : List Request) (f : ClientFault) (is : IsTurnFault f) (q : BrokenAll requests site y sent moves.taken f) where
+    module _ (law : NonePending) (moment : DateTime) (requests : List Request) (f : ClientFault) (is : IsTurnFault f)
+        (q : BrokenAll requests site y sent moves.taken f) where
       pub calls_refused : turn_refusal (acked_in t) t.turns (Some requests) ≡ Some f
-      calls_refused = asked_refused b t.limits t.url t.octets (told_in t) (newest_in t) (id_in t) held site x before s.talking y after sent moves same law requests f is q
+      calls_refused = asked_refused b t.limits t.url t.octets (told_in t) (newest_in t) (id_in t) held site x before s.talking y after sent moves same law
+          requests f is q
 
       first_there : Behind b t.limits t.url t.octets (told_in t) (newest_in t) (id_in t) held site.number sent q.replies (all_of q.groups) q.behind
-      first_there = first_behind b t.limits t.url t.octets (told_in t) (newest_in t) (id_in t) held site x before s.talking y after sent moves same law requests f is q
+      first_there = first_behind b t.limits t.url t.octets (told_in t) (newest_in t) (id_in t) held site x before s.talking y after sent moves same law requests
+          f is q
 
       pub first_at : StandsAt (channel_of y) q.behind
-      first_at = refused_at b t.limits t.url t.octets (told_in t) (newest_in t) (id_in t) held site x before s.talking y after sent moves same law requests f is q
+      first_at = refused_at b t.limits t.url t.octets (told_in t) (newest_in t) (id_in t) held site x before s.talking y after sent moves same law requests f is
+          q
 
       pub first_octets : q.behind.octets ≡ site.octets ++ moves.taken
-      first_octets = refused_octets b t.limits t.url t.octets (told_in t) (newest_in t) (id_in t) held site x before s.talking y after sent moves same law requests f is q
+      first_octets = refused_octets b t.limits t.url t.octets (told_in t) (newest_in t) (id_in t) held site x before s.talking y after sent moves same law
+          requests f is q
 
       pub first_sent : sent ≡ octets_of t moment (Some (all_of q.groups))
       first_sent = asked_sent moment (all_of q.groups) q.replies q.behind first_at first_octets first_there
 
-      pub first_replied : map (λ (r : Reply). Some r) q.replies ≡ requests_replies (lane_back b t.limits t.url (newest_in t)) (state_in t) b.moment (all_of q.groups)
+      pub first_replied : map (λ (r : Reply). Some r) q.replies ≡ requests_replies (lane_back b t.limits t.url (newest_in t)) (state_in t) b.moment
+          (all_of q.groups)
       first_replied = asked_replies moment (all_of q.groups) q.replies q.behind first_at first_octets first_there
 
       pub first_talk : TalksAt (with_turn t moment (Some (all_of q.groups))) q.behind y after
       first_talk = asked_more moment (all_of q.groups) q.replies q.behind first_at first_octets first_there
 
 -- the token is renewed
-module _ (t : SoFar) (site : ClientPlace) (x : Connection) (before : Option Traffic) (s : TalksAt t site x before) (y : Connection) (after : Option Traffic) (moment : DateTime) where
-  module _ (dated : IsTrue (date_time.encodable moment)) (done : Unit {0}) (c : Renews {A = Unit {0}} moment x y before after (Ok done)) (at : StandsAt (channel_of x) site) where
+module _ (t : SoFar) (site : ClientPlace) (x : Connection) (before : Option Traffic) (s : TalksAt t site x before) (y : Connection) (after : Option Traffic)
+    (moment : DateTime) where
+  module _ (dated : IsTrue (date_time.encodable moment)) (done : Unit {0}) (c : Renews {A = Unit {0}} moment x y before after (Ok done))
+      (at : StandsAt (channel_of x) site) where
     judged : turn_refusal (acked_in t) t.turns None ≡ None
-    judged = renewed_judged t.server t.limits t.url t.octets (told_in t) (newest_in t) (id_in t) (tokens_held 1 t.turns) site x before s.talking y after c.sent c.moves c.same moment (sym (c.judged site at))
+    judged = renewed_judged t.server t.limits t.url t.octets (told_in t) (newest_in t) (id_in t) (tokens_held 1 t.turns) site x before s.talking y after c.sent
+        c.moves c.same moment (sym (c.judged site at))
 
     pub renewing_sent : c.sent ≡ octets_of t moment None
     renewing_sent =
         more_sent t site x before s y after c.sent moment None
-        ((c.answers site at).0 ∙ renewal_sent t.server t.limits t.url t.octets (told_in t) (newest_in t) (id_in t) (tokens_held 1 t.turns) site x before s.talking y after c.sent c.moves c.same moment)
+        ((c.answers site at).0 ∙ renewal_sent t.server t.limits t.url t.octets (told_in t) (newest_in t) (id_in t) (tokens_held 1 t.turns) site x before
+        s.talking y after c.sent c.moves c.same moment)
 
     pub renewing_talks : TalksAt (with_turn t moment None) (c.answers site at).1.0 y after
     renewing_talks =
         let a = c.answers site at in
         more_talking t site x before s y after c.sent c.same moment None a.1.0 renewing_sent
-        (talks_renewed t.server t.limits t.url t.octets (told_in t) (newest_in t) (id_in t) (tokens_held 1 t.turns) site x before s.talking y after c.sent c.moves c.same moment dated s.dated (sym (c.judged site at)) a.0 a.1.0 a.1.1)
+        (talks_renewed t.server t.limits t.url t.octets (told_in t) (newest_in t) (id_in t) (tokens_held 1 t.turns) site x before s.talking y after c.sent
+        c.moves c.same moment dated s.dated (sym (c.judged site at)) a.0 a.1.0 a.1.1)
         a.1.1.number judged (state_renewal t.server (told_in t) (id_in t) 0 (newest_in t + 1) 3600000)
 
   -- or not
-  pub renewing_not : (f : ClientFault) → IsTurnFault f → Renews {A = Unit {0}} moment x y before after (Err f) → StandsAt (channel_of x) site → turn_refusal (acked_in t) t.turns None ≡ Some f
+  pub renewing_not : (f : ClientFault) → IsTurnFault f → Renews {A = Unit {0}} moment x y before after (Err f) → StandsAt (channel_of x) site
+      → turn_refusal (acked_in t) t.turns None ≡ Some f
   renewing_not f reason c at =
-      renewing_refused t.server t.limits t.url t.octets (told_in t) (newest_in t) (id_in t) (tokens_held 1 t.turns) site x before s.talking y after c.sent c.moves c.same moment f reason (c.answers site at) (c.judged site at)
+      renewing_refused t.server t.limits t.url t.octets (told_in t) (newest_in t) (id_in t) (tokens_held 1 t.turns) site x before s.talking y after c.sent
+      c.moves c.same moment f reason (c.answers site at) (c.judged site at)
 
 -- ---- the CLO
 
-module _ (b : Beginning) (octets more : List ℕ) (told : List Told) (q : ServerCloses b.limits b.channel more (told ++ Closed ∷ [])) (here : server_output b octets ≡ output_of b.channel b.first told Going (times_of_answers told b.moment)) where
+module _ (b : Beginning) (octets more : List ℕ) (told : List Told) (q : ServerCloses b.limits b.channel more (told ++ Closed ∷ []))
+    (here : server_output b octets ≡ output_of b.channel b.first told Going (times_of_answers told b.moment)) where
   -- a CLO is not answered
   closing_said : server_output b more ≡ server_output b octets
   closing_said =

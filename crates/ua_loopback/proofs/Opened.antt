@@ -31,7 +31,8 @@ use Rattle.ua_loopback.proofs.Reaching.{opening_read}
 use Rattle.ua_loopback.proofs.Saying.{said_by_run}
 
 -- what a server says of an agreement and the first token
-said_first_two : (b : Beginning) (g : Agreement) → output_of b.channel b.first (Agreed g ∷ (Opened 1 0 1 3600000 ∷ [])) Going (times_of_answers (Agreed g ∷ (Opened 1 0 1 3600000 ∷ [])) b.moment)
+said_first_two : (b : Beginning) (g : Agreement) → output_of b.channel b.first (Agreed g ∷ (Opened 1 0 1 3600000 ∷ [])) Going
+    (times_of_answers (Agreed g ∷ (Opened 1 0 1 3600000 ∷ [])) b.moment)
     ≡ frame_octets (ack_frame g.ack) ++ frame_octets (opened_frame b.channel 1 1 0 1 3600000 b.moment)
 unfolding output_of
 said_first_two b g =
@@ -39,7 +40,8 @@ said_first_two b g =
     let opened = frame_octets (opened_frame b.channel 1 1 0 1 3600000 b.moment) in
     append-nil (acked ++ (opened ++ [])) ∙ ap (λ (o : List ℕ). acked ++ o) (append-nil opened)
 
-module _ (b : Beginning) (client : Limits) (url : Option (List ℕ)) (moment : DateTime) (fits : IsTrue (hello.encodable (hello_to client url))) (short : url_length url ≤ 4095) (dated : IsTrue (date_time.encodable moment)) where
+module _ (b : Beginning) (client : Limits) (url : Option (List ℕ)) (moment : DateTime) (fits : IsTrue (hello.encodable (hello_to client url)))
+    (short : url_length url ≤ 4095) (dated : IsTrue (date_time.encodable moment)) where
   abbrev told : List Told
   told = Agreed (agreement_of b.limits (hello_to client url)) ∷ (Opened 1 0 1 3600000 ∷ [])
 
@@ -47,12 +49,15 @@ module _ (b : Beginning) (client : Limits) (url : Option (List ℕ)) (moment : D
   opening_said =
       let r = opening_read b.limits b.channel client url moment fits short dated in
       said_by_run b (opening_octets client url moment) r.frames [] Going r.run
-      ∙ (ap (λ (t : List Told). output_of b.channel b.first t Going (times_of_answers t b.moment)) r.told_is ∙ said_first_two b (agreement_of b.limits (hello_to client url)))
+      ∙ (ap (λ (t : List Told). output_of b.channel b.first t Going (times_of_answers t b.moment)) r.told_is
+      ∙ said_first_two b (agreement_of b.limits (hello_to client url)))
 
 -- what is left behind them
 left_first_two : (b : Beginning) (g : Agreement)
-    → ((state_after b.channel b.first (Agreed g ∷ (Opened 1 0 1 3600000 ∷ [])) (times_of_answers (Agreed g ∷ (Opened 1 0 1 3600000 ∷ [])) b.moment)).agreement ≡ Some g)
-    × ((state_after b.channel b.first (Agreed g ∷ (Opened 1 0 1 3600000 ∷ [])) (times_of_answers (Agreed g ∷ (Opened 1 0 1 3600000 ∷ [])) b.moment)).number ≡ next_number 1)
+    → ((state_after b.channel b.first (Agreed g ∷ (Opened 1 0 1 3600000 ∷ [])) (times_of_answers (Agreed g ∷ (Opened 1 0 1 3600000 ∷ [])) b.moment)).agreement
+    ≡ Some g)
+    × ((state_after b.channel b.first (Agreed g ∷ (Opened 1 0 1 3600000 ∷ [])) (times_of_answers (Agreed g ∷ (Opened 1 0 1 3600000 ∷ [])) b.moment)).number
+    ≡ next_number 1)
 unfolding state_after
 left_first_two b g = (refl, refl)
 
@@ -62,30 +67,46 @@ unfolding state_after
 state_first_two b g = refl
 
 -- a client reads that
-pub answer_read : (b : Beginning) (client : Limits) (url : Option (List ℕ)) → IsTrue (ack.encodable (ack_to (hello_to client url) b.limits)) → b.channel < 2 ^ 32 → IsTrue (date_time.encodable b.moment)
-    → ClientReads client [] (opening_answer b client url) (heard.Agreed (ack_to (hello_to client url) b.limits) ∷ (heard.Opened b.channel 1 ∷ [])) (opened_at (ack_to (hello_to client url) b.limits) b.channel 1 (next_number 1))
+pub answer_read : (b : Beginning) (client : Limits) (url : Option (List ℕ)) → IsTrue (ack.encodable (ack_to (hello_to client url) b.limits))
+    → b.channel < 2 ^ 32 → IsTrue (date_time.encodable b.moment)
+    → ClientReads client [] (opening_answer b client url) (heard.Agreed (ack_to (hello_to client url) b.limits) ∷ (heard.Opened b.channel 1 ∷ []))
+    (opened_at (ack_to (hello_to client url) b.limits) b.channel 1 (next_number 1))
 answer_read b client url fits on dated =
-    reads_opened client (frame_octets (ack_frame (ack_to (hello_to client url) b.limits))) (heard.Agreed (ack_to (hello_to client url) b.limits) ∷ []) (ack_to (hello_to client url) b.limits) b.channel 1 0 1 3600000 b.moment
+    reads_opened client (frame_octets (ack_frame (ack_to (hello_to client url) b.limits))) (heard.Agreed (ack_to (hello_to client url) b.limits) ∷ [])
+    (ack_to (hello_to client url) b.limits) b.channel 1 0 1 3600000 b.moment
     (reads_ack client b.limits url fits)
-    (record { channel_small = on; number_small = omega arith; id_small = omega arith; handle_small = omega arith; token_small = omega arith; lifetime_small = omega arith; moment_fits = dated })
+    (record {
+      channel_small = on;
+      number_small = omega arith;
+      id_small = omega arith;
+      handle_small = omega arith;
+      token_small = omega arith;
+      lifetime_small = omega arith;
+      moment_fits = dated;
+    })
 
 -- both are together
 pub begin_together : (b : Beginning) (url : Option (List ℕ)) (moment : DateTime) (x : ClientChannel) (site : ClientPlace)
-    → IsTrue (hello.encodable (hello_to (client_limits x) url)) → url_length url ≤ 4095 → IsTrue (date_time.encodable moment) → IsTrue (ack.encodable (ack_to (hello_to (client_limits x) url) b.limits)) → b.channel < 2 ^ 32 → IsTrue (date_time.encodable b.moment)
+    → IsTrue (hello.encodable (hello_to (client_limits x) url)) → url_length url ≤ 4095 → IsTrue (date_time.encodable moment)
+    → IsTrue (ack.encodable (ack_to (hello_to (client_limits x) url) b.limits)) → b.channel < 2 ^ 32 → IsTrue (date_time.encodable b.moment)
     → StandsAt x site → site.asks ≡ [] → site.octets ≡ server_output b (opening_octets (client_limits x) url moment) → client_next x ≡ 2
-    → AreServing b url (opening_octets (client_limits x) url moment) (Agreed (agreement_of b.limits (hello_to (client_limits x) url)) ∷ (Opened 1 0 1 3600000 ∷ [])) (with_token (greeted_at (hello_to (client_limits x) url))) x site
+    → AreServing b url (opening_octets (client_limits x) url moment)
+    (Agreed (agreement_of b.limits (hello_to (client_limits x) url)) ∷ (Opened 1 0 1 3600000 ∷ []))
+    (with_token (greeted_at (hello_to (client_limits x) url))) x site
     (opened_at (ack_to (hello_to (client_limits x) url) b.limits) b.channel 1 (next_number 1))
 begin_together b url moment x site fits short dated acked on answered at none octets_are next_is =
     let all : List Heard = heard.Agreed (ack_to (hello_to (client_limits x) url) b.limits) ∷ (heard.Opened b.channel 1 ∷ []) in
     let c = opened_at (ack_to (hello_to (client_limits x) url) b.limits) b.channel 1 (next_number 1) in
     let here : ClientReads (client_limits x) site.asks site.octets all c =
     subst (λ (asks : List Placed). ClientReads (client_limits x) asks site.octets all c) (sym none)
-    (subst (λ (o : List ℕ). ClientReads (client_limits x) [] o all c) (sym (octets_are ∙ opening_said b (client_limits x) url moment fits short dated)) (answer_read b (client_limits x) url acked on answered)) in
+    (subst (λ (o : List ℕ). ClientReads (client_limits x) [] o all c) (sym (octets_are ∙ opening_said b (client_limits x) url moment fits short dated))
+    (answer_read b (client_limits x) url acked on answered)) in
     record {
       together = record {
         server_reads = opening_read b.limits b.channel (client_limits x) url moment fits short dated;
         stands = at;
-        client_reads = subst (λ (t : List Heard). ClientReads (client_limits x) site.asks site.octets t c) (sym (client_told x site.asks site.octets site.told all c at.goes here)) here;
+        client_reads = subst (λ (t : List Heard). ClientReads (client_limits x) site.asks site.octets t c)
+            (sym (client_told x site.asks site.octets site.told all c at.goes here)) here;
         in_step = in_step_opened b.limits (client_limits x) url b.channel (next_number 1);
         number_is = sym at.number_is ∙ next_is;
       };

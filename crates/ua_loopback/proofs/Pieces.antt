@@ -1,15 +1,18 @@
 -- Pieces of lists.
-use Rattle.std.proofs.Common.{◌≡◌, ℕ, zero, suc, ◌+◌, ◌-◌, ◌≤◌, ◌<◌, ◌⊎◌, inl, inr, List, [], ◌∷◌, ◌++◌, length, take, drop, min, refl, sym, ◌∙◌, ap, subst, arith, length-append, drop_of_length-le}
+use Rattle.std.proofs.Common.{◌≡◌, ℕ, zero, suc, ◌+◌, ◌-◌, ◌≤◌, ◌<◌, ◌⊎◌, inl, inr, List, [], ◌∷◌, ◌++◌, length}
+use Rattle.std.proofs.Common.{take, drop, min, refl, sym, ◌∙◌, ap, subst, arith, length-append, drop_of_length-le}
 use Rattle.std.proofs.lemmas.Bool.{cases_lt}
 use Rattle.std.proofs.lemmas.List.{drop-append-le, drop-drop, length-drop, length-take-le, take-append-drop, take-append-le}
 use Rattle.std.proofs.Math.Seq.{take-append_seam}
 
 -- what is handed out, and what is behind it
-pub handed : (octets buffer : List ℕ) (read n : ℕ) → read + n ≤ length octets → drop read octets ≡ take n (take n (drop read octets) ++ drop n buffer) ++ drop (read + n) octets
+pub handed : (octets buffer : List ℕ) (read n : ℕ) → read + n ≤ length octets → drop read octets ≡ take n (take n (drop read octets) ++ drop n buffer)
+    ++ drop (read + n) octets
 handed octets buffer read n h =
     let c = drop read octets in
     let few : n ≤ length c = let l = length-drop read octets in omega (arith, l, h) in
-    let seam : take n (take n c ++ drop n buffer) ≡ take n c = subst (λ (k : ℕ). take k (take n c ++ drop n buffer) ≡ take n c) (length-take-le n c few) (take-append_seam (take n c) (drop n buffer)) in
+    let seam : take n (take n c ++ drop n buffer) ≡ take n c = subst (λ (k : ℕ). take k (take n c ++ drop n buffer) ≡ take n c) (length-take-le n c few)
+    (take-append_seam (take n c) (drop n buffer)) in
     sym (take-append-drop n c) ∙ (ap (λ (t : List ℕ). take n c ++ t) (drop-drop n read octets) ∙ ap (λ (t : List ℕ). t ++ drop (read + n) octets) (sym seam))
 
 -- the same of octets of which these are the first

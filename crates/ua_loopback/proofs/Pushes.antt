@@ -17,14 +17,16 @@ use Rattle.ua_loopback.specs.Turns.{id_behind, ids_behind, token_behind, tokens_
 
 -- ---- what they tell
 
-pub told_push : (token id : ℕ) (turns : List (Option (List Request))) (t : Option (List Request)) → turns_told token id (turns ++ t ∷ []) ≡ turns_told token id turns ++ turn_told (tokens_behind token turns) (ids_behind id turns) t
+pub told_push : (token id : ℕ) (turns : List (Option (List Request))) (t : Option (List Request))
+    → turns_told token id (turns ++ t ∷ []) ≡ turns_told token id turns ++ turn_told (tokens_behind token turns) (ids_behind id turns) t
 told_push token id [] t = append-nil (turn_told token id t)
 told_push token id (u ∷ us) t =
     ap (λ (ts : List Told). turn_told token id u ++ ts) (told_push (token_behind token u) (id_behind id u) us t)
     ∙ sym (append_assoc (turn_told token id u) (turns_told (token_behind token u) (id_behind id u) us)
     (turn_told (tokens_behind (token_behind token u) us) (ids_behind (id_behind id u) us) t))
 
-pub tokens_push : (token : ℕ) (turns : List (Option (List Request))) (t : Option (List Request)) → tokens_behind token (turns ++ t ∷ []) ≡ token_behind (tokens_behind token turns) t
+pub tokens_push : (token : ℕ) (turns : List (Option (List Request))) (t : Option (List Request))
+    → tokens_behind token (turns ++ t ∷ []) ≡ token_behind (tokens_behind token turns) t
 tokens_push token [] t = refl
 tokens_push token (u ∷ us) t = tokens_push (token_behind token u) us t
 
@@ -32,7 +34,8 @@ pub ids_push : (id : ℕ) (turns : List (Option (List Request))) (t : Option (Li
 ids_push id [] t = refl
 ids_push id (u ∷ us) t = ids_push (id_behind id u) us t
 
-pub held_push : (held : ℕ) (turns : List (Option (List Request))) (t : Option (List Request)) → tokens_held held (turns ++ t ∷ []) ≡ held_behind (tokens_held held turns) t
+pub held_push : (held : ℕ) (turns : List (Option (List Request))) (t : Option (List Request))
+    → tokens_held held (turns ++ t ∷ []) ≡ held_behind (tokens_held held turns) t
 held_push held [] t = refl
 held_push held (u ∷ us) t = held_push (held_behind held u) us t
 
@@ -40,7 +43,8 @@ held_push held (u ∷ us) t = held_push (held_behind held u) us t
 
 pub octets_push : (a : Ack) (channel : ℕ) (moment : DateTime) (token number id : ℕ) (turns : List (Option (List Request))) (t : Option (List Request))
     → turns_octets a channel moment token number id (turns ++ t ∷ [])
-    ≡ turns_octets a channel moment token number id turns ++ turn_octets (call_lane a channel (tokens_behind token turns)) (turns_number a channel token number turns) (ids_behind id turns) moment t
+    ≡ turns_octets a channel moment token number id turns ++ turn_octets (call_lane a channel (tokens_behind token turns))
+    (turns_number a channel token number turns) (ids_behind id turns) moment t
 octets_push a channel moment token number id [] t = append-nil (turn_octets (call_lane a channel token) number id moment t)
 octets_push a channel moment token number id (u ∷ us) t =
     let lane : Lane = call_lane a channel token in
@@ -49,25 +53,31 @@ octets_push a channel moment token number id (u ∷ us) t =
     let n : ℕ = turn_number lane number u in
     let i : ℕ = id_behind id u in
     ap (λ (o : List ℕ). one ++ o) (octets_push a channel moment k n i us t)
-    ∙ sym (append_assoc one (turns_octets a channel moment k n i us) (turn_octets (call_lane a channel (tokens_behind k us)) (turns_number a channel k n us) (ids_behind i us) moment t))
+    ∙ sym (append_assoc one (turns_octets a channel moment k n i us)
+    (turn_octets (call_lane a channel (tokens_behind k us)) (turns_number a channel k n us) (ids_behind i us) moment t))
 
 pub number_push : (a : Ack) (channel token number : ℕ) (turns : List (Option (List Request))) (t : Option (List Request))
-    → turns_number a channel token number (turns ++ t ∷ []) ≡ turn_number (call_lane a channel (tokens_behind token turns)) (turns_number a channel token number turns) t
+    → turns_number a channel token number (turns ++ t ∷ []) ≡ turn_number (call_lane a channel (tokens_behind token turns))
+    (turns_number a channel token number turns) t
 number_push a channel token number [] t = refl
 number_push a channel token number (u ∷ us) t = number_push a channel (token_behind token u) (turn_number (call_lane a channel token) number u) us t
 
 -- ---- what comes of them
 
-pub state_push : (s : State) (moment : DateTime) (turns : List (Option (List Request))) (t : Option (List Request)) → turns_state s moment (turns ++ t ∷ []) ≡ turn_state (turns_state s moment turns) moment t
+pub state_push : (s : State) (moment : DateTime) (turns : List (Option (List Request))) (t : Option (List Request))
+    → turns_state s moment (turns ++ t ∷ []) ≡ turn_state (turns_state s moment turns) moment t
 state_push s moment [] t = refl
 state_push s moment (u ∷ us) t = state_push (turn_state s moment u) moment us t
 
-pub replies_push : (b : Beginning) (client : Limits) (url : Option (List ℕ)) (s : State) (token : ℕ) (turns : List (Option (List Request))) (t : Option (List Request))
-    → turns_replies b client url s token (turns ++ t ∷ []) ≡ turns_replies b client url s token turns ++ turn_replies (lane_back b client url (tokens_behind token turns)) (turns_state s b.moment turns) b.moment t
+pub replies_push : (b : Beginning) (client : Limits) (url : Option (List ℕ)) (s : State) (token : ℕ) (turns : List (Option (List Request)))
+    (t : Option (List Request))
+    → turns_replies b client url s token (turns ++ t ∷ []) ≡ turns_replies b client url s token turns
+    ++ turn_replies (lane_back b client url (tokens_behind token turns)) (turns_state s b.moment turns) b.moment t
 replies_push b client url s token [] t = append-nil (turn_replies (lane_back b client url token) s b.moment t)
 replies_push b client url s token (u ∷ us) t =
     let one : List (Option Reply) = turn_replies (lane_back b client url token) s b.moment u in
     let next : State = turn_state s b.moment u in
     let k : ℕ = token_behind token u in
     ap (λ (os : List (Option Reply)). one ++ os) (replies_push b client url next k us t)
-    ∙ sym (append_assoc one (turns_replies b client url next k us) (turn_replies (lane_back b client url (tokens_behind k us)) (turns_state next b.moment us) b.moment t))
+    ∙ sym (append_assoc one (turns_replies b client url next k us)
+    (turn_replies (lane_back b client url (tokens_behind k us)) (turns_state next b.moment us) b.moment t))

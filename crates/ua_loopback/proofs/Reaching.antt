@@ -1,5 +1,6 @@
 -- That what a client over a line sends is what a server reads.
-use Rattle.std.proofs.Common.{◌≡◌, ℕ, ◌+◌, ◌<◌, ◌≤◌, ◌^◌, Bool, true, false, not, leb, IsTrue, List, [], ◌∷◌, ◌++◌, Option, Some, None, length, map, refl, sym, ◌∙◌, ap, subst, arith}
+use Rattle.std.proofs.Common.{◌≡◌, ℕ, ◌+◌, ◌<◌, ◌≤◌, ◌^◌, Bool, true, false, not, leb, IsTrue, List, []}
+use Rattle.std.proofs.Common.{◌∷◌, ◌++◌, Option, Some, None, length, map, refl, sym, ◌∙◌, ap, subst, arith}
 use Rattle.std.specs.Prelude.{if◌then◌else◌}
 use Rattle.std.specs.List.{AllByRecursion}
 use Rattle.std.proofs.lemmas.Bool.{leb-false, not-false}
@@ -45,7 +46,8 @@ use Rattle.ua_loopback.specs.Turns.{calls_told}
 
 module _ (x : ClientChannel) (s : ClientPlace) (c : AtClient) (at : StandsAt x s) (r : ClientReads (client_limits x) s.asks s.octets s.told c) where
   before_is : s.before ≡ received r.frames
-  before_is = sym at.before_is ∙ ap received (unique (client_rules_of x s.asks) s.octets at.goes.frames r.frames at.goes.rest [] Going Going at.goes.stands.run r.run).frames
+  before_is = sym at.before_is
+      ∙ ap received (unique (client_rules_of x s.asks) s.octets at.goes.frames r.frames at.goes.rest [] Going Going at.goes.stands.run r.run).frames
 
   -- it has what the server acknowledged
   pub acked_here : s.before.ack ≡ Some c.ack
@@ -82,11 +84,15 @@ not_refused a id [] h = tt
 not_refused a id (m ∷ ms) h =
     let one = none_parts (not (request.encodable m)) _ _ h in
     let two = none_parts (leb no_id id) _ _ one.1 in
-    let three = none_parts (is_too_large a (request.canonical m)) _ _ two.1 in
-    (leb-false no_id id two.0, (some_octets m (request.canonical m) (lawful_request.canonical_encodes m (not-false (request.encodable m) one.0)), three.0), not_refused a (id + 1) ms three.1)
+    let three = none_parts (is_too_large a (request.canonical m)) _ _ two.1 in (
+      leb-false no_id id two.0,
+      (some_octets m (request.canonical m) (lawful_request.canonical_encodes m (not-false (request.encodable m) one.0)), three.0),
+      not_refused a (id + 1) ms three.1,
+    )
 
 -- each can be encoded
-pub writable : (a : Ack) (id : ℕ) (ms : List Request) → first_reason (group_reasons (Some a) id ms) ≡ None → AllByRecursion (λ (m : Request). IsTrue (request.encodable m)) ms
+pub writable : (a : Ack) (id : ℕ) (ms : List Request) → first_reason (group_reasons (Some a) id ms) ≡ None
+    → AllByRecursion (λ (m : Request). IsTrue (request.encodable m)) ms
 writable a id [] h = tt
 writable a id (m ∷ ms) h =
     let one = none_parts (not (request.encodable m)) _ _ h in
@@ -109,12 +115,16 @@ not_exhausted s h =
 -- ---- calls, one behind the other
 
 module _ (limits client : Limits) (url : Option (List ℕ)) (channel : ℕ) (on : channel < 2 ^ 32) (c : AtClient) where
-  pub calls_read : (octets : List ℕ) (told : List Told) (s : AtServer) (id : ℕ) (ms : List Request) → AreInStep limits client url channel s c → latest c.tokens ≡ Some c.newest
+  pub calls_read : (octets : List ℕ) (told : List Told) (s : AtServer) (id : ℕ) (ms : List Request) → AreInStep limits client url channel s c
+      → latest c.tokens ≡ Some c.newest
       → ServerReads limits channel octets told s → AreAsked c.ack id ms
-      → ServerReads limits channel (octets ++ calls_octets (Some (lane_from c)) s.next id (bodies_of ms)) (told ++ calls_told c.newest id (bodies_of ms)) (behind_calls s (lane_from c) (bodies_of ms))
+      → ServerReads limits channel (octets ++ calls_octets (Some (lane_from c)) s.next id (bodies_of ms)) (told ++ calls_told c.newest id (bodies_of ms))
+      (behind_calls s (lane_from c) (bodies_of ms))
   calls_read octets told s id ms t newest r asked =
-      subst (λ (ts : List Told). ServerReads limits channel (octets ++ calls_octets (Some (lane_from c)) s.next id (bodies_of ms)) (told ++ ts) (behind_calls s (lane_from c) (bodies_of ms))) (none_told c.newest s.issued c.newest id (bodies_of ms))
-      (reads_sendable limits client url channel on octets told s c id (map CallWith (bodies_of ms)) r t newest asked (omega (arith, none_issued s.issued (bodies_of ms), r.few_issued))).0
+      subst (λ (ts : List Told). ServerReads limits channel (octets ++ calls_octets (Some (lane_from c)) s.next id (bodies_of ms)) (told ++ ts)
+      (behind_calls s (lane_from c) (bodies_of ms))) (none_told c.newest s.issued c.newest id (bodies_of ms))
+      (reads_sendable limits client url channel on octets told s c id (map CallWith (bodies_of ms)) r t newest asked
+      (omega (arith, none_issued s.issued (bodies_of ms), r.few_issued))).0
 
 -- the number behind them
 pub calls_counted : (s : AtServer) (lane : Lane) (bodies : List (List ℕ)) → numbers_behind (Some lane) s.next bodies ≡ (behind_calls s lane bodies).next
@@ -124,28 +134,37 @@ calls_counted s lane (body ∷ bodies) = calls_counted (with_message s lane body
 -- ---- turns
 
 -- the HEL and the OPN
-pub opening_read : (limits : Limits) (channel : ℕ) (client : Limits) (url : Option (List ℕ)) (moment : DateTime) → IsTrue (hello.encodable (hello_to client url)) → url_length url ≤ 4095 → IsTrue (date_time.encodable moment)
-    → ServerReads limits channel (opening_octets client url moment) (Agreed (agreement_of limits (hello_to client url)) ∷ (Opened 1 0 1 3600000 ∷ [])) (with_token (greeted_at (hello_to client url)))
+pub opening_read : (limits : Limits) (channel : ℕ) (client : Limits) (url : Option (List ℕ)) (moment : DateTime)
+    → IsTrue (hello.encodable (hello_to client url)) → url_length url ≤ 4095 → IsTrue (date_time.encodable moment)
+    → ServerReads limits channel (opening_octets client url moment) (Agreed (agreement_of limits (hello_to client url)) ∷ (Opened 1 0 1 3600000 ∷ []))
+    (with_token (greeted_at (hello_to client url)))
 opening_read limits channel client url moment fits short dated =
-    reads_first limits channel (frame_octets (hello_frame (hello_to client url))) (Agreed (agreement_of limits (hello_to client url)) ∷ []) (greeted_at (hello_to client url)) moment
+    reads_first limits channel (frame_octets (hello_frame (hello_to client url))) (Agreed (agreement_of limits (hello_to client url)) ∷ [])
+    (greeted_at (hello_to client url)) moment
     (reads_hello limits channel client url fits short) refl refl dated
 
-module _ (limits : Limits) (url : Option (List ℕ)) (channel : ℕ) (octets : List ℕ) (told : List Told) (s : AtServer) (x : ClientChannel) (site : ClientPlace) (c : AtClient) (on : channel < 2 ^ 32) (t : AreTogether limits url channel octets told s x site c) where
+module _ (limits : Limits) (url : Option (List ℕ)) (channel : ℕ) (octets : List ℕ) (told : List Told) (s : AtServer) (x : ClientChannel) (site : ClientPlace)
+    (c : AtClient) (on : channel < 2 ^ 32) (t : AreTogether limits url channel octets told s x site c) where
   -- requests
   pub requests_asked : (requests : List Request) → refusal_at site requests ≡ None → AreAsked c.ack (id_at site) requests
   requests_asked requests judged =
-      not_refused c.ack (id_at site) requests (ap (λ (a : Option Ack). first_reason (group_reasons a (id_at site) requests)) (sym (acked_here x site c t.stands t.client_reads)) ∙ judged)
+      not_refused c.ack (id_at site) requests
+      (ap (λ (a : Option Ack). first_reason (group_reasons a (id_at site) requests)) (sym (acked_here x site c t.stands t.client_reads)) ∙ judged)
 
   pub requests_read : (requests : List Request) → refusal_at site requests ≡ None
-      → ServerReads limits channel (octets ++ sent_at site requests) (told ++ calls_told c.newest (id_at site) (bodies_of requests)) (behind_calls s (lane_from c) (bodies_of requests))
+      → ServerReads limits channel (octets ++ sent_at site requests) (told ++ calls_told c.newest (id_at site) (bodies_of requests))
+      (behind_calls s (lane_from c) (bodies_of requests))
   requests_read requests judged =
-      subst (λ (o : List ℕ). ServerReads limits channel (octets ++ o) (told ++ calls_told c.newest (id_at site) (bodies_of requests)) (behind_calls s (lane_from c) (bodies_of requests)))
+      subst (λ (o : List ℕ). ServerReads limits channel (octets ++ o) (told ++ calls_told c.newest (id_at site) (bodies_of requests))
+      (behind_calls s (lane_from c) (bodies_of requests)))
       (ap (λ (n : ℕ). calls_octets (Some (lane_from c)) n (id_at site) (bodies_of requests)) (sym t.number_is)
       ∙ ap (λ (l : Option Lane). calls_octets l site.number (id_at site) (bodies_of requests)) (sym (lane_here x site c t.stands t.client_reads)))
-      (calls_read limits (client_limits x) url channel on c octets told s (id_at site) requests t.in_step t.client_reads.newest_is t.server_reads (requests_asked requests judged))
+      (calls_read limits (client_limits x) url channel on c octets told s (id_at site) requests t.in_step t.client_reads.newest_is t.server_reads
+      (requests_asked requests judged))
 
   -- and the number behind them
-  pub numbers_read : (requests : List Request) → numbers_behind (lane_behind site.before) site.number (bodies_of requests) ≡ (behind_calls s (lane_from c) (bodies_of requests)).next
+  pub numbers_read : (requests : List Request) → numbers_behind (lane_behind site.before) site.number (bodies_of requests)
+      ≡ (behind_calls s (lane_from c) (bodies_of requests)).next
   numbers_read requests =
       ap (λ (l : Option Lane). numbers_behind l site.number (bodies_of requests)) (lane_here x site c t.stands t.client_reads)
       ∙ (ap (λ (n : ℕ). numbers_behind (Some (lane_from c)) n (bodies_of requests)) t.number_is ∙ calls_counted s (lane_from c) (bodies_of requests))

@@ -1,5 +1,6 @@
 -- That no client opens whose URL the server refuses: one of 4096 octets or more.
-use Rattle.std.proofs.Common.{◌≡◌, ◌⊎◌, inl, inr, ℕ, ◌+◌, ◌<◌, ◌≤◌, false, IsTrue, List, [], ◌∷◌, ◌++◌, Option, Some, length, refl, sym, ◌∙◌, ap, subst, arith, append-nil, append_assoc, length-append}
+use Rattle.std.proofs.Common.{◌≡◌, ◌⊎◌, inl, inr, ℕ, ◌+◌, ◌<◌, ◌≤◌, false, IsTrue, List, [], ◌∷◌, ◌++◌, Option, Some}
+use Rattle.std.proofs.Common.{length, refl, sym, ◌∙◌, ap, subst, arith, append-nil, append_assoc, length-append}
 use Rattle.std.proofs.lemmas.Bool.{cases_lt, lt-ltb}
 use Rattle.ua_wire.specs.Counted.{counted, text}
 use Rattle.ua_wire.specs.Format.{Extends}
@@ -51,18 +52,26 @@ said_none : (b : Beginning) (code : ℕ) → output_of b.channel b.first [] (Sto
 unfolding output_of
 said_none b code = refl
 
-said_refused : (b : Beginning) (octets : List ℕ) (code : ℕ) → Run (server_rules b.limits b.channel) octets [] octets (Stopped code) → server_output b octets ≡ frame_octets (err_frame (of_code code))
+said_refused : (b : Beginning) (octets : List ℕ) (code : ℕ) → Run (server_rules b.limits b.channel) octets [] octets (Stopped code)
+    → server_output b octets ≡ frame_octets (err_frame (of_code code))
 said_refused b octets code run =
     said_by_run b octets [] octets (Stopped code) run
-    ∙ (ap (λ (t : List Told). output_of b.channel b.first t (Stopped code) (times_of_answers t b.moment)) (no_events (server_rules b.limits b.channel)) ∙ said_none b code)
+    ∙ (ap (λ (t : List Told). output_of b.channel b.first t (Stopped code) (times_of_answers t b.moment)) (no_events (server_rules b.limits b.channel))
+    ∙ said_none b code)
 
 err_sized : (code : ℕ) → IsSized (err_frame (of_code code))
 unfolding error status_code text counted
-err_sized code = omega (arith, length-append (number_octets 4 code) (number_octets 4 0xFFFF_FFFF), length-number_octets 4 code, length-number_octets 4 0xFFFF_FFFF)
+err_sized code = omega (
+  arith,
+  length-append (number_octets 4 code) (number_octets 4 0xFFFF_FFFF),
+  length-number_octets 4 code,
+  length-number_octets 4 0xFFFF_FFFF,
+)
 
 -- ---- a HEL with such a URL
 
-module _ (limits : Limits) (channel : ℕ) (client : Limits) (url : Option (List ℕ)) (moment : DateTime) (fits : IsTrue (hello.encodable (hello_to client url))) (writable : IsTrue (text.encodable url)) (long : 4095 < url_length url) where
+module _ (limits : Limits) (channel : ℕ) (client : Limits) (url : Option (List ℕ)) (moment : DateTime) (fits : IsTrue (hello.encodable (hello_to client url)))
+    (writable : IsTrue (text.encodable url)) (long : 4095 < url_length url) where
   abbrev hel : Frame
   hel = hello_frame (hello_to client url)
 
@@ -82,7 +91,9 @@ module _ (limits : Limits) (channel : ℕ) (client : Limits) (url : Option (List
   goes_on = ap (λ (b : Received). b.closed) received-nil
 
   hel_carried : content hel ≡ Greets (Some (hello_to client url))
-  hel_carried = content_hel hel refl ∙ ap Greets (whole_encodes hello sound_hello (hello.canonical (hello_to client url)) (hello_to client url) (sound_hello.canonical_encodes (hello_to client url) fits))
+  hel_carried = content_hel hel refl
+      ∙ ap Greets (whole_encodes hello sound_hello (hello.canonical (hello_to client url)) (hello_to client url)
+      (sound_hello.canonical_encodes (hello_to client url) fits))
 
   -- refused for its URL
   refused_long : frame_size hel ≤ 8192 → Run (server_rules limits channel) octets [] octets (Stopped 0x8083_0000)
@@ -120,32 +131,51 @@ module _ (limits : Limits) (channel : ℕ) (client : Limits) (url : Option (List
   refused_large big = record {
     whole = sym (front_none octets);
     good = tt;
-    ends = (goes_on, inl (record { fault = TooLarge; code = 0x8080_0000; whole = omega (arith, length-append (frame_octets hel) (open_octets moment), length-frame_octets hel); fault_is = fault_is big; code_is = refl; why_is = refl }));
+    ends = (
+      goes_on,
+      inl (record {
+        fault = TooLarge;
+        code = 0x8080_0000;
+        whole = omega (arith, length-append (frame_octets hel) (open_octets moment), length-frame_octets hel);
+        fault_is = fault_is big;
+        code_is = refl;
+        why_is =
+            refl;
+      }),
+    );
   }
 
 -- a server says nothing of it but the ERR
-long_said : (b : Beginning) (client : Limits) (url : Option (List ℕ)) (moment : DateTime) → IsTrue (hello.encodable (hello_to client url)) → IsTrue (text.encodable url) → 4095 < url_length url
+long_said : (b : Beginning) (client : Limits) (url : Option (List ℕ)) (moment : DateTime) → IsTrue (hello.encodable (hello_to client url))
+    → IsTrue (text.encodable url) → 4095 < url_length url
     → (code : ℕ) × (server_output b (opening_octets client url moment) ≡ frame_octets (err_frame (of_code code)))
 long_said b client url moment fits writable long = by (cases_lt 8192 (frame_size (hello_frame (hello_to client url))))
   where
-    by : ((8192 < frame_size (hello_frame (hello_to client url))) ⊎ (frame_size (hello_frame (hello_to client url)) ≤ 8192)) → (code : ℕ) × (server_output b (opening_octets client url moment) ≡ frame_octets (err_frame (of_code code)))
-    by (inl big) = (0x8080_0000, said_refused b (opening_octets client url moment) 0x8080_0000 (refused_large b.limits b.channel client url moment fits writable long big))
-    by (inr few) = (0x8083_0000, said_refused b (opening_octets client url moment) 0x8083_0000 (refused_long b.limits b.channel client url moment fits writable long few))
+    by : ((8192 < frame_size (hello_frame (hello_to client url))) ⊎ (frame_size (hello_frame (hello_to client url)) ≤ 8192))
+        → (code : ℕ) × (server_output b (opening_octets client url moment) ≡ frame_octets (err_frame (of_code code)))
+    by (inl big) =
+        (0x8080_0000, said_refused b (opening_octets client url moment) 0x8080_0000 (refused_large b.limits b.channel client url moment fits writable long big))
+    by (inr few) =
+        (0x8083_0000, said_refused b (opening_octets client url moment) 0x8083_0000 (refused_long b.limits b.channel client url moment fits writable long few))
 
 -- ---- a client does not open by it
 
 none_then : {A : Type 0} (x : A) → [] ≡ x ∷ [] → ⊥
 none_then x e = absurd cc
 
-never_by : (x : ClientChannel) (octets : List ℕ) (o : IsOpened x octets) (e : Frame) (more : List ℕ) → IsSized e → octets ++ more ≡ frame_octets e → (fs : List Frame) → o.tells.frames ≡ fs → ⊥
+never_by : (x : ClientChannel) (octets : List ℕ) (o : IsOpened x octets) (e : Frame) (more : List ℕ) → IsSized e → octets ++ more ≡ frame_octets e
+    → (fs : List Frame) → o.tells.frames ≡ fs → ⊥
 unfolding AllAfter
-never_by x octets o e more sized is [] none = none_then (heard.Agreed o.ack) (sym (no_events (client_rules_of x [])) ∙ (sym (ap (events (client_rules_of x [])) none) ∙ o.tells.told_is))
+never_by x octets o e more sized is [] none = none_then (heard.Agreed o.ack) (sym (no_events (client_rules_of x []))
+    ∙ (sym (ap (events (client_rules_of x [])) none) ∙ o.tells.told_is))
 never_by x octets o e more sized is (f ∷ fs) some =
     let all : o.tells.frames ++ o.tells.frame ∷ [] ≡ f ∷ (fs ++ o.tells.frame ∷ []) = ap (λ (gs : List Frame). gs ++ o.tells.frame ∷ []) some in
-    let run : Run (client_rules_of x []) octets (f ∷ (fs ++ o.tells.frame ∷ [])) [] Going = subst (λ (gs : List Frame). Run (client_rules_of x []) octets gs [] Going) all o.tells.stands.run in
+    let run : Run (client_rules_of x []) octets (f ∷ (fs ++ o.tells.frame ∷ [])) [] Going =
+    subst (λ (gs : List Frame). Run (client_rules_of x []) octets gs [] Going) all o.tells.stands.run in
     let rest : List ℕ = frames_octets (fs ++ o.tells.frame ∷ []) in
     let whole : frame_octets f ++ ((rest ++ []) ++ more) ≡ frame_octets e ++ [] =
-    sym (append_assoc (frame_octets f) (rest ++ []) more) ∙ (ap (λ (t : List ℕ). t ++ more) (sym (front_frame f (fs ++ o.tells.frame ∷ []) []) ∙ sym run.whole) ∙ (is ∙ sym (append-nil (frame_octets e)))) in
+    sym (append_assoc (frame_octets f) (rest ++ []) more) ∙ (ap (λ (t : List ℕ). t ++ more) (sym (front_frame f (fs ++ o.tells.frame ∷ []) []) ∙ sym run.whole)
+    ∙ (is ∙ sym (append-nil (frame_octets e)))) in
     let one = one_frame f e ((rest ++ []) ++ more) [] run.good.0.sized sized whole in
     omega (
       arith,
@@ -161,7 +191,8 @@ never_opened : (x : ClientChannel) (octets : List ℕ) → IsOpened x octets →
 never_opened x octets o e sized front = never_by x octets o e front.more sized (sym front.parts) o.tells.frames refl
 
 -- where a client opened, its URL is one that the server takes
-pub short_url : (b : Beginning) (client : Limits) (url : Option (List ℕ)) (moment : DateTime) (x : ClientChannel) (octets : List ℕ) → IsTrue (hello.encodable (hello_to client url)) → IsTrue (text.encodable url) → IsOpened x octets
+pub short_url : (b : Beginning) (client : Limits) (url : Option (List ℕ)) (moment : DateTime) (x : ClientChannel) (octets : List ℕ)
+    → IsTrue (hello.encodable (hello_to client url)) → IsTrue (text.encodable url) → IsOpened x octets
     → Extends octets (server_output b (opening_octets client url moment)) → url_length url ≤ 4095
 short_url b client url moment x octets fits writable o front = by (cases_lt 4095 (url_length url))
   where

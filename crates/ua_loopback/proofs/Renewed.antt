@@ -1,5 +1,6 @@
 -- That both ends in one process stay in step by a renewal.
-use Rattle.std.proofs.Common.{◌≡◌, ℕ, ◌+◌, ◌<◌, ◌≤◌, ◌^◌, IsTrue, Bool, false, ◌||◌, eqb, List, [], ◌∷◌, ◌++◌, Option, None, length, refl, sym, ◌∙◌, ap, subst, arith, append-nil, append_assoc, length-append}
+use Rattle.std.proofs.Common.{◌≡◌, ℕ, ◌+◌, ◌<◌, ◌≤◌, ◌^◌, IsTrue, Bool, false, ◌||◌, eqb, List, [], ◌∷◌, ◌++◌, Option}
+use Rattle.std.proofs.Common.{None, length, refl, sym, ◌∙◌, ap, subst, arith, append-nil, append_assoc, length-append}
 use Rattle.std.specs.List.{AllByRecursion}
 use Rattle.std.proofs.lemmas.Bool.{ne_eqb}
 use Rattle.std.proofs.lemmas.List.{append_cancel_left, nil_from_length}
@@ -55,12 +56,15 @@ neither a b p q = cc
 -- a token past all of these is none of them
 pub none_past : (most : ℕ) (tokens : List ℕ) → AllByRecursion (λ (token : ℕ). token ≤ most) tokens → is_in (most + 1) tokens ≡ false
 none_past most [] h = refl
-none_past most (token ∷ tokens) h = neither (eqb token (most + 1)) (is_in (most + 1) tokens) (ne_eqb token (most + 1) (λ e. omega (arith, e, h.0))) (none_past most tokens h.1)
+none_past most (token ∷ tokens) h = neither (eqb token (most + 1)) (is_in (most + 1) tokens) (ne_eqb token (most + 1) (λ e. omega (arith, e, h.0)))
+    (none_past most tokens h.1)
 
 -- ---- what a server says of it
 
-module _ (b : Beginning) (url : Option (List ℕ)) (octets : List ℕ) (told : List Told) (s : AtServer) (x : ClientChannel) (site : ClientPlace) (c : AtClient) (moment : DateTime)
-    (on : b.channel < 2 ^ 32) (t : AreServing b url octets told s x site c) (judged : renewal_refusal site ≡ None) (dated : IsTrue (date_time.encodable moment)) where
+module _ (b : Beginning) (url : Option (List ℕ)) (octets : List ℕ) (told : List Told) (s : AtServer) (x : ClientChannel) (site : ClientPlace) (c : AtClient)
+    (moment : DateTime)
+    (on : b.channel < 2 ^ 32) (t : AreServing b url octets told s x site c) (judged : renewal_refusal site ≡ None)
+    (dated : IsTrue (date_time.encodable moment)) where
   abbrev id : ℕ
   id = id_at site
 
@@ -82,7 +86,8 @@ module _ (b : Beginning) (url : Option (List ℕ)) (octets : List ℕ) (told : L
 
   course_is : behind_told b octets told s t.together.server_reads opens ≡ course before.state c.next (b.moment ∷ []) before.agreement
   course_is =
-      ap (λ (ms : List DateTime). course before.state before.number (ms ++ times_of_answers opens b.moment) before.agreement) (none_left b.channel b.first told b.moment)
+      ap (λ (ms : List DateTime). course before.state before.number (ms ++ times_of_answers opens b.moment) before.agreement)
+      (none_left b.channel b.first told b.moment)
       ∙ ap (λ (n : ℕ). course before.state n (b.moment ∷ []) before.agreement) t.says_next
 
   -- its OPN response, with the next token
@@ -92,7 +97,8 @@ module _ (b : Beginning) (url : Option (List ℕ)) (octets : List ℕ) (told : L
       ∙ (ap (λ (k : Course). server_output b octets ++ said_of b.channel k opens) course_is
       ∙ ap (λ (o : List ℕ). server_output b octets ++ o) (append-nil (renewal_answer b c.next id token)))
 
-  left_renewed : state_after b.channel b.first (told ++ opens) (times_of_answers (told ++ opens) b.moment) ≡ course_after b.channel (course before.state c.next (b.moment ∷ []) before.agreement) opens
+  left_renewed : state_after b.channel b.first (told ++ opens) (times_of_answers (told ++ opens) b.moment)
+      ≡ course_after b.channel (course before.state c.next (b.moment ∷ []) before.agreement) opens
   left_renewed = left_on b told opens ∙ ap (λ (k : Course). course_after b.channel k opens) course_is
 
   -- ---- what the client reads of that
@@ -113,7 +119,8 @@ module _ (b : Beginning) (url : Option (List ℕ)) (octets : List ℕ) (told : L
         let r = t.together.client_reads in
         let all = tokens-answer (client_limits x) site.asks r.frames r.run.good in
         let few_asked : length (renewals (asked_in site.asks)) ≤ tokens-told site.told = settled.renewed in
-        sym r.renewals_are ∙ nil_from_length (pending_renewals (opened_ids (received r.frames).openings) (asked_in site.asks)) (omega (arith, all, few_asked, ap tokens-told r.told_is))
+        sym r.renewals_are ∙ nil_from_length (pending_renewals (opened_ids (received r.frames).openings) (asked_in site.asks))
+        (omega (arith, all, few_asked, ap tokens-told r.told_is))
 
     asked : ClientReads (client_limits x) (asks_renewed site) site.octets site.told waiting
     asked = reads_renewal (client_limits x) site.asks site.octets site.told c t.together.client_reads
@@ -140,22 +147,29 @@ module _ (b : Beginning) (url : Option (List ℕ)) (octets : List ℕ) (told : L
         ∙ (ap (λ (o : List ℕ). o ++ renewal_answer b c.next id token) t.taken ∙ sym renewal_said)
 
     -- the client reads it
-    pub renewal_heard : ClientReads (client_limits x) (asks_renewed site) (server_output b (octets ++ renewal_at site moment)) (site.told ++ heard.Renewed token ∷ []) now
+    pub renewal_heard : ClientReads (client_limits x) (asks_renewed site) (server_output b (octets ++ renewal_at site moment))
+        (site.told ++ heard.Renewed token ∷ []) now
     renewal_heard = subst (λ (o : List ℕ). ClientReads (client_limits x) (asks_renewed site) o (site.told ++ heard.Renewed token ∷ []) now) answer_is reads_it
 
     in_step_now : AreInStep b.limits (client_limits x) url b.channel (with_token s) now
     in_step_now =
-        in_step_answer b.limits (client_limits x) url b.channel (with_token s) waiting (in_step_renewal b.limits (client_limits x) url b.channel s c t.together.in_step id) (next_number c.next)
+        in_step_answer b.limits (client_limits x) url b.channel (with_token s) waiting
+        (in_step_renewal b.limits (client_limits x) url b.channel s c t.together.in_step id) (next_number c.next)
 
     tokens_now : AllByRecursion (λ (k : ℕ). k ≤ token) now.tokens
     tokens_now =
-        all-push (λ (k : ℕ). k ≤ token) c.tokens token (all-weaken (λ (k : ℕ). k ≤ s.issued) (λ (k : ℕ). k ≤ token) c.tokens (λ k le. omega (arith, le)) t.issued) (omega arith)
+        all-push (λ (k : ℕ). k ≤ token) c.tokens token
+        (all-weaken (λ (k : ℕ). k ≤ s.issued) (λ (k : ℕ). k ≤ token) c.tokens (λ k le. omega (arith, le)) t.issued) (omega arith)
 
     module _ (y : ClientChannel) (behind : ClientPlace) (taken : List ℕ) (r : IsRenewed y site behind taken) (same : client_limits y ≡ client_limits x) where
       -- ---- what it took
 
       sized : IsSized answer
-      sized = omega (arith, opening_size c.channel c.next id ((message 449 open_response).canonical (open_response_of b.moment 0 c.channel token 3600000)), open_response_length b.moment 0 c.channel token 3600000)
+      sized = omega (
+        arith,
+        opening_size c.channel c.next id ((message 449 open_response).canonical (open_response_of b.moment 0 c.channel token 3600000)),
+        open_response_length b.moment 0 c.channel token 3600000,
+      )
 
       abbrev rules : Rules Heard Why
       rules = client_rules (client_limits x) (asks_renewed site)
@@ -167,7 +181,8 @@ module _ (b : Beginning) (url : Option (List ℕ)) (octets : List ℕ) (told : L
           (subst (λ (o : List ℕ). TellsLast (client_rules_of y behind.asks) o (site.told ++ r.heard) (heard.Renewed r.token)) r.octets
           (record { frames = r.tells.frames; frame = r.tells.frame; run = r.tells.stands.run; told_is = r.tells.told_is; tells = r.tells.tells })))
 
-      same_begin : (down : List ℕ) → Extends behind.octets down → (said : Extends (server_output b (octets ++ renewal_at site moment)) down) → (a : List ℕ) × (taken ++ a ≡ frame_octets answer ++ said.more)
+      same_begin : (down : List ℕ) → Extends behind.octets down → (said : Extends (server_output b (octets ++ renewal_at site moment)) down)
+          → (a : List ℕ) × (taken ++ a ≡ frame_octets answer ++ said.more)
       same_begin down got said = (
         got.more,
         append_cancel_left site.octets (taken ++ got.more) (frame_octets answer ++ said.more)
@@ -178,12 +193,14 @@ module _ (b : Beginning) (url : Option (List ℕ)) (octets : List ℕ) (told : L
       )
 
       -- where octets begin with what it took, and with what the server says, it took just that
-      pub renewal_taken : (down : List ℕ) → Extends behind.octets down → Extends (server_output b (octets ++ renewal_at site moment)) down → behind.octets ≡ server_output b (octets ++ renewal_at site moment)
+      pub renewal_taken : (down : List ℕ) → Extends behind.octets down → Extends (server_output b (octets ++ renewal_at site moment)) down
+          → behind.octets ≡ server_output b (octets ++ renewal_at site moment)
       renewal_taken down got said =
           let parts = same_begin down got said in
           r.octets
           ∙ (ap (λ (o : List ℕ). site.octets ++ o)
-          (just_answer rules site.octets asked.frames site.told answer (heard.Renewed token) asked.run asked.told_is sized reads_it.frames reads_it.run reads_it.told_is is_renewed refl taken r.heard (heard.Renewed r.token) tells r.none_before parts.0 said.more parts.1)
+          (just_answer rules site.octets asked.frames site.told answer (heard.Renewed token) asked.run asked.told_is sized reads_it.frames reads_it.run
+          reads_it.told_is is_renewed refl taken r.heard (heard.Renewed r.token) tells r.none_before parts.0 said.more parts.1)
           ∙ answer_is)
 
       -- ---- where both are then
@@ -193,7 +210,8 @@ module _ (b : Beginning) (url : Option (List ℕ)) (octets : List ℕ) (told : L
         here =
             subst (λ (l : Limits). ClientReads l behind.asks behind.octets (site.told ++ heard.Renewed token ∷ []) now) (sym same)
             (subst (λ (asks : List Placed). ClientReads (client_limits x) asks behind.octets (site.told ++ heard.Renewed token ∷ []) now) (sym r.asks)
-            (subst (λ (o : List ℕ). ClientReads (client_limits x) (asks_renewed site) o (site.told ++ heard.Renewed token ∷ []) now) (answer_is ∙ sym took) reads_it))
+            (subst (λ (o : List ℕ). ClientReads (client_limits x) (asks_renewed site) o (site.told ++ heard.Renewed token ∷ []) now)
+            (answer_is ∙ sym took) reads_it))
 
         spare_now : token < id_at behind
         spare_now =
@@ -209,7 +227,8 @@ module _ (b : Beginning) (url : Option (List ℕ)) (octets : List ℕ) (told : L
           together = record {
             server_reads = server_renewed;
             stands = r.at;
-            client_reads = subst (λ (h : List Heard). ClientReads (client_limits y) behind.asks behind.octets h now) (sym (client_told y behind.asks behind.octets behind.told (site.told ++ heard.Renewed token ∷ []) now r.at.goes here)) here;
+            client_reads = subst (λ (h : List Heard). ClientReads (client_limits y) behind.asks behind.octets h now)
+                (sym (client_told y behind.asks behind.octets behind.told (site.told ++ heard.Renewed token ∷ []) now r.at.goes here)) here;
             in_step = subst (λ (l : Limits). AreInStep b.limits l url b.channel (with_token s) now) (sym same) in_step_now;
             number_is = r.number ∙ ap next_number t.together.number_is;
           };

@@ -37,7 +37,8 @@ module _ {E X : Type 0} (R : Rules E X) where
   sized_in octets all fs gs g r e = sized_behind [] fs gs g (subst (λ (hs : List Frame). AllFrom (Fits R) [] hs) e r.good)
 
   -- the octets of frames behind others
-  octets_behind : (octets more : List ℕ) (all fs gs : List Frame) → Run R octets fs [] Going → Run R (octets ++ more) all [] Going → all ≡ fs ++ gs → more ≡ frames_octets gs
+  octets_behind : (octets more : List ℕ) (all fs gs : List Frame) → Run R octets fs [] Going → Run R (octets ++ more) all [] Going → all ≡ fs ++ gs
+      → more ≡ frames_octets gs
   octets_behind octets more all fs gs r s e =
       append_cancel_left octets more (frames_octets gs)
       (s.whole
@@ -84,11 +85,16 @@ module _ {E X : Type 0} (R : Rules E X) where
         by [] e = absurd (never_none e)
         by (h ∷ hs) e =
             let whole : taken ≡ frame_octets h ++ frames_octets hs =
-            octets_behind octets taken all fs (h ∷ hs) r t.run e ∙ (sym (append-nil (frames_octets (h ∷ hs))) ∙ (front_frame h hs [] ∙ ap (λ (o : List ℕ). frame_octets h ++ o) (append-nil (frames_octets hs)))) in
-            let one = one_frame h f (frames_octets hs ++ a) d (sized_in (octets ++ taken) all fs hs h t.run e) sized (sym (append_assoc (frame_octets h) (frames_octets hs) a) ∙ (ap (λ (o : List ℕ). o ++ a) (sym whole) ∙ parts)) in
+            octets_behind octets taken all fs (h ∷ hs) r t.run e
+            ∙ (sym (append-nil (frames_octets (h ∷ hs))) ∙ (front_frame h hs [] ∙ ap (λ (o : List ℕ). frame_octets h ++ o) (append-nil (frames_octets hs))))
+            in
+            let one = one_frame h f (frames_octets hs ++ a) d (sized_in (octets ++ taken) all fs hs h t.run e) sized
+            (sym (append_assoc (frame_octets h) (frames_octets hs) a) ∙ (ap (λ (o : List ℕ). o ++ a) (sym whole) ∙ parts)) in
             let split : taken ≡ frame_octets f ++ frames_octets hs = whole ∙ ap (λ (g : Frame). frame_octets g ++ frames_octets hs) one.0 in
             let run : Run R ((octets ++ frame_octets f) ++ frames_octets hs) all [] Going =
-            subst (λ (o : List ℕ). Run R o all [] Going) (ap (λ (o : List ℕ). octets ++ o) split ∙ sym (append_assoc octets (frame_octets f) (frames_octets hs))) t.run in
+            subst (λ (o : List ℕ). Run R o all [] Going) (ap (λ (o : List ℕ). octets ++ o) split
+            ∙ sym (append_assoc octets (frame_octets f) (frames_octets hs))) t.run in
             let more = begins_run R (octets ++ frame_octets f) (frames_octets hs) gs all [] Going q run in
-            let nothing : frames_octets hs ≡ [] = octets_behind (octets ++ frame_octets f) (frames_octets hs) all gs more.0 q run more.1 ∙ no_more more.0 more.1 in
+            let nothing : frames_octets hs ≡ [] = octets_behind (octets ++ frame_octets f) (frames_octets hs) all gs more.0 q run more.1
+            ∙ no_more more.0 more.1 in
             split ∙ (ap (λ (o : List ℕ). frame_octets f ++ o) nothing ∙ append-nil (frame_octets f))

@@ -1,5 +1,6 @@
 -- What becomes of requests: each is answered in the state that those before it left, and its reply is the one that is read of that answer.
-use Rattle.std.proofs.Common.{◌≡◌, inl, inr, ℕ, zero, suc, ◌+◌, Bool, true, false, IsTrue, Ok, Result, List, [], ◌∷◌, ◌++◌, Option, Some, None, length, map, replicate, refl, sym, ◌∙◌, ap, subst, arith, append-nil, append_assoc, length-append}
+use Rattle.std.proofs.Common.{◌≡◌, inl, inr, ℕ, zero, suc, ◌+◌, Bool, true, false, IsTrue, Ok, Result, List, [], ◌∷◌, ◌++◌, Option, Some}
+use Rattle.std.proofs.Common.{None, length, map, replicate, refl, sym, ◌∙◌, ap, subst, arith, append-nil, append_assoc, length-append}
 use Rattle.std.specs.Prelude.{cond}
 use Rattle.std.specs.List.{AllByRecursion}
 use Rattle.std.proofs.lemmas.Bool.{eq-eqb, ne_eqb}
@@ -60,19 +61,27 @@ one_used : (n : ℕ) → 1 + n ≡ suc n
 one_used n = omega arith
 
 -- where there is a moment for each answer, these are left
-moments_left : (channel : ℕ) (c : Course) (told : List Told) (m : DateTime) (rest : List DateTime) → c.moments ≡ replicate (used_in told) m ++ rest → (course_after channel c told).moments ≡ rest
+moments_left : (channel : ℕ) (c : Course) (told : List Told) (m : DateTime) (rest : List DateTime) → c.moments ≡ replicate (used_in told) m ++ rest
+    → (course_after channel c told).moments ≡ rest
 moments_left channel c [] m rest e = e
-moments_left channel c (Agreed g ∷ told) m rest e = moments_left channel (say channel c (Agreed g)).1 told m rest (subst (λ (n : ℕ). c.moments ≡ replicate n m ++ rest) (none_used (used_in told)) e)
+moments_left channel c (Agreed g ∷ told) m rest e = moments_left channel (say channel c (Agreed g)).1 told m rest
+    (subst (λ (n : ℕ). c.moments ≡ replicate n m ++ rest) (none_used (used_in told)) e)
 moments_left channel c (Opened id handle token lifetime ∷ told) m rest e =
-    moments_left channel (say channel c (Opened id handle token lifetime)).1 told m rest (ap behind_first (subst (λ (n : ℕ). c.moments ≡ replicate n m ++ rest) (one_used (used_in told)) e))
+    moments_left channel (say channel c (Opened id handle token lifetime)).1 told m rest
+    (ap behind_first (subst (λ (n : ℕ). c.moments ≡ replicate n m ++ rest) (one_used (used_in told)) e))
 moments_left channel c (Asked id token octets ∷ told) m rest e =
-    moments_left channel (say channel c (Asked id token octets)).1 told m rest (ap behind_first (subst (λ (n : ℕ). c.moments ≡ replicate n m ++ rest) (one_used (used_in told)) e))
-moments_left channel c (GaveUp id ∷ told) m rest e = moments_left channel (say channel c (GaveUp id)).1 told m rest (subst (λ (n : ℕ). c.moments ≡ replicate n m ++ rest) (none_used (used_in told)) e)
-moments_left channel c (Closed ∷ told) m rest e = moments_left channel (say channel c Closed).1 told m rest (subst (λ (n : ℕ). c.moments ≡ replicate n m ++ rest) (none_used (used_in told)) e)
+    moments_left channel (say channel c (Asked id token octets)).1 told m rest
+    (ap behind_first (subst (λ (n : ℕ). c.moments ≡ replicate n m ++ rest) (one_used (used_in told)) e))
+moments_left channel c (GaveUp id ∷ told) m rest e = moments_left channel (say channel c (GaveUp id)).1 told m rest
+    (subst (λ (n : ℕ). c.moments ≡ replicate n m ++ rest) (none_used (used_in told)) e)
+moments_left channel c (Closed ∷ told) m rest e = moments_left channel (say channel c Closed).1 told m rest
+    (subst (λ (n : ℕ). c.moments ≡ replicate n m ++ rest) (none_used (used_in told)) e)
 
-pub none_left : (channel : ℕ) (first : State) (told : List Told) (moment : DateTime) → (state_after channel first told (times_of_answers told moment)).moments ≡ []
+pub none_left : (channel : ℕ) (first : State) (told : List Told) (moment : DateTime) → (state_after channel first told (times_of_answers told moment)).moments
+    ≡ []
 unfolding state_after
-none_left channel first told moment = moments_left channel (start first (times_of_answers told moment)) told moment [] (sym (append-nil (times_of_answers told moment)))
+none_left channel first told moment = moments_left channel (start first (times_of_answers told moment)) told moment []
+    (sym (append-nil (times_of_answers told moment)))
 
 pub calls_used : (token id : ℕ) (bodies : List (List ℕ)) → used_in (calls_told token id bodies) ≡ length bodies
 calls_used token id [] = refl
@@ -80,28 +89,35 @@ calls_used token id (body ∷ bodies) = let more = calls_used token (id + 1) bod
 
 -- ---- states
 
-calls_state : (channel : ℕ) (c : Course) (token id : ℕ) (ms : List Request) (m : DateTime) (rest : List DateTime) → AreWritable ms → c.moments ≡ replicate (length ms) m ++ rest
+calls_state : (channel : ℕ) (c : Course) (token id : ℕ) (ms : List Request) (m : DateTime) (rest : List DateTime) → AreWritable ms
+    → c.moments ≡ replicate (length ms) m ++ rest
     → (course_after channel c (calls_told token id (bodies_of ms))).state ≡ state_behind c.state m ms
 calls_state channel c token id [] m rest fits e = refl
 calls_state channel c token id (msg ∷ ms) m rest fits e =
     let next : Course = (say channel c (Asked id token (request.canonical msg))).1 in
     calls_state channel next token (id + 1) ms m rest fits.1 (ap behind_first e)
-    ∙ (ap (λ (t : DateTime). state_behind (answered c.state t (request.canonical msg)).0 m ms) (ap first_of e) ∙ ap (λ (g : State × Response). state_behind g.0 m ms) (answered_is c.state m msg fits.0))
+    ∙ (ap (λ (t : DateTime). state_behind (answered c.state t (request.canonical msg)).0 m ms) (ap first_of e)
+    ∙ ap (λ (g : State × Response). state_behind g.0 m ms) (answered_is c.state m msg fits.0))
 
 -- the moments that are there behind what was told, with those for these calls
 pub moments_there : (b : Beginning) (told : List Told) (token id : ℕ) (bodies : List (List ℕ))
-    → (state_after b.channel b.first told (times_of_answers told b.moment)).moments ++ times_of_answers (calls_told token id bodies) b.moment ≡ replicate (length bodies) b.moment ++ []
+    → (state_after b.channel b.first told (times_of_answers told b.moment)).moments ++ times_of_answers (calls_told token id bodies) b.moment
+    ≡ replicate (length bodies) b.moment ++ []
 moments_there b told token id bodies =
     ap (λ (ms : List DateTime). ms ++ times_of_answers (calls_told token id bodies) b.moment) (none_left b.channel b.first told b.moment)
     ∙ (ap (λ (n : ℕ). replicate n b.moment) (calls_used token id bodies) ∙ sym (append-nil (replicate (length bodies) b.moment)))
 
-pub state_calls : (b : Beginning) (told : List Told) (token id : ℕ) (ms : List Request) → AreWritable ms → state_told b (told ++ calls_told token id (bodies_of ms)) ≡ state_behind (state_told b told) b.moment ms
+pub state_calls : (b : Beginning) (told : List Told) (token id : ℕ) (ms : List Request) → AreWritable ms
+    → state_told b (told ++ calls_told token id (bodies_of ms)) ≡ state_behind (state_told b told) b.moment ms
 state_calls b told token id ms fits =
     ap (λ (k : Course). k.state) (left_on b told (calls_told token id (bodies_of ms)))
-    ∙ calls_state b.channel (with_more (state_after b.channel b.first told (times_of_answers told b.moment)) (times_of_answers (calls_told token id (bodies_of ms)) b.moment)) token id ms b.moment [] fits
+    ∙ calls_state b.channel
+    (with_more (state_after b.channel b.first told (times_of_answers told b.moment)) (times_of_answers (calls_told token id (bodies_of ms)) b.moment)) token
+    id ms b.moment [] fits
     (moments_there b told token id (bodies_of ms) ∙ ap (λ (n : ℕ). replicate n b.moment ++ []) (length-map ms request.canonical))
 
-pub state_renewal : (b : Beginning) (told : List Told) (id handle token lifetime : ℕ) → state_told b (told ++ Opened id handle token lifetime ∷ []) ≡ state_told b told
+pub state_renewal : (b : Beginning) (told : List Told) (id handle token lifetime : ℕ) → state_told b (told ++ Opened id handle token lifetime ∷ [])
+    ≡ state_told b told
 state_renewal b told id handle token lifetime = ap (λ (k : Course). k.state) (left_on b told (Opened id handle token lifetime ∷ []))
 
 pub state_closed : (b : Beginning) (told : List Told) → state_told b (told ++ Closed ∷ []) ≡ state_told b told
@@ -116,29 +132,35 @@ only_one (u ∷ us) ws x t e = absurd (omega (arith, ap length e, length-append 
 told_one : (id : ℕ) (before behind : List Heard) (x t : Heard) → is_told_of id x ≡ true → told_of id (before ++ (x ∷ behind)) ≡ t ∷ [] → t ≡ x
 told_one id before behind x t is e =
     only_one (told_of id before) (told_of id behind) x t
-    (ap (λ (b : Bool). told_of id before ++ cond b (x ∷ told_of id behind) (told_of id behind)) (sym is) ∙ (sym (filter_append (is_told_of id) before (x ∷ behind)) ∙ e))
+    (ap (λ (b : Bool). told_of id before ++ cond b (x ∷ told_of id behind) (told_of id behind)) (sym is)
+    ∙ (sym (filter_append (is_told_of id) before (x ∷ behind)) ∙ e))
 
 is_of : (o : Option CutFault) (id : ℕ) (body : List ℕ) → is_told_of id (told_reply o id body) ≡ true
 is_of None id body = eq-eqb id id refl
 is_of (Some fault) id body = eq-eqb id id refl
 
-read_as : (kind : RequestKind) (id other : ℕ) (body octets : List ℕ) (m : Response) → ◌≡◌ {A = Heard} (heard.Answered id body) (heard.Answered other octets) → response_read octets ≡ Ok m → Some (reply.Response m) ≡ reply_read (response_read body)
+read_as : (kind : RequestKind) (id other : ℕ) (body octets : List ℕ) (m : Response) → ◌≡◌ {A = Heard} (heard.Answered id body) (heard.Answered other octets)
+    → response_read octets ≡ Ok m → Some (reply.Response m) ≡ reply_read (response_read body)
 read_as kind id other body octets m e r =
     let same : octets ≡ body = cc in
     sym (ap (λ (o : List ℕ). reply_read (response_read o)) (sym same) ∙ ap reply_read r)
 
 -- the reply that was told is the one that is read of the answer
-reply_is : (o : Option CutFault) (kind : RequestKind) (id : ℕ) (body : List ℕ) (r : Reply) → IsReplyBy kind id (told_reply o id body) r → Some r ≡ reply_unless o body
+reply_is : (o : Option CutFault) (kind : RequestKind) (id : ℕ) (body : List ℕ) (r : Reply) → IsReplyBy kind id (told_reply o id body) r
+    → Some r ≡ reply_unless o body
 reply_is None kind id body (reply.Response m) h = read_as kind id id body h.0 m h.1 ((response_read-found h.0 m).1 h.2.0)
 reply_is None kind id body (reply.Aborted code) h = let no : ◌≡◌ {A = Heard} (heard.Answered id body) (heard.GaveUp id code) = h in absurd cc
-reply_is (Some fault) kind id body (reply.Response m) h = let no : ◌≡◌ {A = Heard} (heard.GaveUp id (of_code 0x80B9_0000)) (heard.Answered id h.0) = h.1 in absurd cc
+reply_is (Some fault) kind id body (reply.Response m) h = let no : ◌≡◌ {A = Heard} (heard.GaveUp id (of_code 0x80B9_0000)) (heard.Answered id h.0) =
+    h.1 in absurd cc
 reply_is (Some fault) kind id body (reply.Aborted code) h =
     let e : ◌≡◌ {A = Heard} (heard.GaveUp id (of_code 0x80B9_0000)) (heard.GaveUp id code) = h in
     let same : code ≡ of_code 0x80B9_0000 = cc in
     ap (λ (c : StatusCode). Some (reply.Aborted c)) same
 
-pub replies_are : (back : Lane) (state : State) (moments : List DateTime) (id : ℕ) (ms : List Request) (m : DateTime) (rest : List DateTime) (before all : List Heard) (replies : List Reply) → AreWritable ms → moments ≡ replicate (length ms) m ++ rest
-    → all ≡ before ++ answers_told back state moments id (bodies_of ms) → AreReplies ms id all replies → map (λ (r : Reply). Some r) replies ≡ requests_replies back state m ms
+pub replies_are : (back : Lane) (state : State) (moments : List DateTime) (id : ℕ) (ms : List Request) (m : DateTime) (rest : List DateTime)
+    (before all : List Heard) (replies : List Reply) → AreWritable ms → moments ≡ replicate (length ms) m ++ rest
+    → all ≡ before ++ answers_told back state moments id (bodies_of ms) → AreReplies ms id all replies
+    → map (λ (r : Reply). Some r) replies ≡ requests_replies back state m ms
 replies_are back state moments id [] m rest before all [] fits e is h = refl
 replies_are back state moments id [] m rest before all (r ∷ rs) fits e is h = absurd h
 replies_are back state moments id (msg ∷ ms) m rest before all [] fits e is h = absurd h
@@ -148,19 +170,24 @@ replies_are back state moments id (msg ∷ ms) m rest before all (r ∷ rs) fits
     let behind : List Heard = answers_told back given.0 (behind_first moments) (id + 1) (bodies_of ms) in
     let body : List ℕ = response.canonical given.1 in
     let same : h.0.0 ≡ x = told_one id before behind x h.0.0 (is_of (cut_refusal back body) id body) (ap (told_of id) (sym is) ∙ h.0.1) in
-    let one : Some r ≡ reply_unless (cut_refusal back body) body = reply_is (cut_refusal back body) (kind_of msg) id body r (subst (λ (t : Heard). IsReplyBy (kind_of msg) id t r) same h.0.2) in
-    let given_is : given ≡ answer state m msg = ap (λ (t : DateTime). answered state t (request.canonical msg)) (ap first_of e) ∙ answered_is state m msg fits.0 in
-    let later = replies_are back given.0 (behind_first moments) (id + 1) ms m rest (before ++ x ∷ []) all rs fits.1 (ap behind_first e) (is ∙ sym (append_assoc before (x ∷ []) behind)) h.1 in
+    let one : Some r ≡ reply_unless (cut_refusal back body) body = reply_is (cut_refusal back body) (kind_of msg) id body r
+    (subst (λ (t : Heard). IsReplyBy (kind_of msg) id t r) same h.0.2) in
+    let given_is : given ≡ answer state m msg = ap (λ (t : DateTime). answered state t (request.canonical msg)) (ap first_of e)
+    ∙ answered_is state m msg fits.0 in
+    let later = replies_are back given.0 (behind_first moments) (id + 1) ms m rest (before ++ x ∷ []) all rs fits.1 (ap behind_first e)
+    (is ∙ sym (append_assoc before (x ∷ []) behind)) h.1 in
     ap (λ (o : Option Reply). o ∷ map (λ (s : Reply). Some s) rs) one
     ∙ (ap (λ (os : List (Option Reply)). reply_unless (cut_refusal back body) body ∷ os) later
-    ∙ ap (λ (g : State × Response). reply_unless (cut_refusal back (response.canonical g.1)) (response.canonical g.1) ∷ requests_replies back g.0 m ms) given_is)
+    ∙ ap (λ (g : State × Response). reply_unless (cut_refusal back (response.canonical g.1)) (response.canonical g.1) ∷ requests_replies back g.0 m ms)
+    given_is)
 
 -- ---- answers that are none
 
 -- the first that is told of a call
 picks : (k : ℕ) (us : List Heard) (t : Heard) (ws : List Heard) → told_of k us ≡ [] → is_told_of k t ≡ true → told_of k (us ++ t ∷ ws) ≡ t ∷ told_of k ws
 picks k us t ws none is =
-    filter_append (is_told_of k) us (t ∷ ws) ∙ (ap (λ (ts : List Heard). ts ++ told_of k (t ∷ ws)) none ∙ ap (λ (b : Bool). cond b (t ∷ told_of k ws) (told_of k ws)) is)
+    filter_append (is_told_of k) us (t ∷ ws)
+    ∙ (ap (λ (ts : List Heard). ts ++ told_of k (t ∷ ws)) none ∙ ap (λ (b : Bool). cond b (t ∷ told_of k ws) (told_of k ws)) is)
 
 passes : (k : ℕ) (us : List Heard) (t : Heard) → told_of k us ≡ [] → is_told_of k t ≡ false → told_of k (us ++ t ∷ []) ≡ []
 passes k us t none is =
@@ -182,8 +209,10 @@ answered_by_it None id k body octets e = cc
 answered_by_it (Some fault) id k body octets e = let no : ◌≡◌ {A = Heard} (heard.GaveUp id (of_code 0x80B9_0000)) (heard.Answered k octets) = e in absurd cc
 
 -- a message that is told of one of these requests and is no answer to it is the answer of the server
-pub misanswered_at : (back : Lane) (state : State) (moments : List DateTime) (id k : ℕ) (ms : List Request) (m : DateTime) (rest : List DateTime) (before all : List Heard) (place : ℕ) (asked : Request) (us : List Heard) (last : Heard) (ws : List Heard)
-    → AreWritable ms → moments ≡ replicate (length ms) m ++ rest → all ≡ before ++ answers_told back state moments id (bodies_of ms) → k ≡ id + place → told_of k before ≡ [] → IsAt ms place asked
+pub misanswered_at : (back : Lane) (state : State) (moments : List DateTime) (id k : ℕ) (ms : List Request) (m : DateTime) (rest : List DateTime)
+    (before all : List Heard) (place : ℕ) (asked : Request) (us : List Heard) (last : Heard) (ws : List Heard)
+    → AreWritable ms → moments ≡ replicate (length ms) m ++ rest → all ≡ before ++ answers_told back state moments id (bodies_of ms) → k ≡ id + place
+    → told_of k before ≡ [] → IsAt ms place asked
     → all ≡ us ++ last ∷ ws → told_of k us ≡ [] → IsMisanswer (kind_of asked) k last → HaveMisanswer state m ms
 misanswered_at back state moments id k [] m rest before all place asked us last ws fits e is k_is none at parts first h = absurd at
 misanswered_at back state moments id k (msg ∷ ms) m rest before all zero asked us last ws fits e is k_is none at parts first h =
@@ -191,22 +220,27 @@ misanswered_at back state moments id k (msg ∷ ms) m rest before all zero asked
     let body : List ℕ = response.canonical given.1 in
     let x : Heard = answer_told back id given.1 in
     let behind : List Heard = answers_told back given.0 (behind_first moments) (id + 1) (bodies_of ms) in
-    let given_is : given ≡ answer state m msg = ap (λ (t : DateTime). answered state t (request.canonical msg)) (ap first_of e) ∙ answered_is state m msg fits.0 in
-    let here : told_of k all ≡ x ∷ told_of k behind = ap (told_of k) is ∙ picks k before x behind none (of_itself (cut_refusal back body) id k body (omega (arith, k_is))) in
+    let given_is : given ≡ answer state m msg = ap (λ (t : DateTime). answered state t (request.canonical msg)) (ap first_of e)
+    ∙ answered_is state m msg fits.0 in
+    let here : told_of k all ≡ x ∷ told_of k behind = ap (told_of k) is
+    ∙ picks k before x behind none (of_itself (cut_refusal back body) id k body (omega (arith, k_is))) in
     let there : told_of k all ≡ last ∷ told_of k ws = ap (told_of k) parts ∙ picks k us last ws first (ap (is_told_of k) h.1 ∙ eq-eqb k k refl) in
     let same : x ≡ last = first_is (told_of k behind) (told_of k ws) x last (sym here ∙ there) in
     inl (
       fits.0,
       subst (λ (g : State × Response). IsNoAnswer (kind_of msg) (response.canonical g.1)) given_is
-          (subst (λ (o : List ℕ). IsNoAnswer (kind_of msg) o) (answered_by_it (cut_refusal back body) id k body h.0 (same ∙ h.1)) (subst (λ (r : Request). IsNoAnswer (kind_of r) h.0) at h.2)),
+          (subst (λ (o : List ℕ). IsNoAnswer (kind_of msg) o) (answered_by_it (cut_refusal back body) id k body h.0 (same ∙ h.1))
+          (subst (λ (r : Request). IsNoAnswer (kind_of r) h.0) at h.2)),
     )
 misanswered_at back state moments id k (msg ∷ ms) m rest before all (suc n) asked us last ws fits e is k_is none at parts first h =
     let given : State × Response = answered state (first_of moments) (request.canonical msg) in
     let body : List ℕ = response.canonical given.1 in
     let x : Heard = answer_told back id given.1 in
     let behind : List Heard = answers_told back given.0 (behind_first moments) (id + 1) (bodies_of ms) in
-    let given_is : given ≡ answer state m msg = ap (λ (t : DateTime). answered state t (request.canonical msg)) (ap first_of e) ∙ answered_is state m msg fits.0 in
-    let later = misanswered_at back given.0 (behind_first moments) (id + 1) k ms m rest (before ++ x ∷ []) all n asked us last ws fits.1 (ap behind_first e) (is ∙ sym (append_assoc before (x ∷ []) behind)) (omega (arith, k_is))
+    let given_is : given ≡ answer state m msg = ap (λ (t : DateTime). answered state t (request.canonical msg)) (ap first_of e)
+    ∙ answered_is state m msg fits.0 in
+    let later = misanswered_at back given.0 (behind_first moments) (id + 1) k ms m rest (before ++ x ∷ []) all n asked us last ws fits.1 (ap behind_first e)
+    (is ∙ sym (append_assoc before (x ∷ []) behind)) (omega (arith, k_is))
     (passes k before x none (of_no_other (cut_refusal back body) id k body (λ same. omega (arith, same, k_is)))) at parts first h in
     inr (subst (λ (g : State × Response). HaveMisanswer g.0 m ms) given_is later)
 
@@ -222,10 +256,12 @@ misanswered_among s m (r ∷ ms) ns (inr h) = inr (misanswered_among (answer s m
 
 -- ---- requests behind others
 
-pub replies-append : (back : Lane) (s : State) (moment : DateTime) (ms ns : List Request) → requests_replies back s moment (ms ++ ns) ≡ requests_replies back s moment ms ++ requests_replies back (state_behind s moment ms) moment ns
+pub replies-append : (back : Lane) (s : State) (moment : DateTime) (ms ns : List Request)
+    → requests_replies back s moment (ms ++ ns) ≡ requests_replies back s moment ms ++ requests_replies back (state_behind s moment ms) moment ns
 replies-append back s moment [] ns = refl
 replies-append back s moment (m ∷ ms) ns =
-    ap (λ (os : List (Option Reply)). reply_unless (cut_refusal back (response.canonical (answer s moment m).1)) (response.canonical (answer s moment m).1) ∷ os) (replies-append back (answer s moment m).0 moment ms ns)
+    ap (λ (os : List (Option Reply)). reply_unless (cut_refusal back (response.canonical (answer s moment m).1)) (response.canonical (answer s moment m).1)
+    ∷ os) (replies-append back (answer s moment m).0 moment ms ns)
 
 pub some-append : (xs ys : List Reply) → map (λ (r : Reply). Some r) (xs ++ ys) ≡ map (λ (r : Reply). Some r) xs ++ map (λ (r : Reply). Some r) ys
 some-append [] ys = refl

@@ -1,5 +1,6 @@
 -- That both ends stay in step behind groups of calls that are answered, one behind another, and behind a renewal.
-use Rattle.std.proofs.Common.{◌≡◌, ℕ, ◌+◌, ◌<◌, Bool, IsTrue, List, [], ◌∷◌, ◌++◌, Option, Some, None, length, map, replicate, zero, suc, refl, sym, ◌∙◌, ap, subst, arith, append-nil, append_assoc, length-append, add-zero}
+use Rattle.std.proofs.Common.{◌≡◌, ℕ, ◌+◌, ◌<◌, Bool, IsTrue, List, [], ◌∷◌, ◌++◌, Option, Some, None, length, map, replicate}
+use Rattle.std.proofs.Common.{zero, suc, refl, sym, ◌∙◌, ap, subst, arith, append-nil, append_assoc, length-append, add-zero}
 use Rattle.std.specs.List.{AllByRecursion}
 use Rattle.std.proofs.lemmas.List.{length-map}
 use Rattle.ua_wire.specs.Format.{Extends}
@@ -59,7 +60,8 @@ use Rattle.ua_loopback.proofs.Staying.{answered_taken, stay_together, told_toget
 -- ---- lists
 
 -- what more requests tell
-told_push : (token id : ℕ) (ms ns : List Request) → calls_told token id (bodies_of (ms ++ ns)) ≡ calls_told token id (bodies_of ms) ++ calls_told token (id + length ms) (bodies_of ns)
+told_push : (token id : ℕ) (ms ns : List Request) → calls_told token id (bodies_of (ms ++ ns)) ≡ calls_told token id (bodies_of ms)
+    ++ calls_told token (id + length ms) (bodies_of ns)
 told_push token id [] ns = ap (λ (n : ℕ). calls_told token n (bodies_of ns)) (sym (add-zero id))
 told_push token id (m ∷ ms) ns =
     ap (λ (ts : List Told). Asked id token (request.canonical m) ∷ ts)
@@ -83,7 +85,8 @@ some_in (g ∷ groups) h = (h.0, some_in groups h.3)
 -- ---- the same, by other names
 
 module _ (b : Beginning) (limits : Limits) (url : Option (List ℕ)) where
-  pub served_as : (octets others : List ℕ) (told more : List Told) (token id n held h : ℕ) (site : ClientPlace) (x : ClientChannel) → octets ≡ others → told ≡ more → id ≡ n → held ≡ h → IsServed b limits url octets told token id held site x
+  pub served_as : (octets others : List ℕ) (told more : List Told) (token id n held h : ℕ) (site : ClientPlace) (x : ClientChannel) → octets ≡ others
+      → told ≡ more → id ≡ n → held ≡ h → IsServed b limits url octets told token id held site x
       → IsServed b limits url others more token n h site x
   served_as octets others told more token id n held h site x p q r e t =
       subst (λ (o : List ℕ). IsServed b limits url o more token n h site x) p
@@ -91,7 +94,8 @@ module _ (b : Beginning) (limits : Limits) (url : Option (List ℕ)) where
       (subst (λ (m : ℕ). IsServed b limits url octets told token m h site x) r (subst (λ (k : ℕ). IsServed b limits url octets told token id k site x) e t)))
 
   -- by another channel that stands there
-  pub served_by : (octets : List ℕ) (told : List Told) (token id held : ℕ) (site : ClientPlace) (x y : ClientChannel) → StandsAt y site → client_limits y ≡ limits → IsServed b limits url octets told token id held site x
+  pub served_by : (octets : List ℕ) (told : List Told) (token id held : ℕ) (site : ClientPlace) (x y : ClientChannel) → StandsAt y site
+      → client_limits y ≡ limits → IsServed b limits url octets told token id held site x
       → IsServed b limits url octets told token id held site y
   served_by octets told token id held site x y at same t =
       let s = t.serving in
@@ -125,7 +129,8 @@ module _ (b : Beginning) (limits : Limits) (url : Option (List ℕ)) where
 
   -- ---- what is refused there
 
-  pub refused_there : (octets : List ℕ) (told : List Told) (token id held : ℕ) (site : ClientPlace) (x : ClientChannel) → IsServed b limits url octets told token id held site x
+  pub refused_there : (octets : List ℕ) (told : List Told) (token id held : ℕ) (site : ClientPlace) (x : ClientChannel)
+      → IsServed b limits url octets told token id held site x
       → (requests : List Request) → refusal_at site requests ≡ first_reason (group_reasons (Some (acknowledged b.limits limits url)) id requests)
   refused_there octets told token id held site x t requests =
       let together = t.serving.together in
@@ -137,7 +142,8 @@ module _ (b : Beginning) (limits : Limits) (url : Option (List ℕ)) where
 
   -- ---- where its calls go from there
 
-  pub lane_there : (octets : List ℕ) (told : List Told) (token id held : ℕ) (site : ClientPlace) (x : ClientChannel) → IsServed b limits url octets told token id held site x
+  pub lane_there : (octets : List ℕ) (told : List Told) (token id held : ℕ) (site : ClientPlace) (x : ClientChannel)
+      → IsServed b limits url octets told token id held site x
       → lane_behind site.before ≡ Some (call_lane (acknowledged b.limits limits url) b.channel token)
   lane_there octets told token id held site x t =
       let together = t.serving.together in
@@ -148,22 +154,27 @@ module _ (b : Beginning) (limits : Limits) (url : Option (List ℕ)) where
       ∙ ap (λ (k : ℕ). Some (call_lane (acknowledged b.limits limits url) b.channel k)) t.newest_is))
 
   -- the CLO of a client there
-  pub closing_there : (octets : List ℕ) (told : List Told) (token id held : ℕ) (site : ClientPlace) (x : ClientChannel) → IsServed b limits url octets told token id held site x → (moment : DateTime)
+  pub closing_there : (octets : List ℕ) (told : List Told) (token id held : ℕ) (site : ClientPlace) (x : ClientChannel)
+      → IsServed b limits url octets told token id held site x → (moment : DateTime)
       → closing_at site moment ≡ closing_by (Some (call_lane (acknowledged b.limits limits url) b.channel token)) site.number id moment
   closing_there octets told token id held site x t moment =
       let lane : Lane = call_lane (acknowledged b.limits limits url) b.channel token in
-      ap (λ (l : Option Lane). closing_by l site.number (id_at site) moment) (lane_there octets told token id held site x t) ∙ ap (λ (n : ℕ). closing_by (Some lane) site.number n moment) t.id_is
+      ap (λ (l : Option Lane). closing_by l site.number (id_at site) moment) (lane_there octets told token id held site x t)
+      ∙ ap (λ (n : ℕ). closing_by (Some lane) site.number n moment) t.id_is
 
-  pub renewal_refused_there : (octets : List ℕ) (told : List Told) (token id held : ℕ) (site : ClientPlace) (x : ClientChannel) → IsServed b limits url octets told token id held site x
+  pub renewal_refused_there : (octets : List ℕ) (told : List Told) (token id held : ℕ) (site : ClientPlace) (x : ClientChannel)
+      → IsServed b limits url octets told token id held site x
       → renewal_refusal site ≡ first_reason (turn_reasons (acknowledged b.limits limits url) held id None)
   renewal_refused_there octets told token id held site x t =
       let a : Ack = acknowledged b.limits limits url in
-      let tokens : length (held_tokens site.before) ≡ held = ap length (tokens_here x site t.at_client t.serving.together.stands t.serving.together.client_reads) ∙ t.held_is in
+      let tokens : length (held_tokens site.before) ≡ held =
+      ap length (tokens_here x site t.at_client t.serving.together.stands t.serving.together.client_reads) ∙ t.held_is in
       ap (λ (k : ℕ). first_reason (turn_reasons a k (id_at site) None)) tokens ∙ ap (λ (n : ℕ). first_reason (turn_reasons a held n None)) t.id_is
 
 -- ---- one turn
 
-module _ (b : Beginning) (limits : Limits) (url : Option (List ℕ)) (octets : List ℕ) (told : List Told) (token id held : ℕ) (site : ClientPlace) (x : ClientChannel) (t : IsServed b limits url octets told token id held site x)
+module _ (b : Beginning) (limits : Limits) (url : Option (List ℕ)) (octets : List ℕ) (told : List Told) (token id held : ℕ) (site : ClientPlace)
+    (x : ClientChannel) (t : IsServed b limits url octets told token id held site x)
     (y : ClientChannel) (behind : ClientPlace) (taken : List ℕ) (same : client_limits y ≡ limits) (down : List ℕ) (front : Extends behind.octets down) where
   abbrev s : AtServer
   s = t.at_server
@@ -175,33 +186,40 @@ module _ (b : Beginning) (limits : Limits) (url : Option (List ℕ)) (octets : L
   same_limits = same ∙ sym t.limits_are
 
   -- a group of calls is answered
-  module _ (law : NonePending) (requests : List Request) (replies : List Reply) (some : 0 < length requests) (at : StandsAt y behind) (came : LastCame y requests (id_at site) behind.asks behind.octets behind.told)
+  module _ (law : NonePending) (requests : List Request) (replies : List Reply) (some : 0 < length requests) (at : StandsAt y behind)
+      (came : LastCame y requests (id_at site) behind.asks behind.octets behind.told)
       (a : Answered requests site behind taken replies) (said : Extends (server_output b (octets ++ sent_at site requests)) down) where
     settled_then : IsSettled behind
     settled_then = answered-settled requests site behind taken replies t.settled a
 
     took_group : behind.octets ≡ server_output b (octets ++ sent_at site requests)
-    took_group = answered_taken b url octets told s x site c requests t.on t.serving some a.judged behind taken replies a y at same_limits law settled_then came down front said
+    took_group = answered_taken b url octets told s x site c requests t.on t.serving some a.judged behind taken replies a y at same_limits law settled_then came
+        down front said
 
     ids_then : id_at behind ≡ id + length requests
     ids_then =
-        let ids : id_at behind ≡ id_at site + length (bodies_of requests) = ap (λ (p : List Placed). next_id (asked_in p)) a.asks ∙ next-calls site.asks (length site.octets) (id_at site) (bodies_of requests) in
+        let ids : id_at behind ≡ id_at site + length (bodies_of requests) = ap (λ (p : List Placed). next_id (asked_in p)) a.asks
+        ∙ next-calls site.asks (length site.octets) (id_at site) (bodies_of requests) in
         omega (arith, ids, length-map requests request.canonical, t.id_is)
 
     told_is : calls_told c.newest (id_at site) (bodies_of requests) ≡ calls_told token id (bodies_of requests)
     told_is = ap (λ (k : ℕ). calls_told k (id_at site) (bodies_of requests)) t.newest_is ∙ ap (λ (n : ℕ). calls_told token n (bodies_of requests)) t.id_is
 
-    pub group_served : IsServed b limits url (octets ++ sent_at site requests) (told ++ calls_told token id (bodies_of requests)) token (id + length requests) (held_behind_calls held (length requests)) behind y
+    pub group_served : IsServed b limits url (octets ++ sent_at site requests) (told ++ calls_told token id (bodies_of requests)) token (id + length requests)
+        (held_behind_calls held (length requests)) behind y
     group_served =
         let d = stay_together b url octets told s x site c requests t.on t.serving some a.judged behind taken replies a y at same_limits took_group in
-        let most = few_ids c.ack (id_at site) requests (requests_asked b.limits url b.channel octets told s x site c t.on t.serving.together requests a.judged) some in
+        let most = few_ids c.ack (id_at site) requests (requests_asked b.limits url b.channel octets told s x site c t.on t.serving.together requests a.judged)
+        some in
         record {
           limits_are = same;
           on = t.on;
           settled = settled_then;
           at_server = behind_calls s (lane_from c) (bodies_of requests);
           at_client = d.0;
-          serving = subst (λ (ts : List Told). AreServing b url (octets ++ sent_at site requests) (told ++ ts) (behind_calls s (lane_from c) (bodies_of requests)) y behind d.0) told_is d.1;
+          serving =
+              subst (λ (ts : List Told). AreServing b url (octets ++ sent_at site requests) (told ++ ts) (behind_calls s (lane_from c) (bodies_of requests)) y
+              behind d.0) told_is d.1;
           tokens_are = issued_stays s (lane_from c) (bodies_of requests) ∙ t.tokens_are;
           newest_is = d.2 ∙ t.newest_is;
           id_is = ids_then;
@@ -210,19 +228,24 @@ module _ (b : Beginning) (limits : Limits) (url : Option (List ℕ)) (octets : L
         }
 
     -- the replies
-    pub group_replied : AreWritable requests → map (λ (r : Reply). Some r) replies ≡ requests_replies (lane_back b limits url token) (state_told b told) b.moment requests
+    pub group_replied : AreWritable requests → map (λ (r : Reply). Some r) replies ≡ requests_replies (lane_back b limits url token)
+        (state_told b told) b.moment requests
     group_replied fits =
         let hello_is : s.hello ≡ hello_to limits url = t.serving.together.in_step.hello_is ∙ ap (λ (l : Limits). hello_to l url) t.limits_are in
         let all = told_together b url octets told s x site c requests t.on t.serving some a.judged behind taken replies a y at same_limits took_group in
-        let moments = moments_there b told c.newest (id_at site) (bodies_of requests) ∙ ap (λ (n : ℕ). replicate n b.moment ++ []) (length-map requests request.canonical) in
+        let moments = moments_there b told c.newest (id_at site) (bodies_of requests)
+        ∙ ap (λ (n : ℕ). replicate n b.moment ++ []) (length-map requests request.canonical) in
         replies_are (lane_of b.channel c.newest (agreement_of b.limits s.hello)) (state_told b told)
-        ((state_after b.channel b.first told (times_of_answers told b.moment)).moments ++ times_of_answers (calls_told c.newest (id_at site) (bodies_of requests)) b.moment) (id_at site) requests b.moment [] site.told behind.told replies
+        ((state_after b.channel b.first told (times_of_answers told b.moment)).moments
+        ++ times_of_answers (calls_told c.newest (id_at site) (bodies_of requests)) b.moment) (id_at site) requests b.moment [] site.told behind.told
+        replies
         fits moments all a.replies_are
         ∙ (ap (λ (k : ℕ). requests_replies (lane_of b.channel k (agreement_of b.limits s.hello)) (state_told b told) b.moment requests) t.newest_is
         ∙ ap (λ (h : Hello). requests_replies (lane_of b.channel token (agreement_of b.limits h)) (state_told b told) b.moment requests) hello_is)
 
   -- the token is renewed
-  module _ (moment : DateTime) (dated : IsTrue (date_time.encodable moment)) (answered : IsTrue (date_time.encodable b.moment)) (judged : renewal_refusal site ≡ None) (r : IsRenewed y site behind taken)
+  module _ (moment : DateTime) (dated : IsTrue (date_time.encodable moment)) (answered : IsTrue (date_time.encodable b.moment))
+      (judged : renewal_refusal site ≡ None) (r : IsRenewed y site behind taken)
       (said : Extends (server_output b (octets ++ renewal_at site moment)) down) where
     took_renewal : behind.octets ≡ server_output b (octets ++ renewal_at site moment)
     took_renewal = renewal_taken b url octets told s x site c moment t.on t.serving judged dated t.settled answered y behind taken r same_limits down front said
@@ -230,7 +253,13 @@ module _ (b : Beginning) (limits : Limits) (url : Option (List ℕ)) (octets : L
     id_then : id_at behind ≡ id + 1
     id_then =
         let ids : id_at behind ≡ next_id (asked_in (asks_renewed site)) = ap (λ (p : List Placed). next_id (asked_in p)) r.asks in
-        omega (arith, ids, ap length (asked_in-push site.asks (length site.octets, Renewal (id_at site))), length-append (asked_in site.asks) (Renewal (id_at site) ∷ []), t.id_is)
+        omega (
+          arith,
+          ids,
+          ap length (asked_in-push site.asks (length site.octets, Renewal (id_at site))),
+          length-append (asked_in site.asks) (Renewal (id_at site) ∷ []),
+          t.id_is,
+        )
 
     abbrev now : AtClient
     now = with_answer (with_renewal c (id_at site)) (s.issued + 1) (next_number c.next)
@@ -238,9 +267,11 @@ module _ (b : Beginning) (limits : Limits) (url : Option (List ℕ)) (octets : L
     opened_is : Opened (id_at site) 0 (s.issued + 1) 3600000 ≡ Opened id 0 (token + 1) 3600000
     opened_is = ap (λ (n : ℕ). Opened n 0 (s.issued + 1) 3600000) t.id_is ∙ ap (λ (k : ℕ). Opened id 0 (k + 1) 3600000) t.tokens_are
 
-    pub renewal_served : IsServed b limits url (octets ++ renewal_at site moment) (told ++ Opened id 0 (token + 1) 3600000 ∷ []) (token + 1) (id + 1) (held + 1) behind y
+    pub renewal_served : IsServed b limits url (octets ++ renewal_at site moment) (told ++ Opened id 0 (token + 1) 3600000 ∷ []) (token + 1) (id + 1)
+        (held + 1) behind y
     renewal_served =
-        let serving = renewed_together b url octets told s x site c moment t.on t.serving judged dated t.settled answered y behind taken r same_limits took_renewal in
+        let serving = renewed_together b url octets told s x site c moment t.on t.serving judged dated t.settled answered y behind taken r same_limits
+        took_renewal in
         let more : s.issued + 1 ≡ token + 1 = ap (λ (k : ℕ). k + 1) t.tokens_are in
         let used = not_exhausted site judged in
         record {
@@ -259,35 +290,45 @@ module _ (b : Beginning) (limits : Limits) (url : Option (List ℕ)) (octets : L
 
 -- ---- groups, one behind another
 
-group_reasons-append : (a : Option Ack) (id : ℕ) (ms ns : List Request) → group_reasons a id (ms ++ ns) ≡ group_reasons a id ms ++ group_reasons a (id + length ms) ns
+group_reasons-append : (a : Option Ack) (id : ℕ) (ms ns : List Request) → group_reasons a id (ms ++ ns) ≡ group_reasons a id ms
+    ++ group_reasons a (id + length ms) ns
 group_reasons-append a id [] ns = ap (λ (n : ℕ). group_reasons a n ns) (sym (add-zero id))
 group_reasons-append a id (m ∷ ms) ns =
-    ap (λ (rs : List (ClientFault × Bool)). request_reasons a id m ++ rs) (group_reasons-append a (id + 1) ms ns ∙ ap (λ (n : ℕ). group_reasons a (id + 1) ms ++ group_reasons a n ns) (on id (length ms)))
+    ap (λ (rs : List (ClientFault × Bool)). request_reasons a id m ++ rs) (group_reasons-append a (id + 1) ms ns
+    ∙ ap (λ (n : ℕ). group_reasons a (id + 1) ms ++ group_reasons a n ns) (on id (length ms)))
     ∙ sym (append_assoc (request_reasons a id m) (group_reasons a (id + 1) ms) (group_reasons a (id + length (m ∷ ms)) ns))
   where
     on : (c d : ℕ) → (c + 1) + d ≡ c + suc d
     on c d = omega arith
 
 -- why requests behind others are refused, of which none was
-pub refused_behind : (a : Option Ack) (id : ℕ) (ms ns : List Request) → first_reason (group_reasons a id ms) ≡ None → first_reason (group_reasons a id (ms ++ ns)) ≡ first_reason (group_reasons a (id + length ms) ns)
-refused_behind a id ms ns none = ap first_reason (group_reasons-append a id ms ns) ∙ first_behind (group_reasons a id ms) (group_reasons a (id + length ms) ns) none
+pub refused_behind : (a : Option Ack) (id : ℕ) (ms ns : List Request) → first_reason (group_reasons a id ms) ≡ None
+    → first_reason (group_reasons a id (ms ++ ns)) ≡ first_reason (group_reasons a (id + length ms) ns)
+refused_behind a id ms ns none = ap first_reason (group_reasons-append a id ms ns)
+    ∙ first_behind (group_reasons a id ms) (group_reasons a (id + length ms) ns) none
 
 -- and why those are of which the first are refused
-pub refused_among : (a : Option Ack) (id : ℕ) (ms ns : List Request) (f : ClientFault) → first_reason (group_reasons a id ms) ≡ Some f → first_reason (group_reasons a id (ms ++ ns)) ≡ Some f
-refused_among a id ms ns f some = ap first_reason (group_reasons-append a id ms ns) ∙ first_among (group_reasons a id ms) (group_reasons a (id + length ms) ns) f some
+pub refused_among : (a : Option Ack) (id : ℕ) (ms ns : List Request) (f : ClientFault) → first_reason (group_reasons a id ms) ≡ Some f
+    → first_reason (group_reasons a id (ms ++ ns)) ≡ Some f
+refused_among a id ms ns f some = ap first_reason (group_reasons-append a id ms ns)
+    ∙ first_among (group_reasons a id ms) (group_reasons a (id + length ms) ns) f some
 
-calls_octets-append : (lane : Option Lane) (number id : ℕ) (bs cs : List (List ℕ)) → calls_octets lane number id (bs ++ cs) ≡ calls_octets lane number id bs ++ calls_octets lane (numbers_behind lane number bs) (id + length bs) cs
+calls_octets-append : (lane : Option Lane) (number id : ℕ) (bs cs : List (List ℕ)) → calls_octets lane number id (bs ++ cs) ≡ calls_octets lane number id bs
+    ++ calls_octets lane (numbers_behind lane number bs) (id + length bs) cs
 calls_octets-append lane number id [] cs = ap (λ (n : ℕ). calls_octets lane number n cs) (sym (add-zero id))
 calls_octets-append lane number id (body ∷ bs) cs =
     let next : ℕ = number_behind lane number body in
     ap (λ (o : List ℕ). call_octets lane number id body ++ o)
-    (calls_octets-append lane next (id + 1) bs cs ∙ ap (λ (n : ℕ). calls_octets lane next (id + 1) bs ++ calls_octets lane (numbers_behind lane next bs) n cs) (on id (length bs)))
-    ∙ sym (append_assoc (call_octets lane number id body) (calls_octets lane next (id + 1) bs) (calls_octets lane (numbers_behind lane next bs) (id + length (body ∷ bs)) cs))
+    (calls_octets-append lane next (id + 1) bs cs ∙ ap (λ (n : ℕ). calls_octets lane next (id + 1) bs ++ calls_octets lane (numbers_behind lane next bs) n cs)
+    (on id (length bs)))
+    ∙ sym (append_assoc (call_octets lane number id body) (calls_octets lane next (id + 1) bs)
+    (calls_octets lane (numbers_behind lane next bs) (id + length (body ∷ bs)) cs))
   where
     on : (c d : ℕ) → (c + 1) + d ≡ c + suc d
     on c d = omega arith
 
-numbers_behind-append : (lane : Option Lane) (number : ℕ) (bs cs : List (List ℕ)) → numbers_behind lane number (bs ++ cs) ≡ numbers_behind lane (numbers_behind lane number bs) cs
+numbers_behind-append : (lane : Option Lane) (number : ℕ) (bs cs : List (List ℕ))
+    → numbers_behind lane number (bs ++ cs) ≡ numbers_behind lane (numbers_behind lane number bs) cs
 numbers_behind-append lane number [] cs = refl
 numbers_behind-append lane number (body ∷ bs) cs = numbers_behind-append lane (number_behind lane number body) bs cs
 
@@ -302,30 +343,38 @@ held_some held (suc n) some = refl
 held_twice : (held m n : ℕ) → 0 < n → held_behind_calls (held_behind_calls held m) n ≡ held_behind_calls held (m + n)
 held_twice held m n some = held_some (held_behind_calls held m) n some ∙ sym (held_some held (m + n) (omega (arith, some)))
 
--- where a channel of the client stands behind requests of which none was refused, and both are in step; this was sent of them, from this number on, and these are the replies
-pub record Behind (b : Beginning) (limits : Limits) (url : Option (List ℕ)) (octets : List ℕ) (told : List Told) (token id held number : ℕ) (sent : List ℕ) (replies : List Reply) (requests : List Request) (site : ClientPlace) : Type 0 where
+-- where a channel of the client stands behind requests of which none was refused, and both are in step; this was sent of them, from this number on, and these
+-- are the replies
+pub record Behind (b : Beginning) (limits : Limits) (url : Option (List ℕ)) (octets : List ℕ) (told : List Told) (token id held number : ℕ) (sent : List ℕ)
+    (replies : List Reply) (requests : List Request) (site : ClientPlace) : Type 0 where
   pub channel : ClientChannel
   pub replies_are : map (λ (r : Reply). Some r) replies ≡ requests_replies (lane_back b limits url token) (state_told b told) b.moment requests
   pub sent_is : sent ≡ calls_octets (Some (call_lane (acknowledged b.limits limits url) b.channel token)) number id (bodies_of requests)
   pub number_is : site.number ≡ numbers_behind (Some (call_lane (acknowledged b.limits limits url) b.channel token)) number (bodies_of requests)
   pub judged : first_reason (group_reasons (Some (acknowledged b.limits limits url)) id requests) ≡ None
-  pub served : IsServed b limits url (octets ++ sent) (told ++ calls_told token id (bodies_of requests)) token (id + length requests) (held_behind_calls held (length requests)) site channel
+  pub served : IsServed b limits url (octets ++ sent) (told ++ calls_told token id (bodies_of requests)) token (id + length requests)
+      (held_behind_calls held (length requests)) site channel
 
 module _ (b : Beginning) (limits : Limits) (url : Option (List ℕ)) (octets : List ℕ) (told : List Told) (token id held : ℕ) (law : NonePending) where
   abbrev a : Option Ack
   a = Some (acknowledged b.limits limits url)
 
-  pub rounds_served : {c : ClientChannel} {s t : ClientPlace} {groups : List (List Request)} {sent taken : List ℕ} {replies : List Reply} (x : ClientChannel) → IsServed b limits url octets told token id held s x → client_limits c ≡ limits
-      → Rounds c s groups t sent taken replies → AreSome groups → (down : List ℕ) → Extends t.octets down → Extends (server_output b (octets ++ sent)) down → Behind b limits url octets told token id held s.number sent replies (all_of groups) t
+  pub rounds_served : {c : ClientChannel} {s t : ClientPlace} {groups : List (List Request)} {sent taken : List ℕ} {replies : List Reply} (x : ClientChannel)
+      → IsServed b limits url octets told token id held s x → client_limits c ≡ limits
+      → Rounds c s groups t sent taken replies → AreSome groups → (down : List ℕ) → Extends t.octets down → Extends (server_output b (octets ++ sent)) down
+      → Behind b limits url octets told token id held s.number sent replies (all_of groups) t
   rounds_served {s = s} x served same NoRound some down front said = record {
     channel = x;
     replies_are = refl;
     sent_is = refl;
     number_is = refl;
     judged = refl;
-    served = served_as b limits url octets (octets ++ []) told (told ++ []) token id (id + 0) held held s x (sym (append-nil octets)) (sym (append-nil told)) (sym (add-zero id)) refl served;
+    served = served_as b limits url octets (octets ++ []) told (told ++ []) token id (id + 0) held held s x (sym (append-nil octets)) (sym (append-nil told))
+        (sym (add-zero id)) refl served;
   }
-  rounds_served {c = c} {s = s} {t = t} x served same (OneRound {groups = groups} {m = m} {sent = sent} {taken = taken} {part = part} {replies = replies} {added = added} group z r stands answered) some down front said =
+  rounds_served {c = c} {s = s} {t = t} x served same
+      (OneRound {groups = groups} {m = m} {sent = sent} {taken = taken} {part = part} {replies = replies} {added = added} group z r stands answered) some down
+      front said =
       let all : List Request = all_of groups in
       let more : List ℕ = sent_at m group in
       let further = said_further b (octets ++ sent) more in
@@ -333,29 +382,42 @@ module _ (b : Beginning) (limits : Limits) (url : Option (List ℕ)) (octets : L
       let said_here : Extends (server_output b ((octets ++ sent) ++ more)) down = subst (λ (o : List ℕ). Extends (server_output b o) down) (sym whole) said in
       let before : Behind b limits url octets told token id held s.number sent replies all m =
       rounds_served x served same r (all_front (λ (g : List Request). 0 < length g) groups group some) down
-      (record { more = part ++ front.more; parts = front.parts ∙ (ap (λ (o : List ℕ). o ++ front.more) answered.octets ∙ append_assoc m.octets part front.more) })
-      (record { more = further.further ++ said_here.more; parts = said_here.parts ∙ (ap (λ (o : List ℕ). o ++ said_here.more) further.parts ∙ append_assoc (server_output b (octets ++ sent)) further.further said_here.more) }) in
+      (record {
+        more = part ++ front.more;
+        parts = front.parts
+            ∙ (ap (λ (o : List ℕ). o ++ front.more) answered.octets ∙ append_assoc m.octets part front.more);
+      })
+      (record {
+        more = further.further ++ said_here.more;
+        parts = said_here.parts
+            ∙ (ap (λ (o : List ℕ). o ++ said_here.more) further.parts ∙ append_assoc (server_output b (octets ++ sent)) further.further said_here.more);
+      }) in
       let told_before : List Told = told ++ calls_told token id (bodies_of all) in
       let some_here : 0 < length group = all_last (λ (g : List Request). 0 < length g) groups group some in
       let one =
-      group_served b limits url (octets ++ sent) told_before token (id + length all) (held_behind_calls held (length all)) m before.channel before.served z t part (stands.same.limits ∙ same) down front law group added
+      group_served b limits url (octets ++ sent) told_before token (id + length all) (held_behind_calls held (length all)) m before.channel before.served z t
+      part (stands.same.limits ∙ same) down front law group added
       some_here stands.at stands.came answered said_here in
       let judged : first_reason (group_reasons a (id + length all) group) ≡ None =
-      sym (refused_there b limits url (octets ++ sent) told_before token (id + length all) (held_behind_calls held (length all)) m before.channel before.served group) ∙ answered.judged in
+      sym (refused_there b limits url (octets ++ sent) told_before token (id + length all) (held_behind_calls held (length all)) m before.channel before.served
+      group) ∙ answered.judged in
       let acked : Ack = acknowledged b.limits limits url in
       let back : Lane = lane_back b limits url token in
       let replied =
-      group_replied b limits url (octets ++ sent) told_before token (id + length all) (held_behind_calls held (length all)) m before.channel before.served z t part (stands.same.limits ∙ same) down front law group added
+      group_replied b limits url (octets ++ sent) told_before token (id + length all) (held_behind_calls held (length all)) m before.channel before.served z t
+      part (stands.same.limits ∙ same) down front law group added
       some_here stands.at stands.came answered said_here (writable acked (id + length all) group judged) in
       let pushed : all ++ group ≡ all_of (groups ++ group ∷ []) = sym (concat-push groups group) in
       let there = before.served in
       let lane : Option Lane = Some (call_lane (acknowledged b.limits limits url) b.channel token) in
-      let lane_is : lane_behind m.before ≡ lane = lane_there b limits url (octets ++ sent) told_before token (id + length all) (held_behind_calls held (length all)) m before.channel there in
+      let lane_is : lane_behind m.before ≡ lane = lane_there b limits url (octets ++ sent) told_before token (id + length all)
+      (held_behind_calls held (length all)) m before.channel there in
       let numbers : List (List ℕ) → ℕ = λ (bs : List (List ℕ)). numbers_behind lane s.number bs in
       let more_is : more ≡ calls_octets lane (numbers (bodies_of all)) (id + length (bodies_of all)) (bodies_of group) =
       ap (λ (l : Option Lane). calls_octets l m.number (id_at m) (bodies_of group)) lane_is
       ∙ (ap (λ (n : ℕ). calls_octets lane n (id_at m) (bodies_of group)) before.number_is
-      ∙ ap (λ (n : ℕ). calls_octets lane (numbers (bodies_of all)) n (bodies_of group)) (there.id_is ∙ ap (λ (n : ℕ). id + n) (sym (length-map all request.canonical)))) in
+      ∙ ap (λ (n : ℕ). calls_octets lane (numbers (bodies_of all)) n (bodies_of group))
+      (there.id_is ∙ ap (λ (n : ℕ). id + n) (sym (length-map all request.canonical)))) in
       subst (λ (ms : List Request). Behind b limits url octets told token id held s.number (sent ++ more) (replies ++ added) ms t) pushed (record {
         channel = z;
         replies_are =
@@ -367,7 +429,8 @@ module _ (b : Beginning) (limits : Limits) (url : Option (List ℕ)) (octets : L
         sent_is =
             ap (λ (o : List ℕ). o ++ more) before.sent_is
             ∙ (ap (λ (o : List ℕ). calls_octets lane s.number id (bodies_of all) ++ o) more_is
-            ∙ (sym (calls_octets-append lane s.number id (bodies_of all) (bodies_of group)) ∙ ap (λ (bs : List (List ℕ)). calls_octets lane s.number id bs) (sym (bodies_of-append all group))));
+            ∙ (sym (calls_octets-append lane s.number id (bodies_of all) (bodies_of group))
+            ∙ ap (λ (bs : List (List ℕ)). calls_octets lane s.number id bs) (sym (bodies_of-append all group))));
         number_is =
             answered.number
             ∙ (ap (λ (l : Option Lane). numbers_behind l m.number (bodies_of group)) lane_is
@@ -375,9 +438,12 @@ module _ (b : Beginning) (limits : Limits) (url : Option (List ℕ)) (octets : L
             ∙ (sym (numbers_behind-append lane s.number (bodies_of all) (bodies_of group)) ∙ ap numbers (sym (bodies_of-append all group)))));
         judged = refused_behind a id all group before.judged ∙ judged;
         served =
-            served_as b limits url ((octets ++ sent) ++ more) (octets ++ (sent ++ more)) (told_before ++ calls_told token (id + length all) (bodies_of group)) (told ++ calls_told token id (bodies_of (all ++ group))) token
-            ((id + length all) + length group) (id + length (all ++ group)) (held_behind_calls (held_behind_calls held (length all)) (length group)) (held_behind_calls held (length (all ++ group))) t z whole
-            (append_assoc told (calls_told token id (bodies_of all)) (calls_told token (id + length all) (bodies_of group)) ∙ ap (λ (ts : List Told). told ++ ts) (sym (told_push token id all group)))
+            served_as b limits url ((octets ++ sent) ++ more) (octets ++ (sent ++ more)) (told_before ++ calls_told token (id + length all) (bodies_of group))
+            (told ++ calls_told token id (bodies_of (all ++ group))) token
+            ((id + length all) + length group) (id + length (all ++ group)) (held_behind_calls (held_behind_calls held (length all)) (length group))
+            (held_behind_calls held (length (all ++ group))) t z whole
+            (append_assoc told (calls_told token id (bodies_of all)) (calls_told token (id + length all) (bodies_of group))
+            ∙ ap (λ (ts : List Told). told ++ ts) (sym (told_push token id all group)))
             (counted id (length all) (length group) (length (all ++ group)) (length-append all group))
             (held_twice held (length all) (length group) some_here ∙ ap (λ (n : ℕ). held_behind_calls held n) (sym (length-append all group))) one;
       })

@@ -25,10 +25,13 @@ rules_by b = server_rules b.limits b.channel
 
 module _ (b : Beginning) (octets : List ℕ) (fs : List Frame) (rest : List ℕ) (end : End ℕ) (run : Run (rules_by b) octets fs rest end) where
   told_is : events_at_server b octets ≡ events (rules_by b) fs
-  told_is = ap (events (rules_by b)) (unique (rules_by b) octets (reading_at_server b octets).frames fs (reading_at_server b octets).rest rest (reading_at_server b octets).end end (reading_at_server b octets).run run).frames
+  told_is =
+      ap (events (rules_by b)) (unique (rules_by b) octets (reading_at_server b octets).frames fs (reading_at_server b octets).rest rest
+      (reading_at_server b octets).end end (reading_at_server b octets).run run).frames
 
   pub end_is : end_by b octets ≡ end
-  end_is = (unique (rules_by b) octets (reading_at_server b octets).frames fs (reading_at_server b octets).rest rest (reading_at_server b octets).end end (reading_at_server b octets).run run).ends
+  end_is = (unique (rules_by b) octets (reading_at_server b octets).frames fs (reading_at_server b octets).rest rest (reading_at_server b octets).end end
+      (reading_at_server b octets).run run).ends
 
   pub said_by_run : server_output b octets ≡ output_of b.channel b.first (events (rules_by b) fs) end (times_of_answers (events (rules_by b) fs) b.moment)
   unfolding server_output
@@ -36,7 +39,8 @@ module _ (b : Beginning) (octets : List ℕ) (fs : List Frame) (rest : List ℕ)
       ap (λ (t : List Told). output_of b.channel b.first t (end_by b octets) (times_of_answers t b.moment)) told_is
       ∙ ap (λ (e : End ℕ). output_of b.channel b.first (events (rules_by b) fs) e (times_of_answers (events (rules_by b) fs) b.moment)) end_is
 
-  pub left_by_run : services_after b octets ≡ (state_after b.channel b.first (events (rules_by b) fs) (times_of_answers (events (rules_by b) fs) b.moment)).state
+  pub left_by_run : services_after b octets
+      ≡ (state_after b.channel b.first (events (rules_by b) fs) (times_of_answers (events (rules_by b) fs) b.moment)).state
   unfolding services_after
   left_by_run = ap (λ (t : List Told). (state_after b.channel b.first t (times_of_answers t b.moment)).state) told_is
 
@@ -49,7 +53,8 @@ front_waits b octets more goes = by (end_by b octets) refl
     stays : (end_by b octets ≡ Going → ⊥) → end_by b octets ≡ Going
     stays over =
         sym (end_is b (octets ++ more) (reading_at_server b octets).frames ((reading_at_server b octets).rest ++ more) (end_by b octets)
-        (ends_stay (rules_by b) octets more (reading_at_server b octets).frames (reading_at_server b octets).rest (end_by b octets) over (reading_at_server b octets).run))
+        (ends_stay (rules_by b) octets more (reading_at_server b octets).frames (reading_at_server b octets).rest (end_by b octets) over
+        (reading_at_server b octets).run))
         ∙ goes
 
     by : (end : End ℕ) → end_by b octets ≡ end → end_by b octets ≡ Going
@@ -58,13 +63,16 @@ front_waits b octets more goes = by (end_by b octets) refl
     by Over is = stays (λ going. let no : ◌≡◌ {A = End ℕ} Over Going = sym is ∙ going in absurd cc)
 
 -- and behind a front of octets that close its channel, where some of them are missing
-pub closing_waits : (b : Beginning) (octets more : List ℕ) (told : List Told) → ServerCloses b.limits b.channel (octets ++ more) told → 0 < length more → end_by b octets ≡ Going
+pub closing_waits : (b : Beginning) (octets more : List ℕ) (told : List Told) → ServerCloses b.limits b.channel (octets ++ more) told → 0 < length more
+    → end_by b octets ≡ Going
 closing_waits b octets more told c some = by (end_by b octets) refl
   where
     never : (end_by b octets ≡ Going → ⊥) → ⊥
     never over =
-        let run = ends_stay (rules_by b) octets more (reading_at_server b octets).frames (reading_at_server b octets).rest (end_by b octets) over (reading_at_server b octets).run in
-        let same = unique (rules_by b) (octets ++ more) (reading_at_server b octets).frames c.frames ((reading_at_server b octets).rest ++ more) [] (end_by b octets) Over run c.run in
+        let run = ends_stay (rules_by b) octets more (reading_at_server b octets).frames (reading_at_server b octets).rest (end_by b octets) over
+        (reading_at_server b octets).run in
+        let same = unique (rules_by b) (octets ++ more) (reading_at_server b octets).frames c.frames ((reading_at_server b octets).rest ++ more) []
+        (end_by b octets) Over run c.run in
         omega (arith, some, ap length same.rests, length-append (reading_at_server b octets).rest more)
 
     by : (end : End ℕ) → end_by b octets ≡ end → end_by b octets ≡ Going
@@ -86,35 +94,43 @@ pub spent-enough : (a : List Told) (moment : DateTime) → used_in a ≤ length 
 spent-enough a moment = let len = length-replicate (used_in a) moment in omega (arith, len)
 
 -- how far a server is behind more that is told, where each answer has its moment
-pub left_on : (b : Beginning) (told more : List Told) → state_after b.channel b.first (told ++ more) (times_of_answers (told ++ more) b.moment) ≡ course_by b.channel (with_more (state_after b.channel b.first told (times_of_answers told b.moment)) (times_of_answers more b.moment)) more
+pub left_on : (b : Beginning) (told more : List Told) → state_after b.channel b.first (told ++ more) (times_of_answers (told ++ more) b.moment)
+    ≡ course_by b.channel (with_more (state_after b.channel b.first told (times_of_answers told b.moment)) (times_of_answers more b.moment)) more
 left_on b told more =
     ap (λ (ms : List DateTime). state_after b.channel b.first (told ++ more) ms) (spent-append told more b.moment)
     ∙ (left-append b.channel b.first told more (times_of_answers told b.moment ++ times_of_answers more b.moment)
-    ∙ ap (λ (k : Course). course_by b.channel k more) (left-more b.channel b.first told (times_of_answers told b.moment) (times_of_answers more b.moment) (spent-enough told b.moment)))
+    ∙ ap (λ (k : Course). course_by b.channel k more) (left-more b.channel b.first told (times_of_answers told b.moment) (times_of_answers more b.moment)
+    (spent-enough told b.moment)))
 
 -- and what it says of that
 pub said_on : (b : Beginning) (told more : List Told) → output_of b.channel b.first (told ++ more) Going (times_of_answers (told ++ more) b.moment)
-    ≡ output_of b.channel b.first told Going (times_of_answers told b.moment) ++ said_of b.channel (with_more (state_after b.channel b.first told (times_of_answers told b.moment)) (times_of_answers more b.moment)) more
+    ≡ output_of b.channel b.first told Going (times_of_answers told b.moment)
+    ++ said_of b.channel (with_more (state_after b.channel b.first told (times_of_answers told b.moment)) (times_of_answers more b.moment)) more
 said_on b told more =
     let ms : List DateTime = times_of_answers told b.moment ++ times_of_answers more b.moment in
     ap (λ (m : List DateTime). output_of b.channel b.first (told ++ more) Going m) (spent-append told more b.moment)
     ∙ (said-append b.channel b.first told more Going ms
-    ∙ (ap (λ (o : List ℕ). o ++ (said_of b.channel (state_after b.channel b.first told ms) more ++ [])) (said-more b.channel b.first told Going (times_of_answers told b.moment) (times_of_answers more b.moment) (spent-enough told b.moment))
-    ∙ (ap (λ (o : List ℕ). output_of b.channel b.first told Going (times_of_answers told b.moment) ++ o) (append-nil (said_of b.channel (state_after b.channel b.first told ms) more))
+    ∙ (ap (λ (o : List ℕ). o ++ (said_of b.channel (state_after b.channel b.first told ms) more ++ []))
+    (said-more b.channel b.first told Going (times_of_answers told b.moment) (times_of_answers more b.moment) (spent-enough told b.moment))
+    ∙ (ap (λ (o : List ℕ). output_of b.channel b.first told Going (times_of_answers told b.moment) ++ o)
+    (append-nil (said_of b.channel (state_after b.channel b.first told ms) more))
     ∙ ap (λ (k : Course). output_of b.channel b.first told Going (times_of_answers told b.moment) ++ said_of b.channel k more)
     (left-more b.channel b.first told (times_of_answers told b.moment) (times_of_answers more b.moment) (spent-enough told b.moment)))))
 
 -- nothing more is said of a CLO
-pub said_over : (b : Beginning) (told : List Told) → output_of b.channel b.first (told ++ Closed ∷ []) Over (times_of_answers (told ++ Closed ∷ []) b.moment) ≡ output_of b.channel b.first told Going (times_of_answers told b.moment)
+pub said_over : (b : Beginning) (told : List Told) → output_of b.channel b.first (told ++ Closed ∷ []) Over (times_of_answers (told ++ Closed ∷ []) b.moment)
+    ≡ output_of b.channel b.first told Going (times_of_answers told b.moment)
 said_over b told =
     let ms : List DateTime = times_of_answers told b.moment ++ times_of_answers (Closed ∷ []) b.moment in
     ap (λ (m : List DateTime). output_of b.channel b.first (told ++ Closed ∷ []) Over m) (spent-append told (Closed ∷ []) b.moment)
     ∙ (said-append b.channel b.first told (Closed ∷ []) Over ms
-    ∙ (append-nil (output_of b.channel b.first told Going ms) ∙ said-more b.channel b.first told Going (times_of_answers told b.moment) (times_of_answers (Closed ∷ []) b.moment) (spent-enough told b.moment)))
+    ∙ (append-nil (output_of b.channel b.first told Going ms)
+    ∙ said-more b.channel b.first told Going (times_of_answers told b.moment) (times_of_answers (Closed ∷ []) b.moment) (spent-enough told b.moment)))
 
 -- what is said of more that is told, in one piece
 said_first : (b : Beginning) (a c : List Told) (end : End ℕ) → (further : List ℕ) ×
-    (output_of b.channel b.first (a ++ c) end (times_of_answers (a ++ c) b.moment) ≡ output_of b.channel b.first a Going (times_of_answers a b.moment) ++ further)
+    (output_of b.channel b.first (a ++ c) end (times_of_answers (a ++ c) b.moment) ≡ output_of b.channel b.first a Going (times_of_answers a b.moment)
+    ++ further)
 said_first b a c end =
     let moments = times_of_answers a b.moment ++ times_of_answers c b.moment in (
       said_of b.channel (state_after b.channel b.first a moments) c ++ last_words end,
@@ -124,7 +140,8 @@ said_first b a c end =
           (said-more b.channel b.first a Going (times_of_answers a b.moment) (times_of_answers c b.moment) (spent-enough a b.moment))),
     )
 
-stays_said : (b : Beginning) (octets more : List ℕ) (fs : List Frame) (rest : List ℕ) (end : End ℕ) → (end ≡ Going → ⊥) → Run (rules_by b) octets fs rest end → SaidFirst b octets (server_output b (octets ++ more))
+stays_said : (b : Beginning) (octets more : List ℕ) (fs : List Frame) (rest : List ℕ) (end : End ℕ) → (end ≡ Going → ⊥) → Run (rules_by b) octets fs rest end
+    → SaidFirst b octets (server_output b (octets ++ more))
 stays_said b octets more fs rest end over r = record {
   further = [];
   parts =
@@ -132,7 +149,8 @@ stays_said b octets more fs rest end over r = record {
       ∙ (sym (said_by_run b octets fs rest end r) ∙ sym (append-nil (server_output b octets)));
 }
 
-goes_said : (b : Beginning) (octets more : List ℕ) (fs : List Frame) (rest : List ℕ) → Run (rules_by b) octets fs rest Going → SaidFirst b octets (server_output b (octets ++ more))
+goes_said : (b : Beginning) (octets more : List ℕ) (fs : List Frame) (rest : List ℕ) → Run (rules_by b) octets fs rest Going
+    → SaidFirst b octets (server_output b (octets ++ more))
 goes_said b octets more fs rest r =
     let R = rules_by b in
     let s = reading (behind R fs) (rest ++ more) in
@@ -147,11 +165,13 @@ goes_said b octets more fs rest r =
           ∙ (first.1 ∙ ap (λ (o : List ℕ). o ++ first.0) (sym (said_by_run b octets fs rest Going r))));
     }
 
-by_end : (b : Beginning) (octets more : List ℕ) (fs : List Frame) (rest : List ℕ) (end : End ℕ) → Run (rules_by b) octets fs rest end → SaidFirst b octets (server_output b (octets ++ more))
+by_end : (b : Beginning) (octets more : List ℕ) (fs : List Frame) (rest : List ℕ) (end : End ℕ) → Run (rules_by b) octets fs rest end
+    → SaidFirst b octets (server_output b (octets ++ more))
 by_end b octets more fs rest Going r = goes_said b octets more fs rest r
 by_end b octets more fs rest (Stopped why) r = stays_said b octets more fs rest (Stopped why) (λ e. cc) r
 by_end b octets more fs rest Over r = stays_said b octets more fs rest Over (λ e. cc) r
 
 -- what is said of octets is said first of more of them
 pub said_further : (b : Beginning) (octets more : List ℕ) → SaidFirst b octets (server_output b (octets ++ more))
-said_further b octets more = by_end b octets more (reading_at_server b octets).frames (reading_at_server b octets).rest (reading_at_server b octets).end (reading_at_server b octets).run
+said_further b octets more = by_end b octets more (reading_at_server b octets).frames (reading_at_server b octets).rest (reading_at_server b octets).end
+    (reading_at_server b octets).run

@@ -27,7 +27,8 @@ use Rattle.ua_loopback.specs.Accepted.{tokens_held}
 use Rattle.ua_loopback.specs.Faults.{FailsBehind}
 use Rattle.ua_loopback.specs.Replies.{HaveMisanswer, lane_back, requests_replies}
 use Rattle.ua_loopback.specs.Says.{state_told}
-use Rattle.ua_loopback.specs.Talking.{AreSession, FailsSession, IsSentOver, IsTalking, MisanswersSession, SoFar, id_in, newest_in, octets_of, session_requests, told_in, with_turn}
+use Rattle.ua_loopback.specs.Talking.{AreSession, FailsSession, IsSentOver, IsTalking, MisanswersSession}
+use Rattle.ua_loopback.specs.Talking.{SoFar, id_in, newest_in, octets_of, session_requests, told_in, with_turn}
 use Rattle.ua_loopback.proofs.Faults.{sent_over}
 use Rattle.ua_loopback.proofs.Faults.{fails_by, group_fails}
 use Rattle.ua_loopback.proofs.OneTurn.{asked_more, asked_sent}
@@ -35,7 +36,8 @@ use Rattle.ua_loopback.proofs.Rounds.{Behind}
 use Rattle.ua_loopback.proofs.Staying.{ToldBehind}
 use Rattle.ua_loopback.proofs.Talks.{asked_behind, rounds_octets}
 
-module _ (t : SoFar) (x : Client) (before : Option Traffic) (k : IsTalking t x before) (y : Client) (after : Option Traffic) (law : NonePending) (policy_id : Option (List ℕ)) (moment : DateTime) (token : NodeId)
+module _ (t : SoFar) (x : Client) (before : Option Traffic) (k : IsTalking t x before) (y : Client) (after : Option Traffic) (law : NonePending)
+    (policy_id : Option (List ℕ)) (moment : DateTime) (token : NodeId)
     (c : BeginsSessionAs policy_id moment (connection_of x) (connection_of y) before after (Ok token)) where
   abbrev url : Option (List ℕ)
   url = url_of (channel_of (connection_of x))
@@ -45,7 +47,8 @@ module _ (t : SoFar) (x : Client) (before : Option Traffic) (k : IsTalking t x b
   there = c.answers k.site k.talks.talking.served.serving.together.stands
 
   -- and behind ActivateSession
-  activated : Replies (activating_at policy_id there.token moment there.between) there.between (channel_of (connection_of y)) there.sent_then there.taken_then (λ (reply : Reply). (reply_failure reply ≡ None) × brings_any tt reply)
+  activated : Replies (activating_at policy_id there.token moment there.between) there.between (channel_of (connection_of y)) there.sent_then there.taken_then
+      (λ (reply : Reply). (reply_failure reply ≡ None) × brings_any tt reply)
   activated = there.further.1
 
   abbrev first : Request
@@ -54,7 +57,8 @@ module _ (t : SoFar) (x : Client) (before : Option Traffic) (k : IsTalking t x b
   abbrev second : Request
   second = activating_at policy_id there.token moment there.between
 
-  rounds : Rounds (channel_of (connection_of y)) k.site ((first ∷ []) ∷ ((second ∷ []) ∷ [])) activated.behind (sent_at k.site (first ∷ []) ++ sent_at there.between (second ∷ [])) (there.taken_before ++ there.taken_then) (there.reply ∷ (activated.reply ∷ []))
+  rounds : Rounds (channel_of (connection_of y)) k.site ((first ∷ []) ∷ ((second ∷ []) ∷ [])) activated.behind
+      (sent_at k.site (first ∷ []) ++ sent_at there.between (second ∷ [])) (there.taken_before ++ there.taken_then) (there.reply ∷ (activated.reply ∷ []))
   rounds =
       OneRound (second ∷ []) (channel_of (connection_of y))
       (OneRound (first ∷ []) there.channel NoRound (record { same = there.same; at = there.at; came = there.created.came }) there.created.answered)
@@ -70,7 +74,8 @@ module _ (t : SoFar) (x : Client) (before : Option Traffic) (k : IsTalking t x b
   id_then =
       let id_is : id_at k.site ≡ id_in t = k.talks.talking.served.id_is in
       let ids : id_at there.between ≡ id_at k.site + length (bodies_of (first ∷ [])) =
-      ap (λ (p : List Placed). next_id (asked_in p)) there.created.answered.asks ∙ next-calls k.site.asks (length k.site.octets) (id_at k.site) (bodies_of (first ∷ [])) in
+      ap (λ (p : List Placed). next_id (asked_in p)) there.created.answered.asks
+      ∙ next-calls k.site.asks (length k.site.octets) (id_at k.site) (bodies_of (first ∷ [])) in
       omega (arith, ids, id_is)
 
   are_session : first ∷ (second ∷ []) ≡ session_requests t policy_id token moment
@@ -80,15 +85,18 @@ module _ (t : SoFar) (x : Client) (before : Option Traffic) (k : IsTalking t x b
       ∙ (ap (λ (n : ℕ). create_session t.url moment (id_in t) ∷ (activate_session_as policy_id there.token moment n ∷ [])) id_then
       ∙ ap (λ (given : NodeId). create_session t.url moment (id_in t) ∷ (activate_session_as policy_id given moment (id_in t + 1) ∷ [])) there.further.0))
 
-  behind_there : Behind t.server t.limits t.url t.octets (told_in t) (newest_in t) (id_in t) (tokens_held 1 t.turns) k.site.number c.sent (there.reply ∷ (activated.reply ∷ [])) (first ∷ (second ∷ [])) activated.behind
+  behind_there : Behind t.server t.limits t.url t.octets (told_in t) (newest_in t) (id_in t) (tokens_held 1 t.turns) k.site.number c.sent
+      (there.reply ∷ (activated.reply ∷ [])) (first ∷ (second ∷ [])) activated.behind
   behind_there =
-      asked_behind t.server t.limits t.url t.octets (told_in t) (newest_in t) (id_in t) (tokens_held 1 t.turns) k.site (connection_of x) before k.talks.talking (connection_of y) after c.sent c.moves c.same law activated.behind rounds
+      asked_behind t.server t.limits t.url t.octets (told_in t) (newest_in t) (id_in t) (tokens_held 1 t.turns) k.site (connection_of x) before k.talks.talking
+      (connection_of y) after c.sent c.moves c.same law activated.behind rounds
       (omega arith, (omega arith, tt)) sent_is there.taken_parts
 
   pub session_sent : IsSentOver (octets_of t moment (Some (session_requests t policy_id token moment))) before after
   session_sent =
       sent_over c.moves.got c.sent (octets_of t moment (Some (session_requests t policy_id token moment))) before after
-      (asked_sent t k.site (connection_of x) before k.talks (connection_of y) after c.sent c.moves c.same moment (first ∷ (second ∷ [])) (there.reply ∷ (activated.reply ∷ [])) activated.behind activated.at
+      (asked_sent t k.site (connection_of x) before k.talks (connection_of y) after c.sent c.moves c.same moment (first ∷ (second ∷ []))
+      (there.reply ∷ (activated.reply ∷ [])) activated.behind activated.at
       (rounds_octets rounds ∙ ap (λ (o : List ℕ). k.site.octets ++ o) (sym there.taken_parts)) behind_there
       ∙ ap (λ (ms : List Request). octets_of t moment (Some ms)) are_session)
       c.moves.carried
@@ -98,15 +106,18 @@ module _ (t : SoFar) (x : Client) (before : Option Traffic) (k : IsTalking t x b
       subst (λ (ms : List Request). IsTalking (with_turn t moment (Some ms)) y after) are_session (record {
         ready = ready;
         site = activated.behind;
-        talks = asked_more t k.site (connection_of x) before k.talks (connection_of y) after c.sent c.moves c.same moment (first ∷ (second ∷ [])) (there.reply ∷ (activated.reply ∷ [])) activated.behind activated.at
+        talks = asked_more t k.site (connection_of x) before k.talks (connection_of y) after c.sent c.moves c.same moment (first ∷ (second ∷ []))
+            (there.reply ∷ (activated.reply ∷ [])) activated.behind activated.at
             (rounds_octets rounds ∙ ap (λ (o : List ℕ). k.site.octets ++ o) (sym there.taken_parts)) behind_there;
       })
 
 -- ---- a session that is not begun
 
 -- a service whose request is called by itself failed, or the call did
-served_or_broken : (A : Type 0) (request : Request) (brings : A → Reply → Type 0) (s : ClientPlace) (new : Connection) (sent taken : List ℕ) (f : ClientFault) → ServesAt {A = A} request brings s new sent taken (Err f)
-    → ((code : StatusCode) × (f ≡ fault.Service code) × Replies request s (channel_of new) sent taken (λ (reply : Reply). reply_failure reply ≡ Some code)) ⊎ BreaksAt (request ∷ []) s new sent taken f
+served_or_broken : (A : Type 0) (request : Request) (brings : A → Reply → Type 0) (s : ClientPlace) (new : Connection) (sent taken : List ℕ) (f : ClientFault)
+    → ServesAt {A = A} request brings s new sent taken (Err f)
+    → ((code : StatusCode) × (f ≡ fault.Service code) × Replies request s (channel_of new) sent taken (λ (reply : Reply). reply_failure reply ≡ Some code))
+    ⊎ BreaksAt (request ∷ []) s new sent taken f
 served_or_broken A request brings s new sent taken (fault.Service code) h = inl (code, refl, h)
 served_or_broken A request brings s new sent taken fault.Read h = inr h
 served_or_broken A request brings s new sent taken fault.Write h = inr h
@@ -122,7 +133,8 @@ served_or_broken A request brings s new sent taken fault.OutOfMemory h = inr h
 served_or_broken A request brings s new sent taken fault.TooLong h = inr h
 served_or_broken A request brings s new sent taken fault.TooManyTokens h = inr h
 
-broken_session : (t : SoFar) (policy_id : Option (List ℕ)) (moment : DateTime) (f : ClientFault) → FailsBehind (MisanswersSession t policy_id moment) f → FailsSession t policy_id moment f
+broken_session : (t : SoFar) (policy_id : Option (List ℕ)) (moment : DateTime) (f : ClientFault) → FailsBehind (MisanswersSession t policy_id moment) f
+    → FailsSession t policy_id moment f
 broken_session t policy_id moment (fault.Service code) h = absurd h
 broken_session t policy_id moment fault.Read h = h
 broken_session t policy_id moment fault.Write h = h
@@ -138,7 +150,8 @@ broken_session t policy_id moment fault.OutOfMemory h = h
 broken_session t policy_id moment fault.TooLong h = h
 broken_session t policy_id moment fault.TooManyTokens h = h
 
-module _ (t : SoFar) (x : Client) (before : Option Traffic) (k : IsTalking t x before) (y : Client) (after : Option Traffic) (law : NonePending) (policy_id : Option (List ℕ)) (moment : DateTime) (never_before : ToldBehind) (f : ClientFault)
+module _ (t : SoFar) (x : Client) (before : Option Traffic) (k : IsTalking t x before) (y : Client) (after : Option Traffic) (law : NonePending)
+    (policy_id : Option (List ℕ)) (moment : DateTime) (never_before : ToldBehind) (f : ClientFault)
     (c : BeginsSessionAs policy_id moment (connection_of x) (connection_of y) before after (Err f)) where
   abbrev address : Option (List ℕ)
   address = url_of (channel_of (connection_of x))
@@ -153,15 +166,18 @@ module _ (t : SoFar) (x : Client) (before : Option Traffic) (k : IsTalking t x b
   z = connection_of y
 
   -- by the answers to requests that are those of a session
-  fails_so : (requests : List Request) → AreSession t policy_id moment requests → FailsBehind (HaveMisanswer (state_told t.server (told_in t)) t.server.moment requests) f → FailsSession t policy_id moment f
+  fails_so : (requests : List Request) → AreSession t policy_id moment requests
+      → FailsBehind (HaveMisanswer (state_told t.server (told_in t)) t.server.moment requests) f → FailsSession t policy_id moment f
   fails_so requests are h =
       broken_session t policy_id moment f
       (fails_by (HaveMisanswer (state_told t.server (told_in t)) t.server.moment requests) (MisanswersSession t policy_id moment) f
       (λ bad. (requests, are, subst (λ (s : State). HaveMisanswer s t.server.moment requests) k.talks.state_is bad)) h)
 
   -- or by the replies to them
-  refused_so : (code : StatusCode) → f ≡ fault.Service code → (requests : List Request) → AreSession t policy_id moment requests → (first : List Reply) (last : Reply) → reply_failure last ≡ Some code
-      → map (λ (r : Reply). Some r) (first ++ last ∷ []) ≡ requests_replies (lane_back t.server t.limits t.url (newest_in t)) (state_told t.server (told_in t)) t.server.moment requests → FailsSession t policy_id moment f
+  refused_so : (code : StatusCode) → f ≡ fault.Service code → (requests : List Request) → AreSession t policy_id moment requests
+      → (first : List Reply) (last : Reply) → reply_failure last ≡ Some code
+      → map (λ (r : Reply). Some r) (first ++ last ∷ []) ≡ requests_replies (lane_back t.server t.limits t.url (newest_in t)) (state_told t.server (told_in t))
+      t.server.moment requests → FailsSession t policy_id moment f
   refused_so code is requests are first last failed replied =
       subst (FailsSession t policy_id moment) (sym is) (record {
         requests = requests;
@@ -176,22 +192,27 @@ module _ (t : SoFar) (x : Client) (before : Option Traffic) (k : IsTalking t x b
 
   is_creating : creating ∷ [] ≡ create_session t.url moment (id_in t) ∷ []
   is_creating =
-      ap (λ (u : Option (List ℕ)). create_session u moment (id_at k.site) ∷ []) k.talks.url_is ∙ ap (λ (n : ℕ). create_session t.url moment n ∷ []) k.talks.talking.served.id_is
+      ap (λ (u : Option (List ℕ)). create_session u moment (id_at k.site) ∷ []) k.talks.url_is
+      ∙ ap (λ (n : ℕ). create_session t.url moment n ∷ []) k.talks.talking.served.id_is
 
   first_fails : ServesAt {A = NodeId} creating brings_token k.site z c.sent c.moves.taken (Err f) → FailsSession t policy_id moment f
   first_fails h = by (served_or_broken NodeId creating brings_token k.site z c.sent c.moves.taken f h)
     where
-      by : (((code : StatusCode) × (f ≡ fault.Service code) × Replies creating k.site (channel_of z) c.sent c.moves.taken (λ (reply : Reply). reply_failure reply ≡ Some code)) ⊎ BreaksAt (creating ∷ []) k.site z c.sent c.moves.taken f)
+      by : (((code : StatusCode) × (f ≡ fault.Service code) × Replies creating k.site (channel_of z) c.sent c.moves.taken
+          (λ (reply : Reply). reply_failure reply ≡ Some code)) ⊎ BreaksAt (creating ∷ []) k.site z c.sent c.moves.taken f)
           → FailsSession t policy_id moment f
       by (inl (code, is, r)) =
           let one : Rounds (channel_of z) k.site ((creating ∷ []) ∷ []) r.behind (sent_at k.site (creating ∷ [])) c.moves.taken (r.reply ∷ []) =
-          OneRound (creating ∷ []) (channel_of z) NoRound (record { same = record { limits = refl; url = refl }; at = r.at; came = r.replied.came }) r.replied.answered in
-          let there = asked_behind t.server t.limits t.url t.octets (told_in t) (newest_in t) (id_in t) held k.site (connection_of x) before k.talks.talking z after c.sent c.moves c.same law r.behind one
+          OneRound (creating ∷ []) (channel_of z) NoRound (record { same = record { limits = refl; url = refl }; at = r.at; came = r.replied.came })
+          r.replied.answered in
+          let there = asked_behind t.server t.limits t.url t.octets (told_in t) (newest_in t) (id_in t) held k.site (connection_of x) before k.talks.talking z
+          after c.sent c.moves c.same law r.behind one
           (omega arith, tt) r.replied.sent_is refl in
           refused_so code is (creating ∷ []) (inl is_creating) [] r.reply r.says there.replies_are
       by (inr breaks) =
           fails_so (creating ∷ []) (inl is_creating)
-          (group_fails t.server t.limits t.url t.octets (told_in t) (newest_in t) (id_in t) held k.site (connection_of x) before k.talks.talking z after c.sent c.moves c.same law never_before
+          (group_fails t.server t.limits t.url t.octets (told_in t) (newest_in t) (id_in t) held k.site (connection_of x) before k.talks.talking z after c.sent
+          c.moves c.same law never_before
           [] (creating ∷ []) k.site [] c.sent [] c.moves.taken [] NoRound (omega arith, tt) refl refl NodeId f breaks c.stops)
 
   -- ---- or ActivateSession behind it
@@ -210,7 +231,8 @@ module _ (t : SoFar) (x : Client) (before : Option Traffic) (k : IsTalking t x b
     id_later =
         let id_is : id_at k.site ≡ id_in t = k.talks.talking.served.id_is in
         let ids : id_at w.between ≡ id_at k.site + length (bodies_of (creating ∷ [])) =
-        ap (λ (p : List Placed). next_id (asked_in p)) w.created.answered.asks ∙ next-calls k.site.asks (length k.site.octets) (id_at k.site) (bodies_of (creating ∷ [])) in
+        ap (λ (p : List Placed). next_id (asked_in p)) w.created.answered.asks
+        ∙ next-calls k.site.asks (length k.site.octets) (id_at k.site) (bodies_of (creating ∷ [])) in
         omega (arith, ids, id_is)
 
     session_is : creating ∷ (activating ∷ []) ≡ session_requests t policy_id w.token moment
@@ -218,18 +240,25 @@ module _ (t : SoFar) (x : Client) (before : Option Traffic) (k : IsTalking t x b
         ap (λ (ms : List Request). ms ++ (activating ∷ [])) is_creating
         ∙ ap (λ (n : ℕ). create_session t.url moment (id_in t) ∷ (activate_session_as policy_id w.token moment n ∷ [])) id_later
 
-    second_by : (((code : StatusCode) × (f ≡ fault.Service code) × Replies activating w.between (channel_of z) w.sent_then w.taken_then (λ (reply : Reply). reply_failure reply ≡ Some code)) ⊎ BreaksAt (activating ∷ []) w.between z w.sent_then w.taken_then f)
+    second_by :
+        (((code : StatusCode) × (f ≡ fault.Service code) × Replies activating w.between (channel_of z) w.sent_then w.taken_then
+        (λ (reply : Reply). reply_failure reply ≡ Some code)) ⊎ BreaksAt (activating ∷ []) w.between z w.sent_then w.taken_then f)
         → FailsSession t policy_id moment f
     second_by (inl (code, is, r)) =
-        let two : Rounds (channel_of z) k.site ((creating ∷ []) ∷ ((activating ∷ []) ∷ [])) r.behind (sent_at k.site (creating ∷ []) ++ sent_at w.between (activating ∷ [])) (w.taken_before ++ w.taken_then) (w.reply ∷ (r.reply ∷ [])) =
-        OneRound (activating ∷ []) (channel_of z) one (record { same = record { limits = refl; url = refl }; at = r.at; came = r.replied.came }) r.replied.answered in
-        let behind = asked_behind t.server t.limits t.url t.octets (told_in t) (newest_in t) (id_in t) held k.site (connection_of x) before k.talks.talking z after c.sent c.moves c.same law r.behind two
+        let two : Rounds (channel_of z) k.site ((creating ∷ []) ∷ ((activating ∷ []) ∷ [])) r.behind
+        (sent_at k.site (creating ∷ []) ++ sent_at w.between (activating ∷ [])) (w.taken_before ++ w.taken_then) (w.reply ∷ (r.reply ∷ [])) =
+        OneRound (activating ∷ []) (channel_of z) one (record { same = record { limits = refl; url = refl }; at = r.at; came = r.replied.came })
+        r.replied.answered in
+        let behind = asked_behind t.server t.limits t.url t.octets (told_in t) (newest_in t) (id_in t) held k.site (connection_of x) before k.talks.talking z
+        after c.sent c.moves c.same law r.behind two
         (omega arith, (omega arith, tt)) (parts_sent ∙ ap (λ (o : List ℕ). sent_at k.site (creating ∷ []) ++ o) r.replied.sent_is) w.taken_parts in
         refused_so code is (creating ∷ (activating ∷ [])) (inr (w.token, session_is)) (w.reply ∷ []) r.reply r.says behind.replies_are
     second_by (inr breaks) =
         fails_so (creating ∷ (activating ∷ [])) (inr (w.token, session_is))
-        (group_fails t.server t.limits t.url t.octets (told_in t) (newest_in t) (id_in t) held k.site (connection_of x) before k.talks.talking z after c.sent c.moves c.same law never_before
-        ((creating ∷ []) ∷ []) (activating ∷ []) w.between (sent_at k.site (creating ∷ [])) w.sent_then w.taken_before w.taken_then (w.reply ∷ []) one (omega arith, (omega arith, tt)) parts_sent w.taken_parts NodeId f breaks c.stops)
+        (group_fails t.server t.limits t.url t.octets (told_in t) (newest_in t) (id_in t) held k.site (connection_of x) before k.talks.talking z after c.sent
+        c.moves c.same law never_before
+        ((creating ∷ []) ∷ []) (activating ∷ []) w.between (sent_at k.site (creating ∷ [])) w.sent_then w.taken_before w.taken_then (w.reply ∷ []) one
+        (omega arith, (omega arith, tt)) parts_sent w.taken_parts NodeId f breaks c.stops)
 
     second_fails : FailsSession t policy_id moment f
     second_fails = second_by (served_or_broken (Unit {0}) activating brings_any w.between z w.sent_then w.taken_then f w.further.1)
@@ -237,6 +266,7 @@ module _ (t : SoFar) (x : Client) (before : Option Traffic) (k : IsTalking t x b
   pub session_fails : FailsSession t policy_id moment f
   session_fails = by (c.answers k.site k.talks.talking.served.serving.together.stands)
     where
-      by : (ServesAt {A = NodeId} creating brings_token k.site z c.sent c.moves.taken (Err f) ⊎ ActivatesBehind address policy_id moment k.site z c.sent c.moves.taken (λ (given : NodeId). Unit {0}) (Err f)) → FailsSession t policy_id moment f
+      by : (ServesAt {A = NodeId} creating brings_token k.site z c.sent c.moves.taken (Err f)
+          ⊎ ActivatesBehind address policy_id moment k.site z c.sent c.moves.taken (λ (given : NodeId). Unit {0}) (Err f)) → FailsSession t policy_id moment f
       by (inl h) = first_fails h
       by (inr h) = second_fails h

@@ -1,5 +1,6 @@
 -- That both ends in one process stay in step.
-use Rattle.std.proofs.Common.{◌≡◌, ◌⊎◌, inl, inr, ℕ, ◌+◌, ◌<◌, ◌≤◌, ◌^◌, List, [], ◌∷◌, ◌++◌, Option, Some, None, length, replicate, refl, sym, ◌∙◌, ap, subst, arith, append_assoc, length-append}
+use Rattle.std.proofs.Common.{◌≡◌, ◌⊎◌, inl, inr, ℕ, ◌+◌, ◌<◌, ◌≤◌, ◌^◌, List, [], ◌∷◌, ◌++◌, Option, Some, None}
+use Rattle.std.proofs.Common.{length, replicate, refl, sym, ◌∙◌, ap, subst, arith, append_assoc, length-append}
 use Rattle.std.specs.List.{AllByRecursion}
 use Rattle.std.proofs.lemmas.List.{length-map}
 use Rattle.ua_wire.specs.Format.{Extends}
@@ -38,7 +39,8 @@ use Rattle.ua_loopback.specs.Replies.{HaveMisanswer}
 use Rattle.ua_loopback.specs.Says.{server_output, times_of_answers}
 use Rattle.ua_loopback.specs.Together.{AreServing, behind_calls}
 use Rattle.ua_loopback.specs.Turns.{calls_told}
-use Rattle.ua_loopback.proofs.Answering.{AreHeard, answers_told, calls_asked, calls_in_step, hello_stays, issued_stays, newest_stays, replies_read, told_each, tokens_stay, used_last, waits, with_calls}
+use Rattle.ua_loopback.proofs.Answering.{AreHeard, answers_told, calls_asked, calls_in_step, hello_stays, issued_stays}
+use Rattle.ua_loopback.proofs.Answering.{newest_stays, replies_read, told_each, tokens_stay, used_last, waits, with_calls}
 use Rattle.ua_loopback.proofs.Ending.{LastChunk}
 use Rattle.ua_loopback.proofs.Lists.{meets}
 use Rattle.ua_loopback.proofs.Reaching.{few_ids, numbers_read, requests_asked, requests_read}
@@ -48,19 +50,22 @@ use Rattle.ua_loopback.proofs.Untaken.{never_missing, took_all, took_no_more}
 
 -- that nothing is told of a call before it is asked
 abbrev pub ToldBehind : Type 0
-ToldBehind = (x : ClientChannel) (asks : List Placed) (octets : List ℕ) (told : List Heard) (n : ℕ) → ClientGoes x asks octets told → told_of (next_id (asked_in asks) + n) told ≡ []
+ToldBehind = (x : ClientChannel) (asks : List Placed) (octets : List ℕ) (told : List Heard) (n : ℕ) → ClientGoes x asks octets told
+    → told_of (next_id (asked_in asks) + n) told ≡ []
 
 -- ---- what a server says of more
 
 module _ (b : Beginning) (octets : List ℕ) (told : List Told) (s : AtServer) (r : ServerReads b.limits b.channel octets told s) where
   pub said_there : server_output b octets ≡ output_of b.channel b.first told Going (times_of_answers told b.moment)
-  said_there = said_by_run b octets r.frames [] Going r.run ∙ ap (λ (t : List Told). output_of b.channel b.first t Going (times_of_answers t b.moment)) r.told_is
+  said_there = said_by_run b octets r.frames [] Going r.run
+      ∙ ap (λ (t : List Told). output_of b.channel b.first t Going (times_of_answers t b.moment)) r.told_is
 
   -- how far the server is behind these
   abbrev pub behind_told : List Told → Course
   behind_told more = with_more (state_after b.channel b.first told (times_of_answers told b.moment)) (times_of_answers more b.moment)
 
-  pub said_more : (later : List ℕ) (more : List Told) (t : AtServer) → ServerReads b.limits b.channel later (told ++ more) t → server_output b later ≡ server_output b octets ++ said_of b.channel (behind_told more) more
+  pub said_more : (later : List ℕ) (more : List Told) (t : AtServer) → ServerReads b.limits b.channel later (told ++ more) t
+      → server_output b later ≡ server_output b octets ++ said_of b.channel (behind_told more) more
   said_more later more t q =
       said_by_run b later q.frames [] Going q.run
       ∙ (ap (λ (k : List Told). output_of b.channel b.first k Going (times_of_answers k b.moment)) q.told_is
@@ -72,7 +77,8 @@ some_bodies requests some = omega (arith, some, length-map requests request.cano
 -- ---- a turn
 
 -- requests are asked, against which there is nothing
-module _ (b : Beginning) (url : Option (List ℕ)) (octets : List ℕ) (told : List Told) (s : AtServer) (x : ClientChannel) (site : ClientPlace) (c : AtClient) (requests : List Request)
+module _ (b : Beginning) (url : Option (List ℕ)) (octets : List ℕ) (told : List Told) (s : AtServer) (x : ClientChannel) (site : ClientPlace) (c : AtClient)
+    (requests : List Request)
     (on : b.channel < 2 ^ 32) (t : AreServing b url octets told s x site c) (some : 0 < length requests) (judged : refusal_at site requests ≡ None) where
   abbrev lane : Lane
   lane = lane_from c
@@ -118,13 +124,19 @@ module _ (b : Beginning) (url : Option (List ℕ)) (octets : List ℕ) (told : L
   abbrev told_then : List Heard
   told_then = site.told ++ answers_told (lane_of b.channel lane.token g) before.state moments (id_at site) bodies
 
-  heard_then : AreHeard b.limits (client_limits x) url b.channel then_at (length bodies) (length (with_calls c (id_at site) bodies).tokens) (with_calls c (id_at site) bodies).newest (asked_at site requests) (site.octets ++ said_of b.channel (course before.state before.number moments (Some g)) calls) told_then
-      (course_after b.channel (course before.state before.number moments (Some g)) calls).number (course_after b.channel (course before.state before.number moments (Some g)) calls).agreement
+  heard_then : AreHeard b.limits (client_limits x) url b.channel then_at (length bodies) (length (with_calls c (id_at site) bodies).tokens)
+      (with_calls c (id_at site) bodies).newest (asked_at site requests)
+      (site.octets ++ said_of b.channel (course before.state before.number moments (Some g)) calls) told_then
+      (course_after b.channel (course before.state before.number moments (Some g)) calls).number
+      (course_after b.channel (course before.state before.number moments (Some g)) calls).agreement
   heard_then =
       replies_read b.limits (client_limits x) url b.channel on then_at few_used lane (used_last s lane bodies (some_bodies requests some))
       (asked_at site requests) site.octets site.told (with_calls c (id_at site) bodies) before.state before.number moments (id_at site) bodies
-      (calls_asked (client_limits x) site.asks site.octets site.told c t.together.client_reads bodies) step_then (t.says_next ∙ sym (next_stays c (id_at site) bodies))
-      (waits c (id_at site) bodies) (few_ids c.ack (id_at site) requests (requests_asked b.limits url b.channel octets told s x site c on t.together requests judged) some) tokens_then (newest_stays c (id_at site) bodies)
+      (calls_asked (client_limits x) site.asks site.octets site.told c t.together.client_reads bodies) step_then
+      (t.says_next ∙ sym (next_stays c (id_at site) bodies))
+      (waits c (id_at site) bodies)
+      (few_ids c.ack (id_at site) requests (requests_asked b.limits url b.channel octets told s x site c on t.together requests judged) some) tokens_then
+      (newest_stays c (id_at site) bodies)
     where
       next_stays : (d : AtClient) (id : ℕ) (bs : List (List ℕ)) → (with_calls d id bs).next ≡ d.next
       next_stays d id [] = refl
@@ -136,7 +148,8 @@ module _ (b : Beginning) (url : Option (List ℕ)) (octets : List ℕ) (told : L
       ∙ (ap (λ (o : List ℕ). o ++ said_of b.channel (behind_told b octets told s t.together.server_reads calls) calls) (sym t.taken)
       ∙ ap (λ (k : Course). site.octets ++ said_of b.channel k calls) course_is)
 
-  left_then_is : state_after b.channel b.first (told ++ calls) (times_of_answers (told ++ calls) b.moment) ≡ course_after b.channel (course before.state before.number moments (Some g)) calls
+  left_then_is : state_after b.channel b.first (told ++ calls) (times_of_answers (told ++ calls) b.moment)
+      ≡ course_after b.channel (course before.state before.number moments (Some g)) calls
   left_then_is = left_on b told calls ∙ ap (λ (k : Course). course_after b.channel k calls) course_is
 
   newest_then : heard_then.at.newest ≡ c.newest
@@ -145,10 +158,12 @@ module _ (b : Beginning) (url : Option (List ℕ)) (octets : List ℕ) (told : L
   held_then : length heard_then.at.tokens ≡ held_behind_calls (length c.tokens) (length requests)
   held_then =
       heard_then.held
-      ∙ (ap (λ (ks : List ℕ). held_behind_calls (length ks) (length bodies)) (tokens_stay c (id_at site) bodies) ∙ ap (λ (n : ℕ). held_behind_calls (length c.tokens) n) (length-map requests request.canonical))
+      ∙ (ap (λ (ks : List ℕ). held_behind_calls (length ks) (length bodies)) (tokens_stay c (id_at site) bodies)
+      ∙ ap (λ (n : ℕ). held_behind_calls (length c.tokens) n) (length-map requests request.canonical))
 
   -- the client reads what the server says of them
-  reads_asked : (limits : Limits) → limits ≡ client_limits x → ClientReads limits (asked_at site requests) (server_output b (octets ++ sent_at site requests)) told_then heard_then.at
+  reads_asked : (limits : Limits) → limits ≡ client_limits x
+      → ClientReads limits (asked_at site requests) (server_output b (octets ++ sent_at site requests)) told_then heard_then.at
   reads_asked limits same =
       subst (λ (l : Limits). ClientReads l (asked_at site requests) (server_output b (octets ++ sent_at site requests)) told_then heard_then.at) (sym same)
       (subst (λ (o : List ℕ). ClientReads (client_limits x) (asked_at site requests) o told_then heard_then.at) (sym said_then) heard_then.reads)
@@ -156,42 +171,54 @@ module _ (b : Beginning) (url : Option (List ℕ)) (octets : List ℕ) (told : L
   -- something was told of each call there
   each_told : (k : ℕ) → id_at site ≤ k → k < id_at site + length requests → 0 < length (told_of k told_then)
   each_told k from to =
-      let some_told = told_each (lane_of b.channel lane.token g) before.state moments (id_at site) bodies k from (omega (arith, to, length-map requests request.canonical)) in
+      let some_told = told_each (lane_of b.channel lane.token g) before.state moments (id_at site) bodies k from
+      (omega (arith, to, length-map requests request.canonical)) in
       let answers : List Heard = answers_told (lane_of b.channel lane.token g) before.state moments (id_at site) bodies in
       omega (arith, some_told, ap length (filter_append (is_told_of k) site.told answers), length-append (told_of k site.told) (told_of k answers))
 
   -- what becomes of a channel of the client that took a front of what the server says, or all of it
   module _ (y : ClientChannel) (same : client_limits y ≡ client_limits x) (taken : List ℕ) where
     -- it does not fail
-    pub asked_fails_not : (heard : List Heard) (why : Why) → ClientEnded y (asked_at site requests) taken heard why → Extends taken (server_output b (octets ++ sent_at site requests)) → ⊥
+    pub asked_fails_not : (heard : List Heard) (why : Why) → ClientEnded y (asked_at site requests) taken heard why
+        → Extends taken (server_output b (octets ++ sent_at site requests)) → ⊥
     asked_fails_not heard why ended front =
         client_not_failed y (asked_at site requests) taken front.more heard told_then heard_then.at why ended
-        (subst (λ (o : List ℕ). ClientReads (client_limits y) (asked_at site requests) o told_then heard_then.at) front.parts (reads_asked (client_limits y) same))
+        (subst (λ (o : List ℕ). ClientReads (client_limits y) (asked_at site requests) o told_then heard_then.at) front.parts
+        (reads_asked (client_limits y) same))
 
     -- behind all of it no reply is missing
-    pub asked_misses_not : ClientGoesOn y (asked_at site requests) taken site.told (AreAwaited requests (id_at site)) → taken ≡ server_output b (octets ++ sent_at site requests) → ⊥
+    pub asked_misses_not : ClientGoesOn y (asked_at site requests) taken site.told (AreAwaited requests (id_at site))
+        → taken ≡ server_output b (octets ++ sent_at site requests) → ⊥
     asked_misses_not h all =
         let told_is : site.told ++ h.0 ≡ told_then =
         client_told y (asked_at site requests) taken (site.told ++ h.0) told_then heard_then.at h.1
-        (subst (λ (o : List ℕ). ClientReads (client_limits y) (asked_at site requests) o told_then heard_then.at) (sym all) (reads_asked (client_limits y) same)) in
-        never_missing requests (id_at site) (site.told ++ h.0) h.2.slots h.2.slots_are (λ k from to. subst (λ (ts : List Heard). 0 < length (told_of k ts)) (sym told_is) (each_told k from to)) h.2.missing
+        (subst (λ (o : List ℕ). ClientReads (client_limits y) (asked_at site requests) o told_then heard_then.at) (sym all)
+        (reads_asked (client_limits y) same)) in
+        never_missing requests (id_at site) (site.told ++ h.0) h.2.slots h.2.slots_are
+        (λ k from to. subst (λ (ts : List Heard). 0 < length (told_of k ts)) (sym told_is) (each_told k from to)) h.2.missing
 
     -- a message that is no answer to its request is one with which the server answered it
-    pub asked_misanswered : ToldBehind → StandsAt x site → ClientGoesOn y (asked_at site requests) taken site.told (IsMisanswered requests (id_at site)) → Extends taken (server_output b (octets ++ sent_at site requests)) → AreWritable requests
+    pub asked_misanswered : ToldBehind → StandsAt x site → ClientGoesOn y (asked_at site requests) taken site.told (IsMisanswered requests (id_at site))
+        → Extends taken (server_output b (octets ++ sent_at site requests)) → AreWritable requests
         → HaveMisanswer before.state b.moment requests
     asked_misanswered law at h front fits =
         let begins = client_begins y (asked_at site requests) taken front.more (site.told ++ h.0) told_then heard_then.at h.1
-        (subst (λ (o : List ℕ). ClientReads (client_limits y) (asked_at site requests) o told_then heard_then.at) front.parts (reads_asked (client_limits y) same)) in
-        let moments_are = moments_there b told lane.token (id_at site) bodies ∙ ap (λ (n : ℕ). replicate n b.moment ++ []) (length-map requests request.canonical) in
-        let all_is : told_then ≡ h.2.before ++ h.2.last ∷ begins.0 = begins.1 ∙ (ap (λ (ts : List Heard). ts ++ begins.0) h.2.told_is ∙ append_assoc h.2.before (h.2.last ∷ []) begins.0) in
-        misanswered_at (lane_of b.channel lane.token g) before.state moments (id_at site) (id_at site + h.2.place) requests b.moment [] site.told told_then h.2.place h.2.request h.2.before h.2.last begins.0 fits moments_are refl refl
+        (subst (λ (o : List ℕ). ClientReads (client_limits y) (asked_at site requests) o told_then heard_then.at) front.parts
+        (reads_asked (client_limits y) same)) in
+        let moments_are = moments_there b told lane.token (id_at site) bodies
+        ∙ ap (λ (n : ℕ). replicate n b.moment ++ []) (length-map requests request.canonical) in
+        let all_is : told_then ≡ h.2.before ++ h.2.last ∷ begins.0 = begins.1
+        ∙ (ap (λ (ts : List Heard). ts ++ begins.0) h.2.told_is ∙ append_assoc h.2.before (h.2.last ∷ []) begins.0) in
+        misanswered_at (lane_of b.channel lane.token g) before.state moments (id_at site) (id_at site + h.2.place) requests b.moment [] site.told told_then
+        h.2.place h.2.request h.2.before h.2.last begins.0 fits moments_are refl refl
         (law x site.asks site.octets site.told h.2.place at.goes) h.2.request_is all_is h.2.untold h.2.misanswers
 
   -- they are answered
   module _ (behind : ClientPlace) (taken : List ℕ) (replies : List Reply) (a : Answered requests site behind taken replies) where
     spare_then : then_at.issued < id_at behind
     spare_then =
-        let ids : id_at behind ≡ id_at site + length bodies = ap (λ (p : List Placed). next_id (asked_in p)) a.asks ∙ next-calls site.asks (length site.octets) (id_at site) bodies in
+        let ids : id_at behind ≡ id_at site + length bodies = ap (λ (p : List Placed). next_id (asked_in p)) a.asks
+        ∙ next-calls site.asks (length site.octets) (id_at site) bodies in
         omega (arith, ids, issued_stays s lane bodies, t.spare)
 
     module _ (y : ClientChannel) (stands : StandsAt y behind) (same : client_limits y ≡ client_limits x) where
@@ -210,35 +237,45 @@ module _ (b : Beginning) (url : Option (List ℕ)) (octets : List ℕ) (told : L
           (subst (LastChunk (client_limits x) (asked_at site requests)) (sym said_then) (heard_then.ends (some_bodies requests some))))
 
       -- where it took a front of that, it took all of it
-      pub answered_took : NonePending → IsSettled behind → Extends behind.octets (server_output b (octets ++ sent_at site requests)) → behind.octets ≡ server_output b (octets ++ sent_at site requests)
+      pub answered_took : NonePending → IsSettled behind → Extends behind.octets (server_output b (octets ++ sent_at site requests))
+          → behind.octets ≡ server_output b (octets ++ sent_at site requests)
       answered_took law settled front =
-          took_all law y behind stands settled (server_output b (octets ++ sent_at site requests)) reads_then.frames reads_then.run (ends_then reads_then.frames reads_then.run) front
+          took_all law y behind stands settled (server_output b (octets ++ sent_at site requests)) reads_then.frames reads_then.run
+          (ends_then reads_then.frames reads_then.run) front
 
       -- where octets begin with what it took, and with what the server says, it took just that
-      pub answered_taken : NonePending → IsSettled behind → LastCame y requests (id_at site) behind.asks behind.octets behind.told → (down : List ℕ) → Extends behind.octets down → Extends (server_output b (octets ++ sent_at site requests)) down
+      pub answered_taken : NonePending → IsSettled behind → LastCame y requests (id_at site) behind.asks behind.octets behind.told → (down : List ℕ)
+          → Extends behind.octets down → Extends (server_output b (octets ++ sent_at site requests)) down
           → behind.octets ≡ server_output b (octets ++ sent_at site requests)
-      answered_taken law settled came down got output_of = by (meets behind.octets (server_output b (octets ++ sent_at site requests)) got.more output_of.more (sym got.parts ∙ output_of.parts))
+      answered_taken law settled came down got output_of =
+          by (meets behind.octets (server_output b (octets ++ sent_at site requests)) got.more output_of.more (sym got.parts ∙ output_of.parts))
         where
-          by : (((more : List ℕ) × (server_output b (octets ++ sent_at site requests) ≡ behind.octets ++ more)) ⊎ ((more : List ℕ) × (behind.octets ≡ server_output b (octets ++ sent_at site requests) ++ more))) → behind.octets ≡ server_output b (octets ++ sent_at site requests)
+          by : (((more : List ℕ) × (server_output b (octets ++ sent_at site requests) ≡ behind.octets ++ more))
+              ⊎ ((more : List ℕ) × (behind.octets ≡ server_output b (octets ++ sent_at site requests) ++ more)))
+              → behind.octets ≡ server_output b (octets ++ sent_at site requests)
           by (inl p) = answered_took law settled (record { more = p.0; parts = p.1 })
-          by (inr p) = took_no_more y requests (id_at site) behind came (server_output b (octets ++ sent_at site requests)) told_then heard_then.at reads_then each_told p.0 p.1
+          by (inr p) = took_no_more y requests (id_at site) behind came (server_output b (octets ++ sent_at site requests)) told_then heard_then.at reads_then
+              each_told p.0 p.1
 
       module _ (took : behind.octets ≡ server_output b (octets ++ sent_at site requests)) where
         here : ClientReads (client_limits y) behind.asks behind.octets told_then heard_then.at
         here = subst (λ (o : List ℕ). ClientReads (client_limits y) behind.asks o told_then heard_then.at) (sym took) reads_then
 
         -- what the client was told by then
-        pub told_together : behind.told ≡ site.told ++ answers_told (lane_of b.channel c.newest (agreement_of b.limits s.hello)) before.state moments (id_at site) bodies
+        pub told_together : behind.told ≡ site.told ++ answers_told (lane_of b.channel c.newest (agreement_of b.limits s.hello)) before.state moments
+            (id_at site) bodies
         told_together =
             client_told y behind.asks behind.octets behind.told told_then heard_then.at stands.goes here
-            ∙ ap (λ (h : Hello). site.told ++ answers_told (lane_of b.channel c.newest (agreement_of b.limits h)) before.state moments (id_at site) bodies) (hello_stays s lane bodies)
+            ∙ ap (λ (h : Hello). site.told ++ answers_told (lane_of b.channel c.newest (agreement_of b.limits h)) before.state moments (id_at site) bodies)
+            (hello_stays s lane bodies)
 
         serving_then : AreServing b url (octets ++ sent_at site requests) (told ++ calls) then_at y behind heard_then.at
         serving_then = record {
           together = record {
             server_reads = server_then;
             stands = stands;
-            client_reads = subst (λ (h : List Heard). ClientReads (client_limits y) behind.asks behind.octets h heard_then.at) (sym (client_told y behind.asks behind.octets behind.told told_then heard_then.at stands.goes here)) here;
+            client_reads = subst (λ (h : List Heard). ClientReads (client_limits y) behind.asks behind.octets h heard_then.at)
+                (sym (client_told y behind.asks behind.octets behind.told told_then heard_then.at stands.goes here)) here;
             in_step = subst (λ (l : Limits). AreInStep b.limits l url b.channel then_at heard_then.at) (sym same) heard_then.in_step;
             number_is = a.number ∙ numbers_read b.limits url b.channel octets told s x site c on t.together requests;
           };
@@ -250,5 +287,6 @@ module _ (b : Beginning) (url : Option (List ℕ)) (octets : List ℕ) (told : L
         }
 
         -- both are in step behind requests that are answered, and the client's calls go under the token that they went under
-        pub stay_together : (d : AtClient) × AreServing b url (octets ++ sent_at site requests) (told ++ calls) then_at y behind d × (d.newest ≡ c.newest) × (length d.tokens ≡ held_behind_calls (length c.tokens) (length requests))
+        pub stay_together : (d : AtClient) × AreServing b url (octets ++ sent_at site requests) (told ++ calls) then_at y behind d × (d.newest ≡ c.newest)
+            × (length d.tokens ≡ held_behind_calls (length c.tokens) (length requests))
         stay_together = (heard_then.at, serving_then, newest_then, held_then)

@@ -1,5 +1,6 @@
 -- What a line keeps behind a step of its server.
-use Rattle.std.proofs.Common.{◌≡◌, ℕ, zero, suc, ◌+◌, ◌<◌, ◌≤◌, List, [], ◌∷◌, ◌++◌, Option, Some, None, Ok, length, take, replicate, refl, sym, ◌∙◌, ap, subst, arith, append-nil, length-append}
+use Rattle.std.proofs.Common.{◌≡◌, ℕ, zero, suc, ◌+◌, ◌<◌, ◌≤◌, List, [], ◌∷◌, ◌++◌, Option, Some, None, Ok}
+use Rattle.std.proofs.Common.{length, take, replicate, refl, sym, ◌∙◌, ap, subst, arith, append-nil, length-append}
 use Rattle.std.proofs.lemmas.List.{replicate-append-replicate}
 use Rattle.ua_builtin.specs.declared.date_time.DateTime.{DateTime}
 use Rattle.ua_builtin.specs.declared.status_code.StatusCode.{StatusCode}
@@ -43,14 +44,16 @@ quiet-spent : (told : List Told) (ids : List ℕ) (moment : DateTime) → times_
 quiet-spent told ids moment = ap (λ (n : ℕ). replicate n moment) (quiet-used told ids)
 
 -- the moments of what was told, and of what is told more
-spent-more : (told : List Told) (quiet : List ℕ) (more : List Told) (moment : DateTime) → times_of_answers told moment ++ times_of_answers more moment ≡ times_of_answers ((told ++ given_up quiet) ++ more) moment
+spent-more : (told : List Told) (quiet : List ℕ) (more : List Told) (moment : DateTime) → times_of_answers told moment ++ times_of_answers more moment
+    ≡ times_of_answers ((told ++ given_up quiet) ++ more) moment
 spent-more told quiet more moment =
     replicate-append-replicate (used_in told) (used_in more) moment
     ∙ ap (λ (n : ℕ). replicate n moment) (ap (λ (n : ℕ). n + used_in more) (sym (quiet-used told quiet)) ∙ sym (used_in-append (told ++ given_up quiet) more))
 
 -- ---- where a channel stands
 
-module _ (b : Beginning) (x : ServerChannel) (limits_are : limits_of x ≡ b.limits) (channel_is : channel_of x ≡ b.channel) (octets : List ℕ) (fs : List Frame) (rest : List ℕ) (end : End ℕ) (told : List Told)
+module _ (b : Beginning) (x : ServerChannel) (limits_are : limits_of x ≡ b.limits) (channel_is : channel_of x ≡ b.channel) (octets : List ℕ) (fs : List Frame)
+    (rest : List ℕ) (end : End ℕ) (told : List Told)
     (r : Run (rules_of x) octets fs rest end) (is : events (rules_of x) fs ≡ told) where
   rules_are : rules_of x ≡ rules_by b
   rules_are = ap (λ (l : Limits). server_rules l (channel_of x)) limits_are ∙ ap (λ (c : ℕ). server_rules b.limits c) channel_is
@@ -72,7 +75,8 @@ module _ (b : Beginning) (x : ServerChannel) (limits_are : limits_of x ≡ b.lim
 
 -- ---- a step
 
-module _ (b : Beginning) (old new : Server) (before now : State) (moment : DateTime) (up down piece : List ℕ) (read n : ℕ) (out : List ℕ) (k : Keeps b old before moment up down read stage.Going)
+module _ (b : Beginning) (old new : Server) (before now : State) (moment : DateTime) (up down piece : List ℕ) (read n : ℕ) (out : List ℕ)
+    (k : Keeps b old before moment up down read stage.Going)
     (same_limits : limits_of (channel_in new) ≡ limits_of (channel_in old)) (same_channel : channel_of (channel_in new) ≡ channel_of (channel_in old)) where
   limits_are : limits_of (channel_in new) ≡ b.limits
   limits_are = same_limits ∙ k.serves.limits_are
@@ -89,8 +93,10 @@ module _ (b : Beginning) (old new : Server) (before now : State) (moment : DateT
       k.serves.stands.goes.stands.run k.serves.stands.goes.told_is
 
   -- what is kept where all that was told then is this, and this was said of it
-  more_said : (all : List Told) (fs : List Frame) (rest : List ℕ) (end : End ℕ) (ms : List DateTime) → Run (rules_of (channel_in new)) (up ++ take n piece) fs rest end → events (rules_of (channel_in new)) fs ≡ all
-      → ms ≡ times_of_answers all b.moment → output_of (channel_of (channel_in old)) b.first all end ms ≡ output_of (channel_of (channel_in old)) b.first told Going (times_of_answers told b.moment) ++ out
+  more_said : (all : List Told) (fs : List Frame) (rest : List ℕ) (end : End ℕ) (ms : List DateTime)
+      → Run (rules_of (channel_in new)) (up ++ take n piece) fs rest end → events (rules_of (channel_in new)) fs ≡ all
+      → ms ≡ times_of_answers all b.moment → output_of (channel_of (channel_in old)) b.first all end ms ≡ output_of (channel_of (channel_in old)) b.first told
+      Going (times_of_answers told b.moment) ++ out
       → down ++ out ≡ server_output b (up ++ take n piece)
   more_said all fs rest end ms r is moments out_is =
       let parts : output_of b.channel b.first all end ms ≡ output_of b.channel b.first told Going (times_of_answers told b.moment) ++ out =
@@ -100,7 +106,8 @@ module _ (b : Beginning) (old new : Server) (before now : State) (moment : DateT
       ∙ (ap (λ (m : List DateTime). output_of b.channel b.first all end m) moments
       ∙ sym (said_at b (channel_in new) limits_are channel_is (up ++ take n piece) fs rest end all r is)))
 
-  more_left : (all : List Told) (fs : List Frame) (rest : List ℕ) (end : End ℕ) (c : ℕ) (ms : List DateTime) → Run (rules_of (channel_in new)) (up ++ take n piece) fs rest end → events (rules_of (channel_in new)) fs ≡ all
+  more_left : (all : List Told) (fs : List Frame) (rest : List ℕ) (end : End ℕ) (c : ℕ) (ms : List DateTime)
+      → Run (rules_of (channel_in new)) (up ++ take n piece) fs rest end → events (rules_of (channel_in new)) fs ≡ all
       → ms ≡ times_of_answers all b.moment → c ≡ b.channel → (state_after c b.first all ms).state ≡ now → now ≡ services_after b (up ++ take n piece)
   more_left all fs rest end c ms r is moments on state_is =
       sym state_is
@@ -112,51 +119,65 @@ module _ (b : Beginning) (old new : Server) (before now : State) (moment : DateT
   more_within = omega (arith, k.within, length-append down out)
 
   -- it goes on
-  goes_keeps : StepGoes (channel_of (channel_in old)) b.moment piece n out (channel_in new) up told b.first (times_of_answers told b.moment) now → Keeps b new now moment (up ++ take n piece) (down ++ out) read stage.Going
+  goes_keeps : StepGoes (channel_of (channel_in old)) b.moment piece n out (channel_in new) up told b.first (times_of_answers told b.moment) now
+      → Keeps b new now moment (up ++ take n piece) (down ++ out) read stage.Going
   goes_keeps g =
       let all : List Told = (told ++ given_up g.quiet) ++ g.more in
-      let moments : times_of_answers told b.moment ++ times_of_answers g.more b.moment ≡ times_of_answers all b.moment = spent-more told g.quiet g.more b.moment in
-      let stands : ServerStands (channel_in new) (up ++ take n piece) all b.first (times_of_answers all b.moment) now = subst (λ (ms : List DateTime). ServerStands (channel_in new) (up ++ take n piece) all b.first ms now) moments g.stands in
+      let moments : times_of_answers told b.moment ++ times_of_answers g.more b.moment ≡ times_of_answers all b.moment =
+      spent-more told g.quiet g.more b.moment in
+      let stands : ServerStands (channel_in new) (up ++ take n piece) all b.first (times_of_answers all b.moment) now =
+      subst (λ (ms : List DateTime). ServerStands (channel_in new) (up ++ take n piece) all b.first ms now) moments g.stands in
       record {
         moment_is = k.moment_is;
-        down_is = more_said all stands.goes.frames stands.goes.rest Going (times_of_answers told b.moment ++ times_of_answers g.more b.moment) stands.goes.stands.run stands.goes.told_is moments g.out_is;
+        down_is = more_said all stands.goes.frames stands.goes.rest Going (times_of_answers told b.moment ++ times_of_answers g.more b.moment)
+            stands.goes.stands.run stands.goes.told_is moments g.out_is;
         within = more_within;
         serves = record { told = all; stands = stands; limits_are = limits_are; channel_is = channel_is };
-        leaves = more_left all stands.goes.frames stands.goes.rest Going (channel_of (channel_in new)) (times_of_answers all b.moment) stands.goes.stands.run stands.goes.told_is refl channel_is stands.state_is;
-        ends = end_at b (channel_in new) limits_are channel_is (up ++ take n piece) stands.goes.frames stands.goes.rest Going all stands.goes.stands.run stands.goes.told_is;
+        leaves = more_left all stands.goes.frames stands.goes.rest Going (channel_of (channel_in new)) (times_of_answers all b.moment) stands.goes.stands.run
+            stands.goes.told_is refl channel_is stands.state_is;
+        ends = end_at b (channel_in new) limits_are channel_is (up ++ take n piece) stands.goes.frames stands.goes.rest Going all stands.goes.stands.run
+            stands.goes.told_is;
       }
 
   -- it closed
-  closes_keeps : StepCloses (channel_of (channel_in old)) piece n out (channel_in new) up told b.first (times_of_answers told b.moment) before now → Keeps b new now moment (up ++ take n piece) (down ++ out) read (stage.Ended ending.Closed)
+  closes_keeps : StepCloses (channel_of (channel_in old)) piece n out (channel_in new) up told b.first (times_of_answers told b.moment) before now
+      → Keeps b new now moment (up ++ take n piece) (down ++ out) read (stage.Ended ending.Closed)
   closes_keeps c =
       let all : List Told = (told ++ given_up c.quiet) ++ Closed ∷ [] in
-      let moments : times_of_answers told b.moment ≡ times_of_answers all b.moment = sym (append-nil (times_of_answers told b.moment)) ∙ spent-more told c.quiet (Closed ∷ []) b.moment in
+      let moments : times_of_answers told b.moment ≡ times_of_answers all b.moment = sym (append-nil (times_of_answers told b.moment))
+      ∙ spent-more told c.quiet (Closed ∷ []) b.moment in
       record {
         moment_is = k.moment_is;
         down_is = more_said all c.closed.frames [] Over (times_of_answers told b.moment) c.closed.run c.closed.told_is moments c.out_is;
         within = more_within;
         serves = tt;
-        leaves = more_left all c.closed.frames [] Over (channel_of (channel_in old)) (times_of_answers told b.moment) c.closed.run c.closed.told_is moments k.serves.channel_is c.left_is;
+        leaves = more_left all c.closed.frames [] Over (channel_of (channel_in old)) (times_of_answers told b.moment) c.closed.run c.closed.told_is moments
+            k.serves.channel_is c.left_is;
         ends = end_at b (channel_in new) limits_are channel_is (up ++ take n piece) c.closed.frames [] Over all c.closed.run c.closed.told_is;
       }
 
   -- it refused what stands there
-  refuses_keeps : (code : StatusCode) → StepRefuses (channel_of (channel_in old)) code.code piece n out (channel_in new) up told b.first (times_of_answers told b.moment) before now
+  refuses_keeps : (code : StatusCode) → StepRefuses (channel_of (channel_in old)) code.code piece n out (channel_in new) up told b.first
+      (times_of_answers told b.moment) before now
       → Keeps b new now moment (up ++ take n piece) (down ++ out) read (stage.Ended (ending.Refused code))
   refuses_keeps code c =
       let all : List Told = told ++ given_up c.quiet in
       let moments : times_of_answers told b.moment ≡ times_of_answers all b.moment = sym (quiet-spent told c.quiet b.moment) in
       record {
         moment_is = k.moment_is;
-        down_is = more_said all c.refused.frames c.refused.rest (Stopped code.code) (times_of_answers told b.moment) c.refused.run c.refused.told_is moments c.out_is;
+        down_is = more_said all c.refused.frames c.refused.rest (Stopped code.code) (times_of_answers told b.moment) c.refused.run c.refused.told_is moments
+            c.out_is;
         within = more_within;
         serves = tt;
-        leaves = more_left all c.refused.frames c.refused.rest (Stopped code.code) (channel_of (channel_in old)) (times_of_answers told b.moment) c.refused.run c.refused.told_is moments k.serves.channel_is c.left_is;
-        ends = end_at b (channel_in new) limits_are channel_is (up ++ take n piece) c.refused.frames c.refused.rest (Stopped code.code) all c.refused.run c.refused.told_is;
+        leaves = more_left all c.refused.frames c.refused.rest (Stopped code.code) (channel_of (channel_in old)) (times_of_answers told b.moment) c.refused.run
+            c.refused.told_is moments k.serves.channel_is c.left_is;
+        ends = end_at b (channel_in new) limits_are channel_is (up ++ take n piece) c.refused.frames c.refused.rest (Stopped code.code) all c.refused.run
+            c.refused.told_is;
       }
 
   -- it ended
-  ends_keeps : (end : Ending) → StepBy (channel_of (channel_in old)) b.moment piece (Some end) n out (channel_in new) up told b.first (times_of_answers told b.moment) before now → Keeps b new now moment (up ++ take n piece) (down ++ out) read (stage.Ended end)
+  ends_keeps : (end : Ending) → StepBy (channel_of (channel_in old)) b.moment piece (Some end) n out (channel_in new) up told b.first
+      (times_of_answers told b.moment) before now → Keeps b new now moment (up ++ take n piece) (down ++ out) read (stage.Ended end)
   ends_keeps ending.Closed s = closes_keeps s
   ends_keeps (ending.Refused code) s = refuses_keeps code s
   ends_keeps ending.NoClose s = absurd s
@@ -167,13 +188,16 @@ module _ (b : Beginning) (old new : Server) (before now : State) (moment : DateT
   not_refused code fs rest none r =
       let here : up ++ take n piece ≡ up = ap (λ (m : ℕ). up ++ take m piece) none ∙ append-nil up in
       let run : Run (rules_by b) up fs rest (Stopped code) =
-      subst (λ (o : List ℕ). Run (rules_by b) o fs rest (Stopped code)) here (run_at b (channel_in new) limits_are channel_is (up ++ take n piece) fs rest (Stopped code) (events (rules_of (channel_in new)) fs) r refl) in
+      subst (λ (o : List ℕ). Run (rules_by b) o fs rest (Stopped code)) here
+      (run_at b (channel_in new) limits_are channel_is (up ++ take n piece) fs rest (Stopped code) (events (rules_of (channel_in new)) fs) r refl) in
       let same = unique (rules_by b) up k.serves.stands.goes.frames fs k.serves.stands.goes.rest rest Going (Stopped code)
-      (run_at b (channel_in old) k.serves.limits_are k.serves.channel_is up k.serves.stands.goes.frames k.serves.stands.goes.rest Going told k.serves.stands.goes.stands.run k.serves.stands.goes.told_is) run in
+      (run_at b (channel_in old) k.serves.limits_are k.serves.channel_is up k.serves.stands.goes.frames k.serves.stands.goes.rest Going told
+      k.serves.stands.goes.stands.run k.serves.stands.goes.told_is) run in
       let ends : ◌≡◌ {A = End ℕ} Going (Stopped code) = same.ends in
       absurd cc
 
-  ends_some : (end : Ending) → StepBy (channel_of (channel_in old)) b.moment piece (Some end) n out (channel_in new) up told b.first (times_of_answers told b.moment) before now → n ≡ 0 → ⊥
+  ends_some : (end : Ending) → StepBy (channel_of (channel_in old)) b.moment piece (Some end) n out (channel_in new) up told b.first
+      (times_of_answers told b.moment) before now → n ≡ 0 → ⊥
   ends_some ending.Closed s none = omega (arith, s.some.0, none)
   ends_some (ending.Refused code) s none = not_refused code.code s.refused.frames s.refused.rest none s.refused.run
   ends_some ending.NoClose s none = s
@@ -181,16 +205,22 @@ module _ (b : Beginning) (old new : Server) (before now : State) (moment : DateT
 
 -- ---- what a step answers
 
-module _ (b : Beginning) (old new : Server) (before now : State) (moment : DateTime) (up down piece : List ℕ) (read : ℕ) (step : Step) (k : Keeps b old before moment up down read stage.Going)
+module _ (b : Beginning) (old new : Server) (before now : State) (moment : DateTime) (up down piece : List ℕ) (read : ℕ) (step : Step)
+    (k : Keeps b old before moment up down read stage.Going)
     (answers : (o : List ℕ) (told : List Told) (first : State) (ms : List DateTime) → ServerStands (channel_in old) o told first ms before
     → StepAnswers (limits_of (channel_in old)) (channel_of (channel_in old)) moment piece (Ok step) (channel_in new) o told first ms before now)
     (same_limits : limits_of (channel_in new) ≡ limits_of (channel_in old)) (same_channel : channel_of (channel_in new) ≡ channel_of (channel_in old)) where
-  by : StepBy (channel_of (channel_in old)) b.moment piece step.end step.taken step.out.items (channel_in new) up k.serves.told b.first (times_of_answers k.serves.told b.moment) before now
-  by = subst (λ (m : DateTime). StepBy (channel_of (channel_in old)) m piece step.end step.taken step.out.items (channel_in new) up k.serves.told b.first (times_of_answers k.serves.told b.moment) before now) k.moment_is
+  by : StepBy (channel_of (channel_in old)) b.moment piece step.end step.taken step.out.items (channel_in new) up k.serves.told b.first
+      (times_of_answers k.serves.told b.moment) before now
+  by = subst (λ (m : DateTime). StepBy (channel_of (channel_in old)) m piece step.end step.taken step.out.items (channel_in new) up k.serves.told b.first
+      (times_of_answers k.serves.told b.moment) before now) k.moment_is
       (answers up k.serves.told b.first (times_of_answers k.serves.told b.moment) k.serves.stands)
 
-  by_end : (end : Option Ending) → step.end ≡ end → StepBy (channel_of (channel_in old)) b.moment piece end step.taken step.out.items (channel_in new) up k.serves.told b.first (times_of_answers k.serves.told b.moment) before now
-  by_end end is = subst (λ (e : Option Ending). StepBy (channel_of (channel_in old)) b.moment piece e step.taken step.out.items (channel_in new) up k.serves.told b.first (times_of_answers k.serves.told b.moment) before now) is by
+  by_end : (end : Option Ending) → step.end ≡ end → StepBy (channel_of (channel_in old)) b.moment piece end step.taken step.out.items
+      (channel_in new) up k.serves.told b.first (times_of_answers k.serves.told b.moment) before now
+  by_end end is =
+      subst (λ (e : Option Ending). StepBy (channel_of (channel_in old)) b.moment piece e step.taken step.out.items (channel_in new) up k.serves.told b.first
+      (times_of_answers k.serves.told b.moment) before now) is by
 
   pub keeps_on : step.end ≡ None → Keeps b new now moment (up ++ take step.taken piece) (down ++ step.out.items) read stage.Going
   keeps_on is = goes_keeps b old new before now moment up down piece read step.taken step.out.items k same_limits same_channel (by_end None is)
@@ -203,7 +233,8 @@ module _ (b : Beginning) (old new : Server) (before now : State) (moment : DateT
   taken_by (Some end) is takes some = by_count step.taken refl
     where
       by_count : (m : ℕ) → step.taken ≡ m → 0 < step.taken
-      by_count zero none = absurd (ends_some b old new before now moment up down piece read step.taken step.out.items k same_limits same_channel end (by_end (Some end) is) none)
+      by_count zero none =
+          absurd (ends_some b old new before now moment up down piece read step.taken step.out.items k same_limits same_channel end (by_end (Some end) is) none)
       by_count (suc m) more = omega (arith, more)
 
   -- something is taken
@@ -211,7 +242,8 @@ module _ (b : Beginning) (old new : Server) (before now : State) (moment : DateT
   takes_some takes some = taken_by step.end refl takes some
 
 -- what a line keeps whose server took these octets
-pub keeps_where : (b : Beginning) (server : Server) (now : State) (moment : DateTime) (up : List ℕ) → moment ≡ b.moment → Serves b server now up → Keeps b server now moment up (server_output b up) 0 stage.Going
+pub keeps_where : (b : Beginning) (server : Server) (now : State) (moment : DateTime) (up : List ℕ) → moment ≡ b.moment → Serves b server now up
+    → Keeps b server now moment up (server_output b up) 0 stage.Going
 keeps_where b server now moment up dated s =
     let frames = s.stands.goes.frames in
     let rest = s.stands.goes.rest in
@@ -248,15 +280,19 @@ said_none b =
     ∙ (ap (λ (t : List Told). output_of b.channel b.first t Going (times_of_answers t b.moment)) (no_events (rules_by b)) ∙ none_said b.channel b.first)
 
 -- a server that waits for a client took no octet
-pub serves_first : (b : Beginning) (server : Server) → ServerStands (channel_in server) [] [] b.first [] b.first → limits_of (channel_in server) ≡ b.limits → channel_of (channel_in server) ≡ b.channel → Serves b server b.first []
+pub serves_first : (b : Beginning) (server : Server) → ServerStands (channel_in server) [] [] b.first [] b.first → limits_of (channel_in server) ≡ b.limits
+    → channel_of (channel_in server) ≡ b.channel → Serves b server b.first []
 serves_first b server stands limits_are channel_is = record { told = []; stands = stands; limits_are = limits_are; channel_is = channel_is }
 
 -- a server that waits for a client
-pub keeps_first : (b : Beginning) (server : Server) (limits : Limits) (channel : ℕ) (first : State) (moment : DateTime) → b ≡ record { limits = limits; channel = channel; first = first; moment = moment }
-    → ServerStands (channel_in server) [] [] first [] first → limits_of (channel_in server) ≡ limits → channel_of (channel_in server) ≡ channel → Keeps b server first moment [] [] 0 stage.Going
+pub keeps_first : (b : Beginning) (server : Server) (limits : Limits) (channel : ℕ) (first : State) (moment : DateTime)
+    → b ≡ record { limits = limits; channel = channel; first = first; moment = moment }
+    → ServerStands (channel_in server) [] [] first [] first → limits_of (channel_in server) ≡ limits → channel_of (channel_in server) ≡ channel
+    → Keeps b server first moment [] [] 0 stage.Going
 keeps_first b server limits channel first moment is stands limits_are channel_is =
     subst (λ (c : Beginning). Keeps c server first moment [] [] 0 stage.Going) (sym is)
-    (kept_as here server first moment [] (server_output here []) 0 stage.Going [] [] stage.Going (keeps_where here server first moment [] refl serves) refl (sym (said_none here)) refl)
+    (kept_as here server first moment [] (server_output here []) 0 stage.Going [] [] stage.Going (keeps_where here server first moment [] refl serves) refl
+    (sym (said_none here)) refl)
   where
     here : Beginning
     here = record { limits = limits; channel = channel; first = first; moment = moment }
@@ -265,7 +301,8 @@ keeps_first b server limits channel first moment is stands limits_are channel_is
     serves = serves_first here server stands limits_are channel_is
 
 -- the same, where what was said more has another name
-pub kept_more : (b : Beginning) (server : Server) (now : State) (moment : DateTime) (up down out : List ℕ) (read : ℕ) (s : Stage) (up' down' out' : List ℕ) (s' : Stage)
+pub kept_more : (b : Beginning) (server : Server) (now : State) (moment : DateTime) (up down out : List ℕ) (read : ℕ) (s : Stage) (up' down' out' : List ℕ)
+    (s' : Stage)
     → Keeps b server now moment up (down ++ out) read s → up' ≡ up → down' ≡ down ++ out' → out' ≡ out → s' ≡ s → Keeps b server now moment up' down' read s'
 kept_more b server now moment up down out read s up' down' out' s' k p q r t =
     kept_as b server now moment up (down ++ out) read s up' down' s' k p (q ∙ ap (λ (o : List ℕ). down ++ o) r) t

@@ -29,4 +29,9 @@ least = record {
 
 -- a server with nothing to serve, which is at the end of no transport
 abbrev pub no_server : Beginning
-no_server = record { limits = least; channel = 0; first = fresh [] (record { url = None; application_uri = None; name = None; message_limit = 0 }); moment = record { ticks = pos 0 } }
+no_server = record {
+  limits = least;
+  channel = 0;
+  first = fresh [] (record { url = None; application_uri = None; name = None; message_limit = 0 });
+  moment = record { ticks = pos 0 };
+}

@@ -22,10 +22,13 @@ pub data Course (moment : DateTime) (s : ClientPlace) : List (Option (List Reque
   Begun : Course moment s [] s [] []
   -- requests, in groups of 64, of which the last may have fewer, each call with its own reply, by
   -- the channel of a client
-  Asked : {x : ClientChannel} {turns : List (Option (List Request))} {m u : ClientPlace} {sent more taken : List ℕ} {replies added : List Reply} (t : Option (List Request)) (groups : List (List Request))
-      → Course moment s turns m sent replies → t ≡ Some (all_of groups) → AreGroups groups → Rounds x m groups u more taken added → Course moment s (turns ++ t ∷ []) u (sent ++ more) (replies ++ added)
+  Asked : {x : ClientChannel} {turns : List (Option (List Request))} {m u : ClientPlace} {sent more taken : List ℕ} {replies added : List Reply}
+      (t : Option (List Request)) (groups : List (List Request))
+      → Course moment s turns m sent replies → t ≡ Some (all_of groups) → AreGroups groups → Rounds x m groups u more taken added
+      → Course moment s (turns ++ t ∷ []) u (sent ++ more) (replies ++ added)
   -- a renewal
-  Renewed : {turns : List (Option (List Request))} {m u : ClientPlace} {sent taken : List ℕ} {replies : List Reply} (t : Option (List Request)) (x : ClientChannel)
+  Renewed : {turns : List (Option (List Request))} {m u : ClientPlace} {sent taken : List ℕ} {replies : List Reply} (t : Option (List Request))
+      (x : ClientChannel)
       → Course moment s turns m sent replies → t ≡ None → IsRenewed x m u taken → Course moment s (turns ++ t ∷ []) u (sent ++ renewal_at m moment) replies
 
 -- what a client sends to open its connection
@@ -34,7 +37,8 @@ opening_octets limits url moment = hello_octets limits url ++ open_octets moment
 
 -- all of it, from the HEL to the CLO, and what it took: these bytes were sent and all of those were
 -- taken, by a client with these operations, whose replies are these
-pub record Converses (limits : Limits) (url : Option (List ℕ)) (moment : DateTime) (turns : List (Option (List Request))) (up down : List ℕ) (replies : List Reply) : Type 0 where
+pub record Converses (limits : Limits) (url : Option (List ℕ)) (moment : DateTime) (turns : List (Option (List Request))) (up down : List ℕ)
+    (replies : List Reply) : Type 0 where
   -- the state in which the channel was open
   pub x : ClientChannel
   pub opened : ClientPlace
@@ -51,7 +55,8 @@ pub record Converses (limits : Limits) (url : Option (List ℕ)) (moment : DateT
 
 -- a client that did these operations over a transport: its state, what went over the transport, and
 -- the replies
-pub record Stays (moment : DateTime) (opening : List ℕ) (opened : ClientPlace) (turns : List (Option (List Request))) (x : Connection) (before now : Option Traffic) (replies : List Reply) : Type 0 where
+pub record Stays (moment : DateTime) (opening : List ℕ) (opened : ClientPlace) (turns : List (Option (List Request))) (x : Connection)
+    (before now : Option Traffic) (replies : List Reply) : Type 0 where
   pub site : ClientPlace
   pub at : StandsAt (channel_of x) site
   pub sent : List ℕ

@@ -80,7 +80,8 @@ pub record DoneBefore (turns : List (Option (List Request))) (place : ℕ) (done
 -- a client with these limits, at a server that began in this way, did the operations before the one
 -- at this place, which is refused: what it sent, the replies, and the state that it left are those
 -- of what was done, and of no more
-pub record BehindRefused (b : Beginning) (limits : Limits) (url : Option (List ℕ)) (moment : DateTime) (turns : List (Option (List Request))) (place : ℕ) (up : List ℕ) (replies : List Reply) : Type 0 where
+pub record BehindRefused (b : Beginning) (limits : Limits) (url : Option (List ℕ)) (moment : DateTime) (turns : List (Option (List Request))) (place : ℕ)
+    (up : List ℕ) (replies : List Reply) : Type 0 where
   pub done : List (Option (List Request))
   pub done_is : DoneBefore turns place done
   pub sent : up ≡ opening_octets limits url moment ++ turns_octets (acknowledged b.limits limits url) b.channel moment 1 2 2 done

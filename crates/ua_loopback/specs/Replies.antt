@@ -42,13 +42,15 @@ state_behind s moment (m ∷ ms) = state_behind (answer s moment m).0 moment ms
 -- that answers it, though it can be encoded
 abbrev pub HaveMisanswer : State → DateTime → List Request → Type 0
 HaveMisanswer s moment [] = ⊥
-HaveMisanswer s moment (m ∷ ms) = (IsTrue (request.encodable m) × IsNoAnswer (kind_of m) (response.canonical (answer s moment m).1)) ⊎ HaveMisanswer (answer s moment m).0 moment ms
+HaveMisanswer s moment (m ∷ ms) = (IsTrue (request.encodable m) × IsNoAnswer (kind_of m) (response.canonical (answer s moment m).1))
+    ⊎ HaveMisanswer (answer s moment m).0 moment ms
 
 -- the replies to requests, that go back in this lane
 abbrev pub requests_replies : Lane → State → DateTime → List Request → List (Option Reply)
 requests_replies back s moment [] = []
 requests_replies back s moment (m ∷ ms) =
-    reply_unless (cut_refusal back (response.canonical (answer s moment m).1)) (response.canonical (answer s moment m).1) ∷ requests_replies back (answer s moment m).0 moment ms
+    reply_unless (cut_refusal back (response.canonical (answer s moment m).1)) (response.canonical (answer s moment m).1) ∷ requests_replies back
+    (answer s moment m).0 moment ms
 
 -- of one operation; a renewal has none, and leaves the state unchanged
 abbrev pub turn_replies : Lane → State → DateTime → Option (List Request) → List (Option Reply)

@@ -48,11 +48,13 @@ turns_number a channel token number (t ∷ turns) = turns_number a channel (toke
 
 -- the CLO after operations (OPC 10000-6, 7.1.4)
 abbrev pub closing_behind : Ack → ℕ → DateTime → List (Option (List Request)) → List ℕ
-closing_behind a channel moment turns = closing_by (Some (call_lane a channel (tokens_behind 1 turns))) (turns_number a channel 1 2 turns) (ids_behind 2 turns) moment
+closing_behind a channel moment turns = closing_by (Some (call_lane a channel (tokens_behind 1 turns))) (turns_number a channel 1 2 turns)
+    (ids_behind 2 turns) moment
 
 -- what a client with these limits sends to a server with those, on this channel: the HEL and the
 -- OPN, the operations, and the CLO; the first OPN has the SequenceNumber 1 and the RequestId 1, and
 -- brings the token 1
 abbrev pub conversation_octets : Limits → Limits → Option (List ℕ) → ℕ → DateTime → List (Option (List Request)) → List ℕ
 conversation_octets server client url channel moment turns =
-    opening_octets client url moment ++ (turns_octets (acknowledged server client url) channel moment 1 2 2 turns ++ closing_behind (acknowledged server client url) channel moment turns)
+    opening_octets client url moment
+    ++ (turns_octets (acknowledged server client url) channel moment 1 2 2 turns ++ closing_behind (acknowledged server client url) channel moment turns)

@@ -104,11 +104,13 @@ state_in t = turns_state t.server.first t.server.moment t.turns
 -- the bytes of one more operation, made at this time: its requests under the newest token and the
 -- next RequestIds, or the OPN of a renewal
 abbrev pub octets_of : SoFar → DateTime → Option (List Request) → List ℕ
-octets_of t moment turn = turn_octets (call_lane (acked_in t) t.server.channel (newest_in t)) (turns_number (acked_in t) t.server.channel 1 2 t.turns) (id_in t) moment turn
+octets_of t moment turn = turn_octets (call_lane (acked_in t) t.server.channel (newest_in t)) (turns_number (acked_in t) t.server.channel 1 2 t.turns)
+    (id_in t) moment turn
 
 -- with one more operation, made at this time
 abbrev pub with_turn : SoFar → DateTime → Option (List Request) → SoFar
-with_turn t moment turn = record { server = t.server; limits = t.limits; url = t.url; turns = t.turns ++ turn ∷ []; octets = t.octets ++ octets_of t moment turn }
+with_turn t moment turn =
+    record { server = t.server; limits = t.limits; url = t.url; turns = t.turns ++ turn ∷ []; octets = t.octets ++ octets_of t moment turn }
 
 -- the requests that begin a session to which the server gave this token, sent at this time by the
 -- token policy with this PolicyId: the RequestHandle of each is its RequestId (OPC 10000-4, 5.7.2
@@ -118,7 +120,8 @@ session_requests t policy_id token moment = create_session t.url moment (id_in t
 
 -- the first of them, or both
 abbrev pub AreSession : SoFar → Option (List ℕ) → DateTime → List Request → Type 0
-AreSession t policy_id moment requests = (requests ≡ create_session t.url moment (id_in t) ∷ []) ⊎ ((token : NodeId) × (requests ≡ session_requests t policy_id token moment))
+AreSession t policy_id moment requests = (requests ≡ create_session t.url moment (id_in t) ∷ [])
+    ⊎ ((token : NodeId) × (requests ≡ session_requests t policy_id token moment))
 
 -- by the server's reply to the last of these the service failed, with this code
 pub record RefusesSession (t : SoFar) (policy_id : Option (List ℕ)) (moment : DateTime) (code : StatusCode) : Type 0 where
@@ -126,7 +129,8 @@ pub record RefusesSession (t : SoFar) (policy_id : Option (List ℕ)) (moment : 
   pub are : AreSession t policy_id moment requests
   pub before : List Reply
   pub last : Reply
-  pub replied : map (λ (r : Reply). Some r) (before ++ last ∷ []) ≡ requests_replies (lane_back t.server t.limits t.url (newest_in t)) (state_in t) t.server.moment requests
+  pub replied : map (λ (r : Reply). Some r) (before ++ last ∷ []) ≡ requests_replies (lane_back t.server t.limits t.url (newest_in t))
+      (state_in t) t.server.moment requests
   pub failed : reply_failure last ≡ Some code
 
 -- the server's answer to one of these is no response that answers it
@@ -147,7 +151,8 @@ closed_octets t moment = t.octets ++ closing_behind (acked_in t) t.server.channe
 -- a client with these limits is in this state, a settled one: of these bytes, which told such a
 -- server this, it took all that the server sends, and both are in step; this is the newest token,
 -- this the next RequestId, and it holds this many tokens
-pub record IsServed (b : Beginning) (limits : Limits) (url : Option (List ℕ)) (octets : List ℕ) (told : List Told) (token id held : ℕ) (site : ClientPlace) (x : ClientChannel) : Type 0 where
+pub record IsServed (b : Beginning) (limits : Limits) (url : Option (List ℕ)) (octets : List ℕ) (told : List Told) (token id held : ℕ) (site : ClientPlace)
+    (x : ClientChannel) : Type 0 where
   pub limits_are : client_limits x ≡ limits
   pub on : b.channel < 2 ^ 32
   pub settled : IsSettled site
@@ -161,7 +166,8 @@ pub record IsServed (b : Beginning) (limits : Limits) (url : Option (List ℕ)) 
   pub held_is : length at_client.tokens ≡ held
 
 -- the same for a client over a transport to such a server, which sent exactly these bytes
-pub record AreTalking (b : Beginning) (limits : Limits) (url : Option (List ℕ)) (octets : List ℕ) (told : List Told) (token id held : ℕ) (site : ClientPlace) (x : Connection) (now : Option Traffic) : Type 0 where
+pub record AreTalking (b : Beginning) (limits : Limits) (url : Option (List ℕ)) (octets : List ℕ) (told : List Told) (token id held : ℕ) (site : ClientPlace)
+    (x : Connection) (now : Option Traffic) : Type 0 where
   pub got : List ℕ
   pub line : IsLineTo b octets got now
   pub got_is : got ≡ site.octets ++ untaken_of x

@@ -25,7 +25,8 @@ use Rattle.ua_loopback.specs.Says.{server_output, times_of_answers}
 -- a server with these limits on this channel decoded these bytes, which told it this, and has this
 -- state; a client has the state after what the server sent; both are in step, and the client's next
 -- number is the one that the server expects
-pub record AreTogether (limits : Limits) (url : Option (List ℕ)) (channel : ℕ) (octets : List ℕ) (told : List Told) (s : AtServer) (x : ClientChannel) (site : ClientPlace) (c : AtClient) : Type 0 where
+pub record AreTogether (limits : Limits) (url : Option (List ℕ)) (channel : ℕ) (octets : List ℕ) (told : List Told) (s : AtServer) (x : ClientChannel)
+    (site : ClientPlace) (c : AtClient) : Type 0 where
   pub server_reads : ServerReads limits channel octets told s
   pub stands : StandsAt x site
   pub client_reads : ClientReads (client_limits x) site.asks site.octets site.told c
@@ -35,7 +36,8 @@ pub record AreTogether (limits : Limits) (url : Option (List ℕ)) (channel : �
 -- the same in one process: the client took all that a server which began in this way sends for
 -- these bytes, and what the server sends next follows the agreement, under the number that the
 -- client expects
-pub record AreServing (b : Beginning) (url : Option (List ℕ)) (octets : List ℕ) (told : List Told) (s : AtServer) (x : ClientChannel) (site : ClientPlace) (c : AtClient) : Type 0 where
+pub record AreServing (b : Beginning) (url : Option (List ℕ)) (octets : List ℕ) (told : List Told) (s : AtServer) (x : ClientChannel) (site : ClientPlace)
+    (c : AtClient) : Type 0 where
   pub together : AreTogether b.limits url b.channel octets told s x site c
   pub taken : site.octets ≡ server_output b octets
   pub agreed : (state_after b.channel b.first told (times_of_answers told b.moment)).agreement ≡ Some (agreement_of b.limits s.hello)

@@ -1,6 +1,7 @@
 //! A client and a server that converse.
 
-ghost use Rattle.std.specs.Prelude.{◌≡◌, ◌<◌, ◌≤◌, ◌∷◌, ◌++◌, [], ℕ, List, Option, Some, IsTrue, IfErr, IfOk, OnOk, length, map};
+ghost use Rattle.std.specs.Prelude.{◌≡◌, ◌<◌, ◌≤◌, ◌∷◌, ◌++◌, [], ℕ, List, Option};
+ghost use Rattle.std.specs.Prelude.{Some, IsTrue, IfErr, IfOk, OnOk, length, map};
 ghost use Rattle.ua_wire.specs.Counted.{text};
 ghost use Rattle.ua_frame.specs.Agreement.{url_length};
 ghost use Rattle.ua_frame.specs.declared.limits.Limits.{Limits};
@@ -22,7 +23,8 @@ ghost use Rattle.ua_loopback.specs.Turns.{conversation_told};
 ghost use Rattle.ua_loopback.specs.declared.stage.Stage.TheVariants.{Ended};
 ghost use Rattle.ua_services.specs.declared.request.Request.{Request};
 ghost use Rattle.ua_loopback.specs.Talking.{IsLineTo, StopsOver};
-ghost use Rattle.ua_loopback.specs.inside.Talking.{CanOpen, HasMisanswer, HaveMisanswers, StaysBefore, StaysBehind, StaysTalking, Talked, Went, WentBefore, fault_at, outcome_at};
+ghost use Rattle.ua_loopback.specs.inside.Talking.{CanOpen, HasMisanswer, HaveMisanswers, StaysBefore, StaysBehind};
+ghost use Rattle.ua_loopback.specs.inside.Talking.{StaysTalking, Talked, Went, WentBefore, fault_at, outcome_at};
 
 use crate::operation::AsOperation;
 use crate::served_line::{Began, ServedLine};
@@ -66,11 +68,16 @@ fn begin<L: Line>(
     moment: DateTime,
 ) -> Result<Client, ClientFault>
     requires { IsTrue (text.encodable url) }
-    ensures went { IfOk result (λ client. (b : Beginning) → CanOpen b limits url moment → IsLineTo b [] [] (L.traffic line.old) → Went b limits url moment (connection_of client) (L.traffic line.old) (L.traffic line.new)) }
+    ensures went { IfOk result (λ client. (b : Beginning) → CanOpen b limits url moment
+        → IsLineTo b [] [] (L.traffic line.old) → Went b limits url moment (connection_of client) (L.traffic line.old)
+        (L.traffic line.new)) }
     ensures ready { IfOk result (λ client. IsReady client) }
     ensures faults { IfErr result (λ fault. IsTurnFault fault → ⊥) }
-    ensures fails { IfErr result (λ fault. (b : Beginning) → CanOpen b limits url moment → IsLineTo b [] [] (L.traffic line.old) → url_length url ≤ 4095 → IsOutside fault) }
-    ensures stops { IfErr result (λ fault. (b : Beginning) → CanOpen b limits url moment → IsLineTo b [] [] (L.traffic line.old) → url_length url ≤ 4095 → StopsOver fault b [] (L.traffic line.old) (L.traffic line.new)) }
+    ensures fails { IfErr result (λ fault. (b : Beginning) → CanOpen b limits url moment
+        → IsLineTo b [] [] (L.traffic line.old) → url_length url ≤ 4095 → IsOutside fault) }
+    ensures stops { IfErr result (λ fault. (b : Beginning) → CanOpen b limits url moment
+        → IsLineTo b [] [] (L.traffic line.old) → url_length url ≤ 4095
+        → StopsOver fault b [] (L.traffic line.old) (L.traffic line.new)) }
     ensures failed { L.failures line.new ≡ failures_behind (L.failures line.old) result }
 {
     clients_are_settled();
@@ -89,17 +96,38 @@ fn take_turn<T: AsOperation, L: Line>(
     replies: &mut Vec<Reply>,
 ) -> Result<(), ClientFault>
     requires { IsReady client.old }
-    ensures stays { OnOk result ((b : Beginning) (limits : Limits) (url : Option (List ℕ)) (opened : ClientPlace) (turns : List (Option (List Request))) (first : Option Traffic) → StaysTalking b limits url moment opened turns (connection_of client.old) first (L.traffic line.old) replies.old.items
-        → StaysTalking b limits url moment opened (turns ++ T.turn turn.now ∷ []) (connection_of client.new) first (L.traffic line.new) replies.new.items) }
-    ensures refused { IfErr result (λ fault. IsTurnFault fault → (b : Beginning) (limits : Limits) (url : Option (List ℕ)) (opened : ClientPlace) (turns : List (Option (List Request))) (first : Option Traffic) → StaysTalking b limits url moment opened turns (connection_of client.old) first (L.traffic line.old) replies.old.items
+    ensures stays { OnOk result ((b : Beginning) (limits : Limits) (url : Option (List ℕ)) (opened : ClientPlace)
+        (turns : List (Option (List Request))) (first : Option Traffic)
+        → StaysTalking b limits url moment opened turns (connection_of client.old) first (L.traffic line.old)
+        replies.old.items
+        → StaysTalking b limits url moment opened (turns ++ T.turn turn.now ∷ []) (connection_of client.new) first
+        (L.traffic line.new) replies.new.items) }
+    ensures refused { IfErr result (λ fault. IsTurnFault fault
+        → (b : Beginning) (limits : Limits) (url : Option (List ℕ)) (opened : ClientPlace)
+        (turns : List (Option (List Request))) (first : Option Traffic)
+        → StaysTalking b limits url moment opened turns (connection_of client.old) first (L.traffic line.old)
+        replies.old.items
         → turn_refusal (acknowledged b.limits limits url) turns (T.turn turn.now) ≡ Some fault) }
-    ensures fails { IfErr result (λ fault. (b : Beginning) (limits : Limits) (url : Option (List ℕ)) (opened : ClientPlace) (turns : List (Option (List Request))) (first : Option Traffic) → StaysTalking b limits url moment opened turns (connection_of client.old) first (L.traffic line.old) replies.old.items
+    ensures fails { IfErr result
+        (λ fault. (b : Beginning) (limits : Limits) (url : Option (List ℕ)) (opened : ClientPlace)
+        (turns : List (Option (List Request))) (first : Option Traffic)
+        → StaysTalking b limits url moment opened turns (connection_of client.old) first (L.traffic line.old)
+        replies.old.items
         → FailsBehind (HasMisanswer (turns_state b.first b.moment turns) b.moment (T.turn turn.now)) fault) }
-    ensures stops { IfErr result (λ fault. (b : Beginning) (limits : Limits) (url : Option (List ℕ)) (opened : ClientPlace) (turns : List (Option (List Request))) (first : Option Traffic) → StaysTalking b limits url moment opened turns (connection_of client.old) first (L.traffic line.old) replies.old.items
+    ensures stops { IfErr result
+        (λ fault. (b : Beginning) (limits : Limits) (url : Option (List ℕ)) (opened : ClientPlace)
+        (turns : List (Option (List Request))) (first : Option Traffic)
+        → StaysTalking b limits url moment opened turns (connection_of client.old) first (L.traffic line.old)
+        replies.old.items
         → StopsOver fault b [] first (L.traffic line.new)) }
     ensures failed { L.failures line.new ≡ failures_behind (L.failures line.old) result }
-    ensures before { IfErr result (λ fault. IsTurnFault fault → (b : Beginning) (limits : Limits) (url : Option (List ℕ)) (opened : ClientPlace) (turns : List (Option (List Request))) (first : Option Traffic) → StaysTalking b limits url moment opened turns (connection_of client.old) first (L.traffic line.old) replies.old.items
-        → StaysBehind b limits url moment opened turns (T.turn turn.now) (connection_of client.new) first (L.traffic line.new) replies.new.items) }
+    ensures before { IfErr result (λ fault. IsTurnFault fault
+        → (b : Beginning) (limits : Limits) (url : Option (List ℕ)) (opened : ClientPlace)
+        (turns : List (Option (List Request))) (first : Option Traffic)
+        → StaysTalking b limits url moment opened turns (connection_of client.old) first (L.traffic line.old)
+        replies.old.items
+        → StaysBehind b limits url moment opened turns (T.turn turn.now) (connection_of client.new) first
+        (L.traffic line.new) replies.new.items) }
     ensures ready { OnOk result (IsReady client.new) }
 {
     clients_are_settled();
@@ -126,18 +154,34 @@ fn take_turns<T: AsOperation, L: Line>(
 ) -> Result<(), ClientFault>
     requires ready { IsReady client.old }
     requires none { taken.old ≡ 0 }
-    ensures stays { OnOk result ((b : Beginning) (limits : Limits) (url : Option (List ℕ)) (opened : ClientPlace) (first : Option Traffic) → StaysTalking b limits url moment opened [] (connection_of client.old) first (L.traffic line.old) replies.old.items
-        → StaysTalking b limits url moment opened (map T.turn turns.now) (connection_of client.new) first (L.traffic line.new) replies.new.items) }
+    ensures stays { OnOk result ((b : Beginning) (limits : Limits) (url : Option (List ℕ)) (opened : ClientPlace)
+        (first : Option Traffic) → StaysTalking b limits url moment opened [] (connection_of client.old) first
+        (L.traffic line.old) replies.old.items
+        → StaysTalking b limits url moment opened (map T.turn turns.now) (connection_of client.new) first
+        (L.traffic line.new) replies.new.items) }
     ensures taken { OnOk result (taken.new ≡ length turns.now) }
-    ensures refused { IfErr result (λ fault. IsTurnFault fault → (b : Beginning) (limits : Limits) (url : Option (List ℕ)) (opened : ClientPlace) (first : Option Traffic) → StaysTalking b limits url moment opened [] (connection_of client.old) first (L.traffic line.old) replies.old.items
+    ensures refused { IfErr result (λ fault. IsTurnFault fault
+        → (b : Beginning) (limits : Limits) (url : Option (List ℕ)) (opened : ClientPlace) (first : Option Traffic)
+        → StaysTalking b limits url moment opened [] (connection_of client.old) first (L.traffic line.old)
+        replies.old.items
         → FirstRefused (acknowledged b.limits limits url) (map T.turn turns.now) taken.new fault) }
-    ensures fails { IfErr result (λ fault. (b : Beginning) (limits : Limits) (url : Option (List ℕ)) (opened : ClientPlace) (first : Option Traffic) → StaysTalking b limits url moment opened [] (connection_of client.old) first (L.traffic line.old) replies.old.items
+    ensures fails { IfErr result
+        (λ fault. (b : Beginning) (limits : Limits) (url : Option (List ℕ)) (opened : ClientPlace)
+        (first : Option Traffic) → StaysTalking b limits url moment opened [] (connection_of client.old) first
+        (L.traffic line.old) replies.old.items
         → FailsBehind (HaveMisanswers b.first b.moment (map T.turn turns.now)) fault) }
-    ensures stops { IfErr result (λ fault. (b : Beginning) (limits : Limits) (url : Option (List ℕ)) (opened : ClientPlace) (first : Option Traffic) → StaysTalking b limits url moment opened [] (connection_of client.old) first (L.traffic line.old) replies.old.items
+    ensures stops { IfErr result
+        (λ fault. (b : Beginning) (limits : Limits) (url : Option (List ℕ)) (opened : ClientPlace)
+        (first : Option Traffic) → StaysTalking b limits url moment opened [] (connection_of client.old) first
+        (L.traffic line.old) replies.old.items
         → StopsOver fault b [] first (L.traffic line.new)) }
     ensures failed { L.failures line.new ≡ failures_behind (L.failures line.old) result }
-    ensures before { IfErr result (λ fault. IsTurnFault fault → (b : Beginning) (limits : Limits) (url : Option (List ℕ)) (opened : ClientPlace) (first : Option Traffic) → StaysTalking b limits url moment opened [] (connection_of client.old) first (L.traffic line.old) replies.old.items
-        → StaysBefore b limits url moment opened (map T.turn turns.now) taken.new (connection_of client.new) first (L.traffic line.new) replies.new.items) }
+    ensures before { IfErr result (λ fault. IsTurnFault fault
+        → (b : Beginning) (limits : Limits) (url : Option (List ℕ)) (opened : ClientPlace) (first : Option Traffic)
+        → StaysTalking b limits url moment opened [] (connection_of client.old) first (L.traffic line.old)
+        replies.old.items
+        → StaysBefore b limits url moment opened (map T.turn turns.now) taken.new (connection_of client.new) first
+        (L.traffic line.new) replies.new.items) }
     ensures ready { OnOk result (IsReady client.new) }
 {
     for turn in turns {
@@ -164,13 +208,23 @@ fn talk<T: AsOperation, L: Line>(
     requires url { IsTrue (text.encodable url) }
     requires none { replies.old.items ≡ [] }
     requires first { taken.old ≡ 0 }
-    ensures talked { OnOk result ((b : Beginning) → CanOpen b limits url moment → IsLineTo b [] [] (L.traffic line.old) → Talked b limits url moment (map T.turn turns.now) (L.traffic line.old) (L.traffic line.new) replies.new.items) }
+    ensures talked { OnOk result ((b : Beginning) → CanOpen b limits url moment → IsLineTo b [] [] (L.traffic line.old)
+        → Talked b limits url moment (map T.turn turns.now) (L.traffic line.old) (L.traffic line.new)
+        replies.new.items) }
     ensures taken { OnOk result (taken.new ≡ length turns.now) }
-    ensures refused { IfErr result (λ fault. IsTurnFault fault → (b : Beginning) → CanOpen b limits url moment → IsLineTo b [] [] (L.traffic line.old) → FirstRefused (acknowledged b.limits limits url) (map T.turn turns.now) taken.new fault) }
-    ensures fails { IfErr result (λ fault. (b : Beginning) → CanOpen b limits url moment → IsLineTo b [] [] (L.traffic line.old) → url_length url ≤ 4095 → FailsBehind (HaveMisanswers b.first b.moment (map T.turn turns.now)) fault) }
-    ensures stops { IfErr result (λ fault. (b : Beginning) → CanOpen b limits url moment → IsLineTo b [] [] (L.traffic line.old) → url_length url ≤ 4095 → StopsOver fault b [] (L.traffic line.old) (L.traffic line.new)) }
+    ensures refused { IfErr result (λ fault. IsTurnFault fault → (b : Beginning) → CanOpen b limits url moment
+        → IsLineTo b [] [] (L.traffic line.old)
+        → FirstRefused (acknowledged b.limits limits url) (map T.turn turns.now) taken.new fault) }
+    ensures fails { IfErr result (λ fault. (b : Beginning) → CanOpen b limits url moment
+        → IsLineTo b [] [] (L.traffic line.old) → url_length url ≤ 4095
+        → FailsBehind (HaveMisanswers b.first b.moment (map T.turn turns.now)) fault) }
+    ensures stops { IfErr result (λ fault. (b : Beginning) → CanOpen b limits url moment
+        → IsLineTo b [] [] (L.traffic line.old) → url_length url ≤ 4095
+        → StopsOver fault b [] (L.traffic line.old) (L.traffic line.new)) }
     ensures failed { L.failures line.new ≡ failures_behind (L.failures line.old) result }
-    ensures before { IfErr result (λ fault. IsTurnFault fault → (b : Beginning) → CanOpen b limits url moment → IsLineTo b [] [] (L.traffic line.old) → WentBefore b limits url moment (map T.turn turns.now) taken.new (L.traffic line.old) (L.traffic line.new) replies.new.items) }
+    ensures before { IfErr result (λ fault. IsTurnFault fault → (b : Beginning) → CanOpen b limits url moment
+        → IsLineTo b [] [] (L.traffic line.old) → WentBefore b limits url moment (map T.turn turns.now) taken.new
+        (L.traffic line.old) (L.traffic line.new) replies.new.items) }
 {
     let mut client = match begin(alloc, line, limits, url, moment) {
         Ok(client) => client,
@@ -237,18 +291,27 @@ fn converse_with<T: AsOperation, W: Began>(
     ensures down { result.down.items ≡ server_output W.beginning result.up.items }
     ensures services { LeavesAt result.stage W.beginning result.up.items result.services }
     ensures ends { EndsAt result.stage W.beginning result.up.items }
-    ensures converses { OnOk result.outcome (Converses limits url moment (map T.turn turns.now) result.up.items result.down.items result.replies.items) }
-    ensures heard { OnOk result.outcome (ServerCloses limits channel_id result.up.items (conversation_told limits limits url (map T.turn turns.now))) }
+    ensures converses { OnOk result.outcome
+        (Converses limits url moment (map T.turn turns.now) result.up.items result.down.items result.replies.items) }
+    ensures heard { OnOk result.outcome
+        (ServerCloses limits channel_id result.up.items (conversation_told limits limits url (map T.turn turns.now))) }
     ensures closed { OnOk result.outcome (result.stage ≡ Ended Closed) }
     ensures left { OnOk result.outcome (result.services ≡ services_after W.beginning result.up.items) }
-    ensures sent { OnOk result.outcome (result.up.items ≡ conversation_octets limits limits url channel_id moment (map T.turn turns.now)) }
-    ensures replied { OnOk result.outcome (map Some result.replies.items ≡ turns_replies (record { limits = limits; channel = channel_id; first = services; moment = moment }) limits url services 1 (map T.turn turns.now)) }
+    ensures sent { OnOk result.outcome (result.up.items ≡ conversation_octets limits limits url channel_id moment
+        (map T.turn turns.now)) }
+    ensures replied { OnOk result.outcome
+        (map Some result.replies.items
+        ≡ turns_replies (record { limits = limits; channel = channel_id; first = services; moment = moment }) limits url
+        services 1 (map T.turn turns.now)) }
     ensures state { OnOk result.outcome (result.services ≡ turns_state services moment (map T.turn turns.now)) }
     ensures accepted { OnOk result.outcome (AreAccepted (acknowledged limits limits url) (map T.turn turns.now)) }
     ensures taken { OnOk result.outcome (result.taken ≡ length turns.now) }
-    ensures refused { IfErr result.outcome (λ fault. IsTurnFault fault → FirstRefused (acknowledged limits limits url) (map T.turn turns.now) result.taken fault) }
+    ensures refused { IfErr result.outcome (λ fault. IsTurnFault fault
+        → FirstRefused (acknowledged limits limits url) (map T.turn turns.now) result.taken fault) }
     ensures fails { IfErr result.outcome (λ fault. url_length url ≤ 4095 → FailsAt result.stage fault) }
-    ensures before { IfErr result.outcome (λ fault. IsTurnFault fault → BehindRefused (record { limits = limits; channel = channel_id; first = services; moment = moment }) limits url moment (map T.turn turns.now) result.taken result.up.items result.replies.items) }
+    ensures before { IfErr result.outcome (λ fault. IsTurnFault fault
+        → BehindRefused (record { limits = limits; channel = channel_id; first = services; moment = moment }) limits url
+        moment (map T.turn turns.now) result.taken result.up.items result.replies.items) }
 {
     services_are_sound(&services);
     let mut line: ServedLine<W> = ServedLine::new(
@@ -304,35 +367,52 @@ pub fn converse<T: AsOperation>(
 
     // The server's bytes are its output for the client's bytes, and the services are as these leave
     // them.
-    ensures down { result.down.items ≡ server_output (record { limits = limits; channel = channel_id; first = services; moment = moment }) result.up.items }
+    ensures down { result.down.items
+        ≡ server_output (record { limits = limits; channel = channel_id; first = services; moment = moment })
+        result.up.items }
     // The stage tells how the connection ends there.
-    ensures services { LeavesAt result.stage (record { limits = limits; channel = channel_id; first = services; moment = moment }) result.up.items result.services }
-    ensures ends { EndsAt result.stage (record { limits = limits; channel = channel_id; first = services; moment = moment }) result.up.items }
+    ensures services { LeavesAt result.stage
+        (record { limits = limits; channel = channel_id; first = services; moment = moment }) result.up.items
+        result.services }
+    ensures ends { EndsAt result.stage
+        (record { limits = limits; channel = channel_id; first = services; moment = moment }) result.up.items }
 
     // The client sent just its operations and took all of the server's output, and each request has
     // its own reply.
-    ensures converses { OnOk result.outcome (Converses limits url moment (map T.turn turns.now) result.up.items result.down.items result.replies.items) }
+    ensures converses { OnOk result.outcome
+        (Converses limits url moment (map T.turn turns.now) result.up.items result.down.items result.replies.items) }
 
     // The server refused none of it. Its events are just these operations: each request once, in
     // order, under its own RequestId, and the next token at each renewal. The CLO closed the
     // channel, and the services are as all of that leaves them.
-    ensures heard { OnOk result.outcome (ServerCloses limits channel_id result.up.items (conversation_told limits limits url (map T.turn turns.now))) }
+    ensures heard { OnOk result.outcome
+        (ServerCloses limits channel_id result.up.items (conversation_told limits limits url (map T.turn turns.now))) }
     ensures closed { OnOk result.outcome (result.stage ≡ Ended Closed) }
-    ensures left { OnOk result.outcome (result.services ≡ services_after (record { limits = limits; channel = channel_id; first = services; moment = moment }) result.up.items) }
+    ensures left { OnOk result.outcome
+        (result.services
+        ≡ services_after (record { limits = limits; channel = channel_id; first = services; moment = moment })
+        result.up.items) }
 
     // The client's bytes, the replies and the services are functions of the operations.
-    ensures sent { OnOk result.outcome (result.up.items ≡ conversation_octets limits limits url channel_id moment (map T.turn turns.now)) }
-    ensures replied { OnOk result.outcome (map Some result.replies.items ≡ turns_replies (record { limits = limits; channel = channel_id; first = services; moment = moment }) limits url services 1 (map T.turn turns.now)) }
+    ensures sent { OnOk result.outcome (result.up.items ≡ conversation_octets limits limits url channel_id moment
+        (map T.turn turns.now)) }
+    ensures replied { OnOk result.outcome
+        (map Some result.replies.items
+        ≡ turns_replies (record { limits = limits; channel = channel_id; first = services; moment = moment }) limits url
+        services 1 (map T.turn turns.now)) }
     ensures state { OnOk result.outcome (result.services ≡ turns_state services moment (map T.turn turns.now)) }
 
     // Each operation was accepted; or the client stopped before the first that is not, and its
     // fault is the first error against it.
     ensures accepted { OnOk result.outcome (AreAccepted (acknowledged limits limits url) (map T.turn turns.now)) }
     ensures taken { OnOk result.outcome (result.taken ≡ length turns.now) }
-    ensures refused { IfErr result.outcome (λ fault. IsTurnFault fault → FirstRefused (acknowledged limits limits url) (map T.turn turns.now) result.taken fault) }
+    ensures refused { IfErr result.outcome (λ fault. IsTurnFault fault
+        → FirstRefused (acknowledged limits limits url) (map T.turn turns.now) result.taken fault) }
     // Then the bytes sent, the replies and the state are those of the requests and renewals before
     // it, and of no more.
-    ensures before { IfErr result.outcome (λ fault. IsTurnFault fault → BehindRefused (record { limits = limits; channel = channel_id; first = services; moment = moment }) limits url moment (map T.turn turns.now) result.taken result.up.items result.replies.items) }
+    ensures before { IfErr result.outcome (λ fault. IsTurnFault fault
+        → BehindRefused (record { limits = limits; channel = channel_id; first = services; moment = moment }) limits url
+        moment (map T.turn turns.now) result.taken result.up.items result.replies.items) }
 
     // The client fails for an error against an operation, after which the connection goes on, or
     // for a failed allocation: its own, or the server's, whose transport is then broken. The server

@@ -82,9 +82,17 @@ impl<W: Began> Model for ServedLine<W> {
 
     ghost coded = { Prim.hlevel (codes, value.the_row.coded) };
 
-    ghost view = { λ l. record { up = l.up.items; down = l.down.items; read = l.read; services = l.services; stage = l.stage; failures = l.failures } };
+    ghost view = { λ l. record {
+      up = l.up.items;
+      down = l.down.items;
+      read = l.read;
+      services = l.services;
+      stage = l.stage;
+      failures = l.failures;
+    } };
 
-    ghost invariant = { λ l. Keeps W.beginning l.server l.services l.moment l.up.items l.down.items l.read l.stage × (0 < l.failures → IsOver l.stage) };
+    ghost invariant = { λ l. Keeps W.beginning l.server l.services l.moment l.up.items l.down.items l.read l.stage
+        × (0 < l.failures → IsOver l.stage) };
 }
 
 impl<W: Began> ServedLine<W> {
@@ -200,7 +208,8 @@ impl<W: Began> Line for ServedLine<W> {
     fn read(&mut self, buffer: &mut [u8]) -> Result<usize, LineFault>
         ensures within { IfOk result (λ n. n ≤ length buffer.new) }
         ensures failed { self.new.failures ≡ failures_after self.old.failures result }
-        ensures octets { HandsOut result buffer.new (traffic_of W.beginning self.old) (traffic_of W.beginning self.new) }
+        ensures octets { HandsOut result buffer.new (traffic_of W.beginning self.old)
+            (traffic_of W.beginning self.new) }
         ensures never { OnErr result ⊥ }
         ensures stage { self.new.stage ≡ self.old.stage }
     {
@@ -217,7 +226,8 @@ impl<W: Began> Line for ServedLine<W> {
         ensures within { IfOk result (λ n. n ≤ length octets.now) }
         ensures some { 0 < length octets.now → IfOk result (λ n. 0 < n) }
         ensures failed { self.new.failures ≡ failures_after self.old.failures result }
-        ensures octets { WriteTakes result octets.now (traffic_of W.beginning self.old) (traffic_of W.beginning self.new) }
+        ensures octets { WriteTakes result octets.now (traffic_of W.beginning self.old)
+            (traffic_of W.beginning self.new) }
         ensures stops { OnErr result (StopsWriting self.old.stage self.new.stage) }
     {
         if octets.is_empty() {

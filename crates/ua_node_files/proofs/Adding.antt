@@ -6,7 +6,8 @@ use Rattle.ua_nodes.specs.Table.{Nodes}
 use Rattle.ua_node_files.specs.Standard.{StandardLine, added_line, lacks}
 
 -- a part, and what a call adds behind it
-pub then_more : {E : Type 0} (r : Result (Unit {0}) E) (old a rest one new : List ℕ) → one ≡ old ++ a → OnOk r (new ≡ one ++ rest) → OnOk r (new ≡ old ++ (a ++ rest))
+pub then_more : {E : Type 0} (r : Result (Unit {0}) E) (old a rest one new : List ℕ) → one ≡ old ++ a → OnOk r (new ≡ one ++ rest)
+    → OnOk r (new ≡ old ++ (a ++ rest))
 then_more (Ok x) old a rest one new h k = k ∙ ap (λ (t : List ℕ). t ++ rest) h ∙ append_assoc old a rest
 then_more (Err e) old a rest one new h k = tt
 
@@ -25,6 +26,8 @@ pub lacking : (nodes : Nodes) (line : StandardLine) → lacks nodes line.number 
 lacking nodes line e = sym (ap (λ (t : Bool). cond t (10 ∷ line.text) []) e)
 
 -- two runs of lines behind a text
-pub both_added : (f : StandardLine → List ℕ) (xs ys : List StandardLine) (text one two : List ℕ) → one ≡ text ++ flat_map f xs → two ≡ one ++ flat_map f ys → two ≡ text ++ flat_map f (xs ++ ys)
+pub both_added : (f : StandardLine → List ℕ) (xs ys : List StandardLine) (text one two : List ℕ) → one ≡ text ++ flat_map f xs → two ≡ one ++ flat_map f ys
+    → two ≡ text ++ flat_map f (xs ++ ys)
 both_added f xs ys text one two h k =
-    k ∙ ap (λ (t : List ℕ). t ++ flat_map f ys) h ∙ append_assoc text (flat_map f xs) (flat_map f ys) ∙ ap (λ (t : List ℕ). text ++ t) (sym (flat_map-append f xs ys))
+    k ∙ ap (λ (t : List ℕ). t ++ flat_map f ys) h ∙ append_assoc text (flat_map f xs) (flat_map f ys)
+    ∙ ap (λ (t : List ℕ). text ++ t) (sym (flat_map-append f xs ys))

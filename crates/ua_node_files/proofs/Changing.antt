@@ -1,5 +1,6 @@
 -- The lines of a text that write nodes, and the nodes of those that are new, one at a time.
-use Rattle.std.proofs.Common.{◌≡◌, ℕ, suc, ◌+◌, ◌<◌, ◌≤◌, Bool, true, false, List, [], ◌∷◌, ◌++◌, length, filter, map, cond, take, drop, get_or, Option, Some, None, refl, sym, ◌∙◌, ap, subst, arith, append_assoc, append-nil, zero, ◌||◌, Ordering, Result, Ok, Err, IfOk}
+use Rattle.std.proofs.Common.{◌≡◌, ℕ, suc, ◌+◌, ◌<◌, ◌≤◌, Bool, true, false, List, [], ◌∷◌, ◌++◌, length, filter, map, cond, take, drop, get_or, Option}
+use Rattle.std.proofs.Common.{Some, None, refl, sym, ◌∙◌, ap, subst, arith, append_assoc, append-nil, zero, ◌||◌, Ordering, Result, Ok, Err, IfOk}
 use Rattle.std.specs.BTreeSet.{BTreeSet, IsFromIterResult, contains_by}
 use Rattle.std.specs.Cmp.Lexicographic.{slice_cmp}
 use Rattle.std.specs.List.{list_any, slice_get}
@@ -29,13 +30,15 @@ use denote.Ref.{Bor}
 abbrev pub written_to : List ℕ → ℕ → List (List ℕ)
 written_to text n = filter is_read (take n (lines_of text))
 
-line_more : (text : List ℕ) (k : ℕ) (x line : List ℕ) → IsPiece text k x → line ≡ strip_carriage_return x → written_to text (k + 1) ≡ written_to text k ++ filter is_read (line ∷ [])
+line_more : (text : List ℕ) (k : ℕ) (x line : List ℕ) → IsPiece text k x → line ≡ strip_carriage_return x
+    → written_to text (k + 1) ≡ written_to text k ++ filter is_read (line ∷ [])
 line_more text k x line h same =
     ap (filter is_read) (lines_more (pieces 10 text) k x h.0 h.1 ∙ ap (λ (t : List ℕ). take k (lines_of text) ++ t ∷ []) (sym same))
     ∙ filter-append is_read (take k (lines_of text)) (line ∷ [])
 
 -- a line more
-pub turn_read : (text : List ℕ) (k : ℕ) (x line : List ℕ) (lines after : List (List ℕ)) → IsPiece text k x → lines ≡ written_to text k → line ≡ strip_carriage_return x
+pub turn_read : (text : List ℕ) (k : ℕ) (x line : List ℕ) (lines after : List (List ℕ)) → IsPiece text k x → lines ≡ written_to text k
+    → line ≡ strip_carriage_return x
     → after ≡ lines ++ filter is_read (line ∷ []) → after ≡ written_to text (k + 1)
 turn_read text k x line lines after h w same more =
     more ∙ ap (λ (t : List (List ℕ)). t ++ filter is_read (line ∷ [])) w ∙ sym (line_more text k x line h same)
@@ -61,7 +64,8 @@ turns_kept text k lines e w =
 -- ---- a set of lines
 
 -- two texts are one, as texts that are borrowed
-pub among_borrowed : (lines : List (Bor (List ℕ))) (line : List ℕ) → list_any (λ (k : Bor (List ℕ)). is_eq (slice_cmp nat_cmp line k.now)) lines ≡ is_among (map (λ (k : Bor (List ℕ)). k.now) lines) line
+pub among_borrowed : (lines : List (Bor (List ℕ))) (line : List ℕ) → list_any (λ (k : Bor (List ℕ)). is_eq (slice_cmp nat_cmp line k.now)) lines
+    ≡ is_among (map (λ (k : Bor (List ℕ)). k.now) lines) line
 among_borrowed [] line = refl
 among_borrowed (x ∷ xs) line =
     ap (λ (t : Bool). t || list_any (λ (k : Bor (List ℕ)). is_eq (slice_cmp nat_cmp line k.now)) xs) (is_eq-slice_cmp line x.now)
@@ -72,14 +76,16 @@ abbrev pub str_cmp : Bor (List ℕ) → Bor (List ℕ) → Ordering
 str_cmp x y = slice_cmp nat_cmp x.now y.now
 
 pub set_has : {E : Type 0} (r : Result (BTreeSet (Bor (List ℕ))) E) (lines : List (Bor (List ℕ))) → IfOk r (λ known. IsFromIterResult str_cmp lines known)
-    → IfOk r (λ known. (line : List ℕ) → contains_by (λ (k : Bor (List ℕ)). slice_cmp nat_cmp line k.now) known ≡ is_among (map (λ (k : Bor (List ℕ)). k.now) lines) line)
+    → IfOk r (λ known. (line : List ℕ) → contains_by (λ (k : Bor (List ℕ)). slice_cmp nat_cmp line k.now) known
+    ≡ is_among (map (λ (k : Bor (List ℕ)). k.now) lines) line)
 set_has (Ok known) lines h = λ line. h.0 (record { ref_ptr = (0, 0); now = line }) ∙ among_borrowed lines line
 set_has (Err e) lines h = tt
 
 -- ---- the nodes of new lines
 
 -- the same by another test that says the same
-pub new_by : (f g : List ℕ → Bool) → ((line : List ℕ) → f line ≡ g line) → (lines : List (List ℕ)) (nodes : Nodes) → nodes_of_new f lines nodes ≡ nodes_of_new g lines nodes
+pub new_by : (f g : List ℕ → Bool) → ((line : List ℕ) → f line ≡ g line) → (lines : List (List ℕ)) (nodes : Nodes)
+    → nodes_of_new f lines nodes ≡ nodes_of_new g lines nodes
 new_by f g h [] nodes = refl
 new_by f g h (line ∷ lines) [] = refl
 new_by f g h (line ∷ lines) (node ∷ nodes) =
@@ -118,24 +124,29 @@ one_from f (l ∷ lines) [] (suc k) less = none_new f (drop k (texts lines)) ∙
 one_from f (l ∷ lines) (node ∷ nodes) (suc k) less = one_from f lines nodes k (omega arith)
 
 -- what `get` answers at a place of a list
-pub got_at : (lines : List (Bor (List ℕ))) (k : ℕ) (r : Option (Bor (Bor (List ℕ)))) → k < length lines → IfSome r (λ x. x.now ≡ get_or lines k x.now) → (k < length lines → IsSome r) → option_copied r ≡ slice_get lines k
+pub got_at : (lines : List (Bor (List ℕ))) (k : ℕ) (r : Option (Bor (Bor (List ℕ)))) → k < length lines → IfSome r (λ x. x.now ≡ get_or lines k x.now)
+    → (k < length lines → IsSome r) → option_copied r ≡ slice_get lines k
 got_at lines k None less is some = absurd (false≢true (some less))
 got_at lines k (Some x) less is some = sym (slice_get-get_or lines k x.now less ∙ ap (λ (t : Bor (List ℕ)). Some t) (sym is))
 
 -- a place further
-pub turn_new : (f : List ℕ → Bool) (lines : List (Bor (List ℕ))) (nodes : Nodes) (k : ℕ) (front after : Nodes) (is : Bool) (line : Option (Bor (List ℕ))) (found : Option (NodeId × Variable)) (all : Nodes) → k < length lines
-    → is ≡ is_known_at f line → line ≡ slice_get lines k → found ≡ slice_get nodes k → after ≡ front ++ one_new is found → front ++ new_from f (texts lines) nodes k ≡ all → after ++ new_from f (texts lines) nodes (k + 1) ≡ all
+pub turn_new : (f : List ℕ → Bool) (lines : List (Bor (List ℕ))) (nodes : Nodes) (k : ℕ) (front after : Nodes) (is : Bool) (line : Option (Bor (List ℕ)))
+    (found : Option (NodeId × Variable)) (all : Nodes) → k < length lines
+    → is ≡ is_known_at f line → line ≡ slice_get lines k → found ≡ slice_get nodes k → after ≡ front ++ one_new is found
+    → front ++ new_from f (texts lines) nodes k ≡ all → after ++ new_from f (texts lines) nodes (k + 1) ≡ all
 turn_new f lines nodes k front after is line found all less known at finds more w =
     let next : k + 1 ≡ suc k = omega arith in
     let judged : is ≡ is_known_at f (slice_get lines k) = known ∙ ap (is_known_at f) at in
     ap (λ (n : ℕ). after ++ new_from f (texts lines) nodes n) next
     ∙ ap (λ (t : Nodes). t ++ new_from f (texts lines) nodes (suc k))
-    (more ∙ ap (λ (t : Bool). front ++ one_new t found) judged ∙ ap (λ (t : Option (NodeId × Variable)). front ++ one_new (is_known_at f (slice_get lines k)) t) finds)
+    (more ∙ ap (λ (t : Bool). front ++ one_new t found) judged
+    ∙ ap (λ (t : Option (NodeId × Variable)). front ++ one_new (is_known_at f (slice_get lines k)) t) finds)
     ∙ append_assoc front (one_new (is_known_at f (slice_get lines k)) (slice_get nodes k)) (new_from f (texts lines) nodes (suc k))
     ∙ ap (λ (t : Nodes). front ++ t) (sym (one_from f lines nodes k less)) ∙ w
 
 -- no line is left
-pub from_end : (f : List ℕ → Bool) (lines : List (List ℕ)) (nodes : Nodes) (k : ℕ) (front all : Nodes) → length lines ≤ k → front ++ new_from f lines nodes k ≡ all → front ≡ all
+pub from_end : (f : List ℕ → Bool) (lines : List (List ℕ)) (nodes : Nodes) (k : ℕ) (front all : Nodes) → length lines ≤ k
+    → front ++ new_from f lines nodes k ≡ all → front ≡ all
 from_end f lines nodes k front all le w =
     let none : drop k lines ≡ [] = drop_all k lines le in
     sym (append-nil front) ∙ ap (λ (t : List (List ℕ)). front ++ nodes_of_new f t (drop k nodes)) (sym none) ∙ w
@@ -143,13 +154,15 @@ from_end f lines nodes k front all le w =
 -- ---- what a reading changes
 
 -- the test by what a set has, and the lines of the two texts
-pub by_texts : (f : List ℕ → Bool) (last text : List ℕ) (before lines : List (List ℕ)) (nodes : Nodes) → ((line : List ℕ) → f line ≡ is_among before line) → before ≡ written_lines last → lines ≡ written_lines text
+pub by_texts : (f : List ℕ → Bool) (last text : List ℕ) (before lines : List (List ℕ)) (nodes : Nodes) → ((line : List ℕ) → f line ≡ is_among before line)
+    → before ≡ written_lines last → lines ≡ written_lines text
     → nodes_of_new f lines nodes ≡ changed_of last text nodes
 by_texts f last text before lines nodes h b l =
     new_by f (is_among (written_lines last)) (λ line. h line ∙ ap (λ (t : List (List ℕ)). is_among t line) b) lines nodes
     ∙ ap (λ (t : List (List ℕ)). nodes_of_new (is_among (written_lines last)) t nodes) l
 
-pub changes_so : (last text : List ℕ) (changed nodes : Nodes) → WriteNodes (node_lines text) nodes → changed ≡ changed_of last text nodes → Changes last text changed
+pub changes_so : (last text : List ℕ) (changed nodes : Nodes) → WriteNodes (node_lines text) nodes → changed ≡ changed_of last text nodes
+    → Changes last text changed
 changes_so last text changed nodes w e = record { nodes = nodes; written = w; are = e }
 
 pub sound_so : (last text : List ℕ) (changed nodes : Nodes) → IsSound nodes → changed ≡ changed_of last text nodes → IsSound changed

@@ -8,7 +8,8 @@ ghost use Rattle.std.specs.Option.{option_copied, option_map};
 ghost use Rattle.std.specs.Ordering.{nat_cmp};
 ghost use Rattle.ua_nodes.specs.NodeFile.{Refuses, is_read as is_read_line, node_lines};
 ghost use Rattle.ua_nodes.specs.Sound.{IsSound};
-ghost use Rattle.ua_node_files.specs.Changed.{Changes, changed_of, entry_of, is_among, is_known_at, nodes_of_new, one_new, written_lines};
+ghost use Rattle.ua_node_files.specs.Changed.{Changes, changed_of, entry_of, is_among};
+ghost use Rattle.ua_node_files.specs.Changed.{is_known_at, nodes_of_new, one_new, written_lines};
 
 use std::alloc::{AllocError, Global};
 use std::collections::BTreeSet;
@@ -65,7 +66,8 @@ fn lines_written<'t>(alloc: Global, text: &'t str) -> Result<Vec<&'t str>, Alloc
 /// Adds a line, if it writes a node.
 #[tactic(auto, using(crate::proofs::Changing::pushed_line, crate::proofs::Changing::left_line))]
 fn push_written<'t>(lines: &mut Vec<&'t str>, line: &'t str) -> Result<(), AllocError>
-    ensures { OnOk result (map (λ line. line.now) lines.new.items ≡ map (λ line. line.now) lines.old.items ++ filter is_read_line (line.now ∷ [])) }
+    ensures { OnOk result (map (λ line. line.now) lines.new.items ≡ map (λ line. line.now) lines.old.items
+        ++ filter is_read_line (line.now ∷ [])) }
 {
     if is_read(line) {
         lines.push(line)?;
@@ -75,7 +77,8 @@ fn push_written<'t>(lines: &mut Vec<&'t str>, line: &'t str) -> Result<(), Alloc
 
 /// The set of these lines.
 fn set_of<'t>(alloc: Global, lines: &[&'t str]) -> Result<BTreeSet<&'t str>, AllocError>
-    ensures { IfOk result (λ known. (line : List ℕ) → contains_by (λ k. slice_cmp nat_cmp line k.now) known ≡ is_among (map (λ line. line.now) lines.now) line) }
+    ensures { IfOk result (λ known. (line : List ℕ) → contains_by (λ k. slice_cmp nat_cmp line k.now) known
+        ≡ is_among (map (λ line. line.now) lines.now) line) }
 {
     lines.iter().copied().collect(alloc)
 }
@@ -87,7 +90,10 @@ fn copy_new<'t>(
     lines: &[&'t str],
     nodes: &NodeTable,
 ) -> Result<Vec<Node>, AllocError>
-    ensures { IfOk result (λ changed. map entry_of changed.items ≡ nodes_of_new (λ line. contains_by (λ k. slice_cmp nat_cmp line k.now) known.now) (map (λ line. line.now) lines.now) nodes.now) }
+    ensures { IfOk result
+        (λ changed. map entry_of changed.items
+        ≡ nodes_of_new (λ line. contains_by (λ k. slice_cmp nat_cmp line k.now) known.now)
+        (map (λ line. line.now) lines.now) nodes.now) }
 {
     let mut changed = Vec::new(alloc);
     for place in 0..lines.len() {
@@ -99,7 +105,8 @@ fn copy_new<'t>(
 
 /// Whether a line is in the set, where there is one.
 fn has_line<'t>(known: &BTreeSet<&'t str>, line: Option<&&'t str>) -> bool
-    ensures { result ≡ is_known_at (λ line. contains_by (λ k. slice_cmp nat_cmp line k.now) known.now) (option_copied line.entry) }
+    ensures { result ≡ is_known_at (λ line. contains_by (λ k. slice_cmp nat_cmp line k.now) known.now)
+        (option_copied line.entry) }
 {
     match line {
         Some(line) => known.contains(line),
@@ -114,7 +121,8 @@ fn push_new(
     is_known: bool,
     found: Option<(&NodeId, &Variable)>,
 ) -> Result<(), AllocError>
-    ensures { OnOk result (map entry_of changed.new.items ≡ map entry_of changed.old.items ++ one_new is_known (option_map deref_pair found.entry)) }
+    ensures { OnOk result (map entry_of changed.new.items ≡ map entry_of changed.old.items ++ one_new is_known
+        (option_map deref_pair found.entry)) }
 {
     if let Some((id, variable)) = found {
         if !is_known {

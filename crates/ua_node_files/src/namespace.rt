@@ -2,7 +2,9 @@
 
 ghost use Rattle.std.specs.Prelude.{◌≡◌, ℕ, List, MatchOption, IfOk, IfErr, map, string_bytes};
 ghost use Rattle.std.specs.List.{list_all};
-ghost use Rattle.ua_node_files.specs.Namespaces.{AreNamed, NamesBehind, NamesUri, RefusesNamespaces, front_of, is_namespace_line as is_line, is_of_uri, is_uri as is_uri_text, namespace_lines};
+ghost use Rattle.ua_node_files.specs.Namespaces.{AreNamed, NamesBehind, NamesUri, RefusesNamespaces};
+ghost use Rattle.ua_node_files.specs.Namespaces.{front_of, is_namespace_line as is_line, is_of_uri};
+ghost use Rattle.ua_node_files.specs.Namespaces.{is_uri as is_uri_text, namespace_lines};
 
 use std::alloc::{AllocError, AllocFailed, Global};
 use thiserror::Error;
@@ -76,7 +78,8 @@ fn is_namespace_line(line: &str) -> bool
 
 /// The URI that a line names for an index, if it names one.
 fn uri_at<'a>(alloc: Global, line: &'a str, index: usize) -> Result<Option<&'a str>, AllocError>
-    ensures { IfOk result (λ found. MatchOption found ((uri : List ℕ) → ¬ (NamesUri index line.now uri)) (λ uri. NamesUri index line.now uri.now)) }
+    ensures { IfOk result (λ found. MatchOption found ((uri : List ℕ) → ¬ (NamesUri index line.now uri))
+        (λ uri. NamesUri index line.now uri.now)) }
 {
     let front = format!(in alloc; "# namespace {index} ")?;
     Ok(uri_behind(line, &front))
@@ -84,7 +87,8 @@ fn uri_at<'a>(alloc: Global, line: &'a str, index: usize) -> Result<Option<&'a s
 
 /// The URI that a line names after a front, if it names one.
 fn uri_behind<'a>(line: &'a str, front: &str) -> Option<&'a str>
-    ensures { MatchOption result ((uri : List ℕ) → ¬ (NamesBehind front.now line.now uri)) (λ uri. NamesBehind front.now line.now uri.now) }
+    ensures { MatchOption result ((uri : List ℕ) → ¬ (NamesBehind front.now line.now uri))
+        (λ uri. NamesBehind front.now line.now uri.now) }
 {
     let uri = line.strip_prefix(front)?;
     if is_uri(uri) { Some(uri) } else { None }

@@ -2,7 +2,8 @@
 
 ghost use Rattle.std.specs.Prelude.{◌≡◌, ◌++◌, IfOk, OnOk, codes, map, string_bytes};
 ghost use Rattle.std.specs.List.{flat_map};
-ghost use Rattle.ua_node_files.specs.Standard.{added_line, lacks as lacks_node, limit_lines, line_of, more_uris, namespace_array, server_lines, standard_text};
+ghost use Rattle.ua_node_files.specs.Standard.{added_line, lacks as lacks_node, limit_lines, line_of};
+ghost use Rattle.ua_node_files.specs.Standard.{more_uris, namespace_array, server_lines, standard_text};
 
 use std::alloc::{AllocError, Global};
 use ua_builtin::{Identifier, NodeId};
@@ -22,7 +23,8 @@ pub fn with_standard(
     nodes: &NodeTable,
     uris: &[&str],
 ) -> Result<String, AllocError>
-    ensures { IfOk result (λ whole. string_bytes whole ≡ standard_text nodes.now (map (λ uri. uri.now) uris.now) text.now) }
+    ensures { IfOk result
+        (λ whole. string_bytes whole ≡ standard_text nodes.now (map (λ uri. uri.now) uris.now) text.now) }
 {
     let mut whole = String::from_str(alloc, text)?;
     push_server(&mut whole, nodes, uris)?;
@@ -32,7 +34,8 @@ pub fn with_standard(
 
 /// Appends the lines that say what the server is and how it is, where their nodes are lacking.
 fn push_server(out: &mut String, nodes: &NodeTable, uris: &[&str]) -> Result<(), AllocError>
-    ensures { OnOk result (string_bytes out.new ≡ string_bytes out.old ++ flat_map (added_line nodes.now) (server_lines (map (λ uri. uri.now) uris.now))) }
+    ensures { OnOk result (string_bytes out.new ≡ string_bytes out.old ++ flat_map (added_line nodes.now)
+        (server_lines (map (λ uri. uri.now) uris.now))) }
 {
     push_line(
         out,
@@ -66,7 +69,8 @@ fn push_limits(out: &mut String, nodes: &NodeTable) -> Result<(), AllocError>
 
 /// Appends the line of a node of namespace 0, where the nodes have none of this number.
 fn push_line(out: &mut String, nodes: &NodeTable, number: u32, line: &str) -> Result<(), AllocError>
-    ensures { OnOk result (string_bytes out.new ≡ string_bytes out.old ++ added_line nodes.now (line_of number line.now)) }
+    ensures { OnOk result (string_bytes out.new ≡ string_bytes out.old ++ added_line nodes.now
+        (line_of number line.now)) }
 {
     if !lacks(nodes, number) {
         return Ok(());
@@ -81,7 +85,8 @@ fn push_namespace_array(
     nodes: &NodeTable,
     uris: &[&str],
 ) -> Result<(), AllocError>
-    ensures { OnOk result (string_bytes out.new ≡ string_bytes out.old ++ added_line nodes.now (namespace_array (map (λ uri. uri.now) uris.now))) }
+    ensures { OnOk result (string_bytes out.new ≡ string_bytes out.old ++ added_line nodes.now
+        (namespace_array (map (λ uri. uri.now) uris.now))) }
 {
     if !lacks(nodes, 2255) {
         return Ok(());

@@ -1,5 +1,6 @@
 -- What is written for an item of a Read, part by part.
-use Rattle.std.proofs.Common.{◌≡◌, ◌⊎◌, inl, inr, ℕ, zero, suc, ◌+◌, ◌≤◌, List, [], ◌∷◌, ◌++◌, take, length, length-append, true, nat_eq, Option, None, Result, Ok, Err, OnErr, append_assoc, option_map, refl, sym, ap, ◌∙◌, arith}
+use Rattle.std.proofs.Common.{◌≡◌, ◌⊎◌, inl, inr, ℕ, zero, suc, ◌+◌, ◌≤◌, List, [], ◌∷◌, ◌++◌, take, length, length-append, true}
+use Rattle.std.proofs.Common.{nat_eq, Option, None, Result, Ok, Err, OnErr, append_assoc, option_map, refl, sym, ap, ◌∙◌, arith}
 use Rattle.std.specs.List.{flat_map}
 use Rattle.ua_wire.specs.Format.{Extends}
 use Rattle.ua_builtin.specs.Reasons.{first_reason}
@@ -21,12 +22,14 @@ use Rattle.ua_nodes.proofs.Judged.{judged_ok}
 
 -- an item that is granted, for the Value and without a range
 pub whole_is : (item : ReadValueId) (v : Variable) (a : Attribute) (stamps : Stamps) (moment : DateTime) → item.attribute_id ≡ 13
-    → ◌≡◌ {A = Result (Attribute × Option IndexRange) StatusCode} (judged (first_reason (read_item_reasons v item)) (attribute_of item.attribute_id) (asked_range item.index_range)) (Ok (a, None))
+    → ◌≡◌ {A = Result (Attribute × Option IndexRange) StatusCode}
+    (judged (first_reason (read_item_reasons v item)) (attribute_of item.attribute_id) (asked_range item.index_range)) (Ok (a, None))
     → read_by (first_reason (read_item_reasons v item)) v item stamps moment ≡ valued v.value (stamps_of v true stamps moment)
 whole_is item v a stamps moment value granted =
     let free = judged_ok (first_reason (read_item_reasons v item)) (attribute_of item.attribute_id) (asked_range item.index_range) a None (sym granted) in
     sym (ap (λ (o : Option StatusCode). read_by o v item stamps moment) free.0)
-    ∙ sym (ap (λ (r : Option IndexRange). with_stamps (option_map (λ b. value_read item.node_id v b r) (attribute_of item.attribute_id)) (stamps_of v (nat_eq item.attribute_id 13) stamps moment)) free.2)
+    ∙ sym (ap (λ (r : Option IndexRange). with_stamps (option_map (λ b. value_read item.node_id v b r) (attribute_of item.attribute_id))
+    (stamps_of v (nat_eq item.attribute_id 13) stamps moment)) free.2)
     ∙ ap (λ (n : ℕ). with_stamps (option_map (λ b. attribute_value item.node_id v b) (attribute_of n)) (stamps_of v (nat_eq n 13) stamps moment)) value
 
 -- ---- what is given up
@@ -36,7 +39,8 @@ fewer f zero items = omega arith
 fewer f (suc n) [] = omega arith
 fewer f (suc n) (item ∷ items) =
     let rest : length (flat_map f (take n items)) ≤ length (flat_map f items) = fewer f n items in
-    let some : length (f item ++ flat_map f (take n items)) ≡ length (f item) + length (flat_map f (take n items)) = length-append (f item) (flat_map f (take n items)) in
+    let some : length (f item ++ flat_map f (take n items)) ≡ length (f item) + length (flat_map f (take n items)) =
+    length-append (f item) (flat_map f (take n items)) in
     let all : length (f item ++ flat_map f items) ≡ length (f item) + length (flat_map f items) = length-append (f item) (flat_map f items) in
     omega (arith, rest, some, all)
 
@@ -52,7 +56,8 @@ whole_or_past most f items old out w = elim w.ends [
   | inl all ↦ inl (w.are ∙ ap (λ (xs : List ReadValueId). old ++ flat_map f xs) (take_all w.count items (omega (arith, all))))
   | inr passes ↦
       let count : length out ≡ length (old ++ flat_map f (take w.count items)) = ap length w.are in
-      let some : length (old ++ flat_map f (take w.count items)) ≡ length old + length (flat_map f (take w.count items)) = length-append old (flat_map f (take w.count items)) in
+      let some : length (old ++ flat_map f (take w.count items)) ≡ length old + length (flat_map f (take w.count items)) =
+      length-append old (flat_map f (take w.count items)) in
       let all : length (old ++ flat_map f items) ≡ length old + length (flat_map f items) = length-append old (flat_map f items) in
       let rest : length (flat_map f (take w.count items)) ≤ length (flat_map f items) = fewer f w.count items in
       inr (passes, omega (arith, count, some, all, rest))

@@ -1,5 +1,6 @@
 -- The values of an array's elements, one at a time.
-use Rattle.std.proofs.Common.{◌≡◌, ℕ, zero, suc, false, ◌==◌, ◌<◌, length, map, arith, List, [], ◌∷◌, ◌++◌, Option, Some, None, Err, refl, sym, ◌∙◌, ap, append_assoc}
+use Rattle.std.proofs.Common.{◌≡◌, ℕ, zero, suc, false, ◌==◌, ◌<◌, length, map, arith, List, []}
+use Rattle.std.proofs.Common.{◌∷◌, ◌++◌, Option, Some, None, Err, refl, sym, ◌∙◌, ap, append_assoc}
 use Rattle.std.proofs.lemmas.List.{map-append}
 use Rattle.std.specs.Option.{option_map}
 use Rattle.ua_builtin.specs.Exact.{◌>>=◌}
@@ -19,13 +20,15 @@ leaf_none : (o : Option LeafData) (back : Option (List ScalarData)) → option_m
 leaf_none None back e = refl
 leaf_none (Some l) back e = absurd cc
 
-front_front : (front : List ScalarData) (v : ScalarData) (back : Option (List ScalarData)) → in_front front (in_front (v ∷ []) back) ≡ in_front (front ++ v ∷ []) back
+front_front : (front : List ScalarData) (v : ScalarData) (back : Option (List ScalarData))
+    → in_front front (in_front (v ∷ []) back) ≡ in_front (front ++ v ∷ []) back
 front_front front v None = refl
 front_front front v (Some vs) = ap Some (sym (append_assoc front (v ∷ []) vs))
 
 -- one more element's value
 pub element_ok : (kind : ℕ) (whole : Option (List ScalarData)) (front : List ScalarData) (text : List ℕ) (texts : List (List ℕ)) (v : ScalarData)
-    → whole ≡ in_front front (leaves_denoted kind (text ∷ texts)) → option_map leaf (leaf_denoted kind text) ≡ Some v → whole ≡ in_front (front ++ v ∷ []) (leaves_denoted kind texts)
+    → whole ≡ in_front front (leaves_denoted kind (text ∷ texts)) → option_map leaf (leaf_denoted kind text) ≡ Some v
+    → whole ≡ in_front (front ++ v ∷ []) (leaves_denoted kind texts)
 element_ok kind whole front text texts v e h =
     e ∙ ap (in_front front) (leaf_some (leaf_denoted kind text) (leaves_denoted kind texts) v h) ∙ front_front front v (leaves_denoted kind texts)
 
@@ -52,7 +55,8 @@ fault_of f g part whole OutOfMemory h d = tt
 pub map_push : {X A : Type 0} (f : X → A) (old new : List X) (x : X) → new ≡ old ++ x ∷ [] → map f new ≡ map f old ++ f x ∷ []
 map_push f old new x e = ap (map f) e ∙ map-append f old (x ∷ [])
 
-pub leaves_push : {X : Type 0} (f : X → LeafData) (old new : List X) (x : X) → new ≡ old ++ x ∷ [] → map leaf (map f new) ≡ map leaf (map f old) ++ leaf (f x) ∷ []
+pub leaves_push : {X : Type 0} (f : X → LeafData) (old new : List X) (x : X) → new ≡ old ++ x ∷ []
+    → map leaf (map f new) ≡ map leaf (map f old) ++ leaf (f x) ∷ []
 leaves_push f old new x e = map_push leaf (map f old) (map f new) (f x) (map_push f old new x e)
 
 -- a text that isn't empty has the pieces round its commas
@@ -65,7 +69,8 @@ front_nil front None e = refl
 front_nil front (Some vs) e = ap (λ (t : List ScalarData). Some (t ++ vs)) (sym e)
 
 -- before the first element
-pub elements_start : (kind : ℕ) (text : List ℕ) (front : List ScalarData) → front ≡ [] → 0 < length text → leaves_denoted kind (elements text) ≡ in_front front (leaves_denoted kind (pieces 44 text))
+pub elements_start : (kind : ℕ) (text : List ℕ) (front : List ScalarData) → front ≡ [] → 0 < length text
+    → leaves_denoted kind (elements text) ≡ in_front front (leaves_denoted kind (pieces 44 text))
 elements_start kind text front e h = ap (leaves_denoted kind) (elements_are text h) ∙ front_nil front (leaves_denoted kind (pieces 44 text)) e
 
 pub not_empty : (n : ℕ) → false ≡ (n == 0) → 0 < n

@@ -1,5 +1,6 @@
 -- The lines of a file, one at a time.
-use Rattle.std.proofs.Common.{◌≡◌, ◌≢◌, ℕ, suc, ◌+◌, ◌<◌, ◌≤◌, ◌-◌, ◌==◌, MatchOption, nat_eq, Bool, true, false, List, [], ◌∷◌, ◌++◌, length, map, filter, cond, take, drop, get_or, Option, Some, None, refl, sym, ◌∙◌, ap, subst, arith, append-nil, length-append}
+use Rattle.std.proofs.Common.{◌≡◌, ◌≢◌, ℕ, suc, ◌+◌, ◌<◌, ◌≤◌, ◌-◌, ◌==◌, MatchOption, nat_eq, Bool, true, false, List, [], ◌∷◌, ◌++◌, length, map}
+use Rattle.std.proofs.Common.{filter, cond, take, drop, get_or, Option, Some, None, refl, sym, ◌∙◌, ap, subst, arith, append-nil, length-append}
 use Rattle.std.specs.List.{AllZip, slice_split}
 use Rattle.std.specs.Option.{unwrap_or}
 use denote.Ref.{Bor}
@@ -17,7 +18,8 @@ use Rattle.ua_builtin.specs.declared.node_id.NodeId.{NodeId}
 use Rattle.ua_nodes.specs.declared.fault.LineReason.{LineReason}
 use Rattle.ua_nodes.specs.declared.node.Variable.{Variable}
 use Rattle.ua_nodes.specs.LineFault.{load_fault}
-use Rattle.ua_nodes.specs.NodeFile.{FileLine, lines_of, node_lines, numbered, is_read, WritesNode, IsFirstReason, WriteNodes, IsFirstBad, Refuses, Adds, RefusesLine}
+use Rattle.ua_nodes.specs.NodeFile.{FileLine, lines_of, node_lines, numbered, is_read, WritesNode}
+use Rattle.ua_nodes.specs.NodeFile.{IsFirstReason, WriteNodes, IsFirstBad, Refuses, Adds, RefusesLine}
 use Rattle.ua_nodes.specs.declared.fault.LineFault.{LineFault}
 use Rattle.ua_nodes.specs.declared.fault.LineFault.TheVariants.{Bad, NoMemory}
 use Rattle.ua_nodes.specs.Table.{Nodes}
@@ -38,7 +40,8 @@ numbered_append n (x ∷ xs) ys =
     ap (λ (t : List FileLine). one_line n x ∷ t) (numbered_append (suc n) xs ys ∙ ap (λ (k : ℕ). numbered (suc n) xs ++ numbered k ys) (omega arith))
 
 pub read_append : (n : ℕ) (xs ys : List (List ℕ)) → read_from n (xs ++ ys) ≡ read_from n xs ++ read_from (n + length xs) ys
-read_append n xs ys = ap (filter (λ line. is_read line.text)) (numbered_append n xs ys) ∙ filter-append (λ line. is_read line.text) (numbered n xs) (numbered (n + length xs) ys)
+read_append n xs ys = ap (filter (λ line. is_read line.text)) (numbered_append n xs ys)
+    ∙ filter-append (λ line. is_read line.text) (numbered n xs) (numbered (n + length xs) ys)
 
 -- a line that is read stands in front of those behind it
 pub read_cons : (n : ℕ) (x : List ℕ) (xs : List (List ℕ)) → is_read x ≡ true → read_from n (x ∷ xs) ≡ one_line n x ∷ read_from (suc n) xs
@@ -48,7 +51,8 @@ pub skip_cons : (n : ℕ) (x : List ℕ) (xs : List (List ℕ)) → is_read x �
 skip_cons n x xs e = ap (λ (t : Bool). cond t (one_line n x ∷ read_from (suc n) xs) (read_from (suc n) xs)) e
 
 -- what the first lines write, and the next one
-pub write_more : (xs : List (List ℕ)) (x : List ℕ) (nodes after : Nodes) → WriteNodes (read_from 1 xs) nodes → Adds x nodes after → WriteNodes (read_from 1 (xs ++ x ∷ [])) after
+pub write_more : (xs : List (List ℕ)) (x : List ℕ) (nodes after : Nodes) → WriteNodes (read_from 1 xs) nodes → Adds x nodes after
+    → WriteNodes (read_from 1 (xs ++ x ∷ [])) after
 write_more xs x nodes after w a = by (is_read x) refl
   where
     by : (t : Bool) → is_read x ≡ t → WriteNodes (read_from 1 (xs ++ x ∷ [])) after
@@ -56,9 +60,11 @@ write_more xs x nodes after w a = by (is_read x) refl
         let more = a.0 e in
         let lines : read_from 1 (xs ++ x ∷ []) ≡ read_from 1 xs ++ one_line (1 + length xs) x ∷ [] =
         read_append 1 xs (x ∷ []) ∙ ap (λ (t : List FileLine). read_from 1 xs ++ t) (read_cons (1 + length xs) x [] e) in
-        let each : AllZip Writes (read_from 1 xs ++ one_line (1 + length xs) x ∷ []) (nodes ++ more.0 ∷ []) = all_zipped_more Writes (read_from 1 xs) nodes (one_line (1 + length xs) x) more.0 w.each more.1 in
+        let each : AllZip Writes (read_from 1 xs ++ one_line (1 + length xs) x ∷ []) (nodes ++ more.0 ∷ []) =
+        all_zipped_more Writes (read_from 1 xs) nodes (one_line (1 + length xs) x) more.0 w.each more.1 in
         record {
-          each = subst (λ (t : Nodes). AllZip Writes (read_from 1 (xs ++ x ∷ [])) t) (sym more.2) (subst (λ (t : List FileLine). AllZip Writes t (nodes ++ more.0 ∷ [])) (sym lines) each);
+          each = subst (λ (t : Nodes). AllZip Writes (read_from 1 (xs ++ x ∷ [])) t) (sym more.2)
+              (subst (λ (t : List FileLine). AllZip Writes t (nodes ++ more.0 ∷ [])) (sym lines) each);
           distinct = more.3;
         }
     by false e =
@@ -67,7 +73,8 @@ write_more xs x nodes after w a = by (is_read x) refl
         subst (λ (t : Nodes). WriteNodes (read_from 1 (xs ++ x ∷ [])) t) (sym (a.1 e)) (subst (λ (t : List FileLine). WriteNodes t nodes) (sym lines) w)
 
 -- a bad line behind lines that write nodes
-pub bad_line : (xs : List (List ℕ)) (x : List ℕ) (ys : List (List ℕ)) (nodes : Nodes) (reason : LineReason) → WriteNodes (read_from 1 xs) nodes → is_read x ≡ true → IsFirstReason reason nodes x
+pub bad_line : (xs : List (List ℕ)) (x : List ℕ) (ys : List (List ℕ)) (nodes : Nodes) (reason : LineReason) → WriteNodes (read_from 1 xs) nodes
+    → is_read x ≡ true → IsFirstReason reason nodes x
     → IsFirstBad (read_from 1 (xs ++ x ∷ ys)) (1 + length xs) reason
 bad_line xs x ys nodes reason w e bad = record {
   front = read_from 1 xs;
@@ -80,7 +87,8 @@ bad_line xs x ys nodes reason w e bad = record {
 }
 
 -- a fault at a line, as a fault of the file
-pub refuses_at : (xs : List (List ℕ)) (x : List ℕ) (ys : List (List ℕ)) (nodes : Nodes) (fault : LineFault) → WriteNodes (read_from 1 xs) nodes → RefusesLine x nodes fault
+pub refuses_at : (xs : List (List ℕ)) (x : List ℕ) (ys : List (List ℕ)) (nodes : Nodes) (fault : LineFault) → WriteNodes (read_from 1 xs) nodes
+    → RefusesLine x nodes fault
     → Refuses (read_from 1 (xs ++ x ∷ ys)) (load_fault (1 + length xs) fault)
 refuses_at xs x ys nodes (Bad reason) w r = bad_line xs x ys nodes reason w r.0 r.1
 refuses_at xs x ys nodes NoMemory w r = tt
@@ -93,15 +101,18 @@ pub lines_at : (pieces : List (List ℕ)) (n : ℕ) (x : List ℕ) → n < lengt
 lines_at pieces n x less e =
     let lines = map strip_carriage_return pieces in
     let short : n < length lines = omega (arith, length-map pieces strip_carriage_return) in
-    let here : get_or lines n (strip_carriage_return x) ≡ strip_carriage_return x = get_or-map strip_carriage_return pieces n x ∙ ap strip_carriage_return (sym e) in
-    sym (take-append-drop n lines) ∙ ap (λ (t : List (List ℕ)). take n lines ++ t) (drop-cons lines n (strip_carriage_return x) short ∙ ap (λ (t : List ℕ). t ∷ drop (suc n) lines) here)
+    let here : get_or lines n (strip_carriage_return x) ≡ strip_carriage_return x = get_or-map strip_carriage_return pieces n x
+    ∙ ap strip_carriage_return (sym e) in
+    sym (take-append-drop n lines) ∙ ap (λ (t : List (List ℕ)). take n lines ++ t) (drop-cons lines n (strip_carriage_return x) short
+    ∙ ap (λ (t : List ℕ). t ∷ drop (suc n) lines) here)
 
 pub lines_more : (pieces : List (List ℕ)) (n : ℕ) (x : List ℕ) → n < length pieces → x ≡ get_or pieces n x
     → take (n + 1) (map strip_carriage_return pieces) ≡ take n (map strip_carriage_return pieces) ++ strip_carriage_return x ∷ []
 lines_more pieces n x less e =
     let lines = map strip_carriage_return pieces in
     let short : n < length lines = omega (arith, length-map pieces strip_carriage_return) in
-    let here : get_or lines n (strip_carriage_return x) ≡ strip_carriage_return x = get_or-map strip_carriage_return pieces n x ∙ ap strip_carriage_return (sym e) in
+    let here : get_or lines n (strip_carriage_return x) ≡ strip_carriage_return x = get_or-map strip_carriage_return pieces n x
+    ∙ ap strip_carriage_return (sym e) in
     take_more lines n (strip_carriage_return x) short ∙ ap (λ (t : List ℕ). take n lines ++ t ∷ []) here
 
 -- a text has at most one piece more than octets
@@ -120,23 +131,28 @@ IsPiece text n x = (n < length (pieces 10 text)) × (x ≡ get_or (pieces 10 tex
 at_count : (text : List ℕ) (n k : ℕ) (x : List ℕ) → n ≡ k → IsPiece text k x → IsPiece text n x
 at_count text n k x e h = subst (λ (m : ℕ). IsPiece text m x) (sym e) h
 
-pub turn_more : (text : List ℕ) (n k : ℕ) (x : List ℕ) (nodes after : Nodes) → n ≡ k → IsPiece text k x → WriteNodes (read_from 1 (take n (lines_of text))) nodes → Adds (strip_carriage_return x) nodes after
+pub turn_more : (text : List ℕ) (n k : ℕ) (x : List ℕ) (nodes after : Nodes) → n ≡ k → IsPiece text k x
+    → WriteNodes (read_from 1 (take n (lines_of text))) nodes → Adds (strip_carriage_return x) nodes after
     → WriteNodes (read_from 1 (take (n + 1) (lines_of text))) after
 turn_more text n k x nodes after e h w a =
     let here = at_count text n k x e h in
-    subst (λ (t : List (List ℕ)). WriteNodes (read_from 1 t) after) (sym (lines_more (pieces 10 text) n x here.0 here.1)) (write_more (take n (lines_of text)) (strip_carriage_return x) nodes after w a)
+    subst (λ (t : List (List ℕ)). WriteNodes (read_from 1 t) after) (sym (lines_more (pieces 10 text) n x here.0 here.1))
+    (write_more (take n (lines_of text)) (strip_carriage_return x) nodes after w a)
 
-pub turn_fault : (text : List ℕ) (n k : ℕ) (x : List ℕ) (nodes : Nodes) (fault : LineFault) → n ≡ k → IsPiece text k x → WriteNodes (read_from 1 (take n (lines_of text))) nodes → RefusesLine (strip_carriage_return x) nodes fault
+pub turn_fault : (text : List ℕ) (n k : ℕ) (x : List ℕ) (nodes : Nodes) (fault : LineFault) → n ≡ k → IsPiece text k x
+    → WriteNodes (read_from 1 (take n (lines_of text))) nodes → RefusesLine (strip_carriage_return x) nodes fault
     → Refuses (node_lines text) (load_fault (n + 1) fault)
 turn_fault text n k x nodes fault e h w r =
     let here = at_count text n k x e h in
     let front = take n (lines_of text) in
     let number : 1 + length front ≡ n + 1 = omega (arith, length_first (pieces 10 text) n (omega arith)) in
-    let at : Refuses (read_from 1 (front ++ strip_carriage_return x ∷ drop (suc n) (lines_of text))) (load_fault (1 + length front) fault) = refuses_at front (strip_carriage_return x) (drop (suc n) (lines_of text)) nodes fault w r in
+    let at : Refuses (read_from 1 (front ++ strip_carriage_return x ∷ drop (suc n) (lines_of text))) (load_fault (1 + length front) fault) =
+    refuses_at front (strip_carriage_return x) (drop (suc n) (lines_of text)) nodes fault w r in
     subst (λ (m : ℕ). Refuses (node_lines text) (load_fault m fault)) number
     (subst (λ (t : List (List ℕ)). Refuses (read_from 1 t) (load_fault (1 + length front) fault)) (sym (lines_at (pieces 10 text) n x here.0 here.1)) at)
 
-pub turns_end : (text : List ℕ) (n k : ℕ) (nodes : Nodes) → n ≡ k → k ≡ length (pieces 10 text) → WriteNodes (read_from 1 (take n (lines_of text))) nodes → WriteNodes (node_lines text) nodes
+pub turns_end : (text : List ℕ) (n k : ℕ) (nodes : Nodes) → n ≡ k → k ≡ length (pieces 10 text) → WriteNodes (read_from 1 (take n (lines_of text))) nodes
+    → WriteNodes (node_lines text) nodes
 turns_end text n k nodes e f w =
     let all : n ≡ length (lines_of text) = e ∙ f ∙ sym (length-map (pieces 10 text) strip_carriage_return) in
     subst (λ (t : List (List ℕ)). WriteNodes (read_from 1 t) nodes) (ap (λ (m : ℕ). take m (lines_of text)) all ∙ take-length (lines_of text)) w
@@ -165,7 +181,8 @@ ends_otherwise (x ∷ xs) h = ap (λ (t : Bool). cond t (take (length (x ∷ xs)
   where
     other : get_or (x ∷ xs) (length (x ∷ xs) - 1) 0 ≢ 13
     other e =
-        let whole : take (length xs + 1) (x ∷ xs) ≡ take (length xs) (x ∷ xs) ++ get_or (x ∷ xs) (length xs) 0 ∷ [] = take_more (x ∷ xs) (length xs) 0 (omega arith) in
+        let whole : take (length xs + 1) (x ∷ xs) ≡ take (length xs) (x ∷ xs) ++ get_or (x ∷ xs) (length xs) 0 ∷ [] =
+        take_more (x ∷ xs) (length xs) 0 (omega arith) in
         let long : length xs + 1 ≡ length (x ∷ xs) = omega arith in
         let all : take (length xs + 1) (x ∷ xs) ≡ x ∷ xs = ap (λ (m : ℕ). take m (x ∷ xs)) long ∙ take-length (x ∷ xs) in
         let short : length xs ≡ length (x ∷ xs) - 1 = omega arith in
@@ -173,6 +190,8 @@ ends_otherwise (x ∷ xs) h = ap (λ (t : Bool). cond t (take (length (x ∷ xs)
         h (take (length xs) (x ∷ xs)) (sym all ∙ whole ∙ ap (λ (c : ℕ). take (length xs) (x ∷ xs) ++ c ∷ []) last)
 
 -- what `strip_suffix` leaves, or the line itself
-pub without_end : (line : Bor (List ℕ)) (r : Option (Bor (List ℕ))) → MatchOption r ((front : List ℕ) → line.now ≢ front ++ 13 ∷ []) (λ x. line.now ≡ x.now ++ 13 ∷ []) → (unwrap_or r line).now ≡ strip_carriage_return line.now
+pub without_end : (line : Bor (List ℕ)) (r : Option (Bor (List ℕ)))
+    → MatchOption r ((front : List ℕ) → line.now ≢ front ++ 13 ∷ []) (λ x. line.now ≡ x.now ++ 13 ∷ [])
+    → (unwrap_or r line).now ≡ strip_carriage_return line.now
 without_end line None h = sym (ends_otherwise line.now h)
 without_end line (Some x) h = sym (ends_so line.now x.now h)

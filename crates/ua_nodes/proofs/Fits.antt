@@ -1,5 +1,6 @@
 -- What texts denote can be written.
-use Rattle.std.proofs.Common.{◌≡◌, ℕ, zero, suc, ◌+◌, ◌-◌, ◌*◌, ◌^◌, ◌<◌, ◌≤◌, Bool, true, false, ◌&&◌, cond, nat_lt, List, [], ◌∷◌, ◌++◌, length, drop, replicate, ◌==◌, if◌then◌else◌, Option, Some, None, Ok, Err, ℤ, pos, negsuc, refl, sym, ◌∙◌, ap, arith, length-append}
+use Rattle.std.proofs.Common.{◌≡◌, ℕ, zero, suc, ◌+◌, ◌-◌, ◌*◌, ◌^◌, ◌<◌, ◌≤◌, Bool, true, false, ◌&&◌, cond, nat_lt, List, [], ◌∷◌, ◌++◌, length, drop}
+use Rattle.std.proofs.Common.{replicate, ◌==◌, if◌then◌else◌, Option, Some, None, Ok, Err, ℤ, pos, negsuc, refl, sym, ◌∙◌, ap, arith, length-append}
 use Rattle.std.specs.Int.{Width}
 use Rattle.std.specs.List.{list_all}
 use Rattle.std.specs.Option.{option_map}
@@ -30,7 +31,8 @@ both_are a b p q = ap (λ (t : Bool). t && b) p ∙ q
 pub below : (radix bound : ℕ) (text : List ℕ) (n : ℕ) → number_below radix bound text ≡ Some n → nat_lt n bound ≡ true
 below radix bound text n e = by (is_numeral radix text && nat_lt (digits_value radix text) bound) refl e
   where
-    by : (t : Bool) → (is_numeral radix text && nat_lt (digits_value radix text) bound) ≡ t → cond t (Some (digits_value radix text)) None ≡ Some n → nat_lt n bound ≡ true
+    by : (t : Bool) → (is_numeral radix text && nat_lt (digits_value radix text) bound) ≡ t → cond t (Some (digits_value radix text)) None ≡ Some n
+        → nat_lt n bound ≡ true
     by false h f = absurd cc
     by true h f =
         let same : digits_value radix text ≡ n = cc in
@@ -39,7 +41,8 @@ below radix bound text n e = by (is_numeral radix text && nat_lt (digits_value r
 pub wider : (n a b : ℕ) → a ≤ b → nat_lt n a ≡ true → nat_lt n b ≡ true
 wider n a b le h = lt-ltb n b (let less = ltb-true n a h in omega arith)
 
-pub signed_fits : (w : Width) (z : ℤ) → 2 ^ hbits w ≤ 256 ^ octets_of w → 2 ^ bits w ≤ 256 ^ octets_of w → 0 < 2 ^ bits w → in_range w z ≡ true → (signed w).encodable z ≡ true
+pub signed_fits : (w : Width) (z : ℤ) → 2 ^ hbits w ≤ 256 ^ octets_of w → 2 ^ bits w ≤ 256 ^ octets_of w → 0 < 2 ^ bits w → in_range w z ≡ true
+    → (signed w).encodable z ≡ true
 signed_fits w (pos n) half full some h = both_are (nat_lt n (2 ^ hbits w)) (nat_lt n (256 ^ octets_of w)) h (wider n (2 ^ hbits w) (256 ^ octets_of w) half h)
 signed_fits w (negsuc n) half full some h =
     both_are (nat_lt n (2 ^ hbits w)) (nat_lt (2 ^ bits w - suc n) (256 ^ octets_of w)) h (lt-ltb (2 ^ bits w - suc n) (256 ^ octets_of w) (omega arith))
@@ -55,7 +58,8 @@ mapped_some f (Some x) y e = (x, refl, cc)
 pub signed_range : (w : Width) (text : List ℕ) (z : ℤ) → 0 < 2 ^ hbits w → signed_denoted (hbits w) text ≡ Some z → in_range w z ≡ true
 signed_range w text z some e = by (starts_with_minus text) e
   where
-    by : (t : Bool) → cond t (option_map negative (number_below 10 (2 ^ hbits w + 1) (drop 1 text))) (option_map pos (number_below 10 (2 ^ hbits w) text)) ≡ Some z → in_range w z ≡ true
+    by : (t : Bool) → cond t (option_map negative (number_below 10 (2 ^ hbits w + 1) (drop 1 text))) (option_map pos (number_below 10 (2 ^ hbits w) text))
+        ≡ Some z → in_range w z ≡ true
     by true f =
         let m = mapped_some negative (number_below 10 (2 ^ hbits w + 1) (drop 1 text)) z f in
         ap (in_range w) (sym m.2) ∙ negative_range w m.0 some (below 10 (2 ^ hbits w + 1) (drop 1 text) m.0 m.1)
@@ -83,7 +87,8 @@ groups_length dec s (suc q) =
     omega (arith, more, length-append (groups_bytes dec s q) (group_bytes dec s (4 * q)))
 
 last_length : (dec : List ℕ) (pad at : ℕ) (s : List ℕ) → length (suffix_bytes dec pad at s) ≤ 3
-last_length dec pad at s = elim (scan_last dec pad at s) as (λ r. length (scan_bytes r) ≤ 3) [ Ok st ↦ omega (arith, length-take {A = ℕ}) | Err e ↦ omega arith ]
+last_length dec pad at s =
+    elim (scan_last dec pad at s) as (λ r. length (scan_bytes r) ≤ 3) [ Ok st ↦ omega (arith, length-take {A = ℕ}) | Err e ↦ omega arith ]
 
 outcome : (o : Option DecodeError) (bytes b : List ℕ) → result_ok (decode_outcome o bytes) ≡ Some b → bytes ≡ b
 outcome None bytes b e = cc
@@ -124,8 +129,11 @@ some_is x y e = cc
 
 pub parsed_length : (s u : List ℕ) → length s ≡ 36 → parsed s ≡ Some u → length u ≡ 16
 parsed_length s u long e =
-    let cut : parsed_hyphenated s ≡ Some u = sym (ap (λ (n : ℕ). if n == 32 then parsed_simple s else if n == 36 then parsed_hyphenated s else if n == 38 then parsed_braced s else if n == 45 then parsed_urn s else None) long) ∙ e in
+    let cut : parsed_hyphenated s ≡ Some u =
+    sym (ap (λ (n : ℕ). if n == 32 then parsed_simple s else if n == 36 then parsed_hyphenated s else if n == 38 then parsed_braced s else if n == 45 then
+    parsed_urn s else None) long) ∙ e in
     let hex = digits_of s in
     let simple : parsed_simple hex ≡ Some u = where_some ((length s == 36) && has_hyphens s) (parsed_simple hex) u cut in
-    let sixteen : Some (by_index 16 (byte_of_digits hex)) ≡ Some u = where_some ((length hex == 32) && list_all is_hex_digit hex) (Some (by_index 16 (byte_of_digits hex))) u simple in
+    let sixteen : Some (by_index 16 (byte_of_digits hex)) ≡ Some u = where_some ((length hex == 32) && list_all is_hex_digit hex)
+    (Some (by_index 16 (byte_of_digits hex))) u simple in
     sym (ap length (some_is (by_index 16 (byte_of_digits hex)) u sixteen)) ∙ by_index_length 16 (byte_of_digits hex)

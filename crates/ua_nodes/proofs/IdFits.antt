@@ -1,5 +1,6 @@
 -- A NodeId that a text names can be written.
-use Rattle.std.proofs.Common.{◌≡◌, ℕ, ◌^◌, ◌<◌, ◌≤◌, ◌⊎◌, inl, inr, Bool, true, false, ◌&&◌, cond, nat_eq, nat_lt, List, [], ◌∷◌, ◌++◌, length, Option, refl, sym, ◌∙◌, ap, subst, arith, lit<, append_assoc, length-append}
+use Rattle.std.proofs.Common.{◌≡◌, ℕ, ◌^◌, ◌<◌, ◌≤◌, ◌⊎◌, inl, inr, Bool, true, false, ◌&&◌, cond, nat_eq, nat_lt, List, []}
+use Rattle.std.proofs.Common.{◌∷◌, ◌++◌, length, Option, refl, sym, ◌∙◌, ap, subst, arith, lit<, append_assoc, length-append}
 use Rattle.std.specs.Str.{IsUtf8}
 use Rattle.std.proofs.lemmas.Bool.{eq-eqb, lt-ltb}
 use Rattle.ua_builtin.specs.Counted.{text, counted}
@@ -47,7 +48,8 @@ rest_of whole front rest letter e u =
     let long = ap length e in
     ((utf8_cut (front ++ letter ∷ []) rest 61 (lit< tt) (subst IsUtf8 is u)).1, omega (arith, long, length-append front (letter ∷ 61 ∷ rest)))
 
-identifier_fits : (ns : ℕ) (i : Identifier) (whole front back : List ℕ) → ns < 65536 → whole ≡ front ++ back → IsUtf8 whole → length whole < 2 ^ 31 → NamesIdentifier i back → node_id.encodable (node ns i) ≡ true
+identifier_fits : (ns : ℕ) (i : Identifier) (whole front back : List ℕ) → ns < 65536 → whole ≡ front ++ back → IsUtf8 whole → length whole < 2 ^ 31
+    → NamesIdentifier i back → node_id.encodable (node ns i) ≡ true
 identifier_fits ns (Numeric n) whole front back a e u long h = numeric_fits ns n a (let d = h.2 in d.fits)
 identifier_fits ns (Text t) whole front back a e u long h =
     let r = rest_of whole front h.0 115 (e ∙ ap (λ (b : List ℕ). front ++ b) h.1) u in
@@ -69,4 +71,5 @@ namespace_small n front (inl h) = let e = h.0 in omega arith
 namespace_small n front (inr h) = let d = h.decimal in d.fits
 
 pub node_fits : (id : NodeId) (whole : List ℕ) → NamesNode id whole → IsUtf8 whole → length whole < 2 ^ 31 → node_id.encodable id ≡ true
-node_fits id whole h u long = identifier_fits id.namespace id.identifier whole h.front h.back (namespace_small id.namespace h.front h.namespace) h.parts u long h.identifier
+node_fits id whole h u long = identifier_fits id.namespace id.identifier whole h.front h.back (namespace_small id.namespace h.front h.namespace) h.parts u long
+    h.identifier

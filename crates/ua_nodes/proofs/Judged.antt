@@ -12,7 +12,8 @@ use Rattle.std.specs.Option.{is_some}
 use Rattle.ua_nodes.specs.Status.{bad_attribute_id_invalid}
 use Rattle.ua_nodes.specs.Read.{judged, read_item_reasons}
 
-pub judged_ok : (o : Option StatusCode) (a : Option Attribute) (r : Option IndexRange) (b : Attribute) (q : Option IndexRange) → ◌≡◌ {A = Result (Attribute × Option IndexRange) StatusCode} (Ok (b, q)) (judged o a r) → (None ≡ o) × (Some b ≡ a) × (q ≡ r)
+pub judged_ok : (o : Option StatusCode) (a : Option Attribute) (r : Option IndexRange) (b : Attribute) (q : Option IndexRange)
+    → ◌≡◌ {A = Result (Attribute × Option IndexRange) StatusCode} (Ok (b, q)) (judged o a r) → (None ≡ o) × (Some b ≡ a) × (q ≡ r)
 judged_ok None None r b q e = absurd cc
 judged_ok None (Some a) r b q e =
     let same : ◌≡◌ {A = Attribute × Option IndexRange} (b, q) (a, r) = cc in
@@ -20,7 +21,8 @@ judged_ok None (Some a) r b q e =
     (refl, ap (λ (x : Attribute × Option IndexRange). one x.0) same, ap (λ (x : Attribute × Option IndexRange). x.1) same)
 judged_ok (Some c) a r b q e = absurd cc
 
-judged_some : (o : Option StatusCode) (b : Attribute) (r : Option IndexRange) (code : StatusCode) → ◌≡◌ {A = Result (Attribute × Option IndexRange) StatusCode} (Err code) (judged o (Some b) r) → Some code ≡ o
+judged_some : (o : Option StatusCode) (b : Attribute) (r : Option IndexRange) (code : StatusCode)
+    → ◌≡◌ {A = Result (Attribute × Option IndexRange) StatusCode} (Err code) (judged o (Some b) r) → Some code ≡ o
 judged_some None b r code e = absurd cc
 judged_some (Some c) b r code e = cc
 
@@ -32,6 +34,7 @@ refused_first (Some b) rest r code e = judged_some rest b r code e
 
 -- a refusal is the first reason: where there is no such attribute, that it is none
 pub judged_err : (v : Variable) (item : ReadValueId) (code : StatusCode)
-    → ◌≡◌ {A = Result (Attribute × Option IndexRange) StatusCode} (Err code) (judged (first_reason (read_item_reasons v item)) (attribute_of item.attribute_id) (asked_range item.index_range))
+    → ◌≡◌ {A = Result (Attribute × Option IndexRange) StatusCode} (Err code)
+    (judged (first_reason (read_item_reasons v item)) (attribute_of item.attribute_id) (asked_range item.index_range))
     → Some code ≡ first_reason (read_item_reasons v item)
 judged_err v item code e = refused_first (attribute_of item.attribute_id) _ (asked_range item.index_range) code e

@@ -1,5 +1,6 @@
 -- A Write under a limit leaves memory within the limit, or no more than there was.
-use Rattle.std.proofs.Common.{◌≡◌, ℕ, ◌+◌, ◌-◌, ◌<◌, ◌≤◌, max, Bool, true, false, ◌&&◌, cond, nat_lt, map, List, [], ◌∷◌, Option, None, Some, is_none, refl, sym, ◌∙◌, ap, subst, arith}
+use Rattle.std.proofs.Common.{◌≡◌, ℕ, ◌+◌, ◌-◌, ◌<◌, ◌≤◌, max, Bool, true, false, ◌&&◌, cond, nat_lt, map}
+use Rattle.std.proofs.Common.{List, [], ◌∷◌, Option, None, Some, is_none, refl, sym, ◌∙◌, ap, subst, arith}
 use Rattle.std.specs.List.{IsDistinct}
 use Rattle.std.specs.Map.{keys_of}
 use Rattle.std.proofs.lemmas.Bool.{ltb-false}
@@ -67,7 +68,8 @@ named_grows item (node ∷ nodes) d =
   where
     by : (t : Bool) → same_id item.node_id node.0 ≡ t → (same_id item.node_id node.0 ≡ true → all_growth nodes item ≡ 0)
         → all_growth nodes item ≤ growth (node_at nodes item.node_id) item
-        → cond (t && is_none (first_reason (write_item_reasons node.1 item))) (more_of node.1 item) 0 + all_growth nodes item ≤ growth (cond t (Some node.1) (node_at nodes item.node_id)) item
+        → cond (t && is_none (first_reason (write_item_reasons node.1 item))) (more_of node.1 item) 0 + all_growth nodes item
+        ≤ growth (cond t (Some node.1) (node_at nodes item.node_id)) item
     by true e none more = omega (arith, none e)
     by false e none more = omega (arith, more)
 
@@ -84,9 +86,11 @@ all_items (item ∷ items) moment nodes d = omega (arith, one_item item items mo
 
 within : (room : ℕ) (nodes : Nodes) (items : List WriteValue) → total nodes (items_within room nodes items) ≤ room
 within room nodes [] = omega arith
-within room nodes (item ∷ items) = by (growth (node_at nodes item.node_id) item) refl (nat_lt room (growth (node_at nodes item.node_id) item)) refl (λ n. within n nodes items)
+within room nodes (item ∷ items) = by (growth (node_at nodes item.node_id) item) refl (nat_lt room (growth (node_at nodes item.node_id) item)) refl
+    (λ n. within n nodes items)
   where
-    by : (more : ℕ) → growth (node_at nodes item.node_id) item ≡ more → (t : Bool) → nat_lt room more ≡ t → ((n : ℕ) → total nodes (items_within n nodes items) ≤ n)
+    by : (more : ℕ) → growth (node_at nodes item.node_id) item ≡ more → (t : Bool) → nat_lt room more ≡ t
+        → ((n : ℕ) → total nodes (items_within n nodes items) ≤ n)
         → total nodes (cond t (items_within (cond t room (room - more)) nodes items) (item ∷ items_within (cond t room (room - more)) nodes items)) ≤ room
     by more is true e rest = rest room
     by more is false e rest = omega (arith, is, ltb-false room more e, rest (room - more))

@@ -1,5 +1,6 @@
 -- Writes under a limit, one item at a time.
-use Rattle.std.proofs.Common.{◌≡◌, ℕ, zero, suc, ◌+◌, ◌-◌, ◌≤◌, min, Bool, true, false, cond, List, [], ◌∷◌, ◌++◌, take, Option, None, Some, refl, sym, ◌∙◌, ap, append_assoc, arith}
+use Rattle.std.proofs.Common.{◌≡◌, ℕ, zero, suc, ◌+◌, ◌-◌, ◌≤◌, min, Bool, true, false, cond, List, []}
+use Rattle.std.proofs.Common.{◌∷◌, ◌++◌, take, Option, None, Some, refl, sym, ◌∙◌, ap, append_assoc, arith}
 use Rattle.std.specs.List.{slice_get}
 use Rattle.ua_builtin.specs.Reasons.{first_reason}
 use Rattle.ua_builtin.specs.declared.date_time.DateTime.{DateTime}
@@ -72,7 +73,8 @@ left_within room nodes (item ∷ items) =
 
 -- ---- a loop over the items and their results
 
-pub judged_on : (done new rest more : List StatusCode) (code own : StatusCode) → new ≡ done ++ code ∷ [] → code ≡ own → more ≡ rest → done ++ own ∷ rest ≡ new ++ more
+pub judged_on : (done new rest more : List StatusCode) (code own : StatusCode) → new ≡ done ++ code ∷ [] → code ≡ own → more ≡ rest
+    → done ++ own ∷ rest ≡ new ++ more
 judged_on done new rest more code own e f g =
     ap (λ (t : StatusCode). done ++ t ∷ rest) (sym f) ∙ sym (append_assoc done (code ∷ []) rest)
     ∙ ap (λ (t : List StatusCode). t ++ rest) (sym e) ∙ ap (λ (t : List StatusCode). new ++ t) (sym g)
@@ -87,6 +89,7 @@ stored_on item rest codes behind moment was is refused tells left stands =
     ∙ by refused (items_left rest behind)
     ∙ ap (λ (n : Nodes). after_write (items_left rest behind) moment n) (sym stands)
   where
-    by : (t : Bool) (items : List WriteValue) → after_write (cond t items (item ∷ items)) moment was ≡ after_write items moment (cond t was (after_item item moment was))
+    by : (t : Bool) (items : List WriteValue) → after_write (cond t items (item ∷ items)) moment was ≡ after_write items moment
+        (cond t was (after_item item moment was))
     by true items = refl
     by false items = after_first item items moment was

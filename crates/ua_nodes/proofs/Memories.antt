@@ -1,7 +1,8 @@
 -- The memory of the elements of an array, one at a time.
 use Rattle.std.proofs.Common.{◌≡◌, ℕ, zero, suc, ◌+◌, ◌*◌, ◌<◌, ◌≤◌, min, List, [], ◌∷◌, ◌++◌, length, get_or, take, map, refl, sym, subst, ap, ◌∙◌, arith}
 use Rattle.std.proofs.lemmas.List.{take_more, map-append}
-use Rattle.ua_variant.specs.Data.{LeafData, boolean, sbyte, byte, int16, uint16, int32, uint32, int64, uint64, float, double, date_time, guid, status_code, ScalarData, leaf}
+use Rattle.ua_variant.specs.Data.{LeafData, boolean, sbyte, byte, int16, uint16, int32, uint32, int64}
+use Rattle.ua_variant.specs.Data.{uint64, float, double, date_time, guid, status_code, ScalarData, leaf}
 use Rattle.ua_variant.specs.Encodable.{row_length}
 use Rattle.ua_variant.specs.Measure.{scalar_count, scalars_count}
 use Rattle.ua_variant.specs.Packed.{packed_leaves}
@@ -37,7 +38,8 @@ packed_memory p all e = sym (ap (λ xs. scalars_memory (row xs)) e) ∙ packed_n
 
 -- ---- one element more
 
-seen_next : (ss : List Scalar) (i : ℕ) (d : Scalar) → i < length ss → map scalar_of (take (i + 1) ss) ≡ map scalar_of (take i ss) ++ scalar_of (get_or ss i d) ∷ []
+seen_next : (ss : List Scalar) (i : ℕ) (d : Scalar) → i < length ss → map scalar_of (take (i + 1) ss) ≡ map scalar_of (take i ss) ++ scalar_of (get_or ss i d)
+    ∷ []
 seen_next ss i d h = ap (map scalar_of) (take_more ss i d h) ∙ map-append scalar_of (take i ss) (get_or ss i d ∷ [])
 
 memory_push : (ss : List ScalarData) (s : ScalarData) → scalars_memory (row (ss ++ s ∷ [])) ≡ scalars_memory (row ss) + scalar_memory s
@@ -59,8 +61,10 @@ count_within [] i d h = absurd (omega arith)
 count_within (s ∷ ss) zero d h = omega arith
 count_within (s ∷ ss) (suc i) d h = omega (arith, count_within ss i d (omega arith))
 
-pub count_below : (ss : List Scalar) (i : ℕ) (s : Scalar) (all : List ScalarData) → map scalar_of ss ≡ all → i < length ss → s ≡ get_or ss i s → scalar_count (scalar_of s) ≤ scalars_count (row all)
-count_below ss i s all e h is = subst (λ xs. scalar_count (scalar_of s) ≤ scalars_count (row xs)) e (subst (λ x. scalar_count (scalar_of x) ≤ scalars_count (row (map scalar_of ss))) (sym is) (omega (arith, count_within ss i s h)))
+pub count_below : (ss : List Scalar) (i : ℕ) (s : Scalar) (all : List ScalarData) → map scalar_of ss ≡ all → i < length ss → s ≡ get_or ss i s
+    → scalar_count (scalar_of s) ≤ scalars_count (row all)
+count_below ss i s all e h is = subst (λ xs. scalar_count (scalar_of s) ≤ scalars_count (row xs)) e
+    (subst (λ x. scalar_count (scalar_of x) ≤ scalars_count (row (map scalar_of ss))) (sym is) (omega (arith, count_within ss i s h)))
 
 -- ---- how many elements there are
 

@@ -1,5 +1,6 @@
 -- A file loads in one way, or has one first bad line.
-use Rattle.std.proofs.Common.{◌≡◌, ℕ, ◌<◌, ◌⊎◌, inl, inr, Bool, true, false, cond, List, [], ◌∷◌, ◌++◌, Option, Some, None, IsSome, refl, sym, ◌∙◌, ap, subst, arith, true≢false}
+use Rattle.std.proofs.Common.{◌≡◌, ℕ, ◌<◌, ◌⊎◌, inl, inr, Bool, true, false, cond, List, [], ◌∷◌, ◌++◌}
+use Rattle.std.proofs.Common.{Option, Some, None, IsSome, refl, sym, ◌∙◌, ap, subst, arith, true≢false}
 use Rattle.std.specs.List.{AllByRecursion, IsDistinct, AllZip}
 use Rattle.std.specs.Map.{keys_of}
 use Rattle.ua_builtin.proofs.NamesOnce.{one_node}
@@ -24,14 +25,28 @@ one_written line a b v w =
     let id = one_node a.0 b.0 _ v.id.1 w.id.1 in
     let access = some_same _ a.1.access b.1.access v.access w.access in
     let name = some_same _ a.1.name b.1.name v.name w.name in
-    let type : ◌≡◌ {A = ℕ × Bool} (a.1.kind, a.1.array) (b.1.kind, b.1.array) = some_same (type_denoted (field 3 line)) (a.1.kind, a.1.array) (b.1.kind, b.1.array) v.kind w.kind in
+    let type : ◌≡◌ {A = ℕ × Bool} (a.1.kind, a.1.array) (b.1.kind, b.1.array) = some_same (type_denoted (field 3 line)) (a.1.kind, a.1.array)
+    (b.1.kind, b.1.array) v.kind w.kind in
     let value = some_same _ a.1.value b.1.value v.value (same_value type w.value) in
     let status = v.status ∙ sym w.status in
     let time = v.source_time ∙ sym w.source_time in
     let pico = v.source_picoseconds ∙ sym w.source_picoseconds in
-    λ i. (id i, record { name = name i; kind = (type i).0; array = (type i).1; access = access i; value = value i; status = status i; source_time = time i; source_picoseconds = pico i })
+    λ i. (
+      id i,
+      record {
+        name = name i;
+        kind = (type i).0;
+        array = (type i).1;
+        access = access i;
+        value = value i;
+        status = status i;
+        source_time = time i;
+        source_picoseconds = pico i;
+      },
+    )
   where
-    same_value : ◌≡◌ {A = ℕ × Bool} (a.1.kind, a.1.array) (b.1.kind, b.1.array) → value_denoted b.1.kind b.1.array (field 4 line) ≡ Some b.1.value → value_denoted a.1.kind a.1.array (field 4 line) ≡ Some b.1.value
+    same_value : ◌≡◌ {A = ℕ × Bool} (a.1.kind, a.1.array) (b.1.kind, b.1.array) → value_denoted b.1.kind b.1.array (field 4 line) ≡ Some b.1.value
+        → value_denoted a.1.kind a.1.array (field 4 line) ≡ Some b.1.value
     same_value t e = ap (λ (u : ℕ × Bool). value_denoted u.0 u.1 (field 4 line)) t ∙ e
 
 -- lines write their nodes in one way
@@ -64,7 +79,8 @@ behind (l ∷ ls) line back (x ∷ xs) w =
     record { before = x ∷ b.before; node = b.node; after = b.after; is = ap (λ (t : Nodes). x ∷ t) b.is; each = (w.0, b.each); written = b.written }
 
 -- a key among others apart from those before it
-apart_here : (k : NodeId) (before : Nodes) (node : NodeId × Variable) (after : Nodes) → AllByRecursion (λ (y : NodeId). same_id k y ≡ false) (keys_of (before ++ node ∷ after)) → same_id k node.0 ≡ false
+apart_here : (k : NodeId) (before : Nodes) (node : NodeId × Variable) (after : Nodes)
+    → AllByRecursion (λ (y : NodeId). same_id k y ≡ false) (keys_of (before ++ node ∷ after)) → same_id k node.0 ≡ false
 apart_here k [] node after h = h.0
 apart_here k (x ∷ xs) node after h = apart_here k xs node after h.1
 
@@ -79,14 +95,16 @@ none_before (x ∷ xs) node after d = by (same_id node.0 x.0) refl (none_before 
         absurd (true≢false (sym ((same_id_is x.0 node.0).1 (sym same)) ∙ apart_here x.0 xs node after d.0))
     by false e more = more
 
-no_duplicate : (line : List ℕ) (node : NodeId × Variable) (before : Nodes) → WritesNode line node → node_at before node.0 ≡ None → ¬ (Holds Duplicate before line)
+no_duplicate : (line : List ℕ) (node : NodeId × Variable) (before : Nodes) → WritesNode line node → node_at before node.0 ≡ None
+    → ¬ (Holds Duplicate before line)
 no_duplicate line node before w none h =
     let same : h.0 ≡ node.0 = one_node h.0 node.0 (field 0 line) h.1.1 w.id.1 in
     let there : IsSome (node_at before node.0) = subst (λ (k : NodeId). IsSome (node_at before k)) same h.2 in
     let no : false ≡ true = subst IsSome none there in
     cc
 
-no_reason : (line : List ℕ) (node : NodeId × Variable) (before : Nodes) (reason : LineReason) → WritesNode line node → node_at before node.0 ≡ None → ¬ (Holds reason before line)
+no_reason : (line : List ℕ) (node : NodeId × Variable) (before : Nodes) (reason : LineReason) → WritesNode line node → node_at before node.0 ≡ None
+    → ¬ (Holds reason before line)
 no_reason line node before Fields w none = pass_written line node before w Fields (omega arith)
 no_reason line node before Node w none = pass_written line node before w Node (omega arith)
 no_reason line node before Access w none = pass_written line node before w Access (omega arith)
@@ -123,7 +141,8 @@ head_same e = cc
 tail_same : {x y : FileLine} {xs ys : List FileLine} → x ∷ xs ≡ y ∷ ys → xs ≡ ys
 tail_same e = cc
 
-places : (f : List FileLine) (l : FileLine) (b : List FileLine) (g : List FileLine) (m : FileLine) (c : List FileLine) → f ++ l ∷ b ≡ g ++ m ∷ c → Places f l g m
+places : (f : List FileLine) (l : FileLine) (b : List FileLine) (g : List FileLine) (m : FileLine) (c : List FileLine) → f ++ l ∷ b ≡ g ++ m ∷ c
+    → Places f l g m
 places [] l b [] m c e = inl (refl, head_same e)
 places [] l b (y ∷ ys) m c e = inr (inl (record { middle = ys; is = ap (λ (t : FileLine). t ∷ ys) (sym (head_same e)) }))
 places (x ∷ xs) l b [] m c e = inr (inr (record { middle = xs; is = ap (λ (t : FileLine). t ∷ xs) (head_same e) }))
@@ -142,18 +161,22 @@ one_first a b before line v w = same_place a b (between (place a) (place b) (λ 
     between m n p q = omega (arith, p, q)
 
 -- a first bad line in front of another would be among lines that write nodes
-no_earlier : (lines : List FileLine) (m n : ℕ) (p q : LineReason) (v : IsFirstBad lines m p) (w : IsFirstBad lines n q) → ¬ (Earlier v.front (record { number = m; text = v.line }) w.front)
-no_earlier lines m n p q v w e = none_bad w.front w.nodes m p w.good (record { front = v.front; line = v.line; back = e.middle; nodes = v.nodes; parts = e.is; good = v.good; bad = v.bad })
+no_earlier : (lines : List FileLine) (m n : ℕ) (p q : LineReason) (v : IsFirstBad lines m p) (w : IsFirstBad lines n q)
+    → ¬ (Earlier v.front (record { number = m; text = v.line }) w.front)
+no_earlier lines m n p q v w e =
+    none_bad w.front w.nodes m p w.good (record { front = v.front; line = v.line; back = e.middle; nodes = v.nodes; parts = e.is; good = v.good; bad = v.bad })
 
 -- there is one first bad line, with one first reason
 pub bad_once : (lines : List FileLine) (m n : ℕ) (p q : LineReason) → IsFirstBad lines m p → IsFirstBad lines n q → (m ≡ n) × (p ≡ q)
-bad_once lines m n p q v w = by (places v.front (record { number = m; text = v.line }) v.back w.front (record { number = n; text = w.line }) w.back (sym v.parts ∙ w.parts))
+bad_once lines m n p q v w =
+    by (places v.front (record { number = m; text = v.line }) v.back w.front (record { number = n; text = w.line }) w.back (sym v.parts ∙ w.parts))
   where
     by : Places v.front (record { number = m; text = v.line }) w.front (record { number = n; text = w.line }) → (m ≡ n) × (p ≡ q)
     by (inl s) =
         let nodes : v.nodes ≡ w.nodes = one_each w.front v.nodes w.nodes (subst (λ (t : List FileLine). AllZip Writes t v.nodes) s.0 v.good.each) w.good.each in
         let line : v.line ≡ w.line = ap (λ (t : FileLine). t.text) s.1 in
-        let first : IsFirstReason p w.nodes w.line = subst (λ (t : List ℕ). IsFirstReason p w.nodes t) line (subst (λ (t : Nodes). IsFirstReason p t v.line) nodes v.bad) in
+        let first : IsFirstReason p w.nodes w.line = subst (λ (t : List ℕ). IsFirstReason p w.nodes t) line
+        (subst (λ (t : Nodes). IsFirstReason p t v.line) nodes v.bad) in
         (ap (λ (t : FileLine). t.number) s.1, one_first p q w.nodes w.line first w.bad)
     by (inr (inl e)) = absurd (no_earlier lines m n p q v w e)
     by (inr (inr e)) = absurd (no_earlier lines n m q p w v e)

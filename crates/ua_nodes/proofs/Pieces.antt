@@ -1,5 +1,6 @@
 -- The pieces of a text round an octet, one at a time.
-use Rattle.std.proofs.Common.{◌≡◌, ◌≢◌, ℕ, zero, suc, ◌<◌, List, [], ◌∷◌, ◌++◌, length, get_or, nat_eq, Option, Some, None, MatchOption, refl, sym, ◌∙◌, ap, arith, Bool, true, false, ◌≤◌, true≢false}
+use Rattle.std.proofs.Common.{◌≡◌, ◌≢◌, ℕ, zero, suc, ◌<◌, List, [], ◌∷◌, ◌++◌, length, get_or, nat_eq, Option, Some}
+use Rattle.std.proofs.Common.{None, MatchOption, refl, sym, ◌∙◌, ap, arith, Bool, true, false, ◌≤◌, true≢false}
 use Rattle.std.specs.List.{slice_split, onto_first}
 use Rattle.std.proofs.lemmas.Bool.{eq-eqb, ne_eqb}
 use Rattle.std.proofs.lemmas.List.Splits.{slice_split-cons_yes, slice_split-cons_no, length-slice_split}
@@ -27,7 +28,9 @@ pub pieces_once : (c : ℕ) (text : List ℕ) (r : Option (Bor (List ℕ) × Bor
     → MatchOption r (pieces c text ≡ text ∷ []) (λ x. pieces c text ≡ x.0.now ∷ pieces c x.1.now)
 pieces_once c text r small h = by r (split_parts c text r h small)
   where
-    by : (o : Option (Bor (List ℕ) × Bor (List ℕ))) → MatchOption o ((i : ℕ) → i < length text → get_or text i 0 ≢ c) (λ x. (text ≡ x.0.now ++ (c ∷ x.1.now)) × ((i : ℕ) → i < length x.0.now → get_or x.0.now i 0 ≢ c))
+    by : (o : Option (Bor (List ℕ) × Bor (List ℕ)))
+        → MatchOption o ((i : ℕ) → i < length text → get_or text i 0 ≢ c)
+        (λ x. (text ≡ x.0.now ++ (c ∷ x.1.now)) × ((i : ℕ) → i < length x.0.now → get_or x.0.now i 0 ≢ c))
         → MatchOption o (pieces c text ≡ text ∷ []) (λ x. pieces c text ≡ x.0.now ∷ pieces c x.1.now)
     by None h = pieces_none c text h
     by (Some x) h = ap (pieces c) h.0 ∙ pieces_at c x.0.now x.1.now h.1
@@ -59,7 +62,8 @@ pieces_two c (x ∷ xs) (suc k) less e = by (nat_eq x c) refl (pieces_two c xs k
         omega arith
 
 -- what `contains` tells of the pieces
-pub pieces_contains : (c : ℕ) (text : List ℕ) (r : Bool) → (r ≡ true → (k : ℕ) × (k < length text) × (get_or text k 0 ≡ c)) × ((k : ℕ) → k < length text → get_or text k 0 ≡ c → r ≡ true)
+pub pieces_contains : (c : ℕ) (text : List ℕ) (r : Bool) → (r ≡ true → (k : ℕ) × (k < length text) × (get_or text k 0 ≡ c))
+    × ((k : ℕ) → k < length text → get_or text k 0 ≡ c → r ≡ true)
     → (r ≡ true → 2 ≤ length (pieces c text)) × (r ≡ false → pieces c text ≡ text ∷ [])
 pieces_contains c text r h = (
   λ e. let w = h.0 e in pieces_two c text w.0 w.1 w.2,

@@ -1,5 +1,6 @@
 -- The node at a place in the order of a table, by its NodeId.
-use Rattle.std.proofs.Common.{◌≡◌, ℕ, zero, suc, Bool, true, false, true≢false, cond, List, [], ◌∷◌, Option, None, Some, Result, Ok, Err, MatchResult, OnErr, slice_get, refl, sym, ◌∙◌, ap, subst}
+use Rattle.std.proofs.Common.{◌≡◌, ℕ, zero, suc, Bool, true, false, true≢false, cond, List, [], ◌∷◌, Option, None}
+use Rattle.std.proofs.Common.{Some, Result, Ok, Err, MatchResult, OnErr, slice_get, refl, sym, ◌∙◌, ap, subst}
 use Rattle.std.specs.List.{AllByRecursion, IsDistinct}
 use Rattle.std.specs.Map.{keys_of, values_of, set_value}
 use Rattle.indexmap.specs.Layout.{set_value_at}
@@ -37,7 +38,8 @@ at_front node nodes =
     }
 
 -- what is apart from all keys is apart from that at a place
-apart_at : (k : NodeId) (nodes : Nodes) (index : ℕ) (id : NodeId) → AllByRecursion (λ (y : NodeId). same_id k y ≡ false) (keys_of nodes) → id_at nodes index ≡ Some id → same_id k id ≡ false
+apart_at : (k : NodeId) (nodes : Nodes) (index : ℕ) (id : NodeId) → AllByRecursion (λ (y : NodeId). same_id k y ≡ false) (keys_of nodes)
+    → id_at nodes index ≡ Some id → same_id k id ≡ false
 apart_at k [] index id all e = absurd cc
 apart_at k (node ∷ nodes) zero id all e = subst (λ (y : NodeId). same_id k y ≡ false) (same e) all.0
   where
@@ -52,7 +54,8 @@ turned a b e = by (same_id b a) refl
     by false p = refl
     by true p = absurd (true≢false (sym ((same_id_is a b).1 (sym ((same_id_is b a).0 p))) ∙ e))
 
-behind : (node : NodeId × Variable) (nodes : Nodes) (i : ℕ) (v : Variable) → AllByRecursion (λ (y : NodeId). same_id node.0 y ≡ false) (keys_of nodes) → IsPlaced nodes i v → IsPlaced (node ∷ nodes) (suc i) v
+behind : (node : NodeId × Variable) (nodes : Nodes) (i : ℕ) (v : Variable) → AllByRecursion (λ (y : NodeId). same_id node.0 y ≡ false) (keys_of nodes)
+    → IsPlaced nodes i v → IsPlaced (node ∷ nodes) (suc i) v
 behind node nodes i v all p =
     let apart : same_id p.id node.0 ≡ false = turned node.0 p.id (apart_at node.0 nodes i p.id all p.id_is) in
     record {
@@ -63,7 +66,8 @@ behind node nodes i v all p =
     }
 
 -- in a table, the node at a place is placed so
-pub placed : (nodes : Nodes) (index : ℕ) (v : Variable) → IsDistinct same_id (keys_of nodes) → slice_get (values_of nodes) index ≡ Some v → IsPlaced nodes index v
+pub placed : (nodes : Nodes) (index : ℕ) (v : Variable) → IsDistinct same_id (keys_of nodes) → slice_get (values_of nodes) index ≡ Some v
+    → IsPlaced nodes index v
 unfolding IsDistinct
 placed [] index v d e = absurd cc
 placed (node ∷ nodes) zero v d e = subst (IsPlaced (node ∷ nodes) 0) (some_same e) (at_front node nodes)
@@ -76,12 +80,14 @@ none_at (node ∷ nodes) zero e = absurd cc
 none_at (node ∷ nodes) (suc i) e = none_at nodes i e
 
 -- what setting the node at a place leaves
-pub set_placed : (nodes : Nodes) (index : ℕ) (v : Variable) (r : Reading) → IsPlaced nodes index v → set_value_at nodes index (set_node v r) ≡ after_set_at (id_at nodes index) r nodes
+pub set_placed : (nodes : Nodes) (index : ℕ) (v : Variable) (r : Reading) → IsPlaced nodes index v
+    → set_value_at nodes index (set_node v r) ≡ after_set_at (id_at nodes index) r nodes
 set_placed nodes index v r p =
     p.sets (set_node v r) ∙ sym (set_some p.id r nodes v p.named) ∙ sym (ap (λ (o : Option NodeId). after_set_at o r nodes) p.id_is)
 
 -- why it is refused
-pub refusal_placed : (nodes : Nodes) (index : ℕ) (v : Variable) (r : Reading) → IsPlaced nodes index v → set_refusal_at (id_at nodes index) r nodes ≡ set_refusal (Some v) r
+pub refusal_placed : (nodes : Nodes) (index : ℕ) (v : Variable) (r : Reading) → IsPlaced nodes index v
+    → set_refusal_at (id_at nodes index) r nodes ≡ set_refusal (Some v) r
 refusal_placed nodes index v r p = ap (λ (o : Option NodeId). set_refusal_at o r nodes) p.id_is ∙ ap (λ (o : Option Variable). set_refusal o r) p.named
 
 -- a sound table stays sound

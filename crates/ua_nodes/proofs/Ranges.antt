@@ -1,5 +1,6 @@
 -- Index ranges: what their texts name, and the elements at their places.
-use Rattle.std.proofs.Common.{◌≡◌, ◌≢◌, ℕ, zero, suc, ◌+◌, ◌-◌, ◌<◌, min, max, Bool, true, false, ◌&&◌, cond, leb, nat_lt, List, [], ◌∷◌, length, get_or, take, drop, Option, Some, None, ℤ, refl, sym, ◌∙◌, ap, subst, arith, true≢false}
+use Rattle.std.proofs.Common.{◌≡◌, ◌≢◌, ℕ, zero, suc, ◌+◌, ◌-◌, ◌<◌, min, max, Bool, true, false, ◌&&◌, cond, leb, nat_lt, List, []}
+use Rattle.std.proofs.Common.{◌∷◌, length, get_or, take, drop, Option, Some, None, ℤ, refl, sym, ◌∙◌, ap, subst, arith, true≢false}
 use Rattle.std.specs.Char.{digit_value}
 use Rattle.std.specs.List.{join_with_byte}
 use Rattle.std.proofs.lemmas.Bool.{leb-true, leb-false}
@@ -110,12 +111,14 @@ elements_many kind None ds = refl
 elements_many kind (Some ss) ds = row_back ss
 
 -- the part of an array of the code
-pub part_many : (r : IndexRange) (kind : ℕ) (items : Option (List ScalarData)) (ds : List ℤ) → part_of r (many_of kind items ds) ≡ many kind (row (ranged r (list_in items))) []
+pub part_many : (r : IndexRange) (kind : ℕ) (items : Option (List ScalarData)) (ds : List ℤ)
+    → part_of r (many_of kind items ds) ≡ many kind (row (ranged r (list_in items))) []
 part_many r kind None ds = refl
 part_many r kind (Some ss) ds = ap (λ (t : List ScalarData). many kind (row (ranged r t)) []) (row_back ss)
 
 -- the part of a list that is cut out of it
-pub cut_is : {X : Type 0} (r : IndexRange) (items : List X) (k n m : ℕ) → k ≡ min r.first (length items) → n ≡ r.last + 1 - r.first → m ≡ min n (length items - k)
+pub cut_is : {X : Type 0} (r : IndexRange) (items : List X) (k n m : ℕ) → k ≡ min r.first (length items) → n ≡ r.last + 1 - r.first
+    → m ≡ min n (length items - k)
     → take (k + m - k) (drop k items) ≡ ranged r items
 cut_is r items k n m at long most =
     let many : k + m - k ≡ min n (length (drop k items)) = omega (arith, most, length-drop k items) in

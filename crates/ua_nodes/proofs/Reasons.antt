@@ -1,5 +1,6 @@
 -- Reasons against a line, one at a time in their order.
-use Rattle.std.proofs.Common.{◌≡◌, ◌≢◌, ℕ, zero, suc, ◌<◌, Bool, List, [], ◌∷◌, length, slice_index_or, Option, Some, None, IsSome, refl, sym, ◌∙◌, ap, subst, arith}
+use Rattle.std.proofs.Common.{◌≡◌, ◌≢◌, ℕ, zero, suc, ◌<◌, Bool, List, [], ◌∷◌, length, slice_index_or}
+use Rattle.std.proofs.Common.{Option, Some, None, IsSome, refl, sym, ◌∙◌, ap, subst, arith}
 use Rattle.ua_builtin.specs.Exact.{◌>>=◌}
 use Rattle.ua_builtin.specs.declared.node_id.NodeId.{NodeId}
 use Rattle.ua_nodes.specs.declared.fault.LineReason.{LineReason}
@@ -75,18 +76,24 @@ pass_fields line a b c d e before k = pass Fields before line (pass_none before 
 pass_node : (line a b c d e : List ℕ) (before : Nodes) (id : NodeId) → IsCut line a b c d e → NamesId a id → Passes 2 before line
 pass_node line a b c d e before id k h = pass Node before line (pass_fields line a b c d e before k) (λ n. n id (id_is line a b c d e id k h))
 
-pass_access : (line a b c d e : List ℕ) (before : Nodes) (id : NodeId) (r : Rights) → IsCut line a b c d e → NamesId a id → access_denoted b ≡ Some r → Passes 3 before line
+pass_access : (line a b c d e : List ℕ) (before : Nodes) (id : NodeId) (r : Rights) → IsCut line a b c d e → NamesId a id → access_denoted b ≡ Some r
+    → Passes 3 before line
 pass_access line a b c d e before id r k h p =
-    pass Access before line (pass_node line a b c d e before id k h) (none_some (access_denoted (field 1 line)) r (ap access_denoted (field_is 1 line a b c d e k) ∙ p))
+    pass Access before line (pass_node line a b c d e before id k h)
+    (none_some (access_denoted (field 1 line)) r (ap access_denoted (field_is 1 line a b c d e k) ∙ p))
 
-pass_name : (line a b c d e : List ℕ) (before : Nodes) (id : NodeId) (r : Rights) (n : Option (List ℕ)) → IsCut line a b c d e → NamesId a id → access_denoted b ≡ Some r → name_denoted c ≡ Some n → Passes 4 before line
+pass_name : (line a b c d e : List ℕ) (before : Nodes) (id : NodeId) (r : Rights) (n : Option (List ℕ)) → IsCut line a b c d e → NamesId a id
+    → access_denoted b ≡ Some r → name_denoted c ≡ Some n → Passes 4 before line
 pass_name line a b c d e before id r n k h p q =
-    pass Name before line (pass_access line a b c d e before id r k h p) (none_some (name_denoted (field 2 line)) n (ap name_denoted (field_is 2 line a b c d e k) ∙ q))
+    pass Name before line (pass_access line a b c d e before id r k h p)
+    (none_some (name_denoted (field 2 line)) n (ap name_denoted (field_is 2 line a b c d e k) ∙ q))
 
-pass_kind : (line a b c d e : List ℕ) (before : Nodes) (id : NodeId) (r : Rights) (n : Option (List ℕ)) (t : ℕ × Bool) → IsCut line a b c d e → NamesId a id → access_denoted b ≡ Some r → name_denoted c ≡ Some n
+pass_kind : (line a b c d e : List ℕ) (before : Nodes) (id : NodeId) (r : Rights) (n : Option (List ℕ)) (t : ℕ × Bool) → IsCut line a b c d e → NamesId a id
+    → access_denoted b ≡ Some r → name_denoted c ≡ Some n
     → type_denoted d ≡ Some t → Passes 5 before line
 pass_kind line a b c d e before id r n t k h p q w =
-    pass Kind before line (pass_name line a b c d e before id r n k h p q) (none_some (type_denoted (field 3 line)) t (ap type_denoted (field_is 3 line a b c d e k) ∙ w))
+    pass Kind before line (pass_name line a b c d e before id r n k h p q)
+    (none_some (type_denoted (field 3 line)) t (ap type_denoted (field_is 3 line a b c d e k) ∙ w))
 
 -- ---- the first reason
 
@@ -96,31 +103,43 @@ bad_fields line h before = record { holds = h; first = pass_none before line }
 pub bad_node : (line a b c d e : List ℕ) → IsCut line a b c d e → ((id : NodeId) → ¬ (NamesId a id)) → (before : Nodes) → IsFirstReason Node before line
 bad_node line a b c d e k h before = record { holds = λ id n. h id (id_back line a b c d e id k n); first = pass_fields line a b c d e before k }
 
-pub bad_access : (line a b c d e : List ℕ) (id : NodeId) → IsCut line a b c d e → NamesId a id → access_denoted b ≡ None → (before : Nodes) → IsFirstReason Access before line
-bad_access line a b c d e id k h none before = record { holds = ap access_denoted (field_is 1 line a b c d e k) ∙ none; first = pass_node line a b c d e before id k h }
+pub bad_access : (line a b c d e : List ℕ) (id : NodeId) → IsCut line a b c d e → NamesId a id → access_denoted b ≡ None → (before : Nodes)
+    → IsFirstReason Access before line
+bad_access line a b c d e id k h none before =
+    record { holds = ap access_denoted (field_is 1 line a b c d e k) ∙ none; first = pass_node line a b c d e before id k h }
 
-pub bad_name : (line a b c d e : List ℕ) (id : NodeId) (r : Rights) → IsCut line a b c d e → NamesId a id → access_denoted b ≡ Some r → name_denoted c ≡ None → (before : Nodes) → IsFirstReason Name before line
-bad_name line a b c d e id r k h p none before = record { holds = ap name_denoted (field_is 2 line a b c d e k) ∙ none; first = pass_access line a b c d e before id r k h p }
+pub bad_name : (line a b c d e : List ℕ) (id : NodeId) (r : Rights) → IsCut line a b c d e → NamesId a id → access_denoted b ≡ Some r → name_denoted c ≡ None
+    → (before : Nodes) → IsFirstReason Name before line
+bad_name line a b c d e id r k h p none before =
+    record { holds = ap name_denoted (field_is 2 line a b c d e k) ∙ none; first = pass_access line a b c d e before id r k h p }
 
-pub bad_kind : (line a b c d e : List ℕ) (id : NodeId) (r : Rights) (n : Option (List ℕ)) → IsCut line a b c d e → NamesId a id → access_denoted b ≡ Some r → name_denoted c ≡ Some n → type_denoted d ≡ None
+pub bad_kind : (line a b c d e : List ℕ) (id : NodeId) (r : Rights) (n : Option (List ℕ)) → IsCut line a b c d e → NamesId a id → access_denoted b ≡ Some r
+    → name_denoted c ≡ Some n → type_denoted d ≡ None
     → (before : Nodes) → IsFirstReason Kind before line
-bad_kind line a b c d e id r n k h p q none before = record { holds = ap type_denoted (field_is 3 line a b c d e k) ∙ none; first = pass_name line a b c d e before id r n k h p q }
+bad_kind line a b c d e id r n k h p q none before =
+    record { holds = ap type_denoted (field_is 3 line a b c d e k) ∙ none; first = pass_name line a b c d e before id r n k h p q }
 
 -- the value that two fields denote
 abbrev both : List ℕ → List ℕ → Option VariantData
 both d e = type_denoted d >>= λ t. value_denoted t.0 t.1 e
 
-both_is : (line a b c d e : List ℕ) (t : ℕ × Bool) → IsCut line a b c d e → type_denoted d ≡ Some t → both (field 3 line) (field 4 line) ≡ value_denoted t.0 t.1 e
+both_is : (line a b c d e : List ℕ) (t : ℕ × Bool) → IsCut line a b c d e → type_denoted d ≡ Some t
+    → both (field 3 line) (field 4 line) ≡ value_denoted t.0 t.1 e
 both_is line a b c d e t k w =
-    ap (λ (x : List ℕ). both x (field 4 line)) (field_is 3 line a b c d e k) ∙ ap (both d) (field_is 4 line a b c d e k) ∙ ap (λ (o : Option (ℕ × Bool)). o >>= λ t. value_denoted t.0 t.1 e) w
+    ap (λ (x : List ℕ). both x (field 4 line)) (field_is 3 line a b c d e k) ∙ ap (both d) (field_is 4 line a b c d e k)
+    ∙ ap (λ (o : Option (ℕ × Bool)). o >>= λ t. value_denoted t.0 t.1 e) w
 
-pub bad_value : (line a b c d e : List ℕ) (id : NodeId) (r : Rights) (n : Option (List ℕ)) (t : ℕ × Bool) → IsCut line a b c d e → NamesId a id → access_denoted b ≡ Some r → name_denoted c ≡ Some n
+pub bad_value : (line a b c d e : List ℕ) (id : NodeId) (r : Rights) (n : Option (List ℕ)) (t : ℕ × Bool) → IsCut line a b c d e → NamesId a id
+    → access_denoted b ≡ Some r → name_denoted c ≡ Some n
     → type_denoted d ≡ Some t → value_denoted t.0 t.1 e ≡ None → (before : Nodes) → IsFirstReason Value before line
-bad_value line a b c d e id r n t k h p q w none before = record { holds = both_is line a b c d e t k w ∙ none; first = pass_kind line a b c d e before id r n t k h p q w }
+bad_value line a b c d e id r n t k h p q w none before =
+    record { holds = both_is line a b c d e t k w ∙ none; first = pass_kind line a b c d e before id r n t k h p q w }
 
 -- the node of a line whose fields are good
-pub good_node : (line a b c d e : List ℕ) (id : NodeId) (v : Variable) → IsCut line a b c d e → NamesId a id → access_denoted b ≡ Some v.access → name_denoted c ≡ Some v.name
-    → type_denoted d ≡ Some (v.kind, v.array) → value_denoted v.kind v.array e ≡ Some v.value → v.status ≡ None → v.source_time ≡ None → v.source_picoseconds ≡ None → WritesNode line (id, v)
+pub good_node : (line a b c d e : List ℕ) (id : NodeId) (v : Variable) → IsCut line a b c d e → NamesId a id → access_denoted b ≡ Some v.access
+    → name_denoted c ≡ Some v.name
+    → type_denoted d ≡ Some (v.kind, v.array) → value_denoted v.kind v.array e ≡ Some v.value → v.status ≡ None → v.source_time ≡ None
+    → v.source_picoseconds ≡ None → WritesNode line (id, v)
 good_node line a b c d e id v k h p q w x y z u = record {
   five = five line a b c d e k;
   id = id_is line a b c d e id k h;
@@ -142,9 +161,12 @@ pass_written line node before w = pass Value before line
     (pass Name before line
     (pass Access before line
     (pass Node before line
-    (pass Fields before line (pass_none before line) (λ h. h w.five)) (λ h. h node.0 w.id)) (none_some (access_denoted (field 1 line)) node.1.access w.access)) (none_some (name_denoted (field 2 line)) node.1.name w.name))
+    (pass Fields before line (pass_none before line) (λ h. h w.five)) (λ h. h node.0 w.id)) (none_some (access_denoted (field 1 line)) node.1.access w.access))
+    (none_some (name_denoted (field 2 line)) node.1.name w.name))
     (none_some (type_denoted (field 3 line)) (node.1.kind, node.1.array) w.kind))
-    (none_some (both (field 3 line) (field 4 line)) node.1.value (ap (λ (o : Option (ℕ × Bool)). o >>= λ t. value_denoted t.0 t.1 (field 4 line)) w.kind ∙ w.value))
+    (none_some (both (field 3 line) (field 4 line)) node.1.value (ap (λ (o : Option (ℕ × Bool)). o >>= λ t. value_denoted t.0 t.1 (field 4 line)) w.kind
+    ∙ w.value))
 
-pub bad_duplicate : (line : List ℕ) (node : NodeId × Variable) (before : Nodes) → WritesNode line node → IsSome (node_at before node.0) → IsFirstReason Duplicate before line
+pub bad_duplicate : (line : List ℕ) (node : NodeId × Variable) (before : Nodes) → WritesNode line node → IsSome (node_at before node.0)
+    → IsFirstReason Duplicate before line
 bad_duplicate line node before w there = record { holds = (node.0, w.id, there); first = pass_written line node before w }

@@ -1,5 +1,6 @@
 -- What a reading leaves.
-use Rattle.std.proofs.Common.{◌≡◌, Bool, true, false, cond, not, List, [], ◌∷◌, Option, None, Some, Result, Ok, Err, MatchResult, OnErr, refl, sym, ◌∙◌, ap, subst}
+use Rattle.std.proofs.Common.{◌≡◌, Bool, true, false, cond, not, List, [], ◌∷◌, Option, None, Some}
+use Rattle.std.proofs.Common.{Result, Ok, Err, MatchResult, OnErr, refl, sym, ◌∙◌, ap, subst}
 use Rattle.std.specs.Map.{set_value}
 use Rattle.std.specs.Option.{is_none}
 use Rattle.ua_builtin.specs.Reasons.{first_reason}
@@ -17,7 +18,8 @@ use Rattle.ua_nodes.specs.declared.set.Reading.{Reading}
 use Rattle.ua_nodes.proofs.Writes.{same_id_is}
 
 -- by the node that the NodeId names
-pub set_some : (id : NodeId) (r : Reading) (nodes : Nodes) (v : Variable) → node_at nodes id ≡ Some v → after_set id r nodes ≡ set_value (same_id id) nodes (set_node v r)
+pub set_some : (id : NodeId) (r : Reading) (nodes : Nodes) (v : Variable) → node_at nodes id ≡ Some v
+    → after_set id r nodes ≡ set_value (same_id id) nodes (set_node v r)
 unfolding after_set
 set_some id r nodes v e = ap (λ (o : Option Variable). with_reading o id r nodes) e
 
@@ -46,7 +48,8 @@ pub kept_by : (id : NodeId) (r : Reading) (nodes : Nodes) (fault : SetFault) →
 unfolding after_set
 kept_by id r nodes fault h = by (node_at nodes id) refl h
   where
-    same : (v : Variable) (o : Option SetFault) → node_at nodes id ≡ Some v → o ≡ Some fault → set_value (same_id id) nodes (cond (is_none o) (stored v (given_by r) r.source_time) v) ≡ nodes
+    same : (v : Variable) (o : Option SetFault) → node_at nodes id ≡ Some v → o ≡ Some fault
+        → set_value (same_id id) nodes (cond (is_none o) (stored v (given_by r) r.source_time) v) ≡ nodes
     same v None e f = absurd cc
     same v (Some g) e f = same_value id nodes v e
 
@@ -65,7 +68,8 @@ node_sound id v r w = by (holds_type v.kind v.array (given_by r).value) (data_va
     by true false e f = w
     by false b e f = w
 
-value_sound : (id : NodeId) (nodes : Nodes) (v : Variable) (r : Reading) → node_at nodes id ≡ Some v → IsSound nodes → IsSound (set_value (same_id id) nodes (set_node v r))
+value_sound : (id : NodeId) (nodes : Nodes) (v : Variable) (r : Reading) → node_at nodes id ≡ Some v → IsSound nodes
+    → IsSound (set_value (same_id id) nodes (set_node v r))
 value_sound id [] v r h s = tt
 value_sound id (node ∷ nodes) v r h s = by (same_id id node.0) h (λ e. value_sound id nodes v r e s.1)
   where
@@ -89,7 +93,8 @@ kept_at id r nodes new (Err fault) e a = e ∙ kept_by id r nodes fault a
 
 -- ---- one node, and the others
 
-value_other : (id other : NodeId) (w : Variable) (nodes : Nodes) → same_id other id ≡ false → node_at (set_value (same_id id) nodes w) other ≡ node_at nodes other
+value_other : (id other : NodeId) (w : Variable) (nodes : Nodes) → same_id other id ≡ false
+    → node_at (set_value (same_id id) nodes w) other ≡ node_at nodes other
 value_other id other w [] apart = refl
 value_other id other w (node ∷ nodes) apart = by (same_id id node.0) refl (value_other id other w nodes apart)
   where
@@ -112,7 +117,8 @@ value_own : (id : NodeId) (v w : Variable) (nodes : Nodes) → node_at nodes id 
 value_own id v w [] h = absurd cc
 value_own id v w (node ∷ nodes) h = by (same_id id node.0) refl h (value_own id v w nodes)
   where
-    by : (t : Bool) → same_id id node.0 ≡ t → cond t (Some node.1) (node_at nodes id) ≡ Some v → (node_at nodes id ≡ Some v → node_at (set_value (same_id id) nodes w) id ≡ Some w)
+    by : (t : Bool) → same_id id node.0 ≡ t → cond t (Some node.1) (node_at nodes id) ≡ Some v
+        → (node_at nodes id ≡ Some v → node_at (set_value (same_id id) nodes w) id ≡ Some w)
         → node_at (cond t ((node.0, w) ∷ nodes) (node ∷ set_value (same_id id) nodes w)) id ≡ Some w
     by true e k more = ap (λ (t : Bool). cond t (Some w) (node_at nodes id)) e
     by false e k more = ap (λ (t : Bool). cond t (Some node.1) (node_at (set_value (same_id id) nodes w) id)) e ∙ more k

@@ -1,5 +1,6 @@
 -- What a file writes is sound.
-use Rattle.std.proofs.Common.{◌≡◌, ℕ, suc, ◌+◌, ◌≤◌, Bool, true, false, ◌&&◌, cond, nat_lt, List, [], ◌∷◌, length, map, filter, Option, Some, None, refl, sym, ◌∙◌, ap, arith, lit<}
+use Rattle.std.proofs.Common.{◌≡◌, ℕ, suc, ◌+◌, ◌≤◌, Bool, true, false, ◌&&◌, cond, nat_lt, List, [], ◌∷◌}
+use Rattle.std.proofs.Common.{length, map, filter, Option, Some, None, refl, sym, ◌∙◌, ap, arith, lit<}
 use Rattle.std.specs.List.{AllByRecursion, AllZip}
 use Rattle.std.specs.Str.{IsUtf8}
 use Rattle.std.specs.Str.Lines.{strip_carriage_return}
@@ -26,7 +27,8 @@ short_is text h = let less = ltb-true (length text) (suc most_octets) h in omega
 name_fits : (text : List ℕ) (name : Option (List ℕ)) → IsUtf8 text → name_denoted text ≡ Some name → text_format.encodable name ≡ true
 name_fits text name u e = by (nat_lt 0 (length text) && is_short text) refl e
   where
-    by : (t : Bool) → (nat_lt 0 (length text) && is_short text) ≡ t → ◌≡◌ {A = Option (Option (List ℕ))} (cond t (Some (Some text)) None) (Some name) → text_format.encodable name ≡ true
+    by : (t : Bool) → (nat_lt 0 (length text) && is_short text) ≡ t → ◌≡◌ {A = Option (Option (List ℕ))} (cond t (Some (Some text)) None) (Some name)
+        → text_format.encodable name ≡ true
     by false h f = absurd cc
     by true h f =
         let is : Some text ≡ name = cc in
@@ -34,7 +36,8 @@ name_fits text name u e = by (nat_lt 0 (length text) && is_short text) refl e
         ap (text_format).encodable (sym is) ∙ text_fits text u (omega arith)
 
 -- what a node without a status and a source time holds
-held_fits : (v : Variable) → v.status ≡ None → v.source_time ≡ None → v.source_picoseconds ≡ None → ValueFits v.kind v.array v.value → data_value_encodable (held v) ≡ true
+held_fits : (v : Variable) → v.status ≡ None → v.source_time ≡ None → v.source_picoseconds ≡ None → ValueFits v.kind v.array v.value
+    → data_value_encodable (held v) ≡ true
 unfolding data_fields_encodable
 held_fits v s t p w =
     let one = w.depth in
@@ -73,7 +76,8 @@ kept_utf8 : (lines : List FileLine) → AreUtf8 lines → AreUtf8 (filter (λ li
 kept_utf8 [] h = tt
 kept_utf8 (line ∷ lines) h = by (is_read line.text) (kept_utf8 lines h.1)
   where
-    by : (t : Bool) → AreUtf8 (filter (λ line. is_read line.text) lines) → AreUtf8 (cond t (line ∷ filter (λ line. is_read line.text) lines) (filter (λ line. is_read line.text) lines))
+    by : (t : Bool) → AreUtf8 (filter (λ line. is_read line.text) lines)
+        → AreUtf8 (cond t (line ∷ filter (λ line. is_read line.text) lines) (filter (λ line. is_read line.text) lines))
     by true more = (h.0, more)
     by false more = more
 

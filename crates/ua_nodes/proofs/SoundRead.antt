@@ -1,5 +1,6 @@
 -- What a Read of a sound table answers can be written.
-use Rattle.std.proofs.Common.{◌≡◌, ℕ, suc, ◌+◌, ◌<◌, ◌≤◌, Bool, true, false, not, ◌&&◌, cond, if◌then◌else◌, leb, nat_eq, nat_lt, List, [], ◌∷◌, Option, Some, None, option_map, pos, refl, sym, ◌∙◌, ap, subst, arith, lit<}
+use Rattle.std.proofs.Common.{◌≡◌, ℕ, suc, ◌+◌, ◌<◌, ◌≤◌, Bool, true, false, not, ◌&&◌, cond, if◌then◌else◌, leb, nat_eq, nat_lt}
+use Rattle.std.proofs.Common.{List, [], ◌∷◌, Option, Some, None, option_map, pos, refl, sym, ◌∙◌, ap, subst, arith, lit<}
 use Rattle.std.proofs.lemmas.Bool.{eqb-true, lt-ltb, ltb-true, le-leb, leb-true}
 use Rattle.ua_builtin.specs.Counted.{text}
 use Rattle.ua_builtin.specs.DateTime.{date_time}
@@ -13,8 +14,12 @@ use Rattle.ua_builtin.specs.declared.node_id.Identifier.{Identifier}
 use Rattle.ua_builtin.specs.declared.node_id.Identifier.TheVariants.{Numeric, Text, Guid as Global, Opaque}
 use Rattle.ua_builtin.specs.declared.status_code.StatusCode.{StatusCode}
 use Rattle.ua_structures.specs.declared.attribute.ReadValueId.{ReadValueId}
-use Rattle.ua_variant.specs.Data.{DataFields, LeafData, boolean, sbyte, byte, int16, uint16, int32, uint32, int64, uint64, float, double, string, date_time as date_time_leaf, guid, byte_string, xml_element, node_id, expanded_node_id, status_code, qualified_name, localized_text, extension_object, reserved, ScalarData, leaf, data_value, variant, diagnostic, ScalarsData, no_scalars, scalar, VariantData, null, one, absent, many}
-use Rattle.ua_variant.specs.Encodable.{kind_of, is_kind, dims_encodable, row_length, scalar_fits, scalars_fit, variant_fits, data_fields_encodable, data_value_encodable}
+use Rattle.ua_variant.specs.Data.{DataFields, LeafData, boolean, sbyte, byte, int16, uint16, int32, uint32, int64, uint64, float, double}
+use Rattle.ua_variant.specs.Data.{string, date_time as date_time_leaf, guid, byte_string, xml_element, node_id, expanded_node_id}
+use Rattle.ua_variant.specs.Data.{status_code, qualified_name, localized_text, extension_object, reserved, ScalarData, leaf, data_value}
+use Rattle.ua_variant.specs.Data.{variant, diagnostic, ScalarsData, no_scalars, scalar, VariantData, null, one, absent, many}
+use Rattle.ua_variant.specs.Encodable.{kind_of, is_kind, dims_encodable, row_length, scalar_fits, scalars_fit}
+use Rattle.ua_variant.specs.Encodable.{variant_fits, data_fields_encodable, data_value_encodable}
 use Rattle.ua_variant.specs.Leaf.{leaf_kind, leaf_encodable}
 use Rattle.ua_variant.specs.Measure.{scalars_depth, variant_depth}
 use Rattle.ua_variant.specs.View.{row, row_list}
@@ -28,7 +33,8 @@ use Rattle.ua_nodes.specs.Range.{asked_range, is_within, ranged_from, ranged, pa
 use Rattle.ua_nodes.specs.Read.{read_item_reasons, gives_source, gives_server, refused, where_so, stamps_of, value_read, with_stamps, read_by, read_answer}
 use Rattle.ua_nodes.specs.Sound.{held_fields, IsSoundNode, IsSound}
 use Rattle.ua_builtin.specs.Reasons.{first_reason}
-use Rattle.ua_nodes.specs.Status.{bad_node_id_unknown, bad_attribute_id_invalid, bad_index_range_invalid, bad_index_range_no_data, bad_data_encoding_invalid, bad_not_readable}
+use Rattle.ua_nodes.specs.Status.{bad_node_id_unknown, bad_attribute_id_invalid, bad_index_range_invalid}
+use Rattle.ua_nodes.specs.Status.{bad_index_range_no_data, bad_data_encoding_invalid, bad_not_readable}
 use Rattle.ua_nodes.specs.Table.{Nodes, node_at, same_id}
 use Rattle.ua_nodes.specs.Write.{has_none, is_of_type}
 use Rattle.ua_nodes.proofs.FieldsFit.{field_fits, parts_of, fields_from}
@@ -47,7 +53,8 @@ code_fits code h = rw h refl
 abbrev CodeFits : Option StatusCode → Type 0
 CodeFits o = (code : StatusCode) → o ≡ Some code → nat_lt code.code 4294967296 ≡ true
 
-where_holds : (test : Bool) (code : StatusCode) (rest : Option StatusCode) → nat_lt code.code 4294967296 ≡ true → CodeFits rest → CodeFits (if test then Some code else rest)
+where_holds : (test : Bool) (code : StatusCode) (rest : Option StatusCode) → nat_lt code.code 4294967296 ≡ true → CodeFits rest
+    → CodeFits (if test then Some code else rest)
 where_holds true code rest here more c e = let is : code ≡ c = cc in ap (λ (x : StatusCode). nat_lt x.code 4294967296) (sym is) ∙ here
 where_holds false code rest here more c e = more c e
 
@@ -85,7 +92,8 @@ namespace_fits ns (Text t) h = (both_true (nat_lt ns 65536) _ h).0
 namespace_fits ns (Global g) h = (both_true (nat_lt ns 65536) _ h).0
 namespace_fits ns (Opaque b) h = (both_true (nat_lt ns 65536) _ h).0
 
-qualified_fits : (id : NodeId) (name : Option (List ℕ)) → node_id_format.encodable id ≡ true → text.encodable name ≡ true → leaf_encodable (qualified_name (record { namespace = id.namespace; name = name })) ≡ true
+qualified_fits : (id : NodeId) (name : Option (List ℕ)) → node_id_format.encodable id ≡ true → text.encodable name ≡ true
+    → leaf_encodable (qualified_name (record { namespace = id.namespace; name = name })) ≡ true
 unfolding qualified_name_format
 qualified_fits id name h t = both_are (nat_lt id.namespace 65536) (text.encodable name) (namespace_fits id.namespace id.identifier h) t
 
@@ -148,16 +156,21 @@ kind_fits kind array (absent k []) h f = ap_less (same_kind kind k array true h)
 kind_fits kind array (absent k (d ∷ ds)) h f = absurd cc
 kind_fits kind array (many k ss ds) h f =
     let n = row_length ss in
-    let known = (both_true (is_kind k) (leb n 2147483647) (both_true (is_kind k && leb n 2147483647) (dims_encodable ds n) (both_true (is_kind k && leb n 2147483647 && dims_encodable ds n) (scalars_fit k ss) f).0).0).0 in
+    let known =
+    (both_true (is_kind k) (leb n 2147483647)
+    (both_true (is_kind k && leb n 2147483647) (dims_encodable ds n)
+    (both_true (is_kind k && leb n 2147483647 && dims_encodable ds n) (scalars_fit k ss) f).0).0).0 in
     ap_less (same_kind kind k array (has_none ds) h) (kind_small k known)
 
 attribute_fits : (id : NodeId) (v : Variable) (a : Attribute) → IsSoundNode id v → Fits v.value → Fits (attribute_value id v a)
 attribute_fits id v attribute.NodeId w value = single_fits (node_id id) w.id_fits
 attribute_fits id v attribute.NodeClass w value = single_fits (int32 (pos 2)) refl
-attribute_fits id v attribute.BrowseName w value = single_fits (qualified_name (record { namespace = id.namespace; name = v.name })) (qualified_fits id v.name w.id_fits w.name_fits)
+attribute_fits id v attribute.BrowseName w value = single_fits (qualified_name (record { namespace = id.namespace; name = v.name }))
+    (qualified_fits id v.name w.id_fits w.name_fits)
 attribute_fits id v attribute.DisplayName w value = single_fits (localized_text (record { locale = None; text = v.name })) (localized_fits v.name w.name_fits)
 attribute_fits id v attribute.Value w value = value
-attribute_fits id v attribute.DataType w value = single_fits (node_id (type_node v.kind)) (numeric_fits 0 v.kind (omega arith) (kind_fits v.kind v.array v.value w.of_type value.fits))
+attribute_fits id v attribute.DataType w value =
+    single_fits (node_id (type_node v.kind)) (numeric_fits 0 v.kind (omega arith) (kind_fits v.kind v.array v.value w.of_type value.fits))
 attribute_fits id v attribute.AccessLevel w value = single_fits (byte (access_level v.access)) (level_fits v.access.readable v.access.writable)
 attribute_fits id v attribute.UserAccessLevel w value = single_fits (byte (access_level v.access)) (level_fits v.access.readable v.access.writable)
 
@@ -221,7 +234,8 @@ kept_fits : {A : Type 0} (test : A → Bool) (t : Bool) (o : Option A) → field
 kept_fits test true o h = h
 kept_fits test false o h = refl
 
-stamps_fit : (v : Variable) (is_value : Bool) (stamps : Stamps) (moment : DateTime) → date_time.encodable moment ≡ true → data_fields_encodable (held_fields v) ≡ true → data_fields_encodable (stamps_of v is_value stamps moment) ≡ true
+stamps_fit : (v : Variable) (is_value : Bool) (stamps : Stamps) (moment : DateTime) → date_time.encodable moment ≡ true
+    → data_fields_encodable (held_fields v) ≡ true → data_fields_encodable (stamps_of v is_value stamps moment) ≡ true
 stamps_fit v is_value stamps moment m h =
     let a = parts_of (held_fields v) h in
     let source = is_value && gives_source stamps in
@@ -235,22 +249,26 @@ stamps_fit v is_value stamps moment m h =
 
 -- ---- answers
 
-stamped_fits : (o : Option Attribute) (value : Attribute → VariantData) (fields : DataFields) → ((a : Attribute) → Fits (value a)) → data_fields_encodable fields ≡ true → data_value_encodable (with_stamps (option_map value o) fields) ≡ true
+stamped_fits : (o : Option Attribute) (value : Attribute → VariantData) (fields : DataFields) → ((a : Attribute) → Fits (value a))
+    → data_fields_encodable fields ≡ true → data_value_encodable (with_stamps (option_map value o) fields) ≡ true
 stamped_fits None value fields each h = h
 stamped_fits (Some a) value fields each h =
     let fits = each a in
     let low = fits.depth in
-    both_are (leb (1 + variant_depth (value a)) 100) (data_fields_encodable fields && variant_fits (value a)) (le-leb (1 + variant_depth (value a)) 100 (omega arith))
+    both_are (leb (1 + variant_depth (value a)) 100) (data_fields_encodable fields && variant_fits (value a))
+    (le-leb (1 + variant_depth (value a)) 100 (omega arith))
     (both_are (data_fields_encodable fields) (variant_fits (value a)) h fits.fits)
 
-by_reason : (o : Option StatusCode) (v : Variable) (item : ReadValueId) (stamps : Stamps) (moment : DateTime) → date_time.encodable moment ≡ true → IsSoundNode item.node_id v → CodeFits o → data_value_encodable (read_by o v item stamps moment) ≡ true
+by_reason : (o : Option StatusCode) (v : Variable) (item : ReadValueId) (stamps : Stamps) (moment : DateTime) → date_time.encodable moment ≡ true
+    → IsSoundNode item.node_id v → CodeFits o → data_value_encodable (read_by o v item stamps moment) ≡ true
 by_reason (Some code) v item stamps moment m w c = code_fits code (c code refl)
 by_reason None v item stamps moment m w c =
     let held_parts = both_true (leb (1 + variant_depth v.value) 100) (data_fields_encodable (held_fields v) && variant_fits v.value) w.value_fits in
     let deep = leb-true (1 + variant_depth v.value) 100 held_parts.0 in
     let parts = both_true (data_fields_encodable (held_fields v)) (variant_fits v.value) held_parts.1 in
     let value : Fits v.value = record { depth = omega arith; fits = parts.1 } in
-    stamped_fits (attribute_of item.attribute_id) (λ a. value_read item.node_id v a (asked_range item.index_range)) (stamps_of v (nat_eq item.attribute_id 13) stamps moment)
+    stamped_fits (attribute_of item.attribute_id) (λ a. value_read item.node_id v a (asked_range item.index_range))
+    (stamps_of v (nat_eq item.attribute_id 13) stamps moment)
     (λ a. value_read_fits item.node_id v a (asked_range item.index_range) w value) (stamps_fit v (nat_eq item.attribute_id 13) stamps moment m parts.0)
 
 pub sound_at : (nodes : Nodes) (id : NodeId) (v : Variable) → IsSound nodes → node_at nodes id ≡ Some v → IsSoundNode id v
@@ -264,7 +282,8 @@ sound_at (x ∷ nodes) id v h e = by (same_id id x.0) refl e (λ f. sound_at nod
         subst (IsSoundNode id) v_is (subst (λ (k : NodeId). IsSoundNode k x.1) (sym id_is) h.0)
     by false same f more = more f
 
-pub read_sound : (nodes : Nodes) (item : ReadValueId) (stamps : Stamps) (moment : DateTime) → date_time.encodable moment ≡ true → IsSound nodes → data_value_encodable (read_answer (node_at nodes item.node_id) item stamps moment) ≡ true
+pub read_sound : (nodes : Nodes) (item : ReadValueId) (stamps : Stamps) (moment : DateTime) → date_time.encodable moment ≡ true → IsSound nodes
+    → data_value_encodable (read_answer (node_at nodes item.node_id) item stamps moment) ≡ true
 read_sound nodes item stamps moment m h = by (node_at nodes item.node_id) refl
   where
     by : (o : Option Variable) → node_at nodes item.node_id ≡ o → data_value_encodable (read_answer o item stamps moment) ≡ true

@@ -43,7 +43,8 @@ sound id v h =
     let time = optional_fits date_time.encodable v.source_time in
     let pico = optional_fits (number 2).encodable v.source_picoseconds in
     let level = nat_lt (variant_depth v.value) most_levels in
-    let a = both_true (node_id.encodable id) (text.encodable v.name && (is_of_type v.kind v.array v.value && (level && (variant_encodable v.value && (status && (time && pico)))))) h in
+    let a = both_true (node_id.encodable id)
+    (text.encodable v.name && (is_of_type v.kind v.array v.value && (level && (variant_encodable v.value && (status && (time && pico)))))) h in
     let b = both_true (text.encodable v.name) (is_of_type v.kind v.array v.value && (level && (variant_encodable v.value && (status && (time && pico))))) a.1 in
     let c = both_true (is_of_type v.kind v.array v.value) (level && (variant_encodable v.value && (status && (time && pico)))) b.1 in
     let d = both_true level (variant_encodable v.value && (status && (time && pico))) c.1 in
@@ -62,7 +63,8 @@ sound id v h =
       id_fits = a.0;
       name_fits = b.0;
       of_type = c.0;
-      value_fits = both_are (leb (1 + variant_depth v.value) 100) (data_fields_encodable (held_fields v) && variant_fits v.value) (below_is (variant_depth v.value) d.0)
+      value_fits = both_are (leb (1 + variant_depth v.value) 100) (data_fields_encodable (held_fields v) && variant_fits v.value)
+          (below_is (variant_depth v.value) d.0)
           (both_are (data_fields_encodable (held_fields v)) (variant_fits v.value) fields fits.1);
     }
 
@@ -75,12 +77,15 @@ passed id v s =
     let a = both_true (leb (1 + variant_depth v.value) 100) (data_fields_encodable (held_fields v) && variant_fits v.value) s.value_fits in
     let b = both_true (data_fields_encodable (held_fields v)) (variant_fits v.value) a.1 in
     let f = parts_of (held_fields v) b.0 in
-    let two = both_are time pico (there_was date_time.encodable v.source_time f.source_time) (there_was (λ n. nat_lt n 65536) v.source_picoseconds f.source_picoseconds) in
-    both_are (node_id.encodable id) (text.encodable v.name && (is_of_type v.kind v.array v.value && (level && (variant_encodable v.value && (status && (time && pico)))))) s.id_fits
+    let two = both_are time pico (there_was date_time.encodable v.source_time f.source_time)
+    (there_was (λ n. nat_lt n 65536) v.source_picoseconds f.source_picoseconds) in
+    both_are (node_id.encodable id)
+    (text.encodable v.name && (is_of_type v.kind v.array v.value && (level && (variant_encodable v.value && (status && (time && pico)))))) s.id_fits
     (both_are (text.encodable v.name) (is_of_type v.kind v.array v.value && (level && (variant_encodable v.value && (status && (time && pico))))) s.name_fits
     (both_are (is_of_type v.kind v.array v.value) (level && (variant_encodable v.value && (status && (time && pico)))) s.of_type
     (both_are level (variant_encodable v.value && (status && (time && pico))) (less_is (variant_depth v.value) a.0)
-    (both_are (variant_encodable v.value) (status && (time && pico)) (both_are (leb (variant_depth v.value) most_levels) (variant_fits v.value) (whole_is (variant_depth v.value) a.0) b.1)
+    (both_are (variant_encodable v.value) (status && (time && pico))
+    (both_are (leb (variant_depth v.value) most_levels) (variant_fits v.value) (whole_is (variant_depth v.value) a.0) b.1)
     (both_are status (time && pico) (there_was status_code.encodable v.status f.status) two)))))
 
 -- the test passes exactly where the node is sound

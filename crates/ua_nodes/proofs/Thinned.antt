@@ -19,7 +19,8 @@ use Rattle.ua_nodes.specs.Attribute.{is_attribute}
 use Rattle.ua_nodes.specs.Read.{is_filled}
 use Rattle.ua_nodes.specs.Status.{bad_attribute_id_invalid, bad_not_writable, bad_write_not_supported, bad_type_mismatch}
 use Rattle.ua_nodes.specs.Table.{Nodes, node_at, same_id}
-use Rattle.ua_nodes.specs.Write.{after_write, good_or, has_none, holds_type, is_good_for, is_of_type, last_good, later, nodes_take, variable_takes, write_answer, write_answers, write_item_reasons, written_by}
+use Rattle.ua_nodes.specs.Write.{after_write, good_or, has_none, holds_type, is_good_for, is_of_type, last_good, later}
+use Rattle.ua_nodes.specs.Write.{nodes_take, variable_takes, write_answer, write_answers, write_item_reasons, written_by}
 use Rattle.ua_nodes.proofs.Writes.{same_id_is}
 
 -- ---- a value
@@ -55,7 +56,8 @@ reasons_at v attribute range writable held = reasons v attribute range (is_none 
 abbrev reasons_of : Variable → ℕ → Option (List ℕ) → DataValue → List (StatusCode × Bool)
 reasons_of v attribute range d = reasons_at v attribute range (data_value_encodable (data_value_of d)) d.value
 
-kept_by : (v : Variable) (attribute : ℕ) (range : Option (List ℕ)) (d : DataValue) (value : VariantData) (test : Bool) → d.value ≡ Some value → is_kept (variable_takes (Some v)) (type_of value) ≡ test
+kept_by : (v : Variable) (attribute : ℕ) (range : Option (List ℕ)) (d : DataValue) (value : VariantData) (test : Bool) → d.value ≡ Some value
+    → is_kept (variable_takes (Some v)) (type_of value) ≡ test
     → reasons_of v attribute range (cond test d null_value) ≡ reasons_of v attribute range d
 kept_by v attribute range d value true held is = refl
 kept_by v attribute range d value false held is =
@@ -76,7 +78,8 @@ with_value item d = record { node_id = item.node_id; attribute_id = item.attribu
 abbrev with_kept : (ValueType → Bool) → WriteValue → WriteValue
 with_kept takes item = with_value item (kept_value takes item.value)
 
-pub same_reasons : (v : Variable) (item : WriteValue) (takes : ValueType → Bool) → takes ≡ variable_takes (Some v) → write_item_reasons v (with_kept takes item) ≡ write_item_reasons v item
+pub same_reasons : (v : Variable) (item : WriteValue) (takes : ValueType → Bool) → takes ≡ variable_takes (Some v)
+    → write_item_reasons v (with_kept takes item) ≡ write_item_reasons v item
 same_reasons v item takes is =
     ap (λ (t : ValueType → Bool). write_item_reasons v (with_kept t item)) is
     ∙ reasons_kept v item.attribute_id item.index_range item.value item.value.value refl
@@ -91,7 +94,8 @@ one_holds false true c e = absurd cc
 one_holds false false true e = absurd cc
 one_holds false false false e = absurd cc
 
-good_by : (v : Variable) (attribute : ℕ) (range : Option (List ℕ)) (d : DataValue) (value : VariantData) (test : Bool) → d.value ≡ Some value → is_kept (variable_takes (Some v)) (type_of value) ≡ test
+good_by : (v : Variable) (attribute : ℕ) (range : Option (List ℕ)) (d : DataValue) (value : VariantData) (test : Bool) → d.value ≡ Some value
+    → is_kept (variable_takes (Some v)) (type_of value) ≡ test
     → is_none (first_reason (reasons_of v attribute range d)) ≡ true → cond test d null_value ≡ d
 good_by v attribute range d value true held is good = refl
 good_by v attribute range d value false held is good =
@@ -103,14 +107,16 @@ good_kept : (v : Variable) (attribute : ℕ) (range : Option (List ℕ)) (d : Da
 good_kept v attribute range d None is good = refl
 good_kept v attribute range d (Some value) is good = good_by v attribute range d value (is_kept (variable_takes (Some v)) (type_of value)) is refl good
 
-pub same_item : (v : Variable) (item : WriteValue) (takes : ValueType → Bool) → takes ≡ variable_takes (Some v) → is_none (first_reason (write_item_reasons v item)) ≡ true → with_kept takes item ≡ item
+pub same_item : (v : Variable) (item : WriteValue) (takes : ValueType → Bool) → takes ≡ variable_takes (Some v)
+    → is_none (first_reason (write_item_reasons v item)) ≡ true → with_kept takes item ≡ item
 same_item v item takes is good =
     ap (λ (t : ValueType → Bool). with_kept t item) is
     ∙ ap (with_value item) (good_kept v item.attribute_id item.index_range item.value item.value.value refl good)
 
 -- ---- the answers
 
-pub answer_by : (takes : NodeId → ValueType → Bool) (o : Option Variable) (item : WriteValue) → takes item.node_id ≡ variable_takes o → write_answer o (thinned takes item) ≡ write_answer o item
+pub answer_by : (takes : NodeId → ValueType → Bool) (o : Option Variable) (item : WriteValue) → takes item.node_id ≡ variable_takes o
+    → write_answer o (thinned takes item) ≡ write_answer o item
 answer_by takes None item is = refl
 answer_by takes (Some v) item is = ap (λ (rs : List (StatusCode × Bool)). good_or (first_reason rs)) (same_reasons v item (takes item.node_id) is)
 
@@ -131,16 +137,19 @@ same_kept : (good : Bool) (kept item : WriteValue) → (good ≡ true → kept �
 same_kept true kept item same = ap Some (same refl)
 same_kept false kept item same = refl
 
-good_item : (takes : NodeId → ValueType → Bool) (node : NodeId × Variable) (item : WriteValue) (test : Bool) → Names takes node → same_id item.node_id node.0 ≡ test
+good_item : (takes : NodeId → ValueType → Bool) (node : NodeId × Variable) (item : WriteValue) (test : Bool) → Names takes node
+    → same_id item.node_id node.0 ≡ test
     → cond (test && is_none (first_reason (write_item_reasons node.1 (thinned takes item)))) (Some (thinned takes item)) None
     ≡ cond (test && is_none (first_reason (write_item_reasons node.1 item))) (Some item) None
 good_item takes node item true names is =
     let taken = names item.node_id is in
-    ap (λ (rs : List (StatusCode × Bool)). cond (is_none (first_reason rs)) (Some (thinned takes item)) None) (same_reasons node.1 item (takes item.node_id) taken)
+    ap (λ (rs : List (StatusCode × Bool)). cond (is_none (first_reason rs)) (Some (thinned takes item)) None)
+    (same_reasons node.1 item (takes item.node_id) taken)
     ∙ same_kept (is_none (first_reason (write_item_reasons node.1 item))) (thinned takes item) item (same_item node.1 item (takes item.node_id) taken)
 good_item takes node item false names is = refl
 
-last_same : (takes : NodeId → ValueType → Bool) (node : NodeId × Variable) (items : List WriteValue) → Names takes node → last_good node (map (thinned takes) items) ≡ last_good node items
+last_same : (takes : NodeId → ValueType → Bool) (node : NodeId × Variable) (items : List WriteValue) → Names takes node
+    → last_good node (map (thinned takes) items) ≡ last_good node items
 last_same takes node [] names = refl
 last_same takes node (item ∷ items) names =
     ap (λ (g : Option WriteValue). later g (last_good node (map (thinned takes) items))) (good_item takes node item (same_id item.node_id node.0) names refl)
@@ -153,7 +162,8 @@ node_left moment node item = (node.0, written_by node.1 item moment)
 after_each : (takes : NodeId → ValueType → Bool) (items : List WriteValue) (moment : DateTime) (nodes : Nodes) → AllByRecursion (Names takes) nodes
     → map (λ node. node_left moment node (last_good node (map (thinned takes) items))) nodes ≡ map (λ node. node_left moment node (last_good node items)) nodes
 after_each takes items moment [] names = refl
-after_each takes items moment (node ∷ nodes) names = head_is (ap (node_left moment node) (last_same takes node items names.0)) (after_each takes items moment nodes names.1)
+after_each takes items moment (node ∷ nodes) names = head_is (ap (node_left moment node) (last_same takes node items names.0))
+    (after_each takes items moment nodes names.1)
 
 -- ---- no two nodes are of one NodeId
 
@@ -166,11 +176,13 @@ apart a b id true differ is same =
 apart a b id false differ is same = refl
 
 -- a node more in front leaves what the others are named by
-named_behind : (node : NodeId × Variable) (all nodes : Nodes) → AllByRecursion (λ (k : NodeId). same_id node.0 k ≡ false) (keys_of nodes) → AllByRecursion (Names (nodes_take all)) nodes
+named_behind : (node : NodeId × Variable) (all nodes : Nodes) → AllByRecursion (λ (k : NodeId). same_id node.0 k ≡ false) (keys_of nodes)
+    → AllByRecursion (Names (nodes_take all)) nodes
     → AllByRecursion (Names (nodes_take (node ∷ all))) nodes
 named_behind node all [] differ names = tt
 named_behind node all (x ∷ nodes) differ names = (
-  (λ id is. ap (λ (b : Bool). variable_takes (cond b (Some node.1) (node_at all id))) (apart node.0 x.0 id (same_id id node.0) differ.0 is refl) ∙ names.0 id is),
+  (λ id is. ap (λ (b : Bool). variable_takes (cond b (Some node.1) (node_at all id))) (apart node.0 x.0 id (same_id id node.0) differ.0 is refl)
+      ∙ names.0 id is),
   named_behind node all nodes differ.1 names.1,
 )
 

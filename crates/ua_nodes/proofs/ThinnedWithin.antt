@@ -18,10 +18,12 @@ use Rattle.ua_nodes.specs.Table.{Nodes, node_at, same_id}
 use Rattle.ua_nodes.specs.Write.{after_write, nodes_take, variable_takes, write_answer, write_item_reasons}
 use Rattle.ua_nodes.proofs.Thinned.{after_write-thinned, answer_by, same_item, same_reasons, write_answers-thinned}
 
-growth_kept : (takes : NodeId → ValueType → Bool) (o : Option Variable) (item : WriteValue) → takes item.node_id ≡ variable_takes o → growth o (thinned takes item) ≡ growth o item
+growth_kept : (takes : NodeId → ValueType → Bool) (o : Option Variable) (item : WriteValue) → takes item.node_id ≡ variable_takes o
+    → growth o (thinned takes item) ≡ growth o item
 growth_kept takes None item is = refl
 growth_kept takes (Some v) item is =
-    ap (λ (rs : List (StatusCode × Bool)). cond (is_none (first_reason rs)) (given_memory (thinned takes item).value.value - value_memory v.value) 0) (same_reasons v item (takes item.node_id) is)
+    ap (λ (rs : List (StatusCode × Bool)). cond (is_none (first_reason rs)) (given_memory (thinned takes item).value.value - value_memory v.value) 0)
+    (same_reasons v item (takes item.node_id) is)
     ∙ by (is_none (first_reason (write_item_reasons v item))) refl
   where
     by : (t : Bool) → is_none (first_reason (write_item_reasons v item)) ≡ t
@@ -36,19 +38,25 @@ module _ (nodes : Nodes) where
   grows : (item : WriteValue) → growth (node_at nodes item.node_id) (kept item) ≡ growth (node_at nodes item.node_id) item
   grows item = growth_kept (nodes_take nodes) (node_at nodes item.node_id) item refl
 
-  pub answers_within-thinned : (room : ℕ) (items : List WriteValue) → answers_within room nodes (map (thinned (nodes_take nodes)) items) ≡ answers_within room nodes items
+  pub answers_within-thinned : (room : ℕ) (items : List WriteValue) → answers_within room nodes (map (thinned (nodes_take nodes)) items)
+      ≡ answers_within room nodes items
   answers_within-thinned room [] = refl
   answers_within-thinned room (item ∷ items) =
       let o = node_at nodes item.node_id in
-      ap (λ (n : ℕ). cond (nat_lt room n) bad_out_of_memory (write_answer o (kept item)) ∷ answers_within (cond (nat_lt room n) room (room - n)) nodes (map kept items)) (grows item)
-      ∙ ap (λ (code : StatusCode). cond (outgrows room o item) bad_out_of_memory code ∷ answers_within (room_after room o item) nodes (map kept items)) (answer_by (nodes_take nodes) o item refl)
-      ∙ ap (λ (codes : List StatusCode). cond (outgrows room o item) bad_out_of_memory (write_answer o item) ∷ codes) (answers_within-thinned (room_after room o item) items)
+      ap (λ (n : ℕ). cond (nat_lt room n) bad_out_of_memory (write_answer o (kept item)) ∷ answers_within (cond (nat_lt room n) room (room - n)) nodes
+      (map kept items)) (grows item)
+      ∙ ap (λ (code : StatusCode). cond (outgrows room o item) bad_out_of_memory code ∷ answers_within (room_after room o item) nodes (map kept items))
+      (answer_by (nodes_take nodes) o item refl)
+      ∙ ap (λ (codes : List StatusCode). cond (outgrows room o item) bad_out_of_memory (write_answer o item) ∷ codes)
+      (answers_within-thinned (room_after room o item) items)
 
-  taken : (t : Bool) (item : WriteValue) (items : List WriteValue) → cond t (map kept items) (kept item ∷ map kept items) ≡ map kept (cond t items (item ∷ items))
+  taken : (t : Bool) (item : WriteValue) (items : List WriteValue) → cond t (map kept items) (kept item ∷ map kept items)
+      ≡ map kept (cond t items (item ∷ items))
   taken true item items = refl
   taken false item items = refl
 
-  pub items_within-thinned : (room : ℕ) (items : List WriteValue) → items_within room nodes (map (thinned (nodes_take nodes)) items) ≡ map (thinned (nodes_take nodes)) (items_within room nodes items)
+  pub items_within-thinned : (room : ℕ) (items : List WriteValue) → items_within room nodes (map (thinned (nodes_take nodes)) items)
+      ≡ map (thinned (nodes_take nodes)) (items_within room nodes items)
   items_within-thinned room [] = refl
   items_within-thinned room (item ∷ items) =
       let o = node_at nodes item.node_id in
@@ -57,7 +65,8 @@ module _ (nodes : Nodes) where
       ∙ ap (λ (rest : List WriteValue). cond (outgrows room o item) rest (kept item ∷ rest)) (items_within-thinned (room_after room o item) items)
       ∙ taken (outgrows room o item) item (items_within (room_after room o item) nodes items)
 
-  pub limited_answers-thinned : (most : Option ℕ) (items : List WriteValue) → limited_answers most nodes (map (thinned (nodes_take nodes)) items) ≡ limited_answers most nodes items
+  pub limited_answers-thinned : (most : Option ℕ) (items : List WriteValue) → limited_answers most nodes (map (thinned (nodes_take nodes)) items)
+      ≡ limited_answers most nodes items
   limited_answers-thinned None items = write_answers-thinned nodes items
   limited_answers-thinned (Some most) items = answers_within-thinned (room_of most nodes) items
 

@@ -1,5 +1,6 @@
 -- The pieces of a UTF-8 text round an ASCII octet are UTF-8.
-use Rattle.std.proofs.Common.{◌≡◌, ℕ, zero, suc, ◌+◌, ◌-◌, ◌<◌, ◌==◌, Bool, true, false, if◌then◌else◌, nat_eq, List, [], ◌∷◌, ◌++◌, length, get_or, take, drop, slice_index, slice_index_or, refl, sym, ◌∙◌, ap, subst, arith, lit<, append_assoc, length-append}
+use Rattle.std.proofs.Common.{◌≡◌, ℕ, zero, suc, ◌+◌, ◌-◌, ◌<◌, ◌==◌, Bool, true, false, if◌then◌else◌, nat_eq, List, [], ◌∷◌, ◌++◌, length}
+use Rattle.std.proofs.Common.{get_or, take, drop, slice_index, slice_index_or, refl, sym, ◌∙◌, ap, subst, arith, lit<, append_assoc, length-append}
 use Rattle.std.specs.List.{onto_first, AllByRecursion}
 use Rattle.std.specs.Str.{IsUtf8, IsAscii}
 use Rattle.std.specs.Str.Lines.{strip_carriage_return}
@@ -23,8 +24,10 @@ utf8_cut front back c small u =
     let bs = front ++ c ∷ back in
     let long = length-append front (c ∷ back) in
     let here = index_seam front back c in
-    let behind : IsUtf8 (drop (length front + 1) bs) = IsUtf8-drop bs (length front + 1) u (IsCharBoundary-after_ascii bs (length front) u (omega arith) (omega arith)) in
-    let is_back : drop (length front + 1) bs ≡ back = ap (drop (length front + 1)) (sym (append_assoc front (c ∷ []) back)) ∙ drop_at (front ++ c ∷ []) back (length front + 1) (length-append front (c ∷ [])) in
+    let behind : IsUtf8 (drop (length front + 1) bs) =
+    IsUtf8-drop bs (length front + 1) u (IsCharBoundary-after_ascii bs (length front) u (omega arith) (omega arith)) in
+    let is_back : drop (length front + 1) bs ≡ back = ap (drop (length front + 1)) (sym (append_assoc front (c ∷ []) back))
+    ∙ drop_at (front ++ c ∷ []) back (length front + 1) (length-append front (c ∷ [])) in
     let back_utf8 : IsUtf8 back = subst IsUtf8 is_back behind in
     let with_c : IsUtf8 (c ∷ back) = IsUtf8-append (c ∷ []) back (IsUtf8-from_ascii (c ∷ []) (one_ascii c small)) back_utf8 in
     let before : IsUtf8 (take (length front) bs) = IsUtf8-take bs (length front) u (IsCharBoundary-at_seam bs front (c ∷ back) refl with_c) in
@@ -50,9 +53,13 @@ first_utf8 c front (x ∷ xs) small u = by (nat_eq x c) refl (λ f v. first_utf8
     by : (t : Bool) → nat_eq x c ≡ t → ((f : List ℕ) → IsUtf8 (f ++ xs) → FirstUtf8 f (pieces c xs)) → FirstUtf8 front (pieces c (x ∷ xs))
     by true e more =
         let cut = utf8_cut front xs c small (subst (λ (y : ℕ). IsUtf8 (front ++ y ∷ xs)) (eqb-true x c e) u) in
-        subst (FirstUtf8 front) (sym (slice_split-cons_yes (λ b. nat_eq b c) x xs e)) (subst IsUtf8 (sym (append-nil front)) cut.0, all_utf8 (pieces c xs) (more [] cut.1))
+        subst (FirstUtf8 front) (sym (slice_split-cons_yes (λ b. nat_eq b c) x xs e)) (
+          subst IsUtf8 (sym (append-nil front)) cut.0,
+          all_utf8 (pieces c xs) (more [] cut.1),
+        )
     by false e more =
-        subst (FirstUtf8 front) (sym (slice_split-cons_no (λ b. nat_eq b c) x xs e)) (onto_utf8 front x (pieces c xs) (more (front ++ x ∷ []) (subst IsUtf8 (sym (append_assoc front (x ∷ []) xs)) u)))
+        subst (FirstUtf8 front) (sym (slice_split-cons_no (λ b. nat_eq b c) x xs e))
+        (onto_utf8 front x (pieces c xs) (more (front ++ x ∷ []) (subst IsUtf8 (sym (append_assoc front (x ∷ []) xs)) u)))
 
 pub pieces_utf8 : (c : ℕ) (text : List ℕ) → c < 128 → IsUtf8 text → AllByRecursion IsUtf8 (pieces c text)
 pieces_utf8 c text small u = all_utf8 (pieces c text) (first_utf8 c [] text small u)

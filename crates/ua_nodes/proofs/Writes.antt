@@ -29,7 +29,8 @@ abbrev after_one : WriteValue → DateTime → Node → Node
 after_one item moment node = (node.0, written_by node.1 (good_item node item) moment)
 
 apart_one : (item : WriteValue) (moment : DateTime) (node : Node) → same_id item.node_id node.0 ≡ false → after_one item moment node ≡ node
-apart_one item moment node e = ap (λ (t : Bool). (node.0, written_by node.1 (cond (t && is_none (first_reason (write_item_reasons node.1 item))) (Some item) None) moment)) e
+apart_one item moment node e =
+    ap (λ (t : Bool). (node.0, written_by node.1 (cond (t && is_none (first_reason (write_item_reasons node.1 item))) (Some item) None) moment)) e
 
 head_is : {A : Type 0} {x y : A} {xs ys : List A} → x ≡ y → xs ≡ ys → x ∷ xs ≡ y ∷ ys
 head_is p q = λ i. p i ∷ q i
@@ -54,7 +55,8 @@ among_keys id [] h = tt
 among_keys id (node ∷ nodes) h = (h.0, among_keys id nodes h.1)
 
 -- no node behind the one that it names
-pub past_head : (id : NodeId) (node : Node) (nodes : Nodes) → IsDistinct same_id (keys_of (node ∷ nodes)) → same_id id node.0 ≡ true → NonePasses (same_id id) nodes
+pub past_head : (id : NodeId) (node : Node) (nodes : Nodes) → IsDistinct same_id (keys_of (node ∷ nodes)) → same_id id node.0 ≡ true
+    → NonePasses (same_id id) nodes
 unfolding IsDistinct
 past_head id node nodes d e =
     let P : NodeId → Type 0 = λ k. NonePasses (same_id k) nodes in
@@ -64,14 +66,17 @@ past_head id node nodes d e =
 abbrev reached : WriteValue → DateTime → Variable → Variable
 reached item moment v = written_by v (cond (is_none (first_reason (write_item_reasons v item))) (Some item) None) moment
 
-here_one : (item : WriteValue) (moment : DateTime) (node : Node) → same_id item.node_id node.0 ≡ true → after_one item moment node ≡ (node.0, reached item moment node.1)
-here_one item moment node e = ap (λ (t : Bool). (node.0, written_by node.1 (cond (t && is_none (first_reason (write_item_reasons node.1 item))) (Some item) None) moment)) e
+here_one : (item : WriteValue) (moment : DateTime) (node : Node) → same_id item.node_id node.0 ≡ true
+    → after_one item moment node ≡ (node.0, reached item moment node.1)
+here_one item moment node e =
+    ap (λ (t : Bool). (node.0, written_by node.1 (cond (t && is_none (first_reason (write_item_reasons node.1 item))) (Some item) None) moment)) e
 
 some_same : {x y : Variable} → ◌≡◌ {A = Option Variable} (Some x) (Some y) → x ≡ y
 some_same e = cc
 
 -- an item that names a node leaves the others
-pub after_some : (item : WriteValue) (moment : DateTime) (nodes : Nodes) (v : Variable) → IsDistinct same_id (keys_of nodes) → node_at nodes item.node_id ≡ Some v
+pub after_some : (item : WriteValue) (moment : DateTime) (nodes : Nodes) (v : Variable) → IsDistinct same_id (keys_of nodes)
+    → node_at nodes item.node_id ≡ Some v
     → after_item item moment nodes ≡ set_value (same_id item.node_id) nodes (reached item moment v)
 unfolding after_item IsDistinct
 after_some item moment [] v d h = absurd cc
@@ -81,17 +86,20 @@ after_some item moment (node ∷ nodes) v d h =
     by : (t : Bool) → same_id item.node_id node.0 ≡ t → cond t (Some node.1) (node_at nodes item.node_id) ≡ Some v
         → (same_id item.node_id node.0 ≡ true → map (after_one item moment) nodes ≡ nodes)
         → (node_at nodes item.node_id ≡ Some v → map (after_one item moment) nodes ≡ set_value (same_id item.node_id) nodes (reached item moment v))
-        → map (after_one item moment) (node ∷ nodes) ≡ cond t ((node.0, reached item moment v) ∷ nodes) (node ∷ set_value (same_id item.node_id) nodes (reached item moment v))
+        → map (after_one item moment) (node ∷ nodes) ≡ cond t ((node.0, reached item moment v) ∷ nodes)
+        (node ∷ set_value (same_id item.node_id) nodes (reached item moment v))
     by true e k apart more = head_is (here_one item moment node e ∙ ap (λ (x : Variable). (node.0, reached item moment x)) (some_same k)) (apart e)
     by false e k apart more = head_is (apart_one item moment node e) (more k)
 
 -- ---- one item, and then the others
 
-same_good : (node : Node) (o : Option WriteValue) (moment : DateTime) (item : WriteValue) → is_good_for (node.0, written_by node.1 o moment) item ≡ is_good_for node item
+same_good : (node : Node) (o : Option WriteValue) (moment : DateTime) (item : WriteValue) → is_good_for (node.0, written_by node.1 o moment) item
+    ≡ is_good_for node item
 same_good node None moment item = refl
 same_good node (Some x) moment item = refl
 
-same_last : (node : Node) (o : Option WriteValue) (moment : DateTime) (items : List WriteValue) → last_good (node.0, written_by node.1 o moment) items ≡ last_good node items
+same_last : (node : Node) (o : Option WriteValue) (moment : DateTime) (items : List WriteValue) → last_good (node.0, written_by node.1 o moment) items
+    ≡ last_good node items
 same_last node o moment [] = refl
 same_last node o moment (item ∷ items) =
     ap (λ (t : Bool). later (cond t (Some item) None) (last_good (node.0, written_by node.1 o moment) items)) (same_good node o moment item)
@@ -104,7 +112,8 @@ twice v (Some i) None moment = refl
 twice v (Some i) (Some j) moment = refl
 
 -- the first item, and then the others
-pub after_first : (item : WriteValue) (items : List WriteValue) (moment : DateTime) (nodes : Nodes) → after_write (item ∷ items) moment nodes ≡ after_write items moment (after_item item moment nodes)
+pub after_first : (item : WriteValue) (items : List WriteValue) (moment : DateTime) (nodes : Nodes)
+    → after_write (item ∷ items) moment nodes ≡ after_write items moment (after_item item moment nodes)
 unfolding after_write after_item
 after_first item items moment [] = refl
 after_first item items moment (node ∷ nodes) =
@@ -121,33 +130,40 @@ after_nothing moment (node ∷ nodes) = head_is refl (after_nothing moment nodes
 
 -- ---- the answers
 
-same_answer : (v : Variable) (o : Option WriteValue) (moment : DateTime) (item : WriteValue) → write_answer (Some (written_by v o moment)) item ≡ write_answer (Some v) item
+same_answer : (v : Variable) (o : Option WriteValue) (moment : DateTime) (item : WriteValue) → write_answer (Some (written_by v o moment)) item
+    ≡ write_answer (Some v) item
 same_answer v None moment item = refl
 same_answer v (Some x) moment item = refl
 
-answer_after : (done : WriteValue) (moment : DateTime) (nodes : Nodes) (item : WriteValue) → write_answer (node_at (after_item done moment nodes) item.node_id) item ≡ write_answer (node_at nodes item.node_id) item
+answer_after : (done : WriteValue) (moment : DateTime) (nodes : Nodes) (item : WriteValue)
+    → write_answer (node_at (after_item done moment nodes) item.node_id) item ≡ write_answer (node_at nodes item.node_id) item
 unfolding after_item
 answer_after done moment [] item = refl
 answer_after done moment (node ∷ nodes) item = by (same_id item.node_id node.0) (answer_after done moment nodes item)
   where
-    by : (t : Bool) → write_answer (node_at (map (after_one done moment) nodes) item.node_id) item ≡ write_answer (node_at nodes item.node_id) item → write_answer (cond t (Some (written_by node.1 (good_item node done) moment)) (node_at (map (after_one done moment) nodes) item.node_id)) item
+    by : (t : Bool) → write_answer (node_at (map (after_one done moment) nodes) item.node_id) item ≡ write_answer (node_at nodes item.node_id) item
+        → write_answer (cond t (Some (written_by node.1 (good_item node done) moment)) (node_at (map (after_one done moment) nodes) item.node_id)) item
         ≡ write_answer (cond t (Some node.1) (node_at nodes item.node_id)) item
     by true more = same_answer node.1 (good_item node done) moment item
     by false more = more
 
 -- an item changes no other item's answer
-pub answers_after : (done : WriteValue) (moment : DateTime) (nodes : Nodes) (items : List WriteValue) → write_answers (after_item done moment nodes) items ≡ write_answers nodes items
+pub answers_after : (done : WriteValue) (moment : DateTime) (nodes : Nodes) (items : List WriteValue) → write_answers (after_item done moment nodes) items
+    ≡ write_answers nodes items
 answers_after done moment nodes [] = refl
 answers_after done moment nodes (item ∷ items) = head_is (answer_after done moment nodes item) (answers_after done moment nodes items)
 
 -- the node of a NodeId after all items
-pub node_after : (items : List WriteValue) (moment : DateTime) (nodes : Nodes) (id : NodeId) → node_at (after_write items moment nodes) id ≡ option_map (λ v. written_by v (last_good (id, v) items) moment) (node_at nodes id)
+pub node_after : (items : List WriteValue) (moment : DateTime) (nodes : Nodes) (id : NodeId)
+    → node_at (after_write items moment nodes) id ≡ option_map (λ v. written_by v (last_good (id, v) items) moment) (node_at nodes id)
 unfolding after_write
 node_after items moment [] id = refl
 node_after items moment (node ∷ nodes) id = by (same_id id node.0) refl (node_after items moment nodes id)
   where
-    by : (t : Bool) → same_id id node.0 ≡ t → node_at (after_write items moment nodes) id ≡ option_map (λ v. written_by v (last_good (id, v) items) moment) (node_at nodes id)
-        → cond t (Some (written_by node.1 (last_good node items) moment)) (node_at (after_write items moment nodes) id) ≡ option_map (λ v. written_by v (last_good (id, v) items) moment) (cond t (Some node.1) (node_at nodes id))
+    by : (t : Bool) → same_id id node.0 ≡ t → node_at (after_write items moment nodes) id ≡ option_map (λ v. written_by v (last_good (id, v) items) moment)
+        (node_at nodes id)
+        → cond t (Some (written_by node.1 (last_good node items) moment)) (node_at (after_write items moment nodes) id)
+        ≡ option_map (λ v. written_by v (last_good (id, v) items) moment) (cond t (Some node.1) (node_at nodes id))
     by true e more =
         let same : id ≡ node.0 = (same_id_is id node.0).0 e in
         ap (λ (k : NodeId). Some (written_by node.1 (last_good (k, node.1) items) moment)) (sym same)

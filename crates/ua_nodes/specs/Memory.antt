@@ -7,7 +7,9 @@ use Rattle.ua_builtin.specs.declared.extension_object.ExtensionBody.TheVariants.
 use Rattle.ua_builtin.specs.declared.node_id.Identifier.{Identifier}
 use Rattle.ua_builtin.specs.declared.node_id.Identifier.TheVariants.{Numeric, Text, Guid, Opaque}
 use Rattle.ua_diagnostic.specs.Diagnostic.{DiagnosticData, innermost, around}
-use Rattle.ua_variant.specs.Data.{LeafData, string, byte_string, xml_element, node_id, expanded_node_id, qualified_name, localized_text, extension_object, reserved, VariantData, null, one, absent, many, ScalarData, leaf, data_value, variant, diagnostic, ScalarsData, no_scalars, scalar, DataValueData, bare, valued}
+use Rattle.ua_variant.specs.Data.{LeafData, string, byte_string, xml_element, node_id, expanded_node_id, qualified_name}
+use Rattle.ua_variant.specs.Data.{localized_text, extension_object, reserved, VariantData, null, one, absent, many, ScalarData, leaf}
+use Rattle.ua_variant.specs.Data.{data_value, variant, diagnostic, ScalarsData, no_scalars, scalar, DataValueData, bare, valued}
 use Rattle.ua_variant.specs.Encodable.{row_length}
 use Rattle.ua_nodes.specs.Attribute.{behind_number}
 use Rattle.ua_nodes.specs.Write.{or_else}

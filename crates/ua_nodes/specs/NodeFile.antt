@@ -1,5 +1,6 @@
 -- Node files: the nodes that the lines of a text define, and why a line is rejected.
-use Rattle.std.specs.Prelude.{◌≡◌, ◌≢◌, ℕ, suc, ◌<◌, Bool, true, false, not, ◌&&◌, cond, nat_eq, nat_lt, map, filter, List, [], ◌∷◌, ◌++◌, length, slice_index_or, Option, None, Some, IsSome, Result, Ok, Err, codes}
+use Rattle.std.specs.Prelude.{◌≡◌, ◌≢◌, ℕ, suc, ◌<◌, Bool, true, false, not, ◌&&◌, cond, nat_eq, nat_lt, map, filter, List}
+use Rattle.std.specs.Prelude.{[], ◌∷◌, ◌++◌, length, slice_index_or, Option, None, Some, IsSome, Result, Ok, Err, codes}
 use Rattle.std.specs.List.{slice_split, AllZip, IsDistinct}
 use Rattle.std.specs.Map.{keys_of}
 use Rattle.std.specs.Str.{bytes_eq}
@@ -167,7 +168,8 @@ GivesNode line (Err NoMemory) = Unit {0}
 -- what a line makes of a table: it adds one node, of another NodeId than those before, unless the
 -- line is skipped
 abbrev pub Adds : List ℕ → Nodes → Nodes → Type 0
-Adds line before after = (is_read line ≡ true → (node : NodeId × Variable) × WritesNode line node × (after ≡ before ++ node ∷ []) × IsDistinct same_id (keys_of after))
+Adds line before after = (is_read line ≡ true → (node : NodeId × Variable) × WritesNode line node × (after ≡ before ++ node ∷ [])
+    × IsDistinct same_id (keys_of after))
     × (is_read line ≡ false → after ≡ before)
 
 -- what an error tells of a line

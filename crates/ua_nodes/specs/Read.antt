@@ -1,5 +1,6 @@
 -- The result of an item of a Read (OPC 10000-4, 5.11.2).
-use Rattle.std.specs.Prelude.{ℕ, Bool, true, false, not, ◌&&◌, ◌||◌, cond, nat_eq, nat_lt, leb, List, [], ◌∷◌, length, Option, None, Some, option_map, Result, Ok, Err, ℤ, pos, negsuc, codes}
+use Rattle.std.specs.Prelude.{ℕ, Bool, true, false, not, ◌&&◌, ◌||◌, cond, nat_eq, nat_lt, leb, List, [], ◌∷◌}
+use Rattle.std.specs.Prelude.{length, Option, None, Some, option_map, Result, Ok, Err, ℤ, pos, negsuc, codes}
 use Rattle.std.specs.Option.{is_some}
 use Rattle.std.specs.Str.{bytes_eq}
 use Rattle.ua_builtin.specs.Reasons.{first_reason}
@@ -18,7 +19,8 @@ use Rattle.ua_nodes.specs.declared.range.IndexRange.{IndexRange}
 use Rattle.ua_nodes.specs.Attribute.{attribute_of, is_attribute, attribute_value}
 use Rattle.ua_nodes.specs.Range.{asked_range, elements_of, part_of}
 use Rattle.ua_nodes.specs.Table.{Nodes, node_at}
-use Rattle.ua_nodes.specs.Status.{bad_node_id_unknown, bad_attribute_id_invalid, bad_index_range_invalid, bad_index_range_no_data, bad_data_encoding_invalid, bad_not_readable}
+use Rattle.ua_nodes.specs.Status.{bad_node_id_unknown, bad_attribute_id_invalid, bad_index_range_invalid}
+use Rattle.ua_nodes.specs.Status.{bad_index_range_no_data, bad_data_encoding_invalid, bad_not_readable}
 
 -- a text that is neither null nor empty
 abbrev pub is_filled : Option (List ℕ) → Bool
@@ -65,7 +67,8 @@ judged None (Some a) r = Ok (a, r)
 
 -- the timestamps that a number in a Read request asks for (OPC 10000-4, 7.40)
 abbrev pub stamps_numbered : ℤ → Option Stamps
-stamps_numbered (pos n) = cond (nat_eq n 0) (Some Source) (cond (nat_eq n 1) (Some Server) (cond (nat_eq n 2) (Some Both) (cond (nat_eq n 3) (Some Neither) None)))
+stamps_numbered (pos n) =
+    cond (nat_eq n 0) (Some Source) (cond (nat_eq n 1) (Some Server) (cond (nat_eq n 2) (Some Both) (cond (nat_eq n 3) (Some Neither) None)))
 stamps_numbered (negsuc n) = None
 
 -- whether the source timestamp is requested: by Source and by Both (OPC 10000-4, 7.40)
@@ -116,7 +119,8 @@ with_stamps (Some value) fields = valued value fields
 abbrev pub read_by : Option StatusCode → Variable → ReadValueId → Stamps → DateTime → DataValueData
 read_by (Some code) v item stamps moment = refused code
 read_by None v item stamps moment =
-    with_stamps (option_map (λ a. value_read item.node_id v a (asked_range item.index_range)) (attribute_of item.attribute_id)) (stamps_of v (nat_eq item.attribute_id 13) stamps moment)
+    with_stamps (option_map (λ a. value_read item.node_id v a (asked_range item.index_range)) (attribute_of item.attribute_id))
+    (stamps_of v (nat_eq item.attribute_id 13) stamps moment)
 
 -- the result of an item, by the node that it names
 abbrev pub read_answer : Option Variable → ReadValueId → Stamps → DateTime → DataValueData

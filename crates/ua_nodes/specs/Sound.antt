@@ -42,8 +42,10 @@ pub record IsSoundNode (id : NodeId) (v : Variable) : Type 0 where
 -- status and source timestamp
 abbrev pub is_sound_node : NodeId → Variable → Bool
 is_sound_node id v =
-    node_id.encodable id && (text.encodable v.name && (is_of_type v.kind v.array v.value && (nat_lt (variant_depth v.value) most_levels && (variant_encodable v.value
-    && (optional_fits status_code.encodable v.status && (optional_fits date_time.encodable v.source_time && optional_fits (number 2).encodable v.source_picoseconds))))))
+    node_id.encodable id
+    && (text.encodable v.name && (is_of_type v.kind v.array v.value && (nat_lt (variant_depth v.value) most_levels && (variant_encodable v.value
+    && (optional_fits status_code.encodable v.status
+    && (optional_fits date_time.encodable v.source_time && optional_fits (number 2).encodable v.source_picoseconds))))))
 
 -- each node is sound
 abbrev pub IsSound : Nodes → Type 0

@@ -30,4 +30,13 @@ index_of_id nodes id = position (same_id id) (keys_of nodes)
 
 -- what a table keeps of a node besides its NodeId
 abbrev pub variable_of : Node → Variable
-variable_of n = record { name = n.name; kind = n.kind; array = n.array; access = n.access; value = variant_of n.value; status = n.status; source_time = n.source_time; source_picoseconds = n.source_picoseconds }
+variable_of n = record {
+  name = n.name;
+  kind = n.kind;
+  array = n.array;
+  access = n.access;
+  value = variant_of n.value;
+  status = n.status;
+  source_time = n.source_time;
+  source_picoseconds = n.source_picoseconds;
+}

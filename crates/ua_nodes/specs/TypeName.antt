@@ -36,7 +36,8 @@ typed array kind = (kind, array)
 
 -- the type that a text names, and whether it names an array of it
 abbrev pub type_denoted : List ℕ → Option (ℕ × Bool)
-type_denoted text = cond (ends_with nat_eq text (codes "[]")) (option_map (typed true) (type_named (unmarked text))) (option_map (typed false) (type_named text))
+type_denoted text = cond (ends_with nat_eq text (codes "[]")) (option_map (typed true) (type_named (unmarked text)))
+    (option_map (typed false) (type_named text))
 
 -- a text names the type, or an array of it: the type's name, and for an array `[]` after it
 pub record NamesType (text : List ℕ) (kind : ℕ) (array : Bool) : Type 0 where

@@ -1,5 +1,6 @@
 -- The values that texts denote.
-use Rattle.std.specs.Prelude.{◌≡◌, ℕ, ◌+◌, ◌^◌, Bool, true, false, ◌&&◌, ◌||◌, cond, nat_eq, nat_lt, List, [], ◌∷◌, ◌++◌, length, take, drop, Option, None, Some, Result, Ok, Err, ℤ, pos, neg_ℤ, codes}
+use Rattle.std.specs.Prelude.{◌≡◌, ℕ, ◌+◌, ◌^◌, Bool, true, false, ◌&&◌, ◌||◌, cond, nat_eq, nat_lt, List, [], ◌∷◌}
+use Rattle.std.specs.Prelude.{◌++◌, length, take, drop, Option, None, Some, Result, Ok, Err, ℤ, pos, neg_ℤ, codes}
 use Rattle.std.specs.Char.{digit_value}
 use Rattle.std.specs.List.{slice_split}
 use Rattle.std.specs.Option.{option_map}
@@ -10,7 +11,8 @@ use Rattle.base64.specs.Engines.{standard}
 use Rattle.base64.specs.GeneralPurpose.{decode_of}
 use Rattle.uuid.specs.Text.{parsed}
 use Rattle.ua_builtin.specs.Exact.{◌>>=◌}
-use Rattle.ua_variant.specs.Data.{LeafData, boolean, sbyte, byte, int16, uint16, int32, uint32, int64, uint64, float, double, string, date_time, guid, byte_string, status_code, ScalarData, leaf, VariantData, one, many}
+use Rattle.ua_variant.specs.Data.{LeafData, boolean, sbyte, byte, int16, uint16, int32, uint32, int64, uint64, float, double}
+use Rattle.ua_variant.specs.Data.{string, date_time, guid, byte_string, status_code, ScalarData, leaf, VariantData, one, many}
 use Rattle.ua_variant.specs.View.{row}
 use Rattle.ua_nodes.specs.declared.fault.ValueFault.{ValueFault}
 use Rattle.ua_nodes.specs.declared.fault.ValueFault.TheVariants.{NotValue, OutOfMemory}

@@ -37,7 +37,8 @@ impl NodeTable {
         out: &mut Vec<u8>,
     ) -> Result<(), AllocError>
         requires sound { IsSound self.now }
-        ensures ok { OnOk result (IsWithin most (answer_octets self.now stamps moment) items.now out.old.items out.new.items) }
+        ensures ok { OnOk result
+            (IsWithin most (answer_octets self.now stamps moment) items.now out.old.items out.new.items) }
         ensures err { OnErr result (Extends out.old.items out.new.items) }
     {
         for item in items {
@@ -83,7 +84,9 @@ impl Variable {
         out: &mut Vec<u8>,
     ) -> Result<(), AllocError>
         requires { data_value_encodable (valued self.now.value (stamps_of self.now true stamps moment)) ≡ true }
-        ensures ok { OnOk result (out.new.items ≡ out.old.items ++ data_value_canonical (valued self.now.value (stamps_of self.now true stamps moment))) }
+        ensures ok { OnOk result
+            (out.new.items ≡ out.old.items ++ data_value_canonical
+            (valued self.now.value (stamps_of self.now true stamps moment))) }
         ensures err { OnErr result (Extends out.old.items out.new.items) }
     {
         self.stamped(None, true, stamps, moment)

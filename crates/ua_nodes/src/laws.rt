@@ -33,26 +33,34 @@ pub fn a_file_loads_in_one_way()
 
 /// A file whose lines give a table has no bad line.
 pub fn a_file_that_loads_has_no_bad_line()
-    ensures { (lines : List FileLine) (nodes : Nodes) (number : ℕ) (reason : LineReason) → WriteNodes lines nodes → ¬ (IsFirstBad lines number reason) }
+    ensures { (lines : List FileLine) (nodes : Nodes) (number : ℕ) (reason : LineReason) → WriteNodes lines nodes
+        → ¬ (IsFirstBad lines number reason) }
 {}
 
 /// A file has at most one first bad line, with one first reason.
 pub fn a_file_has_one_first_bad_line()
-    ensures { (lines : List FileLine) (m n : ℕ) (p q : LineReason) → IsFirstBad lines m p → IsFirstBad lines n q → (m ≡ n) × (p ≡ q) }
+    ensures { (lines : List FileLine) (m n : ℕ) (p q : LineReason) → IsFirstBad lines m p → IsFirstBad lines n q
+        → (m ≡ n) × (p ≡ q) }
 {}
 
 /// After a Write, a node has the value, status and source timestamp of the last good item for its
 /// NodeId (the time of the Write if the item has no source timestamp), otherwise those from before.
 pub fn a_node_keeps_the_last_good_item()
-    ensures { (items : List WriteValue) (moment : DateTime) (nodes : Nodes) (id : NodeId) → node_at (after_write items moment nodes) id ≡ option_map (λ v. written_by v (last_good (id, v) items) moment) (node_at nodes id) }
+    ensures { (items : List WriteValue) (moment : DateTime) (nodes : Nodes) (id : NodeId)
+        → node_at (after_write items moment nodes) id ≡ option_map (λ v. written_by v (last_good (id, v) items) moment)
+        (node_at nodes id) }
 {}
 
 /// A Write of the items without the values that their nodes could not take, where each node takes
 /// the values of its own type, gives the same results and the same nodes as a Write of the items
 /// themselves (OPC 10000-4, 5.11.4), with a limit of memory or without one. Allocates nothing.
 pub fn values_that_their_nodes_cannot_take_change_no_write(table: &NodeTable)
-    ensures answers { (most : Option ℕ) (items : List WriteValue) → limited_answers most table.now (map (thinned (nodes_take table.now)) items) ≡ limited_answers most table.now items }
-    ensures nodes { (most : Option ℕ) (items : List WriteValue) (moment : DateTime) → after_limited most (map (thinned (nodes_take table.now)) items) moment table.now ≡ after_limited most items moment table.now }
+    ensures answers { (most : Option ℕ) (items : List WriteValue)
+        → limited_answers most table.now (map (thinned (nodes_take table.now)) items)
+        ≡ limited_answers most table.now items }
+    ensures nodes { (most : Option ℕ) (items : List WriteValue) (moment : DateTime)
+        → after_limited most (map (thinned (nodes_take table.now)) items) moment table.now
+        ≡ after_limited most items moment table.now }
 {
     // Called for its clause that no two nodes are of one NodeId.
     let _count = table.nodes.len();
@@ -61,7 +69,8 @@ pub fn values_that_their_nodes_cannot_take_change_no_write(table: &NodeTable)
 /// A Write under a limit leaves the values of the nodes with at most as much memory as the limit, or
 /// as they had before. Allocates nothing.
 pub fn a_write_keeps_memory_within_its_limit(table: &NodeTable)
-    ensures { (most : ℕ) (items : List WriteValue) (moment : DateTime) → nodes_memory (after_limited (Some most) items moment table.now) ≤ max most (nodes_memory table.now) }
+    ensures { (most : ℕ) (items : List WriteValue) (moment : DateTime)
+        → nodes_memory (after_limited (Some most) items moment table.now) ≤ max most (nodes_memory table.now) }
 {
     // Called for its clause that no two nodes are of one NodeId.
     let _count = table.nodes.len();
@@ -79,26 +88,39 @@ pub fn a_loaded_table_is_sound()
 
 /// A sound table stays sound if a sound node is inserted.
 pub fn a_table_stays_sound_with_a_sound_node()
-    ensures { (nodes : Nodes) (id : NodeId) (variable : Variable) → IsSound nodes → IsSoundNode id variable → IsSound (nodes ++ (id, variable) ∷ []) }
+    ensures { (nodes : Nodes) (id : NodeId) (variable : Variable) → IsSound nodes → IsSoundNode id variable
+        → IsSound (nodes ++ (id, variable) ∷ []) }
 {}
 
 /// A sound table stays sound after a Write.
 pub fn a_table_stays_sound_after_a_write()
-    ensures { (items : List WriteValue) (moment : DateTime) (nodes : Nodes) → IsTrue (date_time.encodable moment) → IsSound nodes → IsSound (after_write items moment nodes) }
+    ensures { (items : List WriteValue) (moment : DateTime) (nodes : Nodes) → IsTrue (date_time.encodable moment)
+        → IsSound nodes → IsSound (after_write items moment nodes) }
 {}
 
 /// The result of a Read of a sound table can be encoded.
 pub fn a_sound_table_answers_what_can_be_written()
-    ensures { (nodes : Nodes) (item : ReadValueId) (stamps : Stamps) (moment : DateTime) → IsTrue (date_time.encodable moment) → IsSound nodes → IsTrue (data_value_encodable (read_answer (node_at nodes item.node_id) item stamps moment)) }
+    ensures { (nodes : Nodes) (item : ReadValueId) (stamps : Stamps) (moment : DateTime)
+        → IsTrue (date_time.encodable moment) → IsSound nodes
+        → IsTrue (data_value_encodable (read_answer (node_at nodes item.node_id) item stamps moment)) }
 {}
 
 /// Setting a reading changes one node at most: the others are unchanged, and this one has the
 /// value, status and source timestamp of the reading, or is unchanged if the reading is rejected.
 /// The access level of the node, which limits clients, has no effect on this.
 pub fn what_is_set_changes_one_node()
-    ensures others { (id other : NodeId) (reading : Reading) (nodes : Nodes) → same_id other id ≡ false → node_at (after_set id reading nodes) other ≡ node_at nodes other }
-    ensures own { (id : NodeId) (reading : Reading) (nodes : Nodes) (variable : Variable) → node_at nodes id ≡ Some variable → node_at (after_set id reading nodes) id ≡ Some (set_node variable reading) }
+    ensures others { (id other : NodeId) (reading : Reading) (nodes : Nodes) → same_id other id ≡ false
+        → node_at (after_set id reading nodes) other ≡ node_at nodes other }
+    ensures own { (id : NodeId) (reading : Reading) (nodes : Nodes) (variable : Variable)
+        → node_at nodes id ≡ Some variable → node_at (after_set id reading nodes) id
+        ≡ Some (set_node variable reading) }
     ensures holds { (variable : Variable) (reading : Reading) → set_refusal (Some variable) reading ≡ None
-        → set_node variable reading ≡ record variable { value = variant_of reading.value; status = reading.status; source_time = Some reading.source_time; source_picoseconds = reading.source_picoseconds } }
-    ensures access { (variable : Variable) (reading : Reading) (access : Access) → set_refusal (Some (record variable { access = access })) reading ≡ set_refusal (Some variable) reading }
+        → set_node variable reading ≡ record variable {
+          value = variant_of reading.value;
+          status = reading.status;
+          source_time = Some reading.source_time;
+          source_picoseconds = reading.source_picoseconds;
+        } }
+    ensures access { (variable : Variable) (reading : Reading) (access : Access)
+        → set_refusal (Some (record variable { access = access })) reading ≡ set_refusal (Some variable) reading }
 {}

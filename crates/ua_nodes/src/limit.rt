@@ -1,7 +1,8 @@
 //! Items of Write under a limit of memory.
 
 ghost use Rattle.std.specs.Prelude.{◌≡◌, ◌+◌, ◌-◌, ◌≤◌, ◌++◌, Some, cond, drop, length, min, vec_len, vec_capacity};
-ghost use Rattle.ua_nodes.specs.Limit.{after_limited, answer_within, answers_within, begins_refused, behind_first, given_memory, growth, items_left, limited_answers, nodes_memory, room_after};
+ghost use Rattle.ua_nodes.specs.Limit.{after_limited, answer_within, answers_within, begins_refused, behind_first};
+ghost use Rattle.ua_nodes.specs.Limit.{given_memory, growth, items_left, limited_answers, nodes_memory, room_after};
 ghost use Rattle.ua_nodes.specs.Memory.{value_memory};
 ghost use Rattle.ua_nodes.specs.Sound.{IsSound};
 ghost use Rattle.ua_nodes.specs.Table.{node_at};

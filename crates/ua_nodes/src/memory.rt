@@ -4,7 +4,9 @@ ghost use Rattle.std.specs.Prelude.{◌≡◌, ◌*◌, length, min};
 ghost use Rattle.ua_diagnostic.specs.View.{diagnostic_of};
 ghost use Rattle.ua_variant.specs.Encodable.{row_length};
 ghost use Rattle.ua_variant.specs.View.{data_value_of, row, scalar_of, variant_of};
-ghost use Rattle.ua_nodes.specs.Memory.{body_memory, data_value_memory, diagnostic_memory, element_place, identifier_memory, scalar_memory, scalars_memory, text_memory, value_memory, variant_memory};
+ghost use Rattle.ua_nodes.specs.Memory.{body_memory, data_value_memory, diagnostic_memory};
+ghost use Rattle.ua_nodes.specs.Memory.{element_place, identifier_memory, scalar_memory};
+ghost use Rattle.ua_nodes.specs.Memory.{scalars_memory, text_memory, value_memory, variant_memory};
 
 use ua_builtin::{ExtensionBody, Identifier, UaBytes, UaString};
 use ua_variant::{

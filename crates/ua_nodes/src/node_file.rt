@@ -2,7 +2,8 @@
 
 ghost use Rattle.std.specs.Prelude.{◌≡◌, ◌≢◌, ◌+◌, ◌*◌, ◌≤◌, ◌∷◌, [], length, MatchOption, IfOk, IfErr, OnOk};
 ghost use Rattle.std.specs.Str.Lines.{strip_carriage_return};
-ghost use Rattle.ua_nodes.specs.NodeFile.{node_lines, WriteNodes, Refuses, Adds, RefusesLine, GivesNode, GivesId, GivesName, access_denoted, fields, is_read as is_read_line};
+ghost use Rattle.ua_nodes.specs.NodeFile.{node_lines, WriteNodes, Refuses, Adds, RefusesLine, GivesNode};
+ghost use Rattle.ua_nodes.specs.NodeFile.{GivesId, GivesName, access_denoted, fields, is_read as is_read_line};
 ghost use Rattle.ua_nodes.specs.Sound.{IsSound};
 
 use crate::fault::{LineFault, LineReason, LoadFault};
@@ -85,7 +86,8 @@ struct Fields<'a> {
 
 /// The five fields of a line, if it has just five.
 fn split_fields(line: &str) -> Option<Fields<'_>>
-    ensures { MatchOption result (length (fields line.now) ≢ 5) (λ f. fields line.now ≡ f.id.now ∷ f.access.now ∷ f.name.now ∷ f.kind.now ∷ f.value.now ∷ []) }
+    ensures { MatchOption result (length (fields line.now) ≢ 5)
+        (λ f. fields line.now ≡ f.id.now ∷ f.access.now ∷ f.name.now ∷ f.kind.now ∷ f.value.now ∷ []) }
 {
     let (id, rest) = line.split_once('\t')?;
     let (access, rest) = rest.split_once('\t')?;

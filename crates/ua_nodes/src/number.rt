@@ -14,7 +14,8 @@ pub trait WholeNumber: FromStr {
     /// Shows that parsing gives just that number where no `+` stands in front, and that no number
     /// begins with `+`.
     fn lawful()
-        ensures exact { (text : List ℕ) (r : Result Self Self.Err) → Self.from_str_gives text r → slice_index text 0 ≢ 43 → result_ok r ≡ denoted text }
+        ensures exact { (text : List ℕ) (r : Result Self Self.Err) → Self.from_str_gives text r
+            → slice_index text 0 ≢ 43 → result_ok r ≡ denoted text }
         ensures plus { (text : List ℕ) → slice_index text 0 ≡ 43 → denoted text ≡ None };
 
     /// The number that the text denotes.

@@ -7,7 +7,8 @@ ghost use Rattle.ua_nodes.specs.declared.attribute.Attribute.TheVariants as attr
 ghost use Rattle.ua_nodes.specs.Attribute.{attribute_of, attribute_value, single, type_node};
 ghost use Rattle.ua_variant.specs.Data.{localized_text, node_id as id_leaf, valued};
 ghost use Rattle.ua_nodes.specs.Range.{asked_range};
-ghost use Rattle.ua_nodes.specs.Read.{is_filled, is_default_encoding, read_item_reasons, judged, refused as refused_data, stamps_of, value_read, read_by, read_answer};
+ghost use Rattle.ua_nodes.specs.Read.{is_filled, is_default_encoding, read_item_reasons, judged};
+ghost use Rattle.ua_nodes.specs.Read.{refused as refused_data, stamps_of, value_read, read_by, read_answer};
 ghost use Rattle.ua_nodes.specs.Sound.{IsSound};
 ghost use Rattle.ua_builtin.specs.Reasons.{first_reason};
 ghost use Rattle.ua_nodes.specs.Table.{node_at};
@@ -38,7 +39,8 @@ impl NodeTable {
         stamps: Stamps,
         moment: DateTime,
     ) -> Result<DataValue, AllocError>
-        ensures answer { IfOk result (λ d. data_value_of d ≡ read_answer (node_at self.now item.now.node_id) item.now stamps moment) }
+        ensures answer { IfOk result
+            (λ d. data_value_of d ≡ read_answer (node_at self.now item.now.node_id) item.now stamps moment) }
         ensures encodable { IsSound self.now → IfOk result (λ d. IsTrue (data_value_encodable (data_value_of d))) }
     {
         moment_is_encodable(&moment);
@@ -57,7 +59,9 @@ impl Variable {
         stamps: Stamps,
         moment: DateTime,
     ) -> Result<DataValue, AllocError>
-        ensures { IfOk result (λ d. data_value_of d ≡ read_by (first_reason (read_item_reasons self.now item.now)) self.now item.now stamps moment) }
+        ensures { IfOk result
+            (λ d. data_value_of d ≡ read_by (first_reason (read_item_reasons self.now item.now)) self.now item.now
+            stamps moment) }
     {
         match self.answer_beside(alloc, item, stamps, moment)? {
             Some(answer) => Ok(answer),
@@ -76,8 +80,13 @@ impl Variable {
         stamps: Stamps,
         moment: DateTime,
     ) -> Result<Option<DataValue>, AllocError>
-        ensures made { IfOk result (λ answer. IfSome answer (λ d. data_value_of d ≡ read_by (first_reason (read_item_reasons self.now item.now)) self.now item.now stamps moment)) }
-        ensures whole { IfOk result (λ answer. answer ≡ None → read_by (first_reason (read_item_reasons self.now item.now)) self.now item.now stamps moment ≡ valued self.now.value (stamps_of self.now true stamps moment)) }
+        ensures made { IfOk result
+            (λ answer.
+            IfSome answer (λ d. data_value_of d ≡ read_by (first_reason (read_item_reasons self.now item.now)) self.now
+            item.now stamps moment)) }
+        ensures whole { IfOk result (λ answer. answer ≡ None
+            → read_by (first_reason (read_item_reasons self.now item.now)) self.now item.now stamps moment
+            ≡ valued self.now.value (stamps_of self.now true stamps moment)) }
     {
         let (attribute, range) = match self.judge_read(item) {
             Ok(asked) => asked,
@@ -98,7 +107,8 @@ impl Variable {
     /// The attribute and the range that an item for this node asks for, or the StatusCode of its
     /// error.
     fn judge_read(&self, item: &ReadValueId) -> Result<(Attribute, Option<IndexRange>), StatusCode>
-        ensures { result ≡ judged (first_reason (read_item_reasons self.now item.now)) (attribute_of item.now.attribute_id) (asked_range item.now.index_range) }
+        ensures { result ≡ judged (first_reason (read_item_reasons self.now item.now))
+            (attribute_of item.now.attribute_id) (asked_range item.now.index_range) }
     {
         let Some(attribute) = Attribute::of_id(item.attribute_id) else {
             return Err(StatusCode::BAD_ATTRIBUTE_ID_INVALID);
@@ -174,7 +184,8 @@ impl Variable {
 
     #[inline(never)]
     fn display_name(&self, alloc: Global) -> Result<Variant, AllocError>
-        ensures { IfOk result (λ v. variant_of v ≡ single (localized_text (record { locale = None; text = self.now.name }))) }
+        ensures { IfOk result
+            (λ v. variant_of v ≡ single (localized_text (record { locale = None; text = self.now.name }))) }
     {
         let text = LocalizedText {
             locale: UaString::null(),

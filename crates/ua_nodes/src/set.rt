@@ -2,7 +2,8 @@
 
 ghost use Rattle.std.specs.Prelude.{◌≡◌, MatchResult, OnErr, IsSome, Some, None};
 ghost use Rattle.ua_builtin.specs.Reasons.{first_reason};
-ghost use Rattle.ua_nodes.specs.Set.{after_set, after_set_at, given_by, set_node, set_reasons, set_refusal, set_refusal_at};
+ghost use Rattle.ua_nodes.specs.Set.{after_set, after_set_at, given_by, set_node};
+ghost use Rattle.ua_nodes.specs.Set.{set_reasons, set_refusal, set_refusal_at};
 ghost use Rattle.ua_nodes.specs.Sound.{IsSound};
 ghost use Rattle.ua_nodes.specs.Table.{id_at, node_at};
 
@@ -44,7 +45,8 @@ impl NodeTable {
     /// level: that limits clients only. Allocates nothing.
     pub fn set(&mut self, id: &NodeId, reading: Reading) -> Result<(), SetFault>
         ensures nodes { self.new ≡ after_set id.now reading self.old }
-        ensures answer { MatchResult result (λ _. set_refusal (node_at self.old id.now) reading ≡ None) (λ fault. set_refusal (node_at self.old id.now) reading ≡ Some fault) }
+        ensures answer { MatchResult result (λ _. set_refusal (node_at self.old id.now) reading ≡ None)
+            (λ fault. set_refusal (node_at self.old id.now) reading ≡ Some fault) }
         ensures kept { OnErr result (self.new ≡ self.old) }
         ensures sound { IsSound self.old → IsSound self.new }
     {
@@ -62,7 +64,8 @@ impl NodeTable {
     /// Allocates nothing.
     pub fn set_at(&mut self, index: usize, reading: Reading) -> Result<(), SetFault>
         ensures nodes { self.new ≡ after_set_at (id_at self.old index) reading self.old }
-        ensures answer { MatchResult result (λ _. set_refusal_at (id_at self.old index) reading self.old ≡ None) (λ fault. set_refusal_at (id_at self.old index) reading self.old ≡ Some fault) }
+        ensures answer { MatchResult result (λ _. set_refusal_at (id_at self.old index) reading self.old ≡ None)
+            (λ fault. set_refusal_at (id_at self.old index) reading self.old ≡ Some fault) }
         ensures kept { OnErr result (self.new ≡ self.old) }
         ensures sound { IsSound self.old → IsSound self.new }
     {
@@ -80,7 +83,8 @@ impl Variable {
     /// Sets a reading, unless it is rejected.
     fn set(&mut self, reading: Reading) -> Result<(), SetFault>
         ensures node { self.new ≡ set_node self.old reading }
-        ensures answer { MatchResult result (λ _. first_reason (set_reasons self.old (given_by reading)) ≡ None) (λ fault. first_reason (set_reasons self.old (given_by reading)) ≡ Some fault) }
+        ensures answer { MatchResult result (λ _. first_reason (set_reasons self.old (given_by reading)) ≡ None)
+            (λ fault. first_reason (set_reasons self.old (given_by reading)) ≡ Some fault) }
     {
         let moment = reading.source_time;
         let given = reading.into_data();

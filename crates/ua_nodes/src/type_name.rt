@@ -7,7 +7,8 @@ ghost use Rattle.ua_nodes.specs.TypeName.{type_named, type_denoted, NamesType};
 /// does. The types are those whose values have a text form (OPC 10000-6, 5.1.2).
 pub fn parse_type(text: &str) -> Option<(u8, bool)>
     ensures denoted { result ≡ type_denoted text.now }
-    ensures named { MatchOption result ((kind : ℕ) (array : Bool) → ¬ (NamesType text.now kind array)) (λ t. NamesType text.now t.0 t.1) }
+    ensures named { MatchOption result ((kind : ℕ) (array : Bool) → ¬ (NamesType text.now kind array))
+        (λ t. NamesType text.now t.0 t.1) }
 {
     match text.strip_suffix("[]") {
         Some(name) => Some((kind_named(name)?, true)),

@@ -1,7 +1,8 @@
 //! Values in their text form.
 
 ghost use Rattle.std.specs.Prelude.{◌≡◌, IfOk, IsErrOf, Some, None, map};
-ghost use Rattle.ua_nodes.specs.ValueText.{octets_denoted, leaf_denoted, leaves_denoted, elements, scalar_denoted, array_denoted, has_text_form, value_denoted, Denotes};
+ghost use Rattle.ua_nodes.specs.ValueText.{octets_denoted, leaf_denoted, leaves_denoted, elements};
+ghost use Rattle.ua_nodes.specs.ValueText.{scalar_denoted, array_denoted, has_text_form, value_denoted, Denotes};
 ghost use Rattle.ua_nodes.specs.declared.fault.ValueFault.TheVariants.{NotValue};
 ghost use Rattle.ua_variant.specs.Data.{leaf};
 ghost use Rattle.ua_variant.specs.View.{scalar_of, variant_of};

@@ -5,7 +5,8 @@ ghost use Rattle.ua_variant.specs.View.{variant_of};
 ghost use Rattle.ua_builtin.specs.Reasons.{first_reason};
 ghost use Rattle.ua_nodes.specs.Sound.{IsSound};
 ghost use Rattle.ua_nodes.specs.Table.{node_at};
-ghost use Rattle.ua_nodes.specs.Write.{is_of_type, write_item_reasons, write_answer, good_or, stored, written_by, after_item, after_write, write_answers};
+ghost use Rattle.ua_nodes.specs.Write.{is_of_type, write_item_reasons, write_answer, good_or};
+ghost use Rattle.ua_nodes.specs.Write.{stored, written_by, after_item, after_write, write_answers};
 
 use crate::attribute::Attribute;
 use crate::node::{NodeValue, Variable};
@@ -57,7 +58,8 @@ impl Variable {
     /// Writes the value of an item, unless the item is rejected.
     fn write(&mut self, item: WriteValue, moment: DateTime) -> StatusCode
         ensures answer { result ≡ good_or (first_reason (write_item_reasons self.old item)) }
-        ensures node { self.new ≡ written_by self.old (cond (is_none (first_reason (write_item_reasons self.old item))) (Some item) None) moment }
+        ensures node { self.new ≡ written_by self.old
+            (cond (is_none (first_reason (write_item_reasons self.old item))) (Some item) None) moment }
     {
         if let Some(code) = self.write_refusal(&item) {
             drop(item);

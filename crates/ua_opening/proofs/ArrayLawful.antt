@@ -15,7 +15,8 @@ use Rattle.ua_opening.proofs.ArrayRead.{exact_array}
 
 -- ---- levels
 
-each_within : {A : Type 0} (p : A → List ℕ → Type 0) (depth : A → ℕ) (levels : ℕ) (v : List A) (b : List ℕ) → EachEncoded (Within p depth levels) v b → Within (EachEncoded p) (items_depth depth) levels v b
+each_within : {A : Type 0} (p : A → List ℕ → Type 0) (depth : A → ℕ) (levels : ℕ) (v : List A) (b : List ℕ) → EachEncoded (Within p depth levels) v b
+    → Within (EachEncoded p) (items_depth depth) levels v b
 each_within p depth levels [] b h = (h, omega arith)
 each_within p depth levels (x ∷ v) b h =
     let more = each_within p depth levels v h.1 h.4 in
@@ -23,23 +24,28 @@ each_within p depth levels (x ∷ v) b h =
     let deep = more.1 in
     ((h.0, h.1, h.2, h.3.0, more.0), omega (arith, here, deep))
 
-within_each : {A : Type 0} (p : A → List ℕ → Type 0) (depth : A → ℕ) (levels : ℕ) (v : List A) (b : List ℕ) → Within (EachEncoded p) (items_depth depth) levels v b → EachEncoded (Within p depth levels) v b
+within_each : {A : Type 0} (p : A → List ℕ → Type 0) (depth : A → ℕ) (levels : ℕ) (v : List A) (b : List ℕ)
+    → Within (EachEncoded p) (items_depth depth) levels v b → EachEncoded (Within p depth levels) v b
 within_each p depth levels [] b h = h.0
 within_each p depth levels (x ∷ v) b h =
     let deep = h.1 in
     (h.0.0, h.0.1, h.0.2, (h.0.3, omega (arith, deep)), within_each p depth levels v h.0.1 (h.0.4, omega (arith, deep)))
 
-array_within : {A : Type 0} (p : A → List ℕ → Type 0) (depth : A → ℕ) (levels : ℕ) (v : Option (List A)) (b : List ℕ) → EncodesArray (Within p depth levels) v b → Within (EncodesArray p) (array_depth depth) levels v b
+array_within : {A : Type 0} (p : A → List ℕ → Type 0) (depth : A → ℕ) (levels : ℕ) (v : Option (List A)) (b : List ℕ) → EncodesArray (Within p depth levels) v b
+    → Within (EncodesArray p) (array_depth depth) levels v b
 array_within p depth levels None b h = (h, omega arith)
 array_within p depth levels (Some v) b h = let w = each_within p depth levels v h.0 h.3 in ((h.0, h.1, h.2, w.0), w.1)
 
-within_array : {A : Type 0} (p : A → List ℕ → Type 0) (depth : A → ℕ) (levels : ℕ) (v : Option (List A)) (b : List ℕ) → Within (EncodesArray p) (array_depth depth) levels v b → EncodesArray (Within p depth levels) v b
+within_array : {A : Type 0} (p : A → List ℕ → Type 0) (depth : A → ℕ) (levels : ℕ) (v : Option (List A)) (b : List ℕ)
+    → Within (EncodesArray p) (array_depth depth) levels v b → EncodesArray (Within p depth levels) v b
 within_array p depth levels None b h = h.0
 within_array p depth levels (Some v) b h = (h.0.0, h.0.1, h.0.2, within_each p depth levels v h.0.0 (h.0.3, h.1))
 
-array_exact : {A : Type 0} (f : Format A) → IsLawful f → (levels : ℕ) → Exact (Within (EncodesArray f.encodes) (array_depth f.depth) levels) (array_at (f.decode levels))
+array_exact : {A : Type 0} (f : Format A) → IsLawful f → (levels : ℕ)
+    → Exact (Within (EncodesArray f.encodes) (array_depth f.depth) levels) (array_at (f.decode levels))
 array_exact f lawful levels =
-    exact_same (EncodesArray (Within f.encodes f.depth levels)) (Within (EncodesArray f.encodes) (array_depth f.depth) levels) (array_at (f.decode levels)) (array_within f.encodes f.depth levels) (within_array f.encodes f.depth levels)
+    exact_same (EncodesArray (Within f.encodes f.depth levels)) (Within (EncodesArray f.encodes) (array_depth f.depth) levels) (array_at (f.decode levels))
+    (array_within f.encodes f.depth levels) (within_array f.encodes f.depth levels)
     (exact_array (Within f.encodes f.depth levels) (f.decode levels) (lawful.exact levels))
 
 -- ---- what is written
@@ -50,7 +56,8 @@ each_canonical f lawful (x ∷ v) h =
     let w = both_true (f.encodable x) (list_all f.encodable v) h in
     (f.canonical x, flat_map f.canonical v, refl, lawful.canonical_encodes x w.0, each_canonical f lawful v w.1)
 
-array_canonical : {A : Type 0} (f : Format A) → IsLawful f → (v : Option (List A)) → IsTrue (array_fits f.encodable v) → EncodesArray f.encodes v (array_octets f.canonical v)
+array_canonical : {A : Type 0} (f : Format A) → IsLawful f → (v : Option (List A)) → IsTrue (array_fits f.encodable v)
+    → EncodesArray f.encodes v (array_octets f.canonical v)
 array_canonical f lawful None h = (null_count, omega arith, (omega arith, refl))
 array_canonical f lawful (Some v) h =
     let w = both_true (nat_lt (length v) first_negative) (list_all f.encodable v) h in
@@ -64,7 +71,8 @@ each_depth f lawful (x ∷ v) h =
     let deep = each_depth f lawful v w.1 in
     omega (arith, here, deep)
 
-array_encodable_depth : {A : Type 0} (f : Format A) → IsLawful f → (v : Option (List A)) → IsTrue (array_fits f.encodable v) → array_depth f.depth v ≤ most_levels
+array_encodable_depth : {A : Type 0} (f : Format A) → IsLawful f → (v : Option (List A)) → IsTrue (array_fits f.encodable v)
+    → array_depth f.depth v ≤ most_levels
 array_encodable_depth f lawful None h = omega arith
 array_encodable_depth f lawful (Some v) h = each_depth f lawful v (both_true (nat_lt (length v) first_negative) (list_all f.encodable v) h).1
 

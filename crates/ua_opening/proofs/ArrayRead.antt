@@ -15,7 +15,8 @@ use Rattle.ua_opening.specs.Array.{EachEncoded, items_at, EncodesArray, behind_c
 abbrev pub AreItems : {A : Type 0} → (A → List ℕ → Type 0) → ℕ → List A → List ℕ → Type 0
 AreItems encodes n v b = (length v ≡ n) × EachEncoded encodes v b
 
-items_begin : {A : Type 0} (p : A → List ℕ → Type 0) (n : ℕ) (octets middle rest : List ℕ) (x : A) (xs : List A) → Begins p octets x middle → Begins (AreItems p n) middle xs rest → Begins (AreItems p (suc n)) octets (x ∷ xs) rest
+items_begin : {A : Type 0} (p : A → List ℕ → Type 0) (n : ℕ) (octets middle rest : List ℕ) (x : A) (xs : List A) → Begins p octets x middle
+    → Begins (AreItems p n) middle xs rest → Begins (AreItems p (suc n)) octets (x ∷ xs) rest
 items_begin p n octets middle rest x xs first second =
     let len = second.encoded.0 in
     record {
@@ -24,7 +25,8 @@ items_begin p n octets middle rest x xs first second =
       encoded = (omega (arith, len), (first.front, second.front, refl, first.encoded, second.encoded.1));
     }
 
-items_sound : {A : Type 0} (p : A → List ℕ → Type 0) (r : List ℕ → Option (A × List ℕ)) → Exact p r → (n : ℕ) (octets : List ℕ) (v : List A) (rest : List ℕ) → items_at r n octets ≡ Some (v, rest) → Begins (AreItems p n) octets v rest
+items_sound : {A : Type 0} (p : A → List ℕ → Type 0) (r : List ℕ → Option (A × List ℕ)) → Exact p r → (n : ℕ) (octets : List ℕ) (v : List A) (rest : List ℕ)
+    → items_at r n octets ≡ Some (v, rest) → Begins (AreItems p n) octets v rest
 unfolding items_at
 items_sound {A = A} p r f zero octets v rest e =
     let same = some_is ([], octets) (v, rest) e in
@@ -37,7 +39,8 @@ items_sound {A = A} p r f (suc n) octets v rest e =
     subst (λ (u : List A × List ℕ). Begins (AreItems p (suc n)) octets u.0 u.1) same
     (items_begin p n octets one.0.1 more.0.1 one.0.0 more.0.0 (f.sound octets one.0.0 one.0.1 one.1) (items_sound p r f n one.0.1 more.0.0 more.0.1 more.1))
 
-items_complete : {A : Type 0} (p : A → List ℕ → Type 0) (r : List ℕ → Option (A × List ℕ)) → Exact p r → (n : ℕ) (v : List A) (front rest : List ℕ) → AreItems p n v front → items_at r n (front ++ rest) ≡ Some (v, rest)
+items_complete : {A : Type 0} (p : A → List ℕ → Type 0) (r : List ℕ → Option (A × List ℕ)) → Exact p r → (n : ℕ) (v : List A) (front rest : List ℕ)
+    → AreItems p n v front → items_at r n (front ++ rest) ≡ Some (v, rest)
 unfolding items_at
 items_complete p r f zero [] front rest h = ap (λ (t : List ℕ). Some ([], t ++ rest)) h.1
 items_complete p r f zero (x ∷ v) front rest h = let len = h.0 in absurd (omega (arith, len))
@@ -60,10 +63,12 @@ abbrev BehindCount : {A : Type 0} → (A → List ℕ → Type 0) → ℕ → Op
 BehindCount p n None b = (first_negative ≤ n) × (b ≡ [])
 BehindCount p n (Some v) b = (n < first_negative) × AreItems p n v b
 
-some_behind : {A : Type 0} (p : A → List ℕ → Type 0) (n : ℕ) → n < first_negative → (v : Option (List A)) (b : List ℕ) → Image Some (AreItems p n) v b → BehindCount p n v b
+some_behind : {A : Type 0} (p : A → List ℕ → Type 0) (n : ℕ) → n < first_negative → (v : Option (List A)) (b : List ℕ) → Image Some (AreItems p n) v b
+    → BehindCount p n v b
 some_behind {A = A} p n small v b h = subst (λ (x : Option (List A)). BehindCount p n x b) (sym h.is) (small, h.encoded)
 
-behind_some : {A : Type 0} (p : A → List ℕ → Type 0) (n : ℕ) → n < first_negative → (v : Option (List A)) (b : List ℕ) → BehindCount p n v b → Image Some (AreItems p n) v b
+behind_some : {A : Type 0} (p : A → List ℕ → Type 0) (n : ℕ) → n < first_negative → (v : Option (List A)) (b : List ℕ) → BehindCount p n v b
+    → Image Some (AreItems p n) v b
 behind_some p n small None b h = absurd (omega (arith, h.0))
 behind_some p n small (Some v) b h = record { of = v; is = refl; encoded = h.1 }
 
@@ -74,11 +79,13 @@ behind_null : {A : Type 0} (p : A → List ℕ → Type 0) (n : ℕ) → first_n
 behind_null p n large None b h = (refl, h.1)
 behind_null p n large (Some v) b h = absurd (omega (arith, h.0))
 
-exact_behind_at : {A : Type 0} (p : A → List ℕ → Type 0) (r : List ℕ → Option (A × List ℕ)) → Exact p r → (n : ℕ) (small : Bool) → nat_lt n first_negative ≡ small
+exact_behind_at : {A : Type 0} (p : A → List ℕ → Type 0) (r : List ℕ → Option (A × List ℕ)) → Exact p r → (n : ℕ) (small : Bool)
+    → nat_lt n first_negative ≡ small
     → Exact (BehindCount p n) (λ octets. cond small (image_read Some (items_at r n) octets) (Some (None, octets)))
 exact_behind_at p r f n true e =
     let small : n < first_negative = ltb-true n first_negative e in
-    exact_same (Image Some (AreItems p n)) (BehindCount p n) (image_read Some (items_at r n)) (some_behind p n small) (behind_some p n small) (exact_image Some (AreItems p n) (items_at r n) (exact_items p r f n))
+    exact_same (Image Some (AreItems p n)) (BehindCount p n) (image_read Some (items_at r n)) (some_behind p n small) (behind_some p n small)
+    (exact_image Some (AreItems p n) (items_at r n) (exact_items p r f n))
 exact_behind_at p r f n false e =
     let large : first_negative ≤ n = ltb-false n first_negative e in
     exact_same (IsOnly None) (BehindCount p n) (λ octets. Some (None, octets)) (null_behind p n large) (behind_null p n large) (exact_only None)

@@ -18,7 +18,8 @@ pub all_taken : {A : Type 0} (m : A) (rest : List ℕ) → length rest ≤ 0 →
 all_taken m rest none = ap (λ (t : List ℕ). Some (m, t)) (empty_is rest none)
 
 -- what was read took all octets
-pub whole : {A : Type 0} (f : Format A) → IsLawful f → (octets : List ℕ) (m : A) (rest : List ℕ) → f.decode most_levels octets ≡ Some (m, rest) → length rest ≤ 0 → IsBody f m octets
+pub whole : {A : Type 0} (f : Format A) → IsLawful f → (octets : List ℕ) (m : A) (rest : List ℕ) → f.decode most_levels octets ≡ Some (m, rest)
+    → length rest ≤ 0 → IsBody f m octets
 whole f lawful octets m rest e none =
     let s = (lawful.exact most_levels).sound octets m rest e in
     let all : octets ≡ s.front = s.parts ∙ ap (λ (t : List ℕ). s.front ++ t) (empty_is rest none) ∙ append-nil s.front in
@@ -31,7 +32,8 @@ pub unread : {A : Type 0} (f : Format A) → IsLawful f → (octets : List ℕ) 
 unread f lawful octets e m h = let found = body_reads f lawful octets m h in absurd cc
 
 -- what was read left octets
-pub left_over : {A : Type 0} (f : Format A) → IsLawful f → (octets : List ℕ) (v : A) (rest : List ℕ) → f.decode most_levels octets ≡ Some (v, rest) → 0 < length rest → IsNoBody f octets
+pub left_over : {A : Type 0} (f : Format A) → IsLawful f → (octets : List ℕ) (v : A) (rest : List ℕ) → f.decode most_levels octets ≡ Some (v, rest)
+    → 0 < length rest → IsNoBody f octets
 left_over {A = A} f lawful octets v rest e more m h =
     let same = some_is (v, rest) (m, []) (sym e ∙ body_reads f lawful octets m h) in
     let none : length rest ≡ 0 = ap (λ (u : A × List ℕ). length u.1) same in
@@ -41,7 +43,8 @@ pub no_fault : {A : Type 0} → ◌≡◌ {A = Result A ReadFault} (Err OutOfMem
 no_fault e = cc
 
 -- reading found no value
-pub fails : {A : Type 0} (f : Format A) → IsLawful f → (octets new : List ℕ) (e : ReadFault) → Gives (f.decode most_levels) octets new (Err e) → ◌≡◌ {A = Result A ReadFault} (Err e) (Err NoValue) → IsNoBody f octets
+pub fails : {A : Type 0} (f : Format A) → IsLawful f → (octets new : List ℕ) (e : ReadFault) → Gives (f.decode most_levels) octets new (Err e)
+    → ◌≡◌ {A = Result A ReadFault} (Err e) (Err NoValue) → IsNoBody f octets
 fails f lawful octets new NoValue h e = unread f lawful octets h
 fails f lawful octets new OutOfMemory h e = absurd (no_fault e)
 
@@ -90,34 +93,41 @@ found_err None fault e h = (refl, err_is e fault h)
 found_err (Some w) fault e h = absurd cc
 
 -- what a reader of a body answers, by what it says of Ok and of NoValue
-pub read_answers : {A : Type 0} (f : Format A) → IsLawful f → (octets : List ℕ) (r : Result A ReadFault) → IfOk r (λ m. IsBody f m octets) → (IsErrOf r NoValue → IsNoBody f octets)
+pub read_answers : {A : Type 0} (f : Format A) → IsLawful f → (octets : List ℕ) (r : Result A ReadFault) → IfOk r (λ m. IsBody f m octets)
+    → (IsErrOf r NoValue → IsNoBody f octets)
     → (r ≡ found_or (body_of f octets) NoValue) ⊎ (r ≡ Err OutOfMemory)
 read_answers f lawful octets (Ok m) found none = inl (sym (ap (λ o. found_or o NoValue) (body_found f lawful octets m found)))
-read_answers f lawful octets (Err NoValue) found none = inl (sym (ap (λ o. found_or o NoValue) (none_found f lawful octets (body_of f octets) refl (none refl))))
+read_answers f lawful octets (Err NoValue) found none =
+    inl (sym (ap (λ o. found_or o NoValue) (none_found f lawful octets (body_of f octets) refl (none refl))))
 read_answers f lawful octets (Err OutOfMemory) found none = inr refl
 
 -- ---- a message that is made of what was read
 
-pub image_found : {A B : Type 0} (make : A → B) (read : List ℕ → Option (A × List ℕ)) (old new : List ℕ) (v : A) → read old ≡ Some (v, new) → image_read make read old ≡ Some (make v, new)
+pub image_found : {A B : Type 0} (make : A → B) (read : List ℕ → Option (A × List ℕ)) (old new : List ℕ) (v : A) → read old ≡ Some (v, new)
+    → image_read make read old ≡ Some (make v, new)
 image_found make read old new v h = ap (λ o. o >>= λ x. Some (make x.0, x.1)) h
 
 -- of a value that was read into its place
-pub placed_fails : {A : Type 0} (v : A) (read : List ℕ → Option (A × List ℕ)) (old new : List ℕ) (e : ReadFault) → GivesBy {X = Unit {0}} (λ _. v) read old new (Err e) → Gives read old new (Err e)
+pub placed_fails : {A : Type 0} (v : A) (read : List ℕ → Option (A × List ℕ)) (old new : List ℕ) (e : ReadFault)
+    → GivesBy {X = Unit {0}} (λ _. v) read old new (Err e) → Gives read old new (Err e)
 placed_fails v read old new NoValue h = h
 placed_fails v read old new OutOfMemory h = tt
 
-pub image_fails : {A B : Type 0} (make : A → B) (read : List ℕ → Option (A × List ℕ)) (old new : List ℕ) (e : ReadFault) → Gives read old new (Err e) → Gives (image_read make read) old new (Err e)
+pub image_fails : {A B : Type 0} (make : A → B) (read : List ℕ → Option (A × List ℕ)) (old new : List ℕ) (e : ReadFault) → Gives read old new (Err e)
+    → Gives (image_read make read) old new (Err e)
 image_fails make read old new NoValue h = ap (λ o. o >>= λ x. Some (make x.0, x.1)) h
 image_fails make read old new OutOfMemory h = tt
 
 -- ---- readers by case
 
 -- a fault that `?` hands on, where the case is known
-pub handed_on : {K B : Type 0} (reads : K → List ℕ → Option (B × List ℕ)) (kind k : K) (old new : List ℕ) (e : ReadFault) (r : Result B ReadFault) → kind ≡ k → IsErrAnd r (λ y. y ≡ e) → Gives (reads k) old new (Err e) → Gives (reads kind) old new r
+pub handed_on : {K B : Type 0} (reads : K → List ℕ → Option (B × List ℕ)) (kind k : K) (old new : List ℕ) (e : ReadFault) (r : Result B ReadFault) → kind ≡ k
+    → IsErrAnd r (λ y. y ≡ e) → Gives (reads k) old new (Err e) → Gives (reads kind) old new r
 handed_on reads kind k old new e r is err h =
     let p = err_from_is_err_and r err in
     rw (is, p.1, p.2) h
 
 -- what is found, where the case is known
-pub found_in : {K B : Type 0} (reads : K → List ℕ → Option (B × List ℕ)) (kind k : K) (old : List ℕ) (found : B × List ℕ) → kind ≡ k → reads k old ≡ Some found → reads kind old ≡ Some found
+pub found_in : {K B : Type 0} (reads : K → List ℕ → Option (B × List ℕ)) (kind k : K) (old : List ℕ) (found : B × List ℕ) → kind ≡ k → reads k old ≡ Some found
+    → reads kind old ≡ Some found
 found_in reads kind k old found is h = ap (λ (t : _). reads t old) is ∙ h

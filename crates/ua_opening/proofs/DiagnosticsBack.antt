@@ -7,11 +7,13 @@ use Rattle.ua_wire.specs.Signed.{signed}
 use Rattle.ua_builtin.specs.Flags.{has, flagged_text}
 use Rattle.ua_builtin.proofs.FlagBits.{text_back}
 use Rattle.ua_diagnostic.specs.Parts.{Optional, optional_fits}
-use Rattle.ua_diagnostic.specs.Diagnostic.{DiagnosticFields, DiagnosticData, innermost, around, diagnostic_fields, diagnostic_fields_encodable, diagnostic_fits, EncodesDiagnostic}
+use Rattle.ua_diagnostic.specs.Diagnostic.{DiagnosticFields, DiagnosticData, innermost, around, diagnostic_fields}
+use Rattle.ua_diagnostic.specs.Diagnostic.{diagnostic_fields_encodable, diagnostic_fits, EncodesDiagnostic}
 use Rattle.ua_opening.proofs.FlatsBack.{WritesBack, and_true, back_signed_32, back_status_code, text_flagged}
 
 -- a value where it is announced
-pub optional_back : {A : Type 0} {f : Flat A} (set : Bool) (v : Option A) (b : List ℕ) → WritesBack f → Optional f.encodes set v b → optional_fits f.encodable v ≡ true
+pub optional_back : {A : Type 0} {f : Flat A} (set : Bool) (v : Option A) (b : List ℕ) → WritesBack f → Optional f.encodes set v b
+    → optional_fits f.encodable v ≡ true
 optional_back set None b back h = refl
 optional_back true (Some v) b back h = back.fits v b h
 optional_back false (Some v) b back h = absurd h

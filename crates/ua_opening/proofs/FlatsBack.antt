@@ -1,5 +1,6 @@
 -- What octets encode in a flat format can be written.
-use Rattle.std.specs.Prelude.{◌≡◌, ℕ, ℤ, pos, negsuc, ◌<◌, ◌^◌, List, ◌∷◌, length, Bool, true, false, ◌&&◌, cond, not, Option, Some, None, is_some, nat_eq, nat_lt}
+use Rattle.std.specs.Prelude.{◌≡◌, ℕ, ℤ, pos, negsuc, ◌<◌, ◌^◌, List, ◌∷◌, length, Bool, true}
+use Rattle.std.specs.Prelude.{false, ◌&&◌, cond, not, Option, Some, None, is_some, nat_eq, nat_lt}
 use Rattle.std.specs.Int.{Width, w8, w16, w32, w64, cast_signed, cast_unsigned}
 use Rattle.std.specs.Int.RustNames.{FitsSigned}
 use Rattle.std.proofs.Common.{refl, sym, ap, subst, ◌∙◌, arith}
@@ -49,7 +50,8 @@ back_both {f = f} {g = g} first second = record {
 }
 
 -- forth: the parts of a value are what it is made of
-pub back_made : {A B : Type 0} {f : Flat A} (make : A → B) (parts : B → A) (forth : (x : A) → parts (make x) ≡ x) → WritesBack f → WritesBack (made make parts f)
+pub back_made : {A B : Type 0} {f : Flat A} (make : A → B) (parts : B → A) (forth : (x : A) → parts (make x) ≡ x) → WritesBack f
+    → WritesBack (made make parts f)
 back_made {f = f} make parts forth back = record {
   fits = λ v b h. ap f.encodable (ap parts h.is ∙ forth h.of) ∙ back.fits h.of b h.encoded;
 }
@@ -144,7 +146,8 @@ back_guid = record { fits = λ v b h. ap guid.encodable h.is }
 -- ---- NodeIds
 
 -- a number in the first form that fits
-numeric_back : (n k form : ℕ) (a b : Bool) → a ≡ (nat_eq n 0 && nat_lt k 256) → b ≡ (nat_lt n 256 && nat_lt k 65536) → form ≡ cond a 0 (cond b 1 2) → n < 2 ^ 16 → k < 2 ^ 32
+numeric_back : (n k form : ℕ) (a b : Bool) → a ≡ (nat_eq n 0 && nat_lt k 256) → b ≡ (nat_lt n 256 && nat_lt k 65536) → form ≡ cond a 0 (cond b 1 2) → n < 2 ^ 16
+    → k < 2 ^ 32
     → (in_form form).encodable (node n (Numeric k)) ≡ true
 numeric_back n k form true b e f is low small =
     let w = both_true (nat_eq n 0) (nat_lt k 256) (sym e) in
@@ -152,7 +155,8 @@ numeric_back n k form true b e f is low small =
 numeric_back n k form false true e f is low small =
     ap (λ m. (in_form m).encodable (node n (Numeric k))) is ∙ sym f
 numeric_back n k form false false e f is low small =
-    ap (λ m. (in_form m).encodable (node n (Numeric k))) is ∙ and_true (nat_lt n (256 ^ 2)) (nat_lt k (256 ^ 4)) (lt-ltb n (256 ^ 2) low) (lt-ltb k (256 ^ 4) small)
+    ap (λ m. (in_form m).encodable (node n (Numeric k))) is ∙ and_true (nat_lt n (256 ^ 2)) (nat_lt k (256 ^ 4)) (lt-ltb n (256 ^ 2) low)
+    (lt-ltb k (256 ^ 4) small)
 
 -- any number that octets of an id encode, in the form that is written
 number_back : (v : NodeId) (n k : ℕ) → v ≡ node n (Numeric k) → n < 2 ^ 16 → k < 2 ^ 32 → (in_form (form_of v)).encodable v ≡ true
@@ -172,7 +176,8 @@ node_back v b (guid_form h) =
     ∙ and_true (nat_lt h.namespace (256 ^ 2)) (guid.encodable h.id) (lt-ltb h.namespace (256 ^ 2) h.namespace_fits) (back_guid.fits h.id h.back h.id_encoded)
 node_back v b (opaque_form h) =
     ap (λ (w : NodeId). (in_form (form_of w)).encodable w) h.is
-    ∙ and_true (nat_lt h.namespace (256 ^ 2)) (counted.encodable h.id) (lt-ltb h.namespace (256 ^ 2) h.namespace_fits) (back_counted.fits h.id h.back h.id_encoded)
+    ∙ and_true (nat_lt h.namespace (256 ^ 2)) (counted.encodable h.id) (lt-ltb h.namespace (256 ^ 2) h.namespace_fits)
+    (back_counted.fits h.id h.back h.id_encoded)
 
 pub back_node_id : WritesBack node_id
 unfolding node_id

@@ -34,7 +34,8 @@ read_writable lawful back levels octets rest v few e =
 pub back_flat : {A : Type 0} {f : Flat A} → WritesBack f → AllWriteBack (flat f)
 back_flat back = record { agrees = λ v b h. back.fits v b h.0 }
 
-pub where_pair : {A B : Type 0} {t : A → Bool} {u : B → Bool} {f : Format A} {g : Format B} → WritesBackWhere t f → WritesBackWhere u g → WritesBackWhere (λ v. t v.0 && u v.1) (pair f g)
+pub where_pair : {A B : Type 0} {t : A → Bool} {u : B → Bool} {f : Format A} {g : Format B} → WritesBackWhere t f → WritesBackWhere u g
+    → WritesBackWhere (λ v. t v.0 && u v.1) (pair f g)
 where_pair first second = record {
   agrees = λ v b h.
       ap₂ (λ (x y : Bool). x && y) (first.agrees v.0 h.0.front (h.0.first_encoded, omega (arith, h.1)))
@@ -42,19 +43,22 @@ where_pair first second = record {
 }
 
 -- whole: a structure is made of its parts, which tells them to the checker; forth: they are what it is made of
-pub where_struct : {A B : Type 0} {t : A → Bool} {f : Format A} (make : A → B) (parts : B → A) (whole : (v : B) → v ≡ make (parts v)) (forth : (x : A) → parts (make x) ≡ x) → WritesBackWhere t f → WritesBackWhere (λ v. t (parts v)) (struct make parts f)
+pub where_struct : {A B : Type 0} {t : A → Bool} {f : Format A} (make : A → B) (parts : B → A) (whole : (v : B) → v ≡ make (parts v)) (forth : (x : A)
+    → parts (make x) ≡ x) → WritesBackWhere t f → WritesBackWhere (λ v. t (parts v)) (struct make parts f)
 where_struct {f = f} make parts whole forth back = record {
   agrees = λ v b h.
       let same = ap parts h.0.is ∙ forth h.0.of in
       back.agrees (parts v) b (subst (λ x. f.encodes x b) (sym same) h.0.encoded, h.1);
 }
 
-each_back : {A : Type 0} {t : A → Bool} (f : Format A) → WritesBackWhere t f → (v : List A) (b : List ℕ) → EachEncoded f.encodes v b → items_depth f.depth v ≤ most_levels → list_all f.encodable v ≡ list_all t v
+each_back : {A : Type 0} {t : A → Bool} (f : Format A) → WritesBackWhere t f → (v : List A) (b : List ℕ) → EachEncoded f.encodes v b
+    → items_depth f.depth v ≤ most_levels → list_all f.encodable v ≡ list_all t v
 each_back f back [] b h deep = refl
 each_back f back (x ∷ v) b h deep =
     ap₂ (λ (c d : Bool). c && d) (back.agrees x h.0 (h.3, omega (arith, deep))) (each_back f back v h.1 h.4 (omega (arith, deep)))
 
-items_back : {A : Type 0} {t : A → Bool} (f : Format A) → WritesBackWhere t f → (v : Option (List A)) (b : List ℕ) → Within (EncodesArray f.encodes) (array_depth f.depth) most_levels v b → array_fits f.encodable v ≡ array_all t v
+items_back : {A : Type 0} {t : A → Bool} (f : Format A) → WritesBackWhere t f → (v : Option (List A)) (b : List ℕ)
+    → Within (EncodesArray f.encodes) (array_depth f.depth) most_levels v b → array_fits f.encodable v ≡ array_all t v
 items_back f back None b h = refl
 items_back {t = t} f back (Some v) b h = ap₂ (λ (c d : Bool). c && d) (lt-ltb (length v) first_negative h.0.1) (each_back f back v h.0.0 h.0.3 h.1)
 
@@ -70,7 +74,8 @@ where_as same back = record { agrees = λ v b h. back.agrees v b h ∙ same v }
 pub back_pair : {A B : Type 0} {f : Format A} {g : Format B} → AllWriteBack f → AllWriteBack g → AllWriteBack (pair f g)
 back_pair first second = where_pair first second
 
-pub back_struct : {A B : Type 0} {f : Format A} (make : A → B) (parts : B → A) (whole : (v : B) → v ≡ make (parts v)) (forth : (x : A) → parts (make x) ≡ x) → AllWriteBack f → AllWriteBack (struct make parts f)
+pub back_struct : {A B : Type 0} {f : Format A} (make : A → B) (parts : B → A) (whole : (v : B) → v ≡ make (parts v)) (forth : (x : A) → parts (make x) ≡ x)
+    → AllWriteBack f → AllWriteBack (struct make parts f)
 back_struct make parts whole forth back = where_struct make parts whole forth back
 
 each_true : {A : Type 0} (v : List A) → list_all (λ x. true) v ≡ true

@@ -24,9 +24,11 @@ one_more : {A : Type 0} (x : A) (found : Option (List A × List ℕ)) → rest (
 one_more x None = refl
 one_more x (Some xs) = refl
 
-behind_one : {A : Type 0} (r : List ℕ → Option (A × List ℕ)) (n : ℕ) (middle : List ℕ) (found : Option (A × List ℕ)) → rest found ≡ Some (tt, middle) → rest (items_from r n found) ≡ skipped (items_at r n) middle
+behind_one : {A : Type 0} (r : List ℕ → Option (A × List ℕ)) (n : ℕ) (middle : List ℕ) (found : Option (A × List ℕ)) → rest found ≡ Some (tt, middle)
+    → rest (items_from r n found) ≡ skipped (items_at r n) middle
 behind_one r n middle None e = absurd cc
-behind_one r n middle (Some x) e = one_more x.0 (items_at r n x.1) ∙ ap (skipped (items_at r n)) (ap (λ (p : Unit {0} × List ℕ). p.1) (some_is (tt, x.1) (tt, middle) e))
+behind_one r n middle (Some x) e = one_more x.0 (items_at r n x.1)
+    ∙ ap (skipped (items_at r n)) (ap (λ (p : Unit {0} × List ℕ). p.1) (some_is (tt, x.1) (tt, middle) e))
 
 behind_none : {A : Type 0} (r : List ℕ → Option (A × List ℕ)) (n : ℕ) (found : Option (A × List ℕ)) → rest found ≡ None → rest (items_from r n found) ≡ None
 behind_none r n None e = refl
@@ -39,7 +41,8 @@ step r n octets = refl
 next_count : (count counter : ℕ) → counter < count → count - counter ≡ suc (count - (counter + 1))
 next_count count counter h = omega arith
 
-pub goes_on : {A : Type 0} (r : List ℕ → Option (A × List ℕ)) (count counter : ℕ) (old new : List ℕ) (all : Option (Unit {0} × List ℕ)) → counter < count → skipped r old ≡ Some (tt, new)
+pub goes_on : {A : Type 0} (r : List ℕ → Option (A × List ℕ)) (count counter : ℕ) (old new : List ℕ) (all : Option (Unit {0} × List ℕ)) → counter < count
+    → skipped r old ≡ Some (tt, new)
     → skipped (items_at r (count - counter)) old ≡ all → skipped (items_at r (count - (counter + 1))) new ≡ all
 goes_on r count counter old new all lt e h =
     sym (behind_one r (count - (counter + 1)) new (r old) e)
@@ -57,7 +60,8 @@ is_done r count counter old all le h =
     let zero_left : count - counter ≡ 0 = omega arith in
     sym h ∙ ap (λ (n : ℕ). skipped (items_at r n) old) zero_left ∙ none_left r old
 
-fails : {A : Type 0} (r : List ℕ → Option (A × List ℕ)) (count counter : ℕ) (old : List ℕ) (all : Option (Unit {0} × List ℕ)) → counter < count → skipped r old ≡ None
+fails : {A : Type 0} (r : List ℕ → Option (A × List ℕ)) (count counter : ℕ) (old : List ℕ) (all : Option (Unit {0} × List ℕ)) → counter < count
+    → skipped r old ≡ None
     → skipped (items_at r (count - counter)) old ≡ all → all ≡ None
 fails r count counter old all lt e h =
     sym h
@@ -65,7 +69,8 @@ fails r count counter old all lt e h =
     ∙ step r (count - (counter + 1)) old
     ∙ behind_none r (count - (counter + 1)) (r old) e
 
-pub fault_ends : {A : Type 0} (r : List ℕ → Option (A × List ℕ)) (e : ReadFault) (count counter : ℕ) (first old new : List ℕ) → counter < count → Gives (skipped r) old new (Err e)
+pub fault_ends : {A : Type 0} (r : List ℕ → Option (A × List ℕ)) (e : ReadFault) (count counter : ℕ) (first old new : List ℕ) → counter < count
+    → Gives (skipped r) old new (Err e)
     → skipped (items_at r (count - counter)) old ≡ skipped (items_at r count) first → Gives (skipped (items_at r count)) first new (Err e)
 fault_ends r NoValue count counter first old new lt h all = fails r count counter old (skipped (items_at r count) first) lt h all
 fault_ends r OutOfMemory count counter first old new lt h all = tt

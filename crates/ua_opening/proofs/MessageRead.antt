@@ -31,14 +31,17 @@ same_value : {A : Type 0} (o : Option (A × List ℕ)) → (o >>= λ x. Some (x.
 same_value None = refl
 same_value (Some x) = refl
 
-reads_id : {A : Type 0} (number : ℕ) (f : Format A) (old rest : List ℕ) (id : NodeId) → node_id.decode old ≡ Some (id, rest) → (message number f).decode most_levels old ≡ behind_number number f rest (standard_number id)
+reads_id : {A : Type 0} (number : ℕ) (f : Format A) (old rest : List ℕ) (id : NodeId) → node_id.decode old ≡ Some (id, rest)
+    → (message number f).decode most_levels old ≡ behind_number number f rest (standard_number id)
 reads_id number f old rest id found = ap (λ (o : Option (NodeId × List ℕ)). o >>= λ x. behind_number number f x.1 (standard_number x.0)) found
 
-reads_number : {A : Type 0} (number : ℕ) (f : Format A) (old rest : List ℕ) (id : NodeId) (n : ℕ) → node_id.decode old ≡ Some (id, rest) → standard_number id ≡ Some n
+reads_number : {A : Type 0} (number : ℕ) (f : Format A) (old rest : List ℕ) (id : NodeId) (n : ℕ) → node_id.decode old ≡ Some (id, rest)
+    → standard_number id ≡ Some n
     → (message number f).decode most_levels old ≡ behind_number number f rest (Some n)
 reads_number number f old rest id n found is = reads_id number f old rest id found ∙ ap (behind_number number f rest) is
 
-reads_message : {A : Type 0} (number : ℕ) (f : Format A) (old rest : List ℕ) (id : NodeId) (n : ℕ) → node_id.decode old ≡ Some (id, rest) → standard_number id ≡ Some n → n ≡ number → (message number f).decode most_levels old ≡ f.decode most_levels rest
+reads_message : {A : Type 0} (number : ℕ) (f : Format A) (old rest : List ℕ) (id : NodeId) (n : ℕ) → node_id.decode old ≡ Some (id, rest)
+    → standard_number id ≡ Some n → n ≡ number → (message number f).decode most_levels old ≡ f.decode most_levels rest
 reads_message number f old rest id n found is same =
     reads_number number f old rest id n found is
     ∙ ap (λ (test : Bool). kind_at (alone number f) most_levels (cond test (Some tt) None) rest) (eq-eqb n number same)
@@ -46,31 +49,45 @@ reads_message number f old rest id n found is same =
 
 other_number : {A : Type 0} (number : ℕ) (f : Format A) (rest : List ℕ) (o : Option ℕ) → (o ≡ Some number → ⊥) → behind_number number f rest o ≡ None
 other_number number f rest None other = refl
-other_number number f rest (Some n) other = ap (λ (test : Bool). kind_at (alone number f) most_levels (cond test (Some tt) None) rest) (ne_eqb n number (λ e. other (ap Some e)))
+other_number number f rest (Some n) other = ap (λ (test : Bool). kind_at (alone number f) most_levels (cond test (Some tt) None) rest)
+    (ne_eqb n number (λ e. other (ap Some e)))
 
 -- octets that begin with the NodeId of another encoding, or of none, are no body of this message
-pub not_message : {A : Type 0} (number : ℕ) (f : Format A) → IsLawful f → (old rest : List ℕ) (id : NodeId) → node_id.decode old ≡ Some (id, rest) → (standard_number id ≡ Some number → ⊥) → IsNoBody (message number f) old
-not_message number f lawful old rest id found other = unread (message number f) (lawful_message number lawful) old (reads_id number f old rest id found ∙ other_number number f rest (standard_number id) other)
+pub not_message : {A : Type 0} (number : ℕ) (f : Format A) → IsLawful f → (old rest : List ℕ) (id : NodeId) → node_id.decode old ≡ Some (id, rest)
+    → (standard_number id ≡ Some number → ⊥) → IsNoBody (message number f) old
+not_message number f lawful old rest id found other = unread (message number f) (lawful_message number lawful) old (reads_id number f old rest id found
+    ∙ other_number number f rest (standard_number id) other)
 
-pub no_message_id : {A : Type 0} (number : ℕ) (f : Format A) → IsLawful f → (old new : List ℕ) (e : ReadFault) → Gives node_id.decode old new (Err e) → ◌≡◌ {A = Result A ReadFault} (Err e) (Err NoValue) → IsNoBody (message number f) old
-no_message_id number f lawful old new NoValue h e = unread (message number f) (lawful_message number lawful) old (ap (λ (o : Option (NodeId × List ℕ)). o >>= λ x. behind_number number f x.1 (standard_number x.0)) h)
+pub no_message_id : {A : Type 0} (number : ℕ) (f : Format A) → IsLawful f → (old new : List ℕ) (e : ReadFault) → Gives node_id.decode old new (Err e)
+    → ◌≡◌ {A = Result A ReadFault} (Err e) (Err NoValue) → IsNoBody (message number f) old
+no_message_id number f lawful old new NoValue h e = unread (message number f) (lawful_message number lawful) old
+    (ap (λ (o : Option (NodeId × List ℕ)). o >>= λ x. behind_number number f x.1 (standard_number x.0)) h)
 no_message_id number f lawful old new OutOfMemory h e = absurd (no_fault e)
 
-pub no_message_number : {A : Type 0} (number : ℕ) (f : Format A) → IsLawful f → (old rest : List ℕ) (id : NodeId) → node_id.decode old ≡ Some (id, rest) → standard_number id ≡ None → IsNoBody (message number f) old
-no_message_number number f lawful old rest id found is = unread (message number f) (lawful_message number lawful) old (reads_id number f old rest id found ∙ ap (behind_number number f rest) is)
+pub no_message_number : {A : Type 0} (number : ℕ) (f : Format A) → IsLawful f → (old rest : List ℕ) (id : NodeId) → node_id.decode old ≡ Some (id, rest)
+    → standard_number id ≡ None → IsNoBody (message number f) old
+no_message_number number f lawful old rest id found is = unread (message number f) (lawful_message number lawful) old (reads_id number f old rest id found
+    ∙ ap (behind_number number f rest) is)
 
 two_numbers : (o : Option ℕ) (a b : ℕ) → o ≡ Some a → (a ≡ b → ⊥) → o ≡ Some b → ⊥
 two_numbers o a b e other f = other (some_is a b (sym e ∙ f))
 
-pub other_message : {A : Type 0} (number : ℕ) (f : Format A) → IsLawful f → (old rest : List ℕ) (id : NodeId) (n : ℕ) → node_id.decode old ≡ Some (id, rest) → standard_number id ≡ Some n → (n ≡ number → ⊥) → IsNoBody (message number f) old
+pub other_message : {A : Type 0} (number : ℕ) (f : Format A) → IsLawful f → (old rest : List ℕ) (id : NodeId) (n : ℕ) → node_id.decode old ≡ Some (id, rest)
+    → standard_number id ≡ Some n → (n ≡ number → ⊥) → IsNoBody (message number f) old
 other_message number f lawful old rest id n found is other = not_message number f lawful old rest id found (two_numbers (standard_number id) n number is other)
 
-pub message_found : {A : Type 0} (number : ℕ) (f : Format A) → IsLawful f → (old rest : List ℕ) (id : NodeId) (n : ℕ) (r : Result A ReadFault) → node_id.decode old ≡ Some (id, rest) → standard_number id ≡ Some n → n ≡ number → IfOk r (λ m. IsBody f m rest) → IfOk r (λ m. IsBody (message number f) m old)
-message_found number f lawful old rest id n (Ok m) found is same h = whole (message number f) (lawful_message number lawful) old m [] (reads_message number f old rest id n found is same ∙ body_reads f lawful rest m h) (omega arith)
+pub message_found : {A : Type 0} (number : ℕ) (f : Format A) → IsLawful f → (old rest : List ℕ) (id : NodeId) (n : ℕ) (r : Result A ReadFault)
+    → node_id.decode old ≡ Some (id, rest) → standard_number id ≡ Some n → n ≡ number → IfOk r (λ m. IsBody f m rest)
+    → IfOk r (λ m. IsBody (message number f) m old)
+message_found number f lawful old rest id n (Ok m) found is same h = whole (message number f) (lawful_message number lawful) old m []
+    (reads_message number f old rest id n found is same ∙ body_reads f lawful rest m h) (omega arith)
 message_found number f lawful old rest id n (Err e) found is same h = tt
 
-pub message_none : {A : Type 0} (number : ℕ) (f : Format A) → IsLawful f → (old rest : List ℕ) (id : NodeId) (n : ℕ) → node_id.decode old ≡ Some (id, rest) → standard_number id ≡ Some n → n ≡ number → IsNoBody f rest → IsNoBody (message number f) old
-message_none number f lawful old rest id n found is same none m h = none m (whole f lawful rest m [] (sym (reads_message number f old rest id n found is same) ∙ body_reads (message number f) (lawful_message number lawful) old m h) (omega arith))
+pub message_none : {A : Type 0} (number : ℕ) (f : Format A) → IsLawful f → (old rest : List ℕ) (id : NodeId) (n : ℕ) → node_id.decode old ≡ Some (id, rest)
+    → standard_number id ≡ Some n → n ≡ number → IsNoBody f rest → IsNoBody (message number f) old
+message_none number f lawful old rest id n found is same none m h =
+    none m (whole f lawful rest m [] (sym (reads_message number f old rest id n found is same)
+    ∙ body_reads (message number f) (lawful_message number lawful) old m h) (omega arith))
 
 -- ---- the answer to an OpenSecureChannel request
 
@@ -78,23 +95,33 @@ abbrev error_of : {A B : Type 0} → Result A ReadFault → Result B ReadFault
 error_of (Ok v) = Err NoValue
 error_of (Err e) = Err e
 
-pub no_answer_id : (old new : List ℕ) (e : ReadFault) → Gives node_id.decode old new (Err e) → ◌≡◌ {A = Result OpenAnswer ReadFault} (Err e) (Err NoValue) → IsNoAnswer old
-no_answer_id old new e h is (Open m) body = no_message_id 449 open_response lawful_open_response old new e h (ap (λ (r : Result OpenAnswer ReadFault). error_of {B = OpenResponse} r) is) m body
-no_answer_id old new e h is (Fault m) body = no_message_id 397 service_fault sound_service_fault.lawful old new e h (ap (λ (r : Result OpenAnswer ReadFault). error_of {B = ServiceFault} r) is) m body
+pub no_answer_id : (old new : List ℕ) (e : ReadFault) → Gives node_id.decode old new (Err e) → ◌≡◌ {A = Result OpenAnswer ReadFault} (Err e) (Err NoValue)
+    → IsNoAnswer old
+no_answer_id old new e h is (Open m) body = no_message_id 449 open_response lawful_open_response old new e h
+    (ap (λ (r : Result OpenAnswer ReadFault). error_of {B = OpenResponse} r) is) m body
+no_answer_id old new e h is (Fault m) body = no_message_id 397 service_fault sound_service_fault.lawful old new e h
+    (ap (λ (r : Result OpenAnswer ReadFault). error_of {B = ServiceFault} r) is) m body
 
-pub no_answer : (old rest : List ℕ) (id : NodeId) → node_id.decode old ≡ Some (id, rest) → (standard_number id ≡ Some 449 → ⊥) → (standard_number id ≡ Some 397 → ⊥) → IsNoAnswer old
+pub no_answer : (old rest : List ℕ) (id : NodeId) → node_id.decode old ≡ Some (id, rest) → (standard_number id ≡ Some 449 → ⊥)
+    → (standard_number id ≡ Some 397 → ⊥) → IsNoAnswer old
 no_answer old rest id found other more (Open m) body = not_message 449 open_response lawful_open_response old rest id found other m body
 no_answer old rest id found other more (Fault m) body = not_message 397 service_fault sound_service_fault.lawful old rest id found more m body
 
-pub no_open : (old rest : List ℕ) (id : NodeId) (e : ReadFault) → node_id.decode old ≡ Some (id, rest) → standard_number id ≡ Some 449 → (◌≡◌ {A = Result OpenResponse ReadFault} (Err e) (Err NoValue) → IsNoBody open_response rest)
+pub no_open : (old rest : List ℕ) (id : NodeId) (e : ReadFault) → node_id.decode old ≡ Some (id, rest) → standard_number id ≡ Some 449
+    → (◌≡◌ {A = Result OpenResponse ReadFault} (Err e) (Err NoValue) → IsNoBody open_response rest)
     → ◌≡◌ {A = Result OpenAnswer ReadFault} (Err e) (Err NoValue) → IsNoAnswer old
-no_open old rest id e found is none same (Open m) body = message_none 449 open_response lawful_open_response old rest id 449 found is refl (none (ap (λ (r : Result OpenAnswer ReadFault). error_of {B = OpenResponse} r) same)) m body
-no_open old rest id e found is none same (Fault m) body = not_message 397 service_fault sound_service_fault.lawful old rest id found (two_numbers (standard_number id) 449 397 is (λ f. absurd (omega arith))) m body
+no_open old rest id e found is none same (Open m) body = message_none 449 open_response lawful_open_response old rest id 449 found is refl
+    (none (ap (λ (r : Result OpenAnswer ReadFault). error_of {B = OpenResponse} r) same)) m body
+no_open old rest id e found is none same (Fault m) body = not_message 397 service_fault sound_service_fault.lawful old rest id found
+    (two_numbers (standard_number id) 449 397 is (λ f. absurd (omega arith))) m body
 
-pub no_fault_answer : (old rest : List ℕ) (id : NodeId) (e : ReadFault) → node_id.decode old ≡ Some (id, rest) → standard_number id ≡ Some 397 → (◌≡◌ {A = Result ServiceFault ReadFault} (Err e) (Err NoValue) → IsNoBody service_fault rest)
+pub no_fault_answer : (old rest : List ℕ) (id : NodeId) (e : ReadFault) → node_id.decode old ≡ Some (id, rest) → standard_number id ≡ Some 397
+    → (◌≡◌ {A = Result ServiceFault ReadFault} (Err e) (Err NoValue) → IsNoBody service_fault rest)
     → ◌≡◌ {A = Result OpenAnswer ReadFault} (Err e) (Err NoValue) → IsNoAnswer old
-no_fault_answer old rest id e found is none same (Open m) body = not_message 449 open_response lawful_open_response old rest id found (two_numbers (standard_number id) 397 449 is (λ f. absurd (omega arith))) m body
-no_fault_answer old rest id e found is none same (Fault m) body = message_none 397 service_fault sound_service_fault.lawful old rest id 397 found is refl (none (ap (λ (r : Result OpenAnswer ReadFault). error_of {B = ServiceFault} r) same)) m body
+no_fault_answer old rest id e found is none same (Open m) body = not_message 449 open_response lawful_open_response old rest id found
+    (two_numbers (standard_number id) 397 449 is (λ f. absurd (omega arith))) m body
+no_fault_answer old rest id e found is none same (Fault m) body = message_none 397 service_fault sound_service_fault.lawful old rest id 397 found is refl
+    (none (ap (λ (r : Result OpenAnswer ReadFault). error_of {B = ServiceFault} r) same)) m body
 
 -- ---- one answer a body
 
@@ -106,16 +133,20 @@ is_or_not : (o : Option ℕ) (n : ℕ) → (o ≡ Some n) ⊎ (o ≡ Some n → 
 is_or_not None n = inr (λ e. absurd cc)
 is_or_not (Some m) n = by_test m n (nat_eq m n) refl
 
-not_both_by : (octets rest : List ℕ) (id : NodeId) → node_id.decode octets ≡ Some (id, rest) → (standard_number id ≡ Some 449) ⊎ (standard_number id ≡ Some 449 → ⊥)
+not_both_by : (octets rest : List ℕ) (id : NodeId) → node_id.decode octets ≡ Some (id, rest) → (standard_number id ≡ Some 449)
+    ⊎ (standard_number id ≡ Some 449 → ⊥)
     → (m : OpenResponse) (w : ServiceFault) → IsBody (message 449 open_response) m octets → IsBody (message 397 service_fault) w octets → ⊥
-not_both_by octets rest id found (inl is) m w p q = not_message 397 service_fault sound_service_fault.lawful octets rest id found (two_numbers (standard_number id) 449 397 is (λ f. absurd (omega arith))) w q
+not_both_by octets rest id found (inl is) m w p q = not_message 397 service_fault sound_service_fault.lawful octets rest id found
+    (two_numbers (standard_number id) 449 397 is (λ f. absurd (omega arith))) w q
 not_both_by octets rest id found (inr other) m w p q = not_message 449 open_response lawful_open_response octets rest id found other m p
 
-not_both_at : (octets : List ℕ) (o : Option (NodeId × List ℕ)) → node_id.decode octets ≡ o → (m : OpenResponse) (w : ServiceFault) → IsBody (message 449 open_response) m octets → IsBody (message 397 service_fault) w octets → ⊥
+not_both_at : (octets : List ℕ) (o : Option (NodeId × List ℕ)) → node_id.decode octets ≡ o → (m : OpenResponse) (w : ServiceFault)
+    → IsBody (message 449 open_response) m octets → IsBody (message 397 service_fault) w octets → ⊥
 not_both_at octets None found m w p q = no_message_id 449 open_response lawful_open_response octets octets NoValue found refl m p
 not_both_at octets (Some x) found m w p q = not_both_by octets x.1 x.0 found (is_or_not (standard_number x.0) 449) m w p q
 
-not_both : (octets : List ℕ) (m : OpenResponse) (w : ServiceFault) → IsBody (message 449 open_response) m octets → IsBody (message 397 service_fault) w octets → ⊥
+not_both : (octets : List ℕ) (m : OpenResponse) (w : ServiceFault) → IsBody (message 449 open_response) m octets → IsBody (message 397 service_fault) w octets
+    → ⊥
 not_both octets m w p q = not_both_at octets (node_id.decode octets) refl m w p q
 
 pub one_answer : (a c : OpenAnswer) (octets : List ℕ) → IsAnswer a octets → IsAnswer c octets → a ≡ c
@@ -128,14 +159,22 @@ one_answer (Fault m) (Fault w) octets p q = ap Fault (one_message (message 397 s
 pub answer_answers : (octets : List ℕ) (r : Result OpenAnswer ReadFault) → IfOk r (λ a. IsAnswer a octets) → (IsErrOf r NoValue → IsNoAnswer octets)
     → (r ≡ found_or (answer_read octets) NoValue) ⊎ (r ≡ Err OutOfMemory)
 answer_answers octets (Ok (Open m)) found none =
-    inl (sym (ap (λ o. found_or (answer_found o (body_of (message 397 service_fault) octets)) NoValue) (body_found (message 449 open_response) (lawful_message 449 lawful_open_response) octets m found)))
+    inl (sym
+    (ap (λ o. found_or (answer_found o (body_of (message 397 service_fault) octets)) NoValue)
+    (body_found (message 449 open_response) (lawful_message 449 lawful_open_response) octets m found)))
 answer_answers octets (Ok (Fault m)) found none =
-    let other : body_of (message 449 open_response) octets ≡ None = none_found (message 449 open_response) (lawful_message 449 lawful_open_response) octets (body_of (message 449 open_response) octets) refl (λ w h. not_both octets w m h found) in
-    inl (sym (ap (λ o. found_or (answer_found o (body_of (message 397 service_fault) octets)) NoValue) other ∙ ap (λ o. found_or (answer_found None o) NoValue) (body_found (message 397 service_fault) (lawful_message 397 sound_service_fault.lawful) octets m found)))
+    let other : body_of (message 449 open_response) octets ≡ None = none_found (message 449 open_response) (lawful_message 449 lawful_open_response) octets
+    (body_of (message 449 open_response) octets) refl (λ w h. not_both octets w m h found) in
+    inl (sym (ap (λ o. found_or (answer_found o (body_of (message 397 service_fault) octets)) NoValue) other
+    ∙ ap (λ o. found_or (answer_found None o) NoValue)
+    (body_found (message 397 service_fault) (lawful_message 397 sound_service_fault.lawful) octets m found)))
 answer_answers octets (Err NoValue) found none =
-    let first : body_of (message 449 open_response) octets ≡ None = none_found (message 449 open_response) (lawful_message 449 lawful_open_response) octets (body_of (message 449 open_response) octets) refl (λ w h. none refl (Open w) h) in
-    let second : body_of (message 397 service_fault) octets ≡ None = none_found (message 397 service_fault) (lawful_message 397 sound_service_fault.lawful) octets (body_of (message 397 service_fault) octets) refl (λ w h. none refl (Fault w) h) in
-    inl (sym (ap (λ o. found_or (answer_found o (body_of (message 397 service_fault) octets)) NoValue) first ∙ ap (λ o. found_or (answer_found None o) NoValue) second))
+    let first : body_of (message 449 open_response) octets ≡ None = none_found (message 449 open_response) (lawful_message 449 lawful_open_response) octets
+    (body_of (message 449 open_response) octets) refl (λ w h. none refl (Open w) h) in
+    let second : body_of (message 397 service_fault) octets ≡ None = none_found (message 397 service_fault) (lawful_message 397 sound_service_fault.lawful)
+    octets (body_of (message 397 service_fault) octets) refl (λ w h. none refl (Fault w) h) in
+    inl (sym (ap (λ o. found_or (answer_found o (body_of (message 397 service_fault) octets)) NoValue) first
+    ∙ ap (λ o. found_or (answer_found None o) NoValue) second))
 answer_answers octets (Err OutOfMemory) found none = inr refl
 
 -- ---- what reading on lists gives
@@ -145,16 +184,25 @@ body_of-found f lawful octets m = ((λ e. body_is f lawful octets m e), (λ h. b
 
 pub answer_read-found : (octets : List ℕ) (a : OpenAnswer) → IsAnswer a octets → answer_read octets ≡ Some a
 answer_read-found octets (Open m) h =
-    ap (λ o. answer_found o (body_of (message 397 service_fault) octets)) (body_found (message 449 open_response) (lawful_message 449 lawful_open_response) octets m h)
+    ap (λ o. answer_found o (body_of (message 397 service_fault) octets))
+    (body_found (message 449 open_response) (lawful_message 449 lawful_open_response) octets m h)
 answer_read-found octets (Fault m) h =
     let other : body_of (message 449 open_response) octets ≡ None =
-    none_found (message 449 open_response) (lawful_message 449 lawful_open_response) octets (body_of (message 449 open_response) octets) refl (λ w g. not_both octets w m g h) in
-    ap (λ o. answer_found o (body_of (message 397 service_fault) octets)) other ∙ ap (λ o. answer_found None o) (body_found (message 397 service_fault) (lawful_message 397 sound_service_fault.lawful) octets m h)
+    none_found (message 449 open_response) (lawful_message 449 lawful_open_response) octets (body_of (message 449 open_response) octets) refl
+    (λ w g. not_both octets w m g h) in
+    ap (λ o. answer_found o (body_of (message 397 service_fault) octets)) other
+    ∙ ap (λ o. answer_found None o) (body_found (message 397 service_fault) (lawful_message 397 sound_service_fault.lawful) octets m h)
 
-answer_at : (octets : List ℕ) (a : OpenAnswer) (o : Option OpenResponse) (u : Option ServiceFault) → body_of (message 449 open_response) octets ≡ o → body_of (message 397 service_fault) octets ≡ u → answer_found o u ≡ Some a → IsAnswer a octets
-answer_at octets a (Some m) u e f is = subst (λ (x : OpenAnswer). IsAnswer x octets) (some_is (Open m) a is) (body_is (message 449 open_response) (lawful_message 449 lawful_open_response) octets m e)
-answer_at octets a None (Some m) e f is = subst (λ (x : OpenAnswer). IsAnswer x octets) (some_is (Fault m) a is) (body_is (message 397 service_fault) (lawful_message 397 sound_service_fault.lawful) octets m f)
+answer_at : (octets : List ℕ) (a : OpenAnswer) (o : Option OpenResponse) (u : Option ServiceFault) → body_of (message 449 open_response) octets ≡ o
+    → body_of (message 397 service_fault) octets ≡ u → answer_found o u ≡ Some a → IsAnswer a octets
+answer_at octets a (Some m) u e f is = subst (λ (x : OpenAnswer). IsAnswer x octets) (some_is (Open m) a is)
+    (body_is (message 449 open_response) (lawful_message 449 lawful_open_response) octets m e)
+answer_at octets a None (Some m) e f is = subst (λ (x : OpenAnswer). IsAnswer x octets) (some_is (Fault m) a is)
+    (body_is (message 397 service_fault) (lawful_message 397 sound_service_fault.lawful) octets m f)
 answer_at octets a None None e f is = absurd cc
 
 pub answer_read-is : (octets : List ℕ) (a : OpenAnswer) → ((answer_read octets ≡ Some a) ↔ IsAnswer a octets)
-answer_read-is octets a = ((λ e. answer_at octets a (body_of (message 449 open_response) octets) (body_of (message 397 service_fault) octets) refl refl e), (λ h. answer_read-found octets a h))
+answer_read-is octets a = (
+  (λ e. answer_at octets a (body_of (message 449 open_response) octets) (body_of (message 397 service_fault) octets) refl refl e),
+  (λ h. answer_read-found octets a h),
+)

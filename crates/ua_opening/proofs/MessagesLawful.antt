@@ -9,7 +9,8 @@ use Rattle.ua_wire.proofs.Lawfulness.{bind_starts}
 use Rattle.ua_builtin.proofs.NodeIdLawful.{sound_node_id, lawful_node_id}
 use Rattle.ua_opening.proofs.FormatsBack.{AllWriteBack}
 use Rattle.ua_opening.proofs.Sound.{Sound}
-use Rattle.ua_opening.specs.Message.{Kinds, standard, announced, OfKind, kind_at, message_depth, message_count, message_id, message_encodable, message_canonical, IsMessage, message_at, message_of, alone, message}
+use Rattle.ua_opening.specs.Message.{Kinds, standard, announced, OfKind, kind_at, message_depth, message_count, message_id}
+use Rattle.ua_opening.specs.Message.{message_encodable, message_canonical, IsMessage, message_at, message_of, alone, message}
 
 -- a format is lawful; and where this holds, what was read in it can be written back
 pub record Written {A : Type 0} (P : Type 0) (f : Format A) : Type 0 where
@@ -37,43 +38,61 @@ OfKindWithin kinds levels (Some k) v b = Image (kinds.make k) (Within (kinds.for
 
 exact_kind : {K V : Type 0} (kinds : Kinds K V) → AreKinds kinds → (levels : ℕ) (o : Option K) → Exact (OfKindWithin kinds levels o) (kind_at kinds levels o)
 exact_kind kinds are levels None = exact_never
-exact_kind kinds are levels (Some k) = exact_image (kinds.make k) (Within (kinds.format k).encodes (kinds.format k).depth levels) ((kinds.format k).decode levels) ((are.each k).lawful.exact levels)
+exact_kind kinds are levels (Some k) = exact_image (kinds.make k) (Within (kinds.format k).encodes (kinds.format k).depth levels)
+    ((kinds.format k).decode levels) ((are.each k).lawful.exact levels)
 
-depth-made : {K V : Type 0} (kinds : Kinds K V) → AreKinds kinds → (k : K) (v : V) (s : kinds.structure k) → v ≡ kinds.make k s → message_depth kinds v ≡ (kinds.format k).depth s
+depth-made : {K V : Type 0} (kinds : Kinds K V) → AreKinds kinds → (k : K) (v : V) (s : kinds.structure k) → v ≡ kinds.make k s
+    → message_depth kinds v ≡ (kinds.format k).depth s
 depth-made kinds are k v s is =
     ap (λ (p : (k : _) × kinds.structure k). (kinds.format p.0).depth p.1) (ap kinds.parts is ∙ (are.each k).forth s)
 
-kind_within : {K V : Type 0} (kinds : Kinds K V) → AreKinds kinds → (levels : ℕ) (o : Option K) (v : V) (b : List ℕ) → OfKindWithin kinds levels o v b → OfKind kinds o v b × (message_depth kinds v ≤ levels)
+kind_within : {K V : Type 0} (kinds : Kinds K V) → AreKinds kinds → (levels : ℕ) (o : Option K) (v : V) (b : List ℕ) → OfKindWithin kinds levels o v b
+    → OfKind kinds o v b × (message_depth kinds v ≤ levels)
 kind_within kinds are levels None v b h = absurd h
 kind_within kinds are levels (Some k) v b h =
     let same = depth-made kinds are k v h.of h.is in
     (record { of = h.of; is = h.is; encoded = h.encoded.0 }, omega (arith, same, h.encoded.1))
 
-within_kind : {K V : Type 0} (kinds : Kinds K V) → AreKinds kinds → (levels : ℕ) (o : Option K) (v : V) (b : List ℕ) → OfKind kinds o v b → message_depth kinds v ≤ levels → OfKindWithin kinds levels o v b
+within_kind : {K V : Type 0} (kinds : Kinds K V) → AreKinds kinds → (levels : ℕ) (o : Option K) (v : V) (b : List ℕ) → OfKind kinds o v b
+    → message_depth kinds v ≤ levels → OfKindWithin kinds levels o v b
 within_kind kinds are levels None v b h deep = absurd h
 within_kind kinds are levels (Some k) v b h deep =
     let same = depth-made kinds are k v h.of h.is in
     record { of = h.of; is = h.is; encoded = (h.encoded, omega (arith, same, deep)) }
 
-message_within : {K V : Type 0} (kinds : Kinds K V) → AreKinds kinds → (levels : ℕ) (v : V) (b : List ℕ) → Follows node_id.encodes (λ id. OfKindWithin kinds levels (announced kinds id)) v b → Within (IsMessage kinds) (message_depth kinds) levels v b
+message_within : {K V : Type 0} (kinds : Kinds K V) → AreKinds kinds → (levels : ℕ) (v : V) (b : List ℕ)
+    → Follows node_id.encodes (λ id. OfKindWithin kinds levels (announced kinds id)) v b → Within (IsMessage kinds) (message_depth kinds) levels v b
 message_within kinds are levels v b h =
     let rest = kind_within kinds are levels (announced kinds h.head) v h.back h.rest_encoded in
     (record { head = h.head; front = h.front; back = h.back; parts = h.parts; head_encoded = h.head_encoded; rest_encoded = rest.0 }, rest.1)
 
-within_message : {K V : Type 0} (kinds : Kinds K V) → AreKinds kinds → (levels : ℕ) (v : V) (b : List ℕ) → Within (IsMessage kinds) (message_depth kinds) levels v b → Follows node_id.encodes (λ id. OfKindWithin kinds levels (announced kinds id)) v b
+within_message : {K V : Type 0} (kinds : Kinds K V) → AreKinds kinds → (levels : ℕ) (v : V) (b : List ℕ)
+    → Within (IsMessage kinds) (message_depth kinds) levels v b → Follows node_id.encodes (λ id. OfKindWithin kinds levels (announced kinds id)) v b
 within_message kinds are levels v b h =
-    record { head = h.0.head; front = h.0.front; back = h.0.back; parts = h.0.parts; head_encoded = h.0.head_encoded; rest_encoded = within_kind kinds are levels (announced kinds h.0.head) v h.0.back h.0.rest_encoded h.1 }
+    record {
+      head = h.0.head;
+      front = h.0.front;
+      back = h.0.back;
+      parts = h.0.parts;
+      head_encoded = h.0.head_encoded;
+      rest_encoded = within_kind kinds are levels (announced kinds h.0.head) v h.0.back h.0.rest_encoded h.1;
+    }
 
-message_exact : {K V : Type 0} (kinds : Kinds K V) → AreKinds kinds → (levels : ℕ) → Exact (Within (IsMessage kinds) (message_depth kinds) levels) (message_at kinds levels)
+message_exact : {K V : Type 0} (kinds : Kinds K V) → AreKinds kinds → (levels : ℕ)
+    → Exact (Within (IsMessage kinds) (message_depth kinds) levels) (message_at kinds levels)
 message_exact kinds are levels =
-    exact_same (Follows node_id.encodes (λ id. OfKindWithin kinds levels (announced kinds id))) (Within (IsMessage kinds) (message_depth kinds) levels) (message_at kinds levels) (message_within kinds are levels) (within_message kinds are levels)
-    (exact_bind node_id.encodes node_id.decode (λ id. OfKindWithin kinds levels (announced kinds id)) (λ id. kind_at kinds levels (announced kinds id)) sound_node_id.exact (λ id. exact_kind kinds are levels (announced kinds id)))
+    exact_same (Follows node_id.encodes (λ id. OfKindWithin kinds levels (announced kinds id))) (Within (IsMessage kinds) (message_depth kinds) levels)
+    (message_at kinds levels) (message_within kinds are levels) (within_message kinds are levels)
+    (exact_bind node_id.encodes node_id.decode (λ id. OfKindWithin kinds levels (announced kinds id)) (λ id. kind_at kinds levels (announced kinds id))
+    sound_node_id.exact (λ id. exact_kind kinds are levels (announced kinds id)))
 
-message_canonical_encodes : {K V : Type 0} (kinds : Kinds K V) → AreKinds kinds → (v : V) → IsTrue (message_encodable kinds v) → IsMessage kinds v (message_canonical kinds v)
+message_canonical_encodes : {K V : Type 0} (kinds : Kinds K V) → AreKinds kinds → (v : V) → IsTrue (message_encodable kinds v)
+    → IsMessage kinds v (message_canonical kinds v)
 message_canonical_encodes kinds are v h =
     let k = (kinds.parts v).0 in
     let w = both_true (node_id.encodable (message_id kinds v)) ((kinds.format k).encodable (kinds.parts v).1) h in
-    let structure : OfKind kinds (Some k) v ((kinds.format k).canonical (kinds.parts v).1) = record { of = (kinds.parts v).1; is = are.back v; encoded = (are.each k).lawful.canonical_encodes (kinds.parts v).1 w.1 } in
+    let structure : OfKind kinds (Some k) v ((kinds.format k).canonical (kinds.parts v).1) =
+    record { of = (kinds.parts v).1; is = are.back v; encoded = (are.each k).lawful.canonical_encodes (kinds.parts v).1 w.1 } in
     record {
       head = message_id kinds v;
       front = node_id.canonical (message_id kinds v);
@@ -83,12 +102,14 @@ message_canonical_encodes kinds are v h =
       rest_encoded = subst (λ o. OfKind kinds o v ((kinds.format k).canonical (kinds.parts v).1)) (sym ((are.each k).numbers)) structure;
     }
 
-message_encodable_depth : {K V : Type 0} (kinds : Kinds K V) → AreKinds kinds → (v : V) → IsTrue (message_encodable kinds v) → message_depth kinds v ≤ most_levels
+message_encodable_depth : {K V : Type 0} (kinds : Kinds K V) → AreKinds kinds → (v : V) → IsTrue (message_encodable kinds v)
+    → message_depth kinds v ≤ most_levels
 message_encodable_depth kinds are v h =
     let w = both_true (node_id.encodable (message_id kinds v)) ((kinds.format (kinds.parts v).0).encodable (kinds.parts v).1) h in
     (are.each (kinds.parts v).0).lawful.encodable_depth (kinds.parts v).1 w.1
 
-count-made : {K V : Type 0} (kinds : Kinds K V) → AreKinds kinds → (k : K) (v : V) (s : kinds.structure k) → v ≡ kinds.make k s → message_count kinds v ≡ (kinds.format k).count s
+count-made : {K V : Type 0} (kinds : Kinds K V) → AreKinds kinds → (k : K) (v : V) (s : kinds.structure k) → v ≡ kinds.make k s
+    → message_count kinds v ≡ (kinds.format k).count s
 count-made kinds are k v s is =
     ap (λ (p : (k : _) × kinds.structure k). (kinds.format p.0).count p.1) (ap kinds.parts is ∙ (are.each k).forth s)
 
@@ -124,7 +145,15 @@ canonical-made kinds are k s =
 -- ---- a message of one kind alone
 
 is_alone : {A : Type 0} (number : ℕ) (f : Format A) → IsLawful f → AreKinds (alone number f)
-is_alone number f lawful = record { back = λ v. refl; each = λ k. record { forth = λ s. refl; numbers = ap (λ t. cond t (Some tt) None) (eq-eqb number number refl); lawful = lawful } }
+is_alone number f lawful =
+    record {
+      back = λ v. refl;
+      each = λ k. record {
+        forth = λ s. refl;
+        numbers = ap (λ t. cond t (Some tt) None) (eq-eqb number number refl);
+        lawful = lawful;
+      };
+    }
 
 pub lawful_message : {A : Type 0} (number : ℕ) {f : Format A} → IsLawful f → IsLawful (message number f)
 lawful_message number {f = f} lawful = lawful_message_of (alone number f) (is_alone number f lawful)

@@ -8,7 +8,8 @@ use Rattle.ua_opening.specs.Message.{standard}
 
 -- by the tests of the shortest form
 written_by : (n : ℕ) (small fits : Bool) → small ≡ false → fits ≡ true
-    → number_octets 1 (cond small 0x00 (cond fits 0x01 0x02)) ++ (in_form (cond small 0x00 (cond fits 0x01 0x02))).canonical (standard n) ≡ 1 ∷ 0 ∷ n % 256 ∷ n / 256 % 256 ∷ []
+    → number_octets 1 (cond small 0x00 (cond fits 0x01 0x02)) ++ (in_form (cond small 0x00 (cond fits 0x01 0x02))).canonical (standard n)
+    ≡ 1 ∷ 0 ∷ n % 256 ∷ n / 256 % 256 ∷ []
 unfolding number_octets
 written_by n true fits p q = absurd cc
 written_by n false false p q = absurd cc

@@ -77,7 +77,8 @@ open_request_length kind time handle lifetime =
     joined _ _ 29 20 (request_header_length time handle) (joined _ _ 4 16 (uint32_length 0) (joined _ _ 4 12 (int32_length kind)
     (joined _ _ 4 8 (int32_length (pos 1)) (joined _ _ 4 4 null_octets_length (uint32_length lifetime)))))
 
-pub open_response_length : (time : DateTime) (handle channel token lifetime : ℕ) → length (open_response.canonical (open_response_of time handle channel token lifetime)) ≡ 52
+pub open_response_length : (time : DateTime) (handle channel token lifetime : ℕ)
+    → length (open_response.canonical (open_response_of time handle channel token lifetime)) ≡ 52
 unfolding open_response
 open_response_length time handle channel token lifetime =
     joined _ _ 24 28 (response_header_length time handle) (joined _ _ 4 24 (uint32_length 0) (joined _ _ 4 20 (uint32_length channel)

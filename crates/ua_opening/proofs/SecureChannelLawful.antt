@@ -10,11 +10,17 @@ use Rattle.ua_opening.proofs.HeaderSound.{sound_request_header, sound_response_h
 
 pub lawful_open_request : IsLawful open_request
 unfolding open_request
-lawful_open_request = lawful_struct _ _ (λ v. refl) (λ p. refl) (lawful_pair sound_request_header.lawful (lawful_pair lawful_32 (lawful_pair lawful_signed_32 (lawful_pair lawful_signed_32 (lawful_pair lawful_counted lawful_32)))))
+lawful_open_request =
+    lawful_struct _ _ (λ v. refl) (λ p. refl)
+    (lawful_pair sound_request_header.lawful
+    (lawful_pair lawful_32 (lawful_pair lawful_signed_32 (lawful_pair lawful_signed_32 (lawful_pair lawful_counted lawful_32)))))
 
 pub lawful_open_response : IsLawful open_response
 unfolding open_response
-lawful_open_response = lawful_struct _ _ (λ v. refl) (λ p. refl) (lawful_pair sound_response_header.lawful (lawful_pair lawful_32 (lawful_pair lawful_32 (lawful_pair lawful_32 (lawful_pair lawful_date_time (lawful_pair lawful_32 lawful_counted))))))
+lawful_open_response =
+    lawful_struct _ _ (λ v. refl) (λ p. refl)
+    (lawful_pair sound_response_header.lawful
+    (lawful_pair lawful_32 (lawful_pair lawful_32 (lawful_pair lawful_32 (lawful_pair lawful_date_time (lawful_pair lawful_32 lawful_counted))))))
 
 pub lawful_close_request : IsLawful close_request
 unfolding close_request

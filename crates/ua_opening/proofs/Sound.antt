@@ -22,8 +22,10 @@ use Rattle.ua_diagnostic.proofs.DiagnosticsLawful.{lawful_diagnostic}
 use Rattle.ua_opening.specs.Array.{array}
 use Rattle.ua_opening.specs.Field.{byte, byte_string, int32, string, uint32}
 use Rattle.ua_opening.proofs.ArrayLawful.{lawful_array}
-use Rattle.ua_opening.proofs.FlatsBack.{back_boolean, back_date_time, back_double_bits, back_extension_object, back_localized_text, back_node_id, back_qualified_name, back_status_code}
-use Rattle.ua_opening.proofs.FormatsBack.{AllWriteBack, back_array, back_byte, back_byte_string, back_diagnostic, back_flat, back_int32, back_pair, back_string, back_struct, back_uint32}
+use Rattle.ua_opening.proofs.FlatsBack.{back_boolean, back_date_time, back_double_bits, back_extension_object}
+use Rattle.ua_opening.proofs.FlatsBack.{back_localized_text, back_node_id, back_qualified_name, back_status_code}
+use Rattle.ua_opening.proofs.FormatsBack.{AllWriteBack, back_array, back_byte, back_byte_string, back_diagnostic}
+use Rattle.ua_opening.proofs.FormatsBack.{back_flat, back_int32, back_pair, back_string, back_struct, back_uint32}
 
 pub record Sound {A : Type 0} (f : Format A) : Type 0 where
   pub lawful : IsLawful f
@@ -35,8 +37,10 @@ pub sound_pair : {A B : Type 0} {f : Format A} {g : Format B} → Sound f → So
 sound_pair first second = record { lawful = lawful_pair first.lawful second.lawful; back = back_pair first.back second.back }
 
 -- whole: a structure is made of its parts, which tells them to the checker; forth: they are what it is made of
-pub sound_struct : {A B : Type 0} {f : Format A} (make : A → B) (parts : B → A) (whole : (v : B) → v ≡ make (parts v)) (forth : (x : A) → parts (make x) ≡ x) → Sound f → Sound (struct make parts f)
-sound_struct make parts whole forth fields = record { lawful = lawful_struct make parts whole forth fields.lawful; back = back_struct make parts whole forth fields.back }
+pub sound_struct : {A B : Type 0} {f : Format A} (make : A → B) (parts : B → A) (whole : (v : B) → v ≡ make (parts v)) (forth : (x : A) → parts (make x) ≡ x)
+    → Sound f → Sound (struct make parts f)
+sound_struct make parts whole forth fields =
+    record { lawful = lawful_struct make parts whole forth fields.lawful; back = back_struct make parts whole forth fields.back }
 
 pub sound_array : {A : Type 0} {f : Format A} → Sound f → Sound (array f)
 sound_array items = record { lawful = lawful_array items.lawful; back = back_array items.back }

@@ -1,6 +1,7 @@
 //! Arrays of values.
 
-ghost use Rattle.std.specs.Prelude.{◌≡◌, ◌≤◌, ◌+◌, ◌++◌, List, ℕ, length, IsTrue, OnOk, OnErr, IfOk, IsErrOf, option_map};
+ghost use Rattle.std.specs.Prelude.{◌≡◌, ◌≤◌, ◌+◌, ◌++◌, List, ℕ, length, IsTrue};
+ghost use Rattle.std.specs.Prelude.{OnOk, OnErr, IfOk, IsErrOf, option_map};
 ghost use Rattle.std.specs.List.{flat_map, list_all};
 ghost use Rattle.ua_builtin.specs.Counted.{IsOverlong};
 ghost use Rattle.ua_builtin.specs.Exact.{Begins, skipped};
@@ -83,7 +84,8 @@ fn read_items<T: Wire + Drop, S: Source>(
     count: u32,
 ) -> Result<Vec<T>, ReadFault>
     requires levels { depth ≤ most_levels }
-    ensures exact { GivesBy (λ v. v.items) (items_at (T.format.decode depth) count) (S.octets src.old) (S.octets src.new) result }
+    ensures exact { GivesBy (λ v. v.items) (items_at (T.format.decode depth) count) (S.octets src.old)
+        (S.octets src.new) result }
     ensures behind { StaysBehind (S.octets src.old) (S.octets src.new) }
 {
     let mut items = Vec::new(alloc);
@@ -102,7 +104,8 @@ fn skip_items<T: Skip, S: Source>(
     count: u32,
 ) -> Result<(), ReadFault>
     requires levels { depth ≤ most_levels }
-    ensures exact { Gives (skipped (items_at (T.format.decode depth) count)) (S.octets src.old) (S.octets src.new) result }
+    ensures exact { Gives (skipped (items_at (T.format.decode depth) count)) (S.octets src.old)
+        (S.octets src.new) result }
     ensures behind { StaysBehind (S.octets src.old) (S.octets src.new) }
 {
     for _ in 0..count {
@@ -214,9 +217,12 @@ pub fn read_array<T: Wire + Drop, S: Source>(
     depth: u32,
 ) -> Result<Option<Vec<T>>, ReadFault>
     requires levels { depth ≤ most_levels }
-    ensures found { IfOk result (λ v. Begins (array T.format).encodes (S.octets src.old) (option_map (λ items. items.items) v) (S.octets src.new)) }
+    ensures found { IfOk result
+        (λ v. Begins (array T.format).encodes (S.octets src.old) (option_map (λ items. items.items) v)
+        (S.octets src.new)) }
     ensures levels { IfOk result (λ v. (array T.format).depth (option_map (λ items. items.items) v) ≤ depth) }
-    ensures counted { IfOk result (λ v. (array T.format).count (option_map (λ items. items.items) v) + length (S.octets src.new) ≤ length (S.octets src.old)) }
+    ensures counted { IfOk result (λ v. (array T.format).count (option_map (λ items. items.items) v) + length
+        (S.octets src.new) ≤ length (S.octets src.old)) }
     ensures none { IsErrOf result NoValue → (v : _) (front rest : List ℕ) → S.octets src.old ≡ front ++ rest
         → (array T.format).depth v ≤ depth → ¬ ((array T.format).encodes v front) }
     ensures behind { Behind (S.octets src.old) (S.octets src.new) }

@@ -6,7 +6,8 @@ ghost use Rattle.ua_builtin.specs.Format.{StaysBehind};
 ghost use Rattle.ua_builtin.specs.NodeId.{node_id};
 ghost use Rattle.ua_diagnostic.specs.View.{no_diagnostics};
 ghost use Rattle.ua_opening.specs.Header.{request_header, response_header, service_fault};
-ghost use Rattle.ua_opening.specs.Plain.{empty_request_header, empty_response_header, request_header_of, response_header_of, service_fault_of};
+ghost use Rattle.ua_opening.specs.Plain.{empty_request_header, empty_response_header};
+ghost use Rattle.ua_opening.specs.Plain.{request_header_of, response_header_of, service_fault_of};
 ghost use Rattle.ua_opening.specs.inside.HeaderEnds.{behind_diagnostics, behind_result};
 
 use crate::array::UaArray;
@@ -94,7 +95,8 @@ impl RequestHeader {
         depth: u32,
     ) -> Result<(), ReadFault>
         requires levels { depth ≤ most_levels }
-        ensures exact { GivesBy (λ _. self.new) (request_header.decode depth) (S.octets src.old) (S.octets src.new) result }
+        ensures exact { GivesBy (λ _. self.new) (request_header.decode depth) (S.octets src.old)
+            (S.octets src.new) result }
         ensures behind { StaysBehind (S.octets src.old) (S.octets src.new) }
     {
         self.authentication_token = NodeId::read_value(alloc, src, depth)?;
@@ -121,8 +123,10 @@ impl RequestHeader {
         requires levels { depth ≤ most_levels }
         ensures exact { GivesBy (λ _. (self.new.audit_entry_id, (self.new.timeout_hint, self.new.additional_header)))
             behind_diagnostics (S.octets src.old) (S.octets src.new) result }
-        ensures kept { (self.new.authentication_token ≡ self.old.authentication_token) × (self.new.timestamp ≡ self.old.timestamp)
-            × (self.new.request_handle ≡ self.old.request_handle) × (self.new.return_diagnostics ≡ self.old.return_diagnostics) }
+        ensures kept { (self.new.authentication_token ≡ self.old.authentication_token)
+            × (self.new.timestamp ≡ self.old.timestamp)
+            × (self.new.request_handle ≡ self.old.request_handle)
+            × (self.new.return_diagnostics ≡ self.old.return_diagnostics) }
         ensures behind { StaysBehind (S.octets src.old) (S.octets src.new) }
     {
         self.audit_entry_id = UaString::read_value(alloc, src, depth)?;
@@ -140,7 +144,8 @@ impl RequestHeader {
         depth: u32,
     ) -> Result<u32, ReadFault>
         requires levels { depth ≤ most_levels }
-        ensures exact { Gives (image_read (λ header. header.request_handle) (request_header.decode depth)) (S.octets src.old) (S.octets src.new) result }
+        ensures exact { Gives (image_read (λ header. header.request_handle) (request_header.decode depth))
+            (S.octets src.old) (S.octets src.new) result }
         ensures behind { StaysBehind (S.octets src.old) (S.octets src.new) }
     {
         NodeId::skip_value(alloc, src, depth)?;
@@ -280,7 +285,8 @@ impl ResponseHeader {
         depth: u32,
     ) -> Result<(), ReadFault>
         requires levels { depth ≤ most_levels }
-        ensures exact { GivesBy (λ _. self.new) (response_header.decode depth) (S.octets src.old) (S.octets src.new) result }
+        ensures exact { GivesBy (λ _. self.new) (response_header.decode depth) (S.octets src.old)
+            (S.octets src.new) result }
         ensures behind { StaysBehind (S.octets src.old) (S.octets src.new) }
     {
         self.timestamp = DateTime::read_value(alloc, src, depth)?;
@@ -304,7 +310,8 @@ impl ResponseHeader {
         depth: u32,
     ) -> Result<(), ReadFault>
         requires levels { depth ≤ most_levels }
-        ensures exact { GivesBy (λ _. (self.new.service_diagnostics, (self.new.string_table, self.new.additional_header)))
+        ensures exact { GivesBy
+            (λ _. (self.new.service_diagnostics, (self.new.string_table, self.new.additional_header)))
             (behind_result depth) (S.octets src.old) (S.octets src.new) result }
         ensures kept { (self.new.timestamp ≡ self.old.timestamp) × (self.new.request_handle ≡ self.old.request_handle)
             × (self.new.service_result ≡ self.old.service_result) }
@@ -324,7 +331,8 @@ impl ResponseHeader {
 #[tactic(auto, using(crate::proofs::HeaderRead::nothing_more, crate::proofs::HeaderRead::no_texts))]
 fn take_nothing_more<S: Source>(alloc: Global, src: &mut S, depth: u32) -> Option<UaArray<UaString>>
     ensures exact { MatchOption result (S.octets src.new ≡ S.octets src.old)
-        (λ texts. behind_result depth (S.octets src.old) ≡ Some ((no_diagnostics, (texts, null_object)), S.octets src.new)) }
+        (λ texts. behind_result depth (S.octets src.old)
+        ≡ Some ((no_diagnostics, (texts, null_object)), S.octets src.new)) }
     ensures behind { StaysBehind (S.octets src.old) (S.octets src.new) }
 {
     if depth == 0 {

@@ -45,15 +45,19 @@ pub fn bodies_of_answers_differ()
 /// CloseSecureChannel request have 53, 56 and 33 bytes, without nonces and with a null
 /// AuthenticationToken.
 pub fn bodies_of_the_channel_have_lengths()
-    ensures request { (kind : ℤ) (time : DateTime) (handle lifetime : ℕ) → length ((message 446 open_request).canonical (open_request_of kind time handle lifetime)) ≡ 53 }
-    ensures response { (time : DateTime) (handle channel token lifetime : ℕ) → length ((message 449 open_response).canonical (open_response_of time handle channel token lifetime)) ≡ 56 }
-    ensures close { (time : DateTime) (handle : ℕ) → length ((message 452 close_request).canonical (close_request_of time handle)) ≡ 33 }
+    ensures request { (kind : ℤ) (time : DateTime) (handle lifetime : ℕ)
+        → length ((message 446 open_request).canonical (open_request_of kind time handle lifetime)) ≡ 53 }
+    ensures response { (time : DateTime) (handle channel token lifetime : ℕ)
+        → length ((message 449 open_response).canonical (open_response_of time handle channel token lifetime)) ≡ 56 }
+    ensures close { (time : DateTime) (handle : ℕ)
+        → length ((message 452 close_request).canonical (close_request_of time handle)) ≡ 33 }
 {}
 
 /// Decoding on lists finds an OpenSecureChannel request, or a response to one, exactly if the bytes
 /// are its body.
 pub fn channel_messages_are_read()
-    ensures request { (octets : List ℕ) (m : OpenRequest) → ((body_of (message 446 open_request) octets ≡ Some m) ↔ IsBody (message 446 open_request) m octets) }
+    ensures request { (octets : List ℕ) (m : OpenRequest)
+        → ((body_of (message 446 open_request) octets ≡ Some m) ↔ IsBody (message 446 open_request) m octets) }
     ensures answer { (octets : List ℕ) (a : OpenAnswer) → ((answer_read octets ≡ Some a) ↔ IsAnswer a octets) }
 {}
 

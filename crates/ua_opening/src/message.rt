@@ -1,6 +1,7 @@
 //! Messages: a structure after the NodeId of its encoding.
 
-ghost use Rattle.std.specs.Prelude.{◌≡◌, ◌≤◌, ◌++◌, ◌<◌, ◌^◌, ◌↔◌, [], List, ℕ, IsTrue, IsFalse, IfOk, OnOk, OnErr, IsErrOf};
+ghost use Rattle.std.specs.Prelude.{◌≡◌, ◌≤◌, ◌++◌, ◌<◌, ◌^◌, ◌↔◌, [], List, ℕ};
+ghost use Rattle.std.specs.Prelude.{IsTrue, IsFalse, IfOk, OnOk, OnErr, IsErrOf};
 ghost use Rattle.ua_builtin.specs.Exact.{image_read};
 ghost use Rattle.ua_builtin.specs.Format.{most_levels, Extends, Gives, StaysBehind};
 ghost use Rattle.ua_builtin.specs.NodeId.{node_id};
@@ -62,7 +63,8 @@ fn append_number(number: u32, out: &mut Vec<u8>) -> Result<(), AllocError>
 pub fn append_message<T: Wire>(number: u32, value: &T, out: &mut Vec<u8>) -> Result<(), AllocError>
     requires known { IsTrue (node_id.encodable (standard number)) }
     requires value { IsTrue (T.format.encodable value.now) }
-    ensures ok { OnOk result (out.new.items ≡ out.old.items ++ (node_id.canonical (standard number) ++ T.format.canonical value.now)) }
+    ensures ok { OnOk result
+        (out.new.items ≡ out.old.items ++ (node_id.canonical (standard number) ++ T.format.canonical value.now)) }
     ensures err { OnErr result (Extends out.old.items out.new.items) }
 {
     append_number(number, out)?;
@@ -107,7 +109,8 @@ pub fn read_message<T: Wire + Drop, S: Source>(
 /// an error the vector is unchanged.
 pub fn write_message<T: Wire>(number: u32, value: &T, out: &mut Vec<u8>) -> Result<(), WriteFault>
     requires known { IsTrue (node_id.encodable (standard number)) }
-    ensures ok { OnOk result (out.new.items ≡ out.old.items ++ (node_id.canonical (standard number) ++ T.format.canonical value.now)) }
+    ensures ok { OnOk result
+        (out.new.items ≡ out.old.items ++ (node_id.canonical (standard number) ++ T.format.canonical value.now)) }
     ensures err { OnErr result (out.new.items ≡ out.old.items) }
     ensures refused { IsErrOf result NotWritable ↔ IsFalse (T.format.encodable value.now) }
 {

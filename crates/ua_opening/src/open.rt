@@ -23,7 +23,8 @@ pub enum OpenAnswer {
 /// Decodes a body that is one OpenSecureChannel request with nothing after it. After an error,
 /// discard the source.
 pub fn read_open_request<S: Source>(alloc: Global, src: &mut S) -> Result<OpenRequest, ReadFault>
-    ensures read { (result ≡ found_or (body_of (message 446 open_request) (S.octets src.old)) NoValue) ⊎ (result ≡ Err ReadFault.OutOfMemory) }
+    ensures read { (result ≡ found_or (body_of (message 446 open_request) (S.octets src.old)) NoValue)
+        ⊎ (result ≡ Err ReadFault.OutOfMemory) }
     ensures found { IfOk result (λ m. IsBody (message 446 open_request) m (S.octets src.old)) }
     ensures none { IsErrOf result NoValue → IsNoBody (message 446 open_request) (S.octets src.old) }
 {

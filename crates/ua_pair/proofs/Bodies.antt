@@ -16,7 +16,8 @@ use Rattle.ua_texts.specs.PlainLeaf.{Adds}
 use Rattle.ua_pair.proofs.Behind.{exact_message, message_exact}
 use Rattle.ua_pair.specs.Styles.{exact}
 use Rattle.ua_pair.specs.Tree.{Tree}
-use Rattle.ua_pair.specs.Messages.{AreMessageLines, message_lines, request_tree, response_tree, open_request_tree, open_answer_tree, close_request_tree, service_fault_tree}
+use Rattle.ua_pair.specs.Messages.{AreMessageLines, message_lines, request_tree, response_tree}
+use Rattle.ua_pair.specs.Messages.{open_request_tree, open_answer_tree, close_request_tree, service_fault_tree}
 use Rattle.ua_pair.specs.Bodies.{AreBodyFields, AreFields, IsBodyText, IsFound, IsHeaderText, behind_id, body_fields, fields_found, header_fields}
 use Rattle.ua_pair.specs.declared.side.Side.{Side}
 use Rattle.ua_pair.specs.declared.side.Side.TheVariants.{Client, Server}
@@ -25,7 +26,8 @@ use Rattle.ua_pair.specs.declared.fields.body.BodyKind.TheVariants.{Request, Res
 
 -- ---- what reading gives is what the octets encode
 
-are_fields : {A : Type 0} (Is : A → List ℕ → Type 0) (fields : A → List ℕ) (octets : List ℕ) (o : Option A) → ((m : A) → (o ≡ Some m) ↔ Is m octets) → AreFields Is fields octets (fields_found fields o)
+are_fields : {A : Type 0} (Is : A → List ℕ → Type 0) (fields : A → List ℕ) (octets : List ℕ) (o : Option A) → ((m : A) → (o ≡ Some m) ↔ Is m octets)
+    → AreFields Is fields octets (fields_found fields o)
 are_fields Is fields octets None found = record { some = λ m h. absurd (let none : None ≡ Some m = (found m).1 h in cc); none = λ h. refl }
 are_fields Is fields octets (Some w) found = record { some = λ m h. ap (fields_found fields) ((found m).1 h); none = λ h. absurd (h w ((found w).0 refl)) }
 
@@ -35,15 +37,18 @@ body_told names Request octets = are_fields _ _ octets _ (λ m. body_of-found re
 body_told names Response octets = are_fields _ _ octets _ (λ m. body_of-found response lawful_response octets m)
 body_told names OpenRequest octets = are_fields _ _ octets _ (λ m. body_of-found (message 446 open_request) (lawful_message 446 lawful_open_request) octets m)
 body_told names OpenResponse octets = are_fields _ _ octets _ (λ m. answer_read-is octets m)
-body_told names CloseRequest octets = are_fields _ _ octets _ (λ m. body_of-found (message 452 close_request) (lawful_message 452 lawful_close_request) octets m)
+body_told names CloseRequest octets =
+    are_fields _ _ octets _ (λ m. body_of-found (message 452 close_request) (lawful_message 452 lawful_close_request) octets m)
 
 -- ---- exact texts
 
-exact_found : {A : Type 0} (names : Bool) (tree : A → Tree) (found : Option A) (text : List ℕ) → IsFound (λ m. AreMessageLines (exact names) (tree m)) found text → text ≡ fields_found (λ m. message_lines names (tree m)) found
+exact_found : {A : Type 0} (names : Bool) (tree : A → Tree) (found : Option A) (text : List ℕ)
+    → IsFound (λ m. AreMessageLines (exact names) (tree m)) found text → text ≡ fields_found (λ m. message_lines names (tree m)) found
 exact_found names tree None text h = h
 exact_found names tree (Some m) text h = exact_message names (tree m) text h
 
-found_exact : {A : Type 0} (names : Bool) (tree : A → Tree) (found : Option A) → IsFound (λ m. AreMessageLines (exact names) (tree m)) found (fields_found (λ m. message_lines names (tree m)) found)
+found_exact : {A : Type 0} (names : Bool) (tree : A → Tree) (found : Option A)
+    → IsFound (λ m. AreMessageLines (exact names) (tree m)) found (fields_found (λ m. message_lines names (tree m)) found)
 found_exact names tree None = refl
 found_exact names tree (Some m) = message_exact names (tree m)
 
@@ -71,6 +76,7 @@ pub exact_header : (names : Bool) (side : Side) (octets text : List ℕ) → IsH
 exact_header names Client octets text h = exact_found names close_request_tree (behind_id close_request octets) text h
 exact_header names Server octets text h = exact_found names service_fault_tree (behind_id service_fault octets) text h
 
-pub exact_body : {E : Type 0} (r : Result (Unit {0}) E) (names : Bool) (kind : BodyKind) (octets old new : List ℕ) → Adds r old new (IsBodyText (exact names) kind octets) → OnOk r (new ≡ old ++ body_fields names kind octets)
+pub exact_body : {E : Type 0} (r : Result (Unit {0}) E) (names : Bool) (kind : BodyKind) (octets old new : List ℕ)
+    → Adds r old new (IsBodyText (exact names) kind octets) → OnOk r (new ≡ old ++ body_fields names kind octets)
 exact_body (Ok u) names kind octets old new h = h.1 ∙ ap (λ (t : List ℕ). old ++ t) (exact_text_of names kind octets h.0 h.2)
 exact_body (Err x) names kind octets old new h = tt

@@ -18,18 +18,30 @@ lines_of options fs rest end = events (rules options) fs ++ last_line options.na
 pub has_lines : (options : DissectOptions) (octets : List ℕ) → options.plain ≡ false → HasLines options octets
 has_lines options octets none = let r = reading (rules options) octets in record {
   lines = lines_of options r.frames r.rest r.end;
-  are = record { frames = r.frames; rest = r.rest; end = r.end; run = r.run; told = events (rules options) r.frames; told_are = texts_are options none r.frames; lines_are = refl };
+  are = record {
+    frames = r.frames;
+    rest = r.rest;
+    end = r.end;
+    run = r.run;
+    told = events (rules options) r.frames;
+    told_are = texts_are options none r.frames;
+    lines_are = refl;
+  };
 }
 
-same_lines : (options : DissectOptions) (fs gs : List Frame) (x y : List ℕ) (e d : End ℕ) → IsSame fs gs x y e d → lines_of options fs x e ≡ lines_of options gs y d
+same_lines : (options : DissectOptions) (fs gs : List Frame) (x y : List ℕ) (e d : End ℕ) → IsSame fs gs x y e d
+    → lines_of options fs x e ≡ lines_of options gs y d
 same_lines options fs gs x y e d s =
     ap (λ (t : List Frame). lines_of options t x e) s.frames ∙ ap (λ (t : List ℕ). lines_of options gs t e) s.rests ∙ ap (lines_of options gs y) s.ends
 
-lines_exact : (options : DissectOptions) (octets lines : List ℕ) → options.plain ≡ false → (h : AreLines options octets lines) → lines ≡ lines_of options h.frames h.rest h.end
-lines_exact options octets lines none h = h.lines_are ∙ ap (λ (t : List ℕ). t ++ last_line options.names (place_behind h.frames) h.rest h.end) (texts_exact options none h.frames h.told h.told_are)
+lines_exact : (options : DissectOptions) (octets lines : List ℕ) → options.plain ≡ false → (h : AreLines options octets lines)
+    → lines ≡ lines_of options h.frames h.rest h.end
+lines_exact options octets lines none h = h.lines_are ∙ ap (λ (t : List ℕ). t ++ last_line options.names (place_behind h.frames) h.rest h.end)
+    (texts_exact options none h.frames h.told h.told_are)
 
 -- octets have one list of lines
-pub one_reading : (options : DissectOptions) (octets lines others : List ℕ) → options.plain ≡ false → AreLines options octets lines → AreLines options octets others → lines ≡ others
+pub one_reading : (options : DissectOptions) (octets lines others : List ℕ) → options.plain ≡ false → AreLines options octets lines
+    → AreLines options octets others → lines ≡ others
 one_reading options octets lines others none h k =
     lines_exact options octets lines none h
     ∙ same_lines options h.frames k.frames h.rest k.rest h.end k.end (unique (rules options) octets h.frames k.frames h.rest k.rest h.end k.end h.run k.run)

@@ -9,13 +9,15 @@ use Rattle.ua_pair.specs.declared.options.DissectOptions.{DissectOptions}
 use Rattle.ua_pair.specs.Dissecting.{StandsAt, StandsBehind, TellsMore, is_going, is_refused, is_stopped}
 use Rattle.ua_pair.proofs.Dissections.{stays}
 
-refused_at : (d : Dissector) (options : DissectOptions) (fs : List Frame) (rest : List ℕ) (end : End ℕ) → StandsAt d options fs rest end → is_refused d.state ≡ is_stopped end
+refused_at : (d : Dissector) (options : DissectOptions) (fs : List Frame) (rest : List ℕ) (end : End ℕ) → StandsAt d options fs rest end
+    → is_refused d.state ≡ is_stopped end
 refused_at d options fs rest Going at = ap is_refused at.state
 refused_at d options fs rest (Stopped code) at = ap is_refused at.state
 refused_at d options fs rest Over at = absurd at
 
 -- it met one exactly where the octets end at one
-pub refused_is : (d : Dissector) (options : DissectOptions) (octets told : List ℕ) (s : StandsBehind d options octets told) → is_refused d.state ≡ is_stopped s.are.end
+pub refused_is : (d : Dissector) (options : DissectOptions) (octets told : List ℕ) (s : StandsBehind d options octets told)
+    → is_refused d.state ≡ is_stopped s.are.end
 refused_is d options octets told s = refused_at d options s.are.frames s.are.rest s.are.end s.at
 
 goes_no_further : (s : State) → is_refused s ≡ true → is_going s ≡ false
@@ -24,11 +26,13 @@ goes_no_further (state.Refused code) refused = refl
 goes_no_further state.Closed refused = absurd cc
 
 -- behind one it stays where it is
-pub refused_stays : (d : Dissector) (options : DissectOptions) (octets told more : List ℕ) → is_refused d.state ≡ true → StandsBehind d options octets told → StandsBehind d options (octets ++ more) told
+pub refused_stays : (d : Dissector) (options : DissectOptions) (octets told more : List ℕ) → is_refused d.state ≡ true → StandsBehind d options octets told
+    → StandsBehind d options (octets ++ more) told
 refused_stays d options octets told more refused s = stays d options octets told more (goes_no_further d.state refused) s
 
 -- and says no more, whatever comes
-pub says_no_more : (d : Dissector) (options : DissectOptions) (octets told piece text : List ℕ) → is_refused d.state ≡ true → StandsBehind d options octets told → TellsMore d options (octets ++ piece) told text text
+pub says_no_more : (d : Dissector) (options : DissectOptions) (octets told piece text : List ℕ) → is_refused d.state ≡ true → StandsBehind d options octets told
+    → TellsMore d options (octets ++ piece) told text text
 says_no_more d options octets told piece text refused s = record {
   lines = [];
   added = sym (append-nil text);

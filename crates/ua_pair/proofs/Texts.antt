@@ -1,5 +1,6 @@
 -- The texts of frames: one frame more, and exact ones.
-use Rattle.std.proofs.Common.{◌≡◌, ℕ, Bool, true, false, ◌&&◌, List, [], ◌∷◌, ◌++◌, Option, Some, None, cond, codes, length, refl, sym, ap, ap₂, subst, ◌∙◌, append-nil, append_assoc}
+use Rattle.std.proofs.Common.{◌≡◌, ℕ, Bool, true, false, ◌&&◌, List, [], ◌∷◌, ◌++◌, Option, Some, None}
+use Rattle.std.proofs.Common.{cond, codes, length, refl, sym, ap, ap₂, subst, ◌∙◌, append-nil, append_assoc}
 use Rattle.std.specs.List.{flat_map}
 use Rattle.ua_frame.specs.declared.frame.Frame.{Frame}
 use Rattle.ua_frame.specs.declared.kind.Kind.{Kind}
@@ -24,25 +25,30 @@ use Rattle.ua_pair.specs.Dissected.{AreTexts, rules}
 use Rattle.ua_pair.specs.Lines.{chunk_line, message_line, opening_line}
 use Rattle.ua_pair.specs.Names.{is_unsupported, message_kind, message_title, opening_kind, opening_name}
 use Rattle.ua_pair.specs.Styles.{exact, style_of}
-use Rattle.ua_pair.specs.Told.{AreFieldsOf, AreParts, AreTextsBehind, IsChunkText, IsFrameText, IsHeaderOf, IsItemText, IsOpeningText, IsTextBy, chunk_lines, fields_of, frame_lines, header_of, item_lines, line_if, lines_by, opening_lines, place_behind}
+use Rattle.ua_pair.specs.Told.{AreFieldsOf, AreParts, AreTextsBehind, IsChunkText, IsFrameText, IsHeaderOf, IsItemText, IsOpeningText, IsTextBy}
+use Rattle.ua_pair.specs.Told.{chunk_lines, fields_of, frame_lines, header_of, item_lines, line_if, lines_by, opening_lines, place_behind}
 use Rattle.ua_pair.proofs.Bodies.{exact_header, exact_text_of, header_exact, text_exact}
 
 -- ---- one frame more
 
-behind_push : (options : DissectOptions) (before fs : List Frame) (f : Frame) (told lines : List ℕ) → AreTextsBehind options before fs told → IsFrameText options (before ++ fs) f lines → AreTextsBehind options before (fs ++ f ∷ []) (told ++ lines)
+behind_push : (options : DissectOptions) (before fs : List Frame) (f : Frame) (told lines : List ℕ) → AreTextsBehind options before fs told
+    → IsFrameText options (before ++ fs) f lines → AreTextsBehind options before (fs ++ f ∷ []) (told ++ lines)
 behind_push options before [] f told lines h k =
     let at : IsFrameText options before f lines = subst (λ (b : List Frame). IsFrameText options b f lines) (append-nil before) k in
     (lines, [], ap (λ (t : List ℕ). t ++ lines) h ∙ sym (append-nil lines), at, refl)
 behind_push options before (g ∷ fs) f told lines h k =
-    let at : IsFrameText options ((before ++ g ∷ []) ++ fs) f lines = subst (λ (b : List Frame). IsFrameText options b f lines) (sym (append_assoc before (g ∷ []) fs)) k in
+    let at : IsFrameText options ((before ++ g ∷ []) ++ fs) f lines = subst (λ (b : List Frame). IsFrameText options b f lines)
+    (sym (append_assoc before (g ∷ []) fs)) k in
     (h.0, h.1 ++ lines, ap (λ (t : List ℕ). t ++ lines) h.2 ∙ append_assoc h.0 h.1 lines, h.3, behind_push options (before ++ g ∷ []) fs f h.1 lines h.4 at)
 
-pub texts_push : (options : DissectOptions) (fs : List Frame) (f : Frame) (told lines : List ℕ) → AreTexts options fs told → IsFrameText options fs f lines → AreTexts options (fs ++ f ∷ []) (told ++ lines)
+pub texts_push : (options : DissectOptions) (fs : List Frame) (f : Frame) (told lines : List ℕ) → AreTexts options fs told → IsFrameText options fs f lines
+    → AreTexts options (fs ++ f ∷ []) (told ++ lines)
 texts_push options fs f told lines h k = behind_push options [] fs f told lines h k
 
 -- ---- exact ones
 
-exact_if : (wanted : Bool) (Is : List ℕ → Type 0) (shown text : List ℕ) → ((t : List ℕ) → Is t → t ≡ shown) → Either wanted (Is text) (text ≡ []) → text ≡ cond wanted shown []
+exact_if : (wanted : Bool) (Is : List ℕ → Type 0) (shown text : List ℕ) → ((t : List ℕ) → Is t → t ≡ shown) → Either wanted (Is text) (text ≡ [])
+    → text ≡ cond wanted shown []
 exact_if true Is shown text same h = same text h
 exact_if false Is shown text same h = h
 
@@ -58,19 +64,22 @@ module _ (options : DissectOptions) (none : options.plain ≡ false) where
   exact_head : (unsupported : Bool) (octets text : List ℕ) → IsHeaderOf options unsupported octets text → text ≡ header_of options unsupported octets
   exact_head unsupported octets text h =
       exact_if (options.fields && unsupported) (IsHeaderText (style_of options) options.side octets) (header_fields options.names options.side octets) text
-      (λ t g. exact_header options.names options.side octets t (subst (λ (s : FieldStyle). IsHeaderText s options.side octets t) (exact_style options none) g)) h
+      (λ t g. exact_header options.names options.side octets t (subst (λ (s : FieldStyle). IsHeaderText s options.side octets t) (exact_style options none) g))
+      h
 
   exact_item : (item : Item) (text : List ℕ) → IsItemText options item text → text ≡ item_lines options item
   exact_item (Whole id octets) text h =
       h.2 ∙ ap (λ (t : List ℕ). message_line id (length octets) (message_title options.names options.side octets) ++ t)
-      (ap₂ (λ (x y : List ℕ). x ++ y) (exact_fields (message_kind options.side) octets h.0 h.3) (exact_head (is_unsupported options.side octets) octets h.1 h.4))
+      (ap₂ (λ (x y : List ℕ). x ++ y) (exact_fields (message_kind options.side) octets h.0 h.3)
+      (exact_head (is_unsupported options.side octets) octets h.1 h.4))
   exact_item (Aborted id code reason) text h = h
 
   exact_parts : (items : List Item) (text : List ℕ) → AreParts (IsItemText options) items text → text ≡ flat_map (item_lines options) items
   exact_parts [] text h = h
   exact_parts (item ∷ items) text h = h.2 ∙ ap₂ (λ (x y : List ℕ). x ++ y) (exact_item item h.0 h.3) (exact_parts items h.1 h.4)
 
-  exact_found : {A : Type 0} (Is : A → List ℕ → Type 0) (lines : A → List ℕ) (o : Option A) (text : List ℕ) → ((a : A) (t : List ℕ) → Is a t → t ≡ lines a) → IsFound Is o text → text ≡ line_if lines o
+  exact_found : {A : Type 0} (Is : A → List ℕ → Type 0) (lines : A → List ℕ) (o : Option A) (text : List ℕ) → ((a : A) (t : List ℕ) → Is a t → t ≡ lines a)
+      → IsFound Is o text → text ≡ line_if lines o
   exact_found Is lines None text same h = h
   exact_found Is lines (Some a) text same h = same a text h
 
@@ -83,7 +92,10 @@ module _ (options : DissectOptions) (none : options.plain ≡ false) where
       (λ c t g. g.1 ∙ ap (λ (x : List ℕ). chunk_line (codes "MSG") place (frame_size f) c ++ x) (exact_parts (given cs c) g.0 g.2)) h
   exact_by Opn cs place f text h =
       exact_found (IsOpeningText options place (frame_size f)) (opening_lines options place (frame_size f)) (opening_in f) text
-      (λ c t g. g.1 ∙ ap (λ (x : List ℕ). opening_line place (frame_size f) c ++ x) (g.2.1 ∙ ap (λ (x : List ℕ). message_line c.request (length c.body) (opening_name options.side c.body) ++ x) (exact_fields (opening_kind options.side) c.body g.2.0 g.2.2))) h
+      (λ c t g. g.1
+      ∙ ap (λ (x : List ℕ). opening_line place (frame_size f) c ++ x)
+      (g.2.1 ∙ ap (λ (x : List ℕ). message_line c.request (length c.body) (opening_name options.side c.body) ++ x)
+      (exact_fields (opening_kind options.side) c.body g.2.0 g.2.2))) h
   exact_by Clo cs place f text h = h
 
   exact_frame : (before : List Frame) (f : Frame) (text : List ℕ) → IsFrameText options before f text → text ≡ frame_lines options before f
@@ -99,15 +111,23 @@ module _ (options : DissectOptions) (none : options.plain ≡ false) where
   fields_exact : (kind : BodyKind) (octets : List ℕ) → AreFieldsOf options kind octets (fields_of options kind octets)
   fields_exact kind octets =
       if_exact options.fields (IsBodyText (style_of options) kind octets) (body_fields options.names kind octets)
-      (subst (λ (s : FieldStyle). IsBodyText s kind octets (body_fields options.names kind octets)) (sym (exact_style options none)) (text_exact options.names kind octets))
+      (subst (λ (s : FieldStyle). IsBodyText s kind octets (body_fields options.names kind octets)) (sym (exact_style options none))
+      (text_exact options.names kind octets))
 
   head_exact : (unsupported : Bool) (octets : List ℕ) → IsHeaderOf options unsupported octets (header_of options unsupported octets)
   head_exact unsupported octets =
       if_exact (options.fields && unsupported) (IsHeaderText (style_of options) options.side octets) (header_fields options.names options.side octets)
-      (subst (λ (s : FieldStyle). IsHeaderText s options.side octets (header_fields options.names options.side octets)) (sym (exact_style options none)) (header_exact options.names options.side octets))
+      (subst (λ (s : FieldStyle). IsHeaderText s options.side octets (header_fields options.names options.side octets)) (sym (exact_style options none))
+      (header_exact options.names options.side octets))
 
   item_exact : (item : Item) → IsItemText options item (item_lines options item)
-  item_exact (Whole id octets) = (fields_of options (message_kind options.side) octets, header_of options (is_unsupported options.side octets) octets, refl, fields_exact (message_kind options.side) octets, head_exact (is_unsupported options.side octets) octets)
+  item_exact (Whole id octets) = (
+    fields_of options (message_kind options.side) octets,
+    header_of options (is_unsupported options.side octets) octets,
+    refl,
+    fields_exact (message_kind options.side) octets,
+    head_exact (is_unsupported options.side octets) octets,
+  )
   item_exact (Aborted id code reason) = refl
 
   parts_exact : (items : List Item) → AreParts (IsItemText options) items (flat_map (item_lines options) items)
@@ -127,7 +147,11 @@ module _ (options : DissectOptions) (none : options.plain ≡ false) where
       (λ c. (flat_map (item_lines options) (given cs c), refl, parts_exact (given cs c)))
   by_exact Opn cs place f =
       found_exact (IsOpeningText options place (frame_size f)) (opening_lines options place (frame_size f)) (opening_in f)
-      (λ c. (message_line c.request (length c.body) (opening_name options.side c.body) ++ fields_of options (opening_kind options.side) c.body, refl, (fields_of options (opening_kind options.side) c.body, refl, fields_exact (opening_kind options.side) c.body)))
+      (λ c. (
+        message_line c.request (length c.body) (opening_name options.side c.body) ++ fields_of options (opening_kind options.side) c.body,
+        refl,
+        (fields_of options (opening_kind options.side) c.body, refl, fields_exact (opening_kind options.side) c.body),
+      ))
   by_exact Clo cs place f = refl
 
   frame_exact : (before : List Frame) (f : Frame) → IsFrameText options before f (frame_lines options before f)
@@ -137,7 +161,13 @@ module _ (options : DissectOptions) (none : options.plain ≡ false) where
   -- the texts of frames, from these on
   behind_events : (before fs : List Frame) → AreTextsBehind options before fs (each_from (frame_lines options) before fs)
   behind_events before [] = refl
-  behind_events before (f ∷ fs) = (frame_lines options before f, each_from (frame_lines options) (before ++ f ∷ []) fs, refl, frame_exact before f, behind_events (before ++ f ∷ []) fs)
+  behind_events before (f ∷ fs) = (
+    frame_lines options before f,
+    each_from (frame_lines options) (before ++ f ∷ []) fs,
+    refl,
+    frame_exact before f,
+    behind_events (before ++ f ∷ []) fs,
+  )
 
   pub texts_are : (fs : List Frame) → AreTexts options fs (events (rules options) fs)
   unfolding each_after

@@ -10,7 +10,8 @@ use Rattle.ua_opening.specs.Open.{IsAnswer, answer_read}
 use Rattle.ua_services.specs.Request.{request}
 use Rattle.ua_services.specs.Response.{response}
 use Rattle.ua_pair.specs.declared.options.FieldStyle.{FieldStyle}
-use Rattle.ua_pair.specs.Messages.{AreMessageLines, request_tree, response_tree, open_request_tree, open_answer_tree, close_request_tree, service_fault_tree, request_fields, response_fields, open_request_fields, open_answer_fields, close_request_fields, service_fault_fields}
+use Rattle.ua_pair.specs.Messages.{AreMessageLines, request_tree, response_tree, open_request_tree, open_answer_tree, close_request_tree, service_fault_tree}
+use Rattle.ua_pair.specs.Messages.{request_fields, response_fields, open_request_fields, open_answer_fields, close_request_fields, service_fault_fields}
 use Rattle.ua_pair.specs.declared.fields.body.BodyKind.{BodyKind}
 use Rattle.ua_pair.specs.declared.fields.body.BodyKind.TheVariants.{Request, Response, OpenRequest, OpenResponse, CloseRequest}
 use Rattle.ua_pair.specs.declared.side.Side.{Side}

@@ -113,7 +113,8 @@ is_stopped Over = false
 -- whatever the old state was, the new state is that with this fragment more, and these lines were
 -- appended
 abbrev pub MovesOn : Dissector → Dissector → List ℕ → List ℕ → Type 0
-MovesOn old new piece lines = (options : DissectOptions) (octets told : List ℕ) → StandsBehind old options octets told → StandsBehind new options (octets ++ piece) (told ++ lines)
+MovesOn old new piece lines = (options : DissectOptions) (octets told : List ℕ) → StandsBehind old options octets told
+    → StandsBehind new options (octets ++ piece) (told ++ lines)
 
 -- a fragment was taken, and lines were appended to a text
 pub record TakesPiece (old new : Dissector) (piece before after : List ℕ) : Type 0 where

@@ -7,7 +7,9 @@ use Rattle.ua_opening.specs.declared.open.OpenAnswer.TheVariants.{Open, Fault}
 use Rattle.ua_services.specs.declared.request.Request.{Request}
 use Rattle.ua_services.specs.declared.request.Request.TheVariants.{GetEndpoints, CreateSession, ActivateSession, CloseSession, Read, Write}
 use Rattle.ua_services.specs.declared.response.Response.{Response}
-use Rattle.ua_services.specs.declared.response.Response.TheVariants.{GetEndpoints as GetEndpointsAnswer, CreateSession as CreateSessionAnswer, ActivateSession as ActivateSessionAnswer, CloseSession as CloseSessionAnswer, Read as ReadAnswer, Write as WriteAnswer, ServiceFault}
+use Rattle.ua_services.specs.declared.response.Response.TheVariants.{GetEndpoints as GetEndpointsAnswer, CreateSession as CreateSessionAnswer}
+use Rattle.ua_services.specs.declared.response.Response.TheVariants.{ActivateSession as ActivateSessionAnswer, CloseSession as CloseSessionAnswer}
+use Rattle.ua_services.specs.declared.response.Response.TheVariants.{Read as ReadAnswer, Write as WriteAnswer, ServiceFault}
 use Rattle.ua_opening.specs.declared.secure_channel.CloseRequest.{CloseRequest}
 use Rattle.ua_opening.specs.declared.secure_channel.OpenRequest.{OpenRequest}
 use Rattle.ua_opening.specs.declared.secure_channel.OpenResponse.{OpenResponse}
@@ -16,7 +18,8 @@ use Rattle.ua_pair.specs.Tree.{IsBehind, Tree, structure, lines}
 use Rattle.ua_pair.specs.Header.{service_fault_entries}
 use Rattle.ua_pair.specs.Attribute.{read_request_entries, read_response_entries, write_request_entries, write_response_entries}
 use Rattle.ua_pair.specs.Discovery.{get_endpoints_request_entries, get_endpoints_response_entries}
-use Rattle.ua_pair.specs.Session.{create_session_request_entries, create_session_response_entries, activate_session_request_entries, activate_session_response_entries, close_session_request_entries, close_session_response_entries}
+use Rattle.ua_pair.specs.Session.{create_session_request_entries, create_session_response_entries, activate_session_request_entries}
+use Rattle.ua_pair.specs.Session.{activate_session_response_entries, close_session_request_entries, close_session_response_entries}
 use Rattle.ua_pair.specs.SecureChannel.{open_request_entries, open_response_entries, close_request_entries}
 
 -- ---- messages as trees

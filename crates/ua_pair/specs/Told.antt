@@ -50,7 +50,8 @@ item_lines options (Aborted id code reason) = aborted_line options.names id code
 -- an OPN at this offset and of this size: its line, that of its body, and those of its fields
 abbrev pub opening_lines : DissectOptions → ℕ → ℕ → OpenChunk → List ℕ
 opening_lines options place size c =
-    opening_line place size c ++ (message_line c.request (length c.body) (opening_name options.side c.body) ++ fields_of options (opening_kind options.side) c.body)
+    opening_line place size c
+    ++ (message_line c.request (length c.body) (opening_name options.side c.body) ++ fields_of options (opening_kind options.side) c.body)
 
 -- a MSG at this offset and of this size after these chunks: its line, and those of what it
 -- completes
@@ -96,7 +97,8 @@ AreParts Is (x ∷ xs) text = (first : List ℕ) × (rest : List ℕ) × (text �
 -- those of the body of an OPN
 abbrev pub IsOpenedText : DissectOptions → OpenChunk → List ℕ → Type 0
 IsOpenedText options c text =
-    (fields : List ℕ) × (text ≡ message_line c.request (length c.body) (opening_name options.side c.body) ++ fields) × AreFieldsOf options (opening_kind options.side) c.body fields
+    (fields : List ℕ) × (text ≡ message_line c.request (length c.body) (opening_name options.side c.body) ++ fields)
+    × AreFieldsOf options (opening_kind options.side) c.body fields
 
 -- those of an OPN
 abbrev pub IsOpeningText : DissectOptions → ℕ → ℕ → OpenChunk → List ℕ → Type 0
@@ -104,7 +106,8 @@ IsOpeningText options place size c text = (opened : List ℕ) × (text ≡ openi
 
 -- those of a MSG
 abbrev pub IsChunkText : DissectOptions → List Chunk → ℕ → ℕ → Chunk → List ℕ → Type 0
-IsChunkText options cs place size c text = (items : List ℕ) × (text ≡ chunk_line (codes "MSG") place size c ++ items) × AreParts (IsItemText options) (given cs c) items
+IsChunkText options cs place size c text = (items : List ℕ) × (text ≡ chunk_line (codes "MSG") place size c ++ items)
+    × AreParts (IsItemText options) (given cs c) items
 
 -- those of a frame of this kind at this place, after these chunks
 abbrev pub IsTextBy : Kind → DissectOptions → List Chunk → ℕ → Frame → List ℕ → Type 0
@@ -127,4 +130,5 @@ IsFrameText options before f text = IsTextBy f.kind options (message_chunks befo
 -- the lines of these frames after those before, in order
 abbrev pub AreTextsBehind : DissectOptions → List Frame → List Frame → List ℕ → Type 0
 AreTextsBehind options before [] text = text ≡ []
-AreTextsBehind options before (f ∷ fs) text = (first : List ℕ) × (rest : List ℕ) × (text ≡ first ++ rest) × IsFrameText options before f first × AreTextsBehind options (before ++ f ∷ []) fs rest
+AreTextsBehind options before (f ∷ fs) text = (first : List ℕ) × (rest : List ℕ) × (text ≡ first ++ rest) × IsFrameText options before f first
+    × AreTextsBehind options (before ++ f ∷ []) fs rest

@@ -134,11 +134,13 @@ abbrev mutual
 
   pub element_lines : Bool → List ℕ → List ℕ → ℕ → Elements → List ℕ
   element_lines names margin path index no_elements = []
-  element_lines names margin path index (element tree others) = lines names margin (element_path path index) tree ++ element_lines names margin path (index + 1) others
+  element_lines names margin path index (element tree others) = lines names margin (element_path path index) tree ++ element_lines names margin path
+      (index + 1) others
 
   pub field_lines : Bool → List ℕ → List ℕ → Fields → List ℕ
   field_lines names margin path no_fields = []
-  field_lines names margin path (field name tree others) = lines names (field_margin margin tree) (field_path path name) tree ++ field_lines names margin path others
+  field_lines names margin path (field name tree others) = lines names (field_margin margin tree) (field_path path name) tree
+      ++ field_lines names margin path others
 
 -- ---- lines after a text, in any style
 
@@ -151,12 +153,15 @@ abbrev mutual
 
   pub IsArrayBehind : FieldStyle → List ℕ → List ℕ → List ℕ → Array → List ℕ → Type 0
   IsArrayBehind style margin path old null new = new ≡ old ++ line margin path (codes "null")
-  IsArrayBehind style margin path old (elements items) new = AreElementsBehind style (deeper margin) path 0 (old ++ line margin path (decimal (count items))) items new
+  IsArrayBehind style margin path old (elements items) new = AreElementsBehind style (deeper margin) path 0 (old ++ line margin path (decimal (count items)))
+      items new
 
   pub AreElementsBehind : FieldStyle → List ℕ → List ℕ → ℕ → List ℕ → Elements → List ℕ → Type 0
   AreElementsBehind style margin path index old no_elements new = new ≡ old
-  AreElementsBehind style margin path index old (element tree others) new = (mid : List ℕ) × IsBehind style margin (element_path path index) old tree mid × AreElementsBehind style margin path (index + 1) mid others new
+  AreElementsBehind style margin path index old (element tree others) new = (mid : List ℕ) × IsBehind style margin (element_path path index) old tree mid
+      × AreElementsBehind style margin path (index + 1) mid others new
 
   pub AreFieldsBehind : FieldStyle → List ℕ → List ℕ → List ℕ → Fields → List ℕ → Type 0
   AreFieldsBehind style margin path old no_fields new = new ≡ old
-  AreFieldsBehind style margin path old (field name tree others) new = (mid : List ℕ) × IsBehind style (field_margin margin tree) (field_path path name) old tree mid × AreFieldsBehind style margin path mid others new
+  AreFieldsBehind style margin path old (field name tree others) new = (mid : List ℕ)
+      × IsBehind style (field_margin margin tree) (field_path path name) old tree mid × AreFieldsBehind style margin path mid others new

@@ -5,7 +5,9 @@ ghost use Rattle.ua_wire.specs.Format.{Extends};
 ghost use Rattle.ua_frame.specs.declared.frame.Frame.{Frame};
 ghost use Rattle.ua_frame.specs.Frames.{IsSized, LetsIn};
 ghost use Rattle.ua_pair.specs.Dissected.{every_frame as open_gate};
-ghost use Rattle.ua_pair.specs.Dissecting.{StandsBehind, TellsMore, EndsLines, AreHeld, IsClosed, most_held, Holds, DissectorGoesOn, FrameTold, TakesPiece, TakesNext, is_going, is_refused, is_stopped, HasRefusedOne};
+ghost use Rattle.ua_pair.specs.Dissecting.{StandsBehind, TellsMore, EndsLines, AreHeld, IsClosed};
+ghost use Rattle.ua_pair.specs.Dissecting.{most_held, Holds, DissectorGoesOn, FrameTold, TakesPiece};
+ghost use Rattle.ua_pair.specs.Dissecting.{TakesNext, is_going, is_refused, is_stopped, HasRefusedOne};
 ghost use Rattle.ua_pair.specs.Told.{place_behind};
 
 use crate::fault::DissectFault;
@@ -95,7 +97,8 @@ impl Dissector {
     fn tell(&mut self, frame: Frame, lines: &mut String) -> Result<(), AllocError>
         requires sized { IsSized frame }
         requires let_in { LetsIn open_gate frame }
-        ensures { (options : DissectOptions) (before : List Frame) → DissectorGoesOn self.old options before [] → self.old.place ≡ place_behind before
+        ensures { (options : DissectOptions) (before : List Frame) → DissectorGoesOn self.old options before []
+            → self.old.place ≡ place_behind before
             → OnOk result (FrameTold self.new options before frame (string_bytes lines.new)) }
     {
         let size = frame_size(&frame);
@@ -146,7 +149,8 @@ impl Dissector {
     /// Appends the lines of what a fragment completes, unless an allocation failed before. After an
     /// error, some of them may have been appended.
     fn take_all(&mut self, piece: &[u8], out: &mut String) -> Result<(), AllocError>
-        ensures takes { OnOk result (TakesPiece self.old self.new piece.now (string_bytes out.old) (string_bytes out.new)) }
+        ensures takes { OnOk result
+            (TakesPiece self.old self.new piece.now (string_bytes out.old) (string_bytes out.new)) }
         ensures err { OnErr result (Extends (string_bytes out.old) (string_bytes out.new)) }
         ensures closed { IsClosed self.old → IsErr result }
     {
@@ -170,13 +174,15 @@ impl Dissector {
     pub fn take(&mut self, piece: &[u8], out: &mut String) -> Result<(), AllocError>
         // The lines appended so far depend on the bytes alone, however they were fragmented.
         ensures told { (options : DissectOptions) (octets told : List ℕ) → StandsBehind self.old options octets told
-            → OnOk result (TellsMore self.new options (octets ++ piece.now) told (string_bytes out.old) (string_bytes out.new)) }
+            → OnOk result (TellsMore self.new options (octets ++ piece.now) told (string_bytes out.old)
+            (string_bytes out.new)) }
         ensures err { OnErr result (string_bytes out.new ≡ string_bytes out.old) }
         ensures failed { OnErr result (IsClosed self.new) }
         ensures closed { IsClosed self.old → IsErr result }
         // After a rejected UA TCP message nothing more is appended, whatever comes, and nothing is
         // allocated.
-        ensures rests { HasRefusedOne self.old → IsOk result × (string_bytes out.new ≡ string_bytes out.old) × HasRefusedOne self.new }
+        ensures rests { HasRefusedOne self.old → IsOk result × (string_bytes out.new ≡ string_bytes out.old)
+            × HasRefusedOne self.new }
     {
         if self.is_refused() {
             return Ok(());
@@ -225,8 +231,10 @@ impl Dissector {
     /// Whether a UA TCP message was rejected among the bytes taken. What comes after it has no
     /// lines, so the last line can be printed at once.
     pub fn has_refused(&self) -> bool
-        ensures refused { (options : DissectOptions) (octets told : List ℕ) (s : StandsBehind self.now options octets told) → result ≡ is_stopped s.are.end }
-        ensures stays { (options : DissectOptions) (octets told more : List ℕ) → result ≡ true → StandsBehind self.now options octets told → StandsBehind self.now options (octets ++ more) told }
+        ensures refused { (options : DissectOptions) (octets told : List ℕ)
+            (s : StandsBehind self.now options octets told) → result ≡ is_stopped s.are.end }
+        ensures stays { (options : DissectOptions) (octets told more : List ℕ) → result ≡ true
+            → StandsBehind self.now options octets told → StandsBehind self.now options (octets ++ more) told }
         ensures rests { result ≡ true → HasRefusedOne self.now }
     {
         self.is_refused()
@@ -235,8 +243,10 @@ impl Dissector {
     /// The number of buffered bytes: those of an incomplete UA TCP message and those of unfinished
     /// messages. It never exceeds [`bound`](Dissector::bound).
     pub fn held(&self) -> usize
-        ensures held { (options : DissectOptions) (octets told : List ℕ) → StandsBehind self.now options octets told → AreHeld options octets result }
-        ensures bound { (options : DissectOptions) (octets told : List ℕ) → StandsBehind self.now options octets told → result ≤ most_held }
+        ensures held { (options : DissectOptions) (octets told : List ℕ) → StandsBehind self.now options octets told
+            → AreHeld options octets result }
+        ensures bound { (options : DissectOptions) (octets told : List ℕ) → StandsBehind self.now options octets told
+            → result ≤ most_held }
         ensures closed { IsClosed self.now → result ≡ 0 }
     {
         self.reader.held().saturating_add(self.teller.held())

@@ -15,7 +15,8 @@ pub fn has_lines()
 /// The output is determined by the bytes, the side that sent them and the options, unless fields
 /// are as people write them: then a Float or Double may be any decimal that reads back as it.
 pub fn one_reading()
-    ensures { (options : DissectOptions) (octets lines others : List ℕ) → options.plain ≡ false → AreLines options octets lines → AreLines options octets others → lines ≡ others }
+    ensures { (options : DissectOptions) (octets lines others : List ℕ) → options.plain ≡ false
+        → AreLines options octets lines → AreLines options octets others → lines ≡ others }
 {}
 
 /// The EndpointUrl of a HEL and the reason of an ERR end no line: the printed text has no byte

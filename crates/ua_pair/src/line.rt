@@ -2,7 +2,8 @@
 
 ghost use Rattle.std.specs.Fmt.{decimal};
 ghost use Rattle.std.specs.Prelude.{◌≡◌, ◌++◌, codes, string_bytes, OnOk};
-ghost use Rattle.ua_pair.specs.Lines.{numbers_text, flag_text, opening_line, chunk_line, message_line, aborted_line, rest_line, refused_line, chunk_head};
+ghost use Rattle.ua_pair.specs.Lines.{numbers_text, flag_text, opening_line, chunk_line, message_line};
+ghost use Rattle.ua_pair.specs.Lines.{aborted_line, rest_line, refused_line, chunk_head};
 
 use itoa::Buffer;
 use std::alloc::AllocError;
@@ -35,7 +36,8 @@ pub trait GreetingLine: Wire + Drop {
         ensures { OnOk result (string_bytes lines.new ≡ string_bytes lines.old ++ line names place size self.now) };
 
     /// What all of the bytes are decoded as is what they encode.
-    ghost reads: { (octets : List ℕ) (read : Option Self) → IsWhole Self.format octets read → whole_of message octets ≡ read };
+    ghost reads: { (octets : List ℕ) (read : Option Self) → IsWhole Self.format octets read
+        → whole_of message octets ≡ read };
 }
 
 impl GreetingLine for Hello {
@@ -144,7 +146,8 @@ fn push_numbers(
     message: u32,
     chunks: u32,
 ) -> Result<(), AllocError>
-    ensures { OnOk result (string_bytes lines.new ≡ string_bytes lines.old ++ numbers_text version receive send message chunks) }
+    ensures { OnOk result (string_bytes lines.new ≡ string_bytes lines.old ++ numbers_text version receive send message
+        chunks) }
 {
     push_number(lines, " version ", version as u64)?;
     push_number(lines, " receive ", receive as u64)?;
@@ -163,7 +166,8 @@ fn push_number(lines: &mut String, word: &str, number: u64) -> Result<(), AllocE
 
 /// Appends a word, the decimal digits of a number, and the end of the line.
 fn push_ended(lines: &mut String, word: &str, number: u64) -> Result<(), AllocError>
-    ensures { OnOk result (string_bytes lines.new ≡ string_bytes lines.old ++ (word.now ++ (decimal number ++ codes "\n"))) }
+    ensures { OnOk result
+        (string_bytes lines.new ≡ string_bytes lines.old ++ (word.now ++ (decimal number ++ codes "\n"))) }
 {
     push_number(lines, word, number)?;
     push_newline(lines)
@@ -211,7 +215,8 @@ pub fn push_chunk_line(
     size: usize,
     chunk: &Chunk,
 ) -> Result<(), AllocError>
-    ensures { OnOk result (string_bytes lines.new ≡ string_bytes lines.old ++ chunk_line name.now place size chunk.now) }
+    ensures { OnOk result
+        (string_bytes lines.new ≡ string_bytes lines.old ++ chunk_line name.now place size chunk.now) }
 {
     push_chunk_head(lines, name, place, size, chunk.flag)?;
     push_number(lines, " channel ", chunk.channel as u64)?;

@@ -3,7 +3,10 @@
 ghost use Rattle.std.specs.List.{concat};
 ghost use Rattle.std.specs.Prelude.{◌≡◌, Some, IfOk, string_bytes};
 ghost use Rattle.ua_pair.specs.declared.side.Side.TheVariants.{Client, Server};
-ghost use Rattle.ua_pair.specs.Names.{open_answer_name, request_name as name_of_request, response_name as name_of_response, message_name as name_of_message, message_title as title_of_message, is_unsupported, is_unsupported_request, is_unsupported_response, opening_name as name_of_opening};
+ghost use Rattle.ua_pair.specs.Names.{open_answer_name, request_name as name_of_request};
+ghost use Rattle.ua_pair.specs.Names.{response_name as name_of_response, message_name as name_of_message};
+ghost use Rattle.ua_pair.specs.Names.{message_title as title_of_message, is_unsupported, is_unsupported_request};
+ghost use Rattle.ua_pair.specs.Names.{is_unsupported_response, opening_name as name_of_opening};
 
 use crate::encoding::push_encoding;
 use crate::side::Side;

@@ -15,9 +15,11 @@ ghost use Rattle.ua_pair.specs.Dissected.{every_frame};
 ghost use Rattle.ua_pair.specs.Telling.{TellerStands, Judges, JudgesKind};
 ghost use Rattle.ua_pair.specs.Refused.{greeting_reasons, frame_reasons};
 ghost use Rattle.ua_pair.specs.Lines.{message_line};
-ghost use Rattle.ua_pair.specs.Names.{message_kind as kind_of_message, opening_kind as kind_of_opening, opening_name as name_of_opening};
+ghost use Rattle.ua_pair.specs.Names.{message_kind as kind_of_message, opening_kind as kind_of_opening};
+ghost use Rattle.ua_pair.specs.Names.{opening_name as name_of_opening};
 ghost use Rattle.ua_texts.specs.PlainLeaf.{Adds};
-ghost use Rattle.ua_pair.specs.Told.{AreFieldsOf, IsFrameText, IsHeaderOf, IsItemText, IsOpenedText, line_if, place_behind};
+ghost use Rattle.ua_pair.specs.Told.{AreFieldsOf, IsFrameText, IsHeaderOf};
+ghost use Rattle.ua_pair.specs.Told.{IsItemText, IsOpenedText, line_if, place_behind};
 
 use crate::fault::DissectFault;
 use crate::fields::{BodyKind, push_body_text, push_header_fields};
@@ -65,7 +67,9 @@ fn push_greeting<T: GreetingLine>(
     size: usize,
     lines: &mut String,
 ) -> Result<(), DissectFault>
-    ensures { Judges (first_reason (greeting_reasons (whole_of T.message body.now))) (λ text. text ≡ line_if (T.line names place size) (whole_of T.message body.now)) result (string_bytes lines.old) (string_bytes lines.new) }
+    ensures { Judges (first_reason (greeting_reasons (whole_of T.message body.now)))
+        (λ text. text ≡ line_if (T.line names place size) (whole_of T.message body.now)) result (string_bytes lines.old)
+        (string_bytes lines.new) }
 {
     let Some(message) = T::read_whole(alloc, body)? else {
         return Err(DissectFault::Refused(StatusCode::BAD_DECODING_ERROR));
@@ -102,7 +106,8 @@ fn push_fields<S: Source>(
     src: &mut S,
     lines: &mut String,
 ) -> Result<(), AllocError>
-    ensures { Adds result (string_bytes lines.old) (string_bytes lines.new) (AreFieldsOf options.now kind (S.octets src.old)) }
+    ensures { Adds result (string_bytes lines.old) (string_bytes lines.new)
+        (AreFieldsOf options.now kind (S.octets src.old)) }
 {
     if options.fields {
         push_body_text(alloc, kind, options.style(), src, lines)
@@ -119,7 +124,8 @@ fn push_header(
     message: &Message,
     lines: &mut String,
 ) -> Result<(), AllocError>
-    ensures { Adds result (string_bytes lines.old) (string_bytes lines.new) (IsHeaderOf options.now unsupported (concat message.now)) }
+    ensures { Adds result (string_bytes lines.old) (string_bytes lines.new)
+        (IsHeaderOf options.now unsupported (concat message.now)) }
 {
     if options.fields && unsupported {
         let mut body = message.source();
@@ -137,7 +143,8 @@ fn push_message(
     message: &Message,
     lines: &mut String,
 ) -> Result<(), AllocError>
-    ensures { Adds result (string_bytes lines.old) (string_bytes lines.new) (IsItemText options.now (Whole request (concat message.now))) }
+    ensures { Adds result (string_bytes lines.old) (string_bytes lines.new)
+        (IsItemText options.now (Whole request (concat message.now))) }
 {
     let (title, unsupported) = message_title(alloc, options.side, options.names, message)?;
     push_message_line(lines, request, message.len(), &title)?;
@@ -153,7 +160,8 @@ fn push_delivered(
     delivered: Delivered,
     lines: &mut String,
 ) -> Result<(), AllocError>
-    ensures { Adds result (string_bytes lines.old) (string_bytes lines.new) (IsItemText options.now (item_of delivered)) }
+    ensures { Adds result (string_bytes lines.old) (string_bytes lines.new)
+        (IsItemText options.now (item_of delivered)) }
 {
     match delivered {
         Delivered::Whole(request, message) => {
@@ -203,8 +211,10 @@ impl Teller {
         requires kind { frame.kind ≡ Opn }
         requires sized { IsSized frame }
         ensures judged { (before : List Frame) → TellerStands self.old before →
-            JudgesKind Opn self.old.options before place frame result (string_bytes lines.old) (string_bytes lines.new) }
-        ensures stands { (before : List Frame) → TellerStands self.old before → OnOk result (TellerStands self.new (before ++ frame ∷ [])) }
+            JudgesKind Opn self.old.options before place frame result (string_bytes lines.old)
+            (string_bytes lines.new) }
+        ensures stands { (before : List Frame) → TellerStands self.old before
+            → OnOk result (TellerStands self.new (before ++ frame ∷ [])) }
         ensures options { self.new.options ≡ self.old.options }
     {
         let size = frame_size(&frame);
@@ -231,8 +241,10 @@ impl Teller {
         requires sized { IsSized frame }
         requires let_in { LetsIn every_frame frame }
         ensures judged { (before : List Frame) → TellerStands self.old before →
-            JudgesKind Msg self.old.options before place frame result (string_bytes lines.old) (string_bytes lines.new) }
-        ensures stands { (before : List Frame) → TellerStands self.old before → OnOk result (TellerStands self.new (before ++ frame ∷ [])) }
+            JudgesKind Msg self.old.options before place frame result (string_bytes lines.old)
+            (string_bytes lines.new) }
+        ensures stands { (before : List Frame) → TellerStands self.old before
+            → OnOk result (TellerStands self.new (before ++ frame ∷ [])) }
         ensures options { self.new.options ≡ self.old.options }
     {
         let size = frame_size(&frame);
@@ -259,8 +271,10 @@ impl Teller {
         requires sized { IsSized frame }
         requires let_in { LetsIn every_frame frame }
         ensures judged { (before : List Frame) → TellerStands self.old before →
-            JudgesKind Clo self.old.options before place frame result (string_bytes lines.old) (string_bytes lines.new) }
-        ensures stands { (before : List Frame) → TellerStands self.old before → OnOk result (TellerStands self.new (before ++ frame ∷ [])) }
+            JudgesKind Clo self.old.options before place frame result (string_bytes lines.old)
+            (string_bytes lines.new) }
+        ensures stands { (before : List Frame) → TellerStands self.old before
+            → OnOk result (TellerStands self.new (before ++ frame ∷ [])) }
         ensures options { self.new.options ≡ self.old.options }
     {
         let size = frame_size(&frame);
@@ -283,8 +297,10 @@ impl Teller {
         requires sized { IsSized frame }
         requires let_in { LetsIn every_frame frame }
         ensures judged { (before : List Frame) → TellerStands self.old before → place ≡ place_behind before →
-            Judges (first_reason (frame_reasons self.old.options.side before frame)) (IsFrameText self.old.options before frame) result (string_bytes lines.old) (string_bytes lines.new) }
-        ensures stands { (before : List Frame) → TellerStands self.old before → OnOk result (TellerStands self.new (before ++ frame ∷ [])) }
+            Judges (first_reason (frame_reasons self.old.options.side before frame))
+            (IsFrameText self.old.options before frame) result (string_bytes lines.old) (string_bytes lines.new) }
+        ensures stands { (before : List Frame) → TellerStands self.old before
+            → OnOk result (TellerStands self.new (before ++ frame ∷ [])) }
         ensures options { self.new.options ≡ self.old.options }
     {
         let size = frame_size(&frame);
@@ -303,7 +319,8 @@ impl Teller {
 
     /// The number of buffered bytes of unfinished messages.
     pub fn held(&self) -> usize
-        ensures held { (before : List Frame) → TellerStands self.now before → result ≡ open_octets (message_chunks before) }
+        ensures held { (before : List Frame) → TellerStands self.now before
+            → result ≡ open_octets (message_chunks before) }
         ensures bound { (before : List Frame) → TellerStands self.now before → result ≤ 67108864 }
     {
         self.assembler.held()

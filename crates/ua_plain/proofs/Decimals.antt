@@ -1,5 +1,6 @@
 -- The texts of floating-point numbers.
-use Rattle.std.proofs.Common.{◌≡◌, ℕ, Bool, true, false, ◌||◌, List, ◌++◌, Some, refl, sym, ◌∙◌, arith, inl, inr, codes, IsTrue, IsFalse, is_nan, to_bits, from_bits, ◌<◌, ◌*◌, bytes_eq, nat_eq, true≢false}
+use Rattle.std.proofs.Common.{◌≡◌, ℕ, Bool, true, false, ◌||◌, List, ◌++◌, Some, refl, sym, ◌∙◌, arith, inl, inr, codes}
+use Rattle.std.proofs.Common.{IsTrue, IsFalse, is_nan, to_bits, from_bits, ◌<◌, ◌*◌, bytes_eq, nat_eq, true≢false}
 use Rattle.std.proofs.lemmas.Bool.{cases_Bool}
 use Rattle.std.proofs.lemmas.Bool.Decides.{nat_tests}
 use Rattle.std.specs.Cmp.Lexicographic.{bytes_decides}
@@ -38,7 +39,8 @@ named f digits most x negative e = rw e refl
 some_same : {x y : Float} → Some x ≡ Some y → x ≡ y
 some_same e = cc e
 
-pub number_named : (f : Format) (digits most : ℕ) (x : Float) (text : List ℕ) (negative : Bool) → text ≡ sign_text negative ++ codes "inf" → parse_float f text ≡ Some x
+pub number_named : (f : Format) (digits most : ℕ) (x : Float) (text : List ℕ) (negative : Bool) → text ≡ sign_text negative ++ codes "inf"
+    → parse_float f text ≡ Some x
     → IsNumberText f digits most x (sign_text negative ++ codes "Infinity")
 number_named f digits most x text negative e h =
     let read : parse_float f (sign_text negative ++ codes "inf") ≡ Some x = rw e at h in

@@ -1,5 +1,6 @@
 -- The texts of moments.
-use Rattle.std.proofs.Common.{◌≡◌, ◌≤◌, ◌<◌, ◌+◌, ◌/◌, ◌%◌, ℕ, suc, ℤ, pos, negsuc, ◌+ℤ◌, ◌*ℤ◌, Bool, true, false, ◌==◌, List, [], ◌∷◌, ◌++◌, length, Some, None, Ok, refl, ap, ◌∙◌, arith, codes, inl, inr, append-nil, append_assoc}
+use Rattle.std.proofs.Common.{◌≡◌, ◌≤◌, ◌<◌, ◌+◌, ◌/◌, ◌%◌, ℕ, suc, ℤ, pos, negsuc, ◌+ℤ◌, ◌*ℤ◌, Bool, true, false, ◌==◌, List, []}
+use Rattle.std.proofs.Common.{◌∷◌, ◌++◌, length, Some, None, Ok, refl, ap, ◌∙◌, arith, codes, inl, inr, append-nil, append_assoc}
 use Rattle.std.proofs.lemmas.Bool.{and_from, cases_Bool}
 use Rattle.std.proofs.lemmas.Bool.Decides.{nat_tests}
 use Rattle.std.proofs.lemmas.List.Folds.{list_all-append}
@@ -33,7 +34,8 @@ back_div t = omega (arith, signed_arith)
 back_sum : (t : ℤ) → nanos_of_ticks t +ℤ epoch_nanos ≡ t *ℤ pos 100
 back_sum t = omega (arith, signed_arith)
 
-pub moment_back : (ticks nanos : ℤ) (text : List ℕ) → nanos ≡ nanos_of_ticks ticks → parse_timestamp text ≡ Ok nanos → moment_denoted text ≡ Some (record { ticks = ticks })
+pub moment_back : (ticks nanos : ℤ) (text : List ℕ) → nanos ≡ nanos_of_ticks ticks → parse_timestamp text ≡ Ok nanos
+    → moment_denoted text ≡ Some (record { ticks = ticks })
 unfolding moment_denoted
 moment_back ticks nanos text e h = rw (h, e, back_sum ticks, back_rem ticks, back_div ticks) refl
 
@@ -102,7 +104,8 @@ moment_word clock text e =
 
 -- ---- the form of a time
 
-pub moment_form : (p : DateTimePrinter) (t : Timestamp) (ticks : ℤ) (text : List ℕ) → options p ≡ (false, 84, None) → t.nanosecond ≡ nanos_of_ticks ticks → IsTimestampText p t text
+pub moment_form : (p : DateTimePrinter) (t : Timestamp) (ticks : ℤ) (text : List ℕ) → options p ≡ (false, 84, None) → t.nanosecond ≡ nanos_of_ticks ticks
+    → IsTimestampText p t text
     → IsMomentText ticks text
 moment_form p t ticks text o same h =
     let lower : p.lowercase ≡ false = ap (λ x. x.0) o in

@@ -1,5 +1,6 @@
 -- The octets of numbers and times.
-use Rattle.std.proofs.Common.{◌≡◌, ℕ, true, false, ◌&&◌, ◌||◌, ◌==◌, List, [], ◌∷◌, Some, refl, sym, ap, ◌∙◌, arith, is_some, inl, inr, nat_le, true≢false, codes}
+use Rattle.std.proofs.Common.{◌≡◌, ℕ, true, false, ◌&&◌, ◌||◌, ◌==◌, List, [], ◌∷◌, Some, refl}
+use Rattle.std.proofs.Common.{sym, ap, ◌∙◌, arith, is_some, inl, inr, nat_le, true≢false, codes}
 use Rattle.std.proofs.lemmas.Bool.{and_parts, and_from, cases_Bool, or_cases}
 use Rattle.std.proofs.lemmas.Bool.Decides.{nat_tests}
 use Rattle.std.proofs.lemmas.List.Sums.{AllPass-from_list_all}

@@ -1,5 +1,6 @@
 -- Floating-point numbers as decimals (ISO/IEC/IEEE 60559; OPC 10000-6, 5.2.2.3).
-use Rattle.std.specs.Prelude.{◌≡◌, ◌⊎◌, ℕ, Bool, cond, not, ◌||◌, nat_eq, List, ◌++◌, Option, Some, None, codes, is_nan, to_bits, from_bits, option_and_then, option_map, bytes_eq}
+use Rattle.std.specs.Prelude.{◌≡◌, ◌⊎◌, ℕ, Bool, cond, not, ◌||◌, nat_eq, List, ◌++◌, Option, Some, None}
+use Rattle.std.specs.Prelude.{codes, is_nan, to_bits, from_bits, option_and_then, option_map, bytes_eq}
 use Rattle.std.specs.Float.{Float, Format, binary32, binary64, nan, inf, fin}
 use Rattle.std.specs.Float.Ieee.{nan_bits}
 use Rattle.std.specs.Fmt.{sign_text}

@@ -2,7 +2,8 @@
 
 ghost use Rattle.std.specs.Prelude.{◌≡◌, ◌≤◌, IfSome, Some, is_some, length};
 ghost use Rattle.std.specs.Float.{NotNan};
-ghost use Rattle.ua_plain.specs.Decimal.{IsDoubleText, IsFloatText, IsNumberText, double_denoted, float_denoted, has_double_text, has_float_text};
+ghost use Rattle.ua_plain.specs.Decimal.{IsDoubleText, IsFloatText, IsNumberText, double_denoted};
+ghost use Rattle.ua_plain.specs.Decimal.{float_denoted, has_double_text, has_float_text};
 ghost use Rattle.ua_plain.specs.Word.{IsWord};
 
 use arrayvec::ArrayString;

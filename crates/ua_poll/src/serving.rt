@@ -153,7 +153,8 @@ impl Watched {
         endings: &mut E,
     ) -> Result<(), PollFault>
         requires { self.old.over ≤ self.old.total }
-        ensures stand { (es : List SharedEvent) (first : State) → StandTogether silent es first services.old (last_of connections.old) (places_of connections.old)
+        ensures stand { (es : List SharedEvent) (first : State)
+            → StandTogether silent es first services.old (last_of connections.old) (places_of connections.old)
             → GoOn silent es first services.new (last_of connections.new) (places_of connections.new) }
         ensures told { Tells (notes_of E.notes E.acts) self.old.over self.new.over endings.old endings.new }
         ensures within { self.new.over ≤ self.new.total }
@@ -185,7 +186,8 @@ impl Watched {
         connections: &mut Connections<PolledSocket>,
         endings: &mut E,
     ) -> bool
-        ensures stand { (es : List SharedEvent) (first now : State) → StandTogether silent es first now (last_of connections.old) (places_of connections.old)
+        ensures stand { (es : List SharedEvent) (first now : State)
+            → StandTogether silent es first now (last_of connections.old) (places_of connections.old)
             → StandTogether silent es first now (last_of connections.new) (places_of connections.new) }
         ensures told { Tells (notes_of E.notes E.acts) self.old.over self.new.over endings.old endings.new }
         ensures same { (self.new.over ≡ self.old.over) × (self.new.total ≡ self.old.total) }
@@ -211,7 +213,8 @@ impl Watched {
         place: usize,
         endings: &mut E,
     ) -> bool
-        ensures stand { (es : List SharedEvent) (first now : State) → StandTogether silent es first now (last_of connections.old) (places_of connections.old)
+        ensures stand { (es : List SharedEvent) (first now : State)
+            → StandTogether silent es first now (last_of connections.old) (places_of connections.old)
             → StandTogether silent es first now (last_of connections.new) (places_of connections.new) }
         ensures told { Tells (notes_of E.notes E.acts) self.old.over self.new.over endings.old endings.new }
         ensures same { (self.new.over ≡ self.old.over) × (self.new.total ≡ self.old.total) }
@@ -251,7 +254,8 @@ impl Watched {
         connections: &mut Connections<PolledSocket>,
         place: usize,
     ) -> Result<(), NotTaken>
-        ensures stand { (es : List SharedEvent) (first now : State) → StandTogether silent es first now (last_of connections.old) (places_of connections.old)
+        ensures stand { (es : List SharedEvent) (first now : State)
+            → StandTogether silent es first now (last_of connections.old) (places_of connections.old)
             → StandTogether silent es first now (last_of connections.new) (places_of connections.new) }
         ensures same { (self.new.over ≡ self.old.over) × (self.new.total ≡ self.old.total) }
     {
@@ -272,7 +276,8 @@ impl Watched {
         place: usize,
         mut stream: TcpStream,
     ) -> Result<(), NotTaken>
-        ensures stand { (es : List SharedEvent) (first now : State) → StandTogether silent es first now (last_of connections.old) (places_of connections.old)
+        ensures stand { (es : List SharedEvent) (first now : State)
+            → StandTogether silent es first now (last_of connections.old) (places_of connections.old)
             → StandTogether silent es first now (last_of connections.new) (places_of connections.new) }
     {
         let both = Interest::READABLE | Interest::WRITABLE;
@@ -308,7 +313,8 @@ impl Watched {
         connections: &mut Connections<PolledSocket>,
         events: &mut Events<Global>,
     ) -> Result<(), PollFault>
-        ensures stand { (es : List SharedEvent) (first now : State) → StandTogether silent es first now (last_of connections.old) (places_of connections.old)
+        ensures stand { (es : List SharedEvent) (first now : State)
+            → StandTogether silent es first now (last_of connections.old) (places_of connections.old)
             → StandTogether silent es first now (last_of connections.new) (places_of connections.new) }
         ensures same { (self.new.over ≡ self.old.over) × (self.new.total ≡ self.old.total) }
     {
@@ -326,7 +332,8 @@ impl Watched {
 
     /// Passes on to a socket what the system reports about it.
     fn tell(&mut self, connections: &mut Connections<PolledSocket>, event: &Event)
-        ensures stand { (es : List SharedEvent) (first now : State) → StandTogether silent es first now (last_of connections.old) (places_of connections.old)
+        ensures stand { (es : List SharedEvent) (first now : State)
+            → StandTogether silent es first now (last_of connections.old) (places_of connections.old)
             → StandTogether silent es first now (last_of connections.new) (places_of connections.new) }
         ensures same { (self.new.over ≡ self.old.over) × (self.new.total ≡ self.old.total) }
     {
@@ -349,7 +356,8 @@ impl Watched {
         endings: &mut E,
     ) -> bool
         requires { self.old.over ≤ self.old.total }
-        ensures stand { (es : List SharedEvent) (first now : State) → StandTogether silent es first now (last_of connections.old) (places_of connections.old)
+        ensures stand { (es : List SharedEvent) (first now : State)
+            → StandTogether silent es first now (last_of connections.old) (places_of connections.old)
             → StandTogether silent es first now (last_of connections.new) (places_of connections.new) }
         ensures told { Tells (notes_of E.notes E.acts) self.old.over self.new.over endings.old endings.new }
         ensures within { self.new.over ≤ self.new.total }
@@ -375,7 +383,8 @@ impl Watched {
         endings: &mut E,
     ) -> bool
         requires { self.old.over < self.old.total }
-        ensures stand { (es : List SharedEvent) (first now : State) → StandTogether silent es first now (last_of connections.old) (places_of connections.old)
+        ensures stand { (es : List SharedEvent) (first now : State)
+            → StandTogether silent es first now (last_of connections.old) (places_of connections.old)
             → StandTogether silent es first now (last_of connections.new) (places_of connections.new) }
         ensures told { Tells (notes_of E.notes E.acts) self.old.over self.new.over endings.old endings.new }
         ensures within { self.new.over ≤ self.new.total }

@@ -1,5 +1,6 @@
 -- Hexadecimal digits that come in pieces.
-use Rattle.std.proofs.Common.{◌≡◌, ℕ, ◌+◌, ◌*◌, ◌%◌, List, [], ◌∷◌, ◌++◌, Bool, not, Option, Some, None, is_none, true, false, length, Result, Ok, Err, refl, sym, ap, subst, ◌∙◌, arith, append_assoc, append-nil, length-append}
+use Rattle.std.proofs.Common.{◌≡◌, ℕ, ◌+◌, ◌*◌, ◌%◌, List, [], ◌∷◌, ◌++◌, Bool, not, Option, Some, None, is_none, true, false}
+use Rattle.std.proofs.Common.{length, Result, Ok, Err, refl, sym, ap, subst, ◌∙◌, arith, append_assoc, append-nil, length-append}
 use Rattle.std.specs.Option.{option_to_list}
 use Rattle.std.specs.Char.{is_ascii_whitespace}
 use Rattle.std.specs.List.{filter, AllPass}
@@ -16,32 +17,40 @@ pub digits-append : (a b : List ℕ) → digits_in (a ++ b) ≡ digits_in a ++ d
 digits-append a b = filter-append (λ octet. not (is_ascii_whitespace octet)) a b
 
 -- what is behind a pair that reads
-behind_ok : (v i : ℕ) (rest more x y : List ℕ) (r : Result (List ℕ) FromHexError) → decode_pairs (i + 2) rest ≡ r → cons_byte v r ≡ Ok x → ((z : List ℕ) → decode_pairs (i + 2) rest ≡ Ok z → decode_pairs (i + 2) (rest ++ more) ≡ Ok (z ++ y)) → cons_byte v (decode_pairs (i + 2) (rest ++ more)) ≡ Ok (x ++ y)
+behind_ok : (v i : ℕ) (rest more x y : List ℕ) (r : Result (List ℕ) FromHexError) → decode_pairs (i + 2) rest ≡ r → cons_byte v r ≡ Ok x
+    → ((z : List ℕ) → decode_pairs (i + 2) rest ≡ Ok z → decode_pairs (i + 2) (rest ++ more) ≡ Ok (z ++ y)) → cons_byte v (decode_pairs (i + 2) (rest ++ more))
+    ≡ Ok (x ++ y)
 behind_ok v i rest more x y (Ok z) e h step =
     let same : v ∷ z ≡ x = ap (λ (r : Result (List ℕ) FromHexError). result_unwrap_or r []) h in
     ap (cons_byte v) (step z e) ∙ ap (λ (u : List ℕ). Ok (u ++ y)) same
 behind_ok v i rest more x y (Err f) e h step = cc h
 
-behind_pair : (i a b : ℕ) (rest more x y : List ℕ) (p : Result ℕ FromHexError) → pair_value a b i ≡ p → decode_pairs i (a ∷ b ∷ rest) ≡ Ok x → ((z : List ℕ) → decode_pairs (i + 2) rest ≡ Ok z → decode_pairs (i + 2) (rest ++ more) ≡ Ok (z ++ y)) → decode_pairs i (a ∷ b ∷ (rest ++ more)) ≡ Ok (x ++ y)
+behind_pair : (i a b : ℕ) (rest more x y : List ℕ) (p : Result ℕ FromHexError) → pair_value a b i ≡ p → decode_pairs i (a ∷ b ∷ rest) ≡ Ok x
+    → ((z : List ℕ) → decode_pairs (i + 2) rest ≡ Ok z → decode_pairs (i + 2) (rest ++ more) ≡ Ok (z ++ y))
+    → decode_pairs i (a ∷ b ∷ (rest ++ more)) ≡ Ok (x ++ y)
 behind_pair i a b rest more x y (Ok v) e h step =
     decode_pairs-ok_pair i a b v (rest ++ more) e
     ∙ behind_ok v i rest more x y (decode_pairs (i + 2) rest) refl (sym (decode_pairs-ok_pair i a b v rest e) ∙ h) step
 behind_pair i a b rest more x y (Err f) e h step = cc (sym (decode_pairs-err_pair i a b f rest e) ∙ h)
 
 -- the place of the first pair counts for nothing where all pairs read
-moved_ok : (v i j : ℕ) (rest x : List ℕ) (r : Result (List ℕ) FromHexError) → decode_pairs (i + 2) rest ≡ r → cons_byte v r ≡ Ok x → ((z : List ℕ) → decode_pairs (i + 2) rest ≡ Ok z → decode_pairs (j + 2) rest ≡ Ok z) → cons_byte v (decode_pairs (j + 2) rest) ≡ Ok x
+moved_ok : (v i j : ℕ) (rest x : List ℕ) (r : Result (List ℕ) FromHexError) → decode_pairs (i + 2) rest ≡ r → cons_byte v r ≡ Ok x
+    → ((z : List ℕ) → decode_pairs (i + 2) rest ≡ Ok z → decode_pairs (j + 2) rest ≡ Ok z) → cons_byte v (decode_pairs (j + 2) rest) ≡ Ok x
 moved_ok v i j rest x (Ok z) e h step = ap (cons_byte v) (step z e) ∙ h
 moved_ok v i j rest x (Err f) e h step = cc h
 
 -- all pairs read, whatever their place
-moved_pair : (i j a b : ℕ) (rest x : List ℕ) (p q : Result ℕ FromHexError) → pair_value a b i ≡ p → pair_value a b j ≡ q → decode_pairs i (a ∷ b ∷ rest) ≡ Ok x → ((v : ℕ) → p ≡ Ok v → q ≡ Ok v) → ((z : List ℕ) → decode_pairs (i + 2) rest ≡ Ok z → decode_pairs (j + 2) rest ≡ Ok z) → decode_pairs j (a ∷ b ∷ rest) ≡ Ok x
+moved_pair : (i j a b : ℕ) (rest x : List ℕ) (p q : Result ℕ FromHexError) → pair_value a b i ≡ p → pair_value a b j ≡ q → decode_pairs i (a ∷ b ∷ rest) ≡ Ok x
+    → ((v : ℕ) → p ≡ Ok v → q ≡ Ok v) → ((z : List ℕ) → decode_pairs (i + 2) rest ≡ Ok z → decode_pairs (j + 2) rest ≡ Ok z)
+    → decode_pairs j (a ∷ b ∷ rest) ≡ Ok x
 moved_pair i j a b rest x (Ok v) q e f h same step =
     decode_pairs-ok_pair j a b v rest (f ∙ same v refl)
     ∙ moved_ok v i j rest x (decode_pairs (i + 2) rest) refl (sym (decode_pairs-ok_pair i a b v rest e) ∙ h) step
 moved_pair i j a b rest x (Err g) q e f h same step = cc (sym (decode_pairs-err_pair i a b g rest e) ∙ h)
 
 -- the place of two digits counts for nothing where they read
-pair_moved : (i j a b v : ℕ) (high low : Option ℕ) → (digit_or_error a i high >>= (λ h. digit_or_error b (i + 1) low >>= (λ l. Ok (h * 16 + l)))) ≡ Ok v → (digit_or_error a j high >>= (λ h. digit_or_error b (j + 1) low >>= (λ l. Ok (h * 16 + l)))) ≡ Ok v
+pair_moved : (i j a b v : ℕ) (high low : Option ℕ) → (digit_or_error a i high >>= (λ h. digit_or_error b (i + 1) low >>= (λ l. Ok (h * 16 + l)))) ≡ Ok v
+    → (digit_or_error a j high >>= (λ h. digit_or_error b (j + 1) low >>= (λ l. Ok (h * 16 + l)))) ≡ Ok v
 pair_moved i j a b v (Some h) (Some l) e = e
 pair_moved i j a b v (Some h) None e = cc e
 pair_moved i j a b v None low e = cc e
@@ -93,7 +102,8 @@ unfolding decode_pairs
 hex_first = record { pairs = []; parts = refl; decoded = refl }
 
 -- the digits of a text with a piece more
-parts_more : (old new : Option ℕ) (text piece octets digits pairs : List ℕ) → (s : HexSoFar old text octets) → digits ≡ option_to_list old ++ digits_in piece → digits ≡ pairs ++ option_to_list new → digits_in (text ++ piece) ≡ (s.pairs ++ pairs) ++ option_to_list new
+parts_more : (old new : Option ℕ) (text piece octets digits pairs : List ℕ) → (s : HexSoFar old text octets) → digits ≡ option_to_list old ++ digits_in piece
+    → digits ≡ pairs ++ option_to_list new → digits_in (text ++ piece) ≡ (s.pairs ++ pairs) ++ option_to_list new
 parts_more old new text piece octets digits pairs s are parts =
     digits-append text piece
     ∙ ap (λ (u : List ℕ). u ++ digits_in piece) s.parts
@@ -102,7 +112,8 @@ parts_more old new text piece octets digits pairs s are parts =
     ∙ sym (append_assoc s.pairs pairs (option_to_list new))
 
 -- a piece more
-pub hex_more : (old new : Option ℕ) (text piece octets more digits pairs : List ℕ) → HexSoFar old text octets → digits ≡ option_to_list old ++ digits_in piece → digits ≡ pairs ++ option_to_list new → decode_of pairs ≡ Ok more → HexSoFar new (text ++ piece) (octets ++ more)
+pub hex_more : (old new : Option ℕ) (text piece octets more digits pairs : List ℕ) → HexSoFar old text octets → digits ≡ option_to_list old ++ digits_in piece
+    → digits ≡ pairs ++ option_to_list new → decode_of pairs ≡ Ok more → HexSoFar new (text ++ piece) (octets ++ more)
 hex_more old new text piece octets more digits pairs s are parts decoded = record {
   pairs = s.pairs ++ pairs;
   parts = parts_more old new text piece octets digits pairs s are parts;
@@ -110,7 +121,8 @@ hex_more old new text piece octets more digits pairs s are parts decoded = recor
 }
 
 -- a piece whose pairs stand for nothing
-never_more : (half : Option ℕ) (text before pairs more x : List ℕ) → length pairs % 2 ≡ 0 → digits_in text ≡ (before ++ pairs) ++ option_to_list half → ((y : List ℕ) → ¬ (decode_of pairs ≡ Ok y)) → decode_of (digits_in (text ++ more)) ≡ Ok x → ⊥
+never_more : (half : Option ℕ) (text before pairs more x : List ℕ) → length pairs % 2 ≡ 0 → digits_in text ≡ (before ++ pairs) ++ option_to_list half
+    → ((y : List ℕ) → ¬ (decode_of pairs ≡ Ok y)) → decode_of (digits_in (text ++ more)) ≡ Ok x → ⊥
 never_more half text before pairs more x even parts refused h =
     let all : digits_in (text ++ more) ≡ before ++ (pairs ++ (option_to_list half ++ digits_in more)) =
     digits-append text more
@@ -120,6 +132,7 @@ never_more half text before pairs more x even parts refused h =
     let found = never_between before pairs (option_to_list half ++ digits_in more) x even (ap decode_of (sym all) ∙ h) in
     refused found.0 found.1
 
-pub hex_never : (old new : Option ℕ) (text piece octets digits pairs : List ℕ) → HexSoFar old text octets → digits ≡ option_to_list old ++ digits_in piece → digits ≡ pairs ++ option_to_list new → length pairs % 2 ≡ 0 → ((y : List ℕ) → ¬ (decode_of pairs ≡ Ok y)) → IsNeverHex (text ++ piece)
+pub hex_never : (old new : Option ℕ) (text piece octets digits pairs : List ℕ) → HexSoFar old text octets → digits ≡ option_to_list old ++ digits_in piece
+    → digits ≡ pairs ++ option_to_list new → length pairs % 2 ≡ 0 → ((y : List ℕ) → ¬ (decode_of pairs ≡ Ok y)) → IsNeverHex (text ++ piece)
 hex_never old new text piece octets digits pairs s are parts even refused more x h =
     never_more new (text ++ piece) s.pairs pairs more x even (parts_more old new text piece octets digits pairs s are parts) refused h

@@ -11,10 +11,16 @@ use Rattle.ua_program.specs.declared.line_task.LineTask.{LineTask}
 use Rattle.ua_program.specs.declared.line_task.LineTask.TheVariants as task
 
 -- what `strip_suffix` leaves, or the line itself, is the body of the line
-pub bare_of : (line body : Bor (List ℕ)) (r : Option (Bor (List ℕ))) (words : List ℕ) → MatchOption r ((front : List ℕ) → line.now ≢ front ++ 10 ∷ []) (λ x. line.now ≡ x.now ++ 10 ∷ [])
+pub bare_of : (line body : Bor (List ℕ)) (r : Option (Bor (List ℕ))) (words : List ℕ)
+    → MatchOption r ((front : List ℕ) → line.now ≢ front ++ 10 ∷ []) (λ x. line.now ≡ x.now ++ 10 ∷ [])
     → body ≡ unwrap_or r line → words ≡ strip_carriage_return body.now → IsBare line.now words
-bare_of line body None words otherwise same stripped = record { body = body.now; end = inr (ap (λ (b : Bor (List ℕ)). b.now) (sym same), otherwise); is = stripped }
-bare_of line body (Some x) words so same stripped = record { body = body.now; end = inl (subst (λ (b : Bor (List ℕ)). line.now ≡ b.now ++ 10 ∷ []) (sym same) so); is = stripped }
+bare_of line body None words otherwise same stripped = record {
+  body = body.now;
+  end = inr (ap (λ (b : Bor (List ℕ)). b.now) (sym same), otherwise);
+  is = stripped;
+}
+bare_of line body (Some x) words so same stripped =
+    record { body = body.now; end = inl (subst (λ (b : Bor (List ℕ)). line.now ≡ b.now ++ 10 ∷ []) (sym same) so); is = stripped }
 
 -- a pause after `sleep`
 pub pause_given : (words time : List ℕ) (found : Result LineTask LoopFault) → IsSleep words time → IsPause time found → GivesOwn words found
@@ -39,7 +45,8 @@ own_refuses line words (Ok found) bare own = tt
 own_refuses line words (Err fault) bare own = inr (inl (own.0, (words, bare, own.1)))
 
 -- the task of a step is requested
-pub step_requested : (line : List ℕ) (before : List ScriptLine) (last : ScriptLine) (found : LineTask) → AsksFor line (before ++ last ∷ []) → IsTaskOf last.step found → Requests line found
+pub step_requested : (line : List ℕ) (before : List ScriptLine) (last : ScriptLine) (found : LineTask) → AsksFor line (before ++ last ∷ [])
+    → IsTaskOf last.step found → Requests line found
 step_requested line before last (task.Ask question) asked is = record { before = before; last = last; asked = asked; is = is }
 step_requested line before last task.Renew asked is = record { before = before; last = last; asked = asked; is = is }
 step_requested line before last task.Nothing asked is = absurd is

@@ -9,7 +9,8 @@ use Rattle.ua_program.specs.Looped.{HasLooped, RunsScript}
 
 -- what came of a script over the nodes of a text was added to a writer
 pub looped_of : (people names : Bool) (fault : Option LoopFault) (text script shown : List ℕ) (loaded nodes : Nodes) (l : Looped) (old new : Option (List ℕ))
-    → WriteNodes (node_lines text) loaded → RunsScript people names nodes script l → loaded ≡ nodes → l.fault ≡ fault → shown ≡ string_bytes l.text → Appends old new shown
+    → WriteNodes (node_lines text) loaded → RunsScript people names nodes script l → loaded ≡ nodes → l.fault ≡ fault → shown ≡ string_bytes l.text
+    → Appends old new shown
     → HasLooped people names fault old new
 looped_of people names fault text script shown loaded nodes l old new written runs same fault_is shown_is added = record {
   nodes_text = text;

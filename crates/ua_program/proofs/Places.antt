@@ -1,5 +1,6 @@
 -- Where a text that comes in pieces stops being hexadecimal.
-use Rattle.std.proofs.Common.{◌≡◌, ◌∙◌, ap, sym, ℕ, ◌+◌, ◌-◌, ◌^◌, ◌≤◌, nat_lt, eqb, cond, min, Bool, true, false, not, List, ◌++◌, Some, None, length, refl, arith, length-append}
+use Rattle.std.proofs.Common.{◌≡◌, ◌∙◌, ap, sym, ℕ, ◌+◌, ◌-◌, ◌^◌, ◌≤◌, nat_lt, eqb, cond, min, Bool, true}
+use Rattle.std.proofs.Common.{false, not, List, ◌++◌, Some, None, length, refl, arith, length-append}
 use Rattle.std.specs.List.{position}
 use Rattle.std.specs.Option.{unwrap_or}
 use Rattle.std.proofs.lemmas.List.Folds.{prefix_len-append}
@@ -13,7 +14,8 @@ or_all n most le true is = refl
 or_all n most le false is = grind (arith, le, is)
 
 pub first_or_all : (text : List ℕ) → unwrap_or (position is_no_digit text) (length text) ≡ digits_before text
-first_or_all text = or_all (digits_before text) (length text) (prefix_len-le-length (λ octet. not (is_no_digit octet)) text) (nat_lt (digits_before text) (length text)) refl
+first_or_all text = or_all (digits_before text) (length text) (prefix_len-le-length (λ octet. not (is_no_digit octet)) text)
+    (nat_lt (digits_before text) (length text)) refl
 
 -- two pieces, by how many octets they have and how many stand before the first that is no digit
 seam : (a b most more all : ℕ) → a ≤ most → all ≡ cond (eqb a most) (most + b) a → nat_lt all (most + more) ≡ cond (nat_lt a most) true (nat_lt b more)
@@ -43,7 +45,8 @@ by_case a b most more all old new le is found count kept next false had =
       on.1 ∙ (let sum : min (old.count + b) (2 ^ 64 - 1) ≡ min all (2 ^ 64 - 1) = grind (arith, count, place) in sum),
     )
 
-pub place_behind : (text piece : List ℕ) (old new : DigitPlace) → (old.found ≡ true → new ≡ old) → (old.found ≡ false → GoesOn old.count piece new) → IsPlaceIn text old → IsPlaceIn (text ++ piece) new
+pub place_behind : (text piece : List ℕ) (old new : DigitPlace) → (old.found ≡ true → new ≡ old) → (old.found ≡ false → GoesOn old.count piece new)
+    → IsPlaceIn text old → IsPlaceIn (text ++ piece) new
 place_behind text piece old new kept next at =
     let p : ℕ → Bool = λ (octet : ℕ). not (is_no_digit octet) in
     let by = by_case (digits_before text) (digits_before piece) (length text) (length piece) (digits_before (text ++ piece)) old new

@@ -1,5 +1,6 @@
 -- How far the lines of a file have come.
-use Rattle.std.proofs.Common.{◌≡◌, ◌⊎◌, inl, inr, ℕ, zero, suc, ◌<◌, take, ◌+◌, ◌∷◌, length, length-append, arith, Bool, true, false, List, [], ◌++◌, Option, Some, None, is_none, unwrap_or, Ok, refl, sym, ap, subst, ◌∙◌, append_assoc, append-nil}
+use Rattle.std.proofs.Common.{◌≡◌, ◌⊎◌, inl, inr, ℕ, zero, suc, ◌<◌, take, ◌+◌, ◌∷◌, length, length-append, arith, Bool, true, false, List}
+use Rattle.std.proofs.Common.{[], ◌++◌, Option, Some, None, is_none, unwrap_or, Ok, refl, sym, ap, subst, ◌∙◌, append_assoc, append-nil}
 use Rattle.std.proofs.lemmas.List.{append_cancel_left}
 use Rattle.std.specs.Io.KnownBytes.{Appends, Consumes, IsAtEnd}
 use Rattle.std.specs.Borrow.{Bor}
@@ -21,7 +22,8 @@ use Rattle.ua_program.specs.declared.fault.Fault.TheVariants.{NoMemory, NotHexad
 use Rattle.ua_session.specs.declared.verdict.Verdict.{Verdict}
 use Rattle.ua_program.specs.declared.output.Stop.{Stop}
 use Rattle.ua_program.specs.declared.output.Stop.TheVariants as stop
-use Rattle.ua_program.specs.Dissects.{AreLinesOf, DissectsAll, EndsFile, GivesNone, HasBegunDissecting, IsJudged, LeavesNone, PrintsLast, PrintsNext, PrintsPiece, Reads, StopsLast, StopsNext, StopsReading, TellsPiece, ToldSoFar}
+use Rattle.ua_program.specs.Dissects.{AreLinesOf, DissectsAll, EndsFile, GivesNone, HasBegunDissecting, IsJudged, LeavesNone, PrintsLast}
+use Rattle.ua_program.specs.Dissects.{PrintsNext, PrintsPiece, Reads, StopsLast, StopsNext, StopsReading, TellsPiece, ToldSoFar}
 use Rattle.ua_program.proofs.HexParts.{hex_first}
 
 -- nothing yet
@@ -29,11 +31,13 @@ first_holds : (hex : Bool) (half : Option ℕ) → half ≡ None → HoldsSoFar 
 first_holds false half none = refl
 first_holds true half none = subst (λ (h : Option ℕ). HexSoFar h [] []) (sym none) hex_first
 
-pub told_first : (hex : Bool) (options : DissectOptions) (half : Option ℕ) (d : Dissector) → half ≡ None → StandsBehind d options [] [] → ToldSoFar hex options half d [] []
+pub told_first : (hex : Bool) (options : DissectOptions) (half : Option ℕ) (d : Dissector) → half ≡ None → StandsBehind d options [] []
+    → ToldSoFar hex options half d [] []
 told_first hex options half d none stands = record { octets = []; holds = first_holds hex half none; stands = stands }
 
 -- a piece of octets as they are
-pub plain_piece : (hex : Bool) (old new : Option ℕ) (content octets piece : List ℕ) → hex ≡ false → HoldsSoFar hex old content octets → HoldsSoFar hex new (content ++ piece) (octets ++ piece)
+pub plain_piece : (hex : Bool) (old new : Option ℕ) (content octets piece : List ℕ) → hex ≡ false → HoldsSoFar hex old content octets
+    → HoldsSoFar hex new (content ++ piece) (octets ++ piece)
 plain_piece false old new content octets piece plain h = ap (λ (o : List ℕ). o ++ piece) h
 plain_piece true old new content octets piece plain h = absurd cc
 
@@ -47,21 +51,24 @@ digit_piece true half content octets digits h = h
 digit_piece false half content octets digits h = absurd cc
 
 -- lines more of a piece whose octets are these
-pub tells_piece : (hex : Bool) (options : DissectOptions) (half : Option ℕ) (e : Dissector) (content octets told old new : List ℕ) → HoldsSoFar hex half content octets → TellsMore e options octets told old new → TellsPiece hex options half e content told old new
+pub tells_piece : (hex : Bool) (options : DissectOptions) (half : Option ℕ) (e : Dissector) (content octets told old new : List ℕ)
+    → HoldsSoFar hex half content octets → TellsMore e options octets told old new → TellsPiece hex options half e content told old new
 tells_piece hex options half e content octets told old new holds t = record {
   lines = t.lines;
   added = t.added;
   so_far = record { octets = octets; holds = holds; stands = t.stands };
 }
 
-pub tells_so : (hex : Bool) (options : DissectOptions) (half half2 : Option ℕ) (e e2 : Dissector) (content octets told old new new2 : List ℕ) → half ≡ half2 → e ≡ e2 → new ≡ new2 → HoldsSoFar hex half2 content octets → TellsMore e2 options octets told old new2 → TellsPiece hex options half e content told old new
+pub tells_so : (hex : Bool) (options : DissectOptions) (half half2 : Option ℕ) (e e2 : Dissector) (content octets told old new new2 : List ℕ) → half ≡ half2
+    → e ≡ e2 → new ≡ new2 → HoldsSoFar hex half2 content octets → TellsMore e2 options octets told old new2 → TellsPiece hex options half e content told old new
 tells_so hex options half half2 e e2 content octets told old new new2 p q r holds t =
     tells_piece hex options half e content octets told old new
     (subst (λ (h : Option ℕ). HoldsSoFar hex h content octets) (sym p) holds)
     (subst (λ (d : Dissector). TellsMore d options octets told old new) (sym q) (subst (λ (n : List ℕ). TellsMore e2 options octets told old n) (sym r) t))
 
 -- the content is there: with --hex each digit has its pair
-pub whole_octets : (hex : Bool) (half : Option ℕ) (content octets : List ℕ) → (hex ≡ false) ⊎ (half ≡ None) → HoldsSoFar hex half content octets → HoldsOctets hex content octets
+pub whole_octets : (hex : Bool) (half : Option ℕ) (content octets : List ℕ) → (hex ≡ false) ⊎ (half ≡ None) → HoldsSoFar hex half content octets
+    → HoldsOctets hex content octets
 whole_octets false half content octets whole h = h
 whole_octets true None content octets whole h = ap decode_of (h.parts ∙ append-nil h.pairs) ∙ h.decoded
 whole_octets true (Some d) content octets (inl plain) h = absurd cc
@@ -75,13 +82,16 @@ odd_text d text octets x s h =
     let count = ap length s.parts ∙ length-append s.pairs (d ∷ []) in
     absurd (omega (arith, whole, pairs, count))
 
-pub none_holds : (hex : Bool) (half : Option ℕ) (d : ℕ) (content octets : List ℕ) → hex ≡ true → half ≡ Some d → HoldsSoFar hex half content octets → HoldsNone hex content
+pub none_holds : (hex : Bool) (half : Option ℕ) (d : ℕ) (content octets : List ℕ) → hex ≡ true → half ≡ Some d → HoldsSoFar hex half content octets
+    → HoldsNone hex content
 none_holds true (Some e) d content octets is some h x k = odd_text e content octets x h k
 none_holds true None d content octets is some h x k = absurd cc
 none_holds false half d content octets is some h x k = absurd cc
 
-pub ends_file : (hex : Bool) (options : DissectOptions) (content octets told old new : List ℕ) → HoldsOctets hex content octets → EndsLines options octets told old new → EndsFile hex options content told old new
-ends_file hex options content octets told old new holds l = record { line = l.line; added = l.added; lines = record { octets = octets; holds = holds; lines = l.are } }
+pub ends_file : (hex : Bool) (options : DissectOptions) (content octets told old new : List ℕ) → HoldsOctets hex content octets
+    → EndsLines options octets told old new → EndsFile hex options content told old new
+ends_file hex options content octets told old new holds l =
+    record { line = l.line; added = l.added; lines = record { octets = octets; holds = holds; lines = l.are } }
 
 -- no digit is left
 pub none_left : (half : Option ℕ) → is_none half ≡ true → half ≡ None
@@ -103,7 +113,8 @@ appends_more (Some u) (Some v) None x y h k = absurd k
 appends_more (Some u) (Some v) (Some w) x y h k = k ∙ ap (λ (t : List ℕ). t ++ y) h ∙ append_assoc u x y
 
 -- nothing is left behind what holds nothing
-pub at_end_none : (known after : Option (List ℕ)) (read : List ℕ) (hex : Bool) (content : List ℕ) → read ≡ [] → Consumes known after read → IsAtEnd after → HoldsNone hex content → LeavesNone hex content known
+pub at_end_none : (known after : Option (List ℕ)) (read : List ℕ) (hex : Bool) (content : List ℕ) → read ≡ [] → Consumes known after read → IsAtEnd after
+    → HoldsNone hex content → LeavesNone hex content known
 at_end_none None after read hex content none h end holds rest is = absurd cc
 at_end_none (Some xs) None read hex content none h end holds rest is = absurd h
 at_end_none (Some xs) (Some ys) read hex content none h end holds rest is =
@@ -111,35 +122,43 @@ at_end_none (Some xs) (Some ys) read hex content none h end holds rest is =
     λ octets k. holds octets (subst (λ (u : List ℕ). HoldsOctets hex u octets) (ap (λ (u : List ℕ). content ++ u) left ∙ append-nil content) k)
 
 -- what is read behind content that can't be made good
-pub never_left : (known after : Option (List ℕ)) (read : List ℕ) (hex : Bool) (content : List ℕ) → Consumes known after read → HoldsNever hex (content ++ read) → LeavesNone hex content known
+pub never_left : (known after : Option (List ℕ)) (read : List ℕ) (hex : Bool) (content : List ℕ) → Consumes known after read → HoldsNever hex (content ++ read)
+    → LeavesNone hex content known
 never_left None after read hex content h never rest is = absurd cc
 never_left (Some xs) None read hex content h never rest is = absurd h
 never_left (Some xs) (Some ys) read hex content h never rest is =
     let parts : rest ≡ read ++ ys = sym (ap (λ (o : Option (List ℕ)). unwrap_or o []) is) ∙ h in
-    λ octets k. never ys octets (subst (λ (u : List ℕ). HoldsOctets hex u octets) (ap (λ (u : List ℕ). content ++ u) parts ∙ sym (append_assoc content read ys)) k)
+    λ octets k.
+    never ys octets (subst (λ (u : List ℕ). HoldsOctets hex u octets) (ap (λ (u : List ℕ). content ++ u) parts ∙ sym (append_assoc content read ys)) k)
 
 -- a fault of a file, as what stops the command
-pub stops_next : (hex : Bool) (file : Bor (List ℕ)) (content : List ℕ) (known : Option (List ℕ)) (fault : Fault) (why : Stop) → why ≡ stop.Fault fault → (fault ≡ NoMemory) ⊎ ((fault ≡ NotHexadecimal file) × LeavesNone hex content known) → StopsNext hex file content known why
+pub stops_next : (hex : Bool) (file : Bor (List ℕ)) (content : List ℕ) (known : Option (List ℕ)) (fault : Fault) (why : Stop) → why ≡ stop.Fault fault
+    → (fault ≡ NoMemory) ⊎ ((fault ≡ NotHexadecimal file) × LeavesNone hex content known) → StopsNext hex file content known why
 stops_next hex file content known fault why is (inl memory) = inr (inl (is ∙ ap stop.Fault memory))
 stops_next hex file content known fault why is (inr refused) = inr (inr (inr (is ∙ ap stop.Fault refused.0, refused.1)))
 
-pub reason_left : {fault : Fault} {file : Bor (List ℕ)} {P Q : Type 0} → (P → Q) → (fault ≡ NoMemory) ⊎ ((fault ≡ NotHexadecimal file) × P) → (fault ≡ NoMemory) ⊎ ((fault ≡ NotHexadecimal file) × Q)
+pub reason_left : {fault : Fault} {file : Bor (List ℕ)} {P Q : Type 0} → (P → Q) → (fault ≡ NoMemory) ⊎ ((fault ≡ NotHexadecimal file) × P)
+    → (fault ≡ NoMemory) ⊎ ((fault ≡ NotHexadecimal file) × Q)
 reason_left f (inl memory) = inl memory
 reason_left f (inr refused) = inr (refused.0, f refused.1)
 
 -- a fault of a file at its last line, as what stops the command
-pub stops_last : (hex : Bool) (file : Bor (List ℕ)) (content : List ℕ) (fault : Fault) (why : Stop) → why ≡ stop.Fault fault → (fault ≡ NoMemory) ⊎ ((fault ≡ NotHexadecimal file) × HoldsNone hex content) → StopsLast hex file content why
+pub stops_last : (hex : Bool) (file : Bor (List ℕ)) (content : List ℕ) (fault : Fault) (why : Stop) → why ≡ stop.Fault fault
+    → (fault ≡ NoMemory) ⊎ ((fault ≡ NotHexadecimal file) × HoldsNone hex content) → StopsLast hex file content why
 stops_last hex file content fault why is (inl memory) = inr (inl (is ∙ ap stop.Fault memory))
 stops_last hex file content fault why is (inr refused) = inr (inr (is ∙ ap stop.Fault refused.0, refused.1))
 
 -- what stops at the last line stops the last read
-pub last_stops : (hex : Bool) (file : Bor (List ℕ)) (content all : List ℕ) (known : Option (List ℕ)) (why : Stop) → (HoldsNone hex all → LeavesNone hex content known) → StopsLast hex file all why → StopsNext hex file content known why
+pub last_stops : (hex : Bool) (file : Bor (List ℕ)) (content all : List ℕ) (known : Option (List ℕ)) (why : Stop)
+    → (HoldsNone hex all → LeavesNone hex content known) → StopsLast hex file all why → StopsNext hex file content known why
 last_stops hex file content all known why leaves (inl output) = inl output
 last_stops hex file content all known why leaves (inr (inl memory)) = inr (inl memory)
 last_stops hex file content all known why leaves (inr (inr refused)) = inr (inr (inr (refused.0, leaves refused.1)))
 
 -- the last line is printed, at the end
-pub prints_last : (verdict : Verdict) (hex : Bool) (options : DissectOptions) (content told cleared text : List ℕ) (before after old new : Option (List ℕ)) (read : List ℕ) → read ≡ [] → Consumes before after read → IsAtEnd after → cleared ≡ [] → EndsFile hex options content told cleared text × IsJudged verdict hex options content → Appends old new text → PrintsLast verdict hex options content told before after old new
+pub prints_last : (verdict : Verdict) (hex : Bool) (options : DissectOptions) (content told cleared text : List ℕ) (before after old new : Option (List ℕ))
+    (read : List ℕ) → read ≡ [] → Consumes before after read → IsAtEnd after → cleared ≡ [] → EndsFile hex options content told cleared text
+    × IsJudged verdict hex options content → Appends old new text → PrintsLast verdict hex options content told before after old new
 prints_last verdict hex options content told cleared text before after old new read none consumed end empty e printed = record {
   piece = [];
   consumed = subst (λ (u : List ℕ). Consumes before after u) none consumed;
@@ -151,7 +170,8 @@ prints_last verdict hex options content told cleared text before after old new r
 }
 
 -- the last line is printed at a frame that is refused
-pub prints_refused : (verdict : Verdict) (hex : Bool) (options : DissectOptions) (half : Option ℕ) (d : Dissector) (content piece told cleared mid text : List ℕ) (before after old new : Option (List ℕ)) → hex ≡ false
+pub prints_refused : (verdict : Verdict) (hex : Bool) (options : DissectOptions) (half : Option ℕ) (d : Dissector)
+    (content piece told cleared mid text : List ℕ) (before after old new : Option (List ℕ)) → hex ≡ false
     → ((octets lines more : List ℕ) → StandsBehind d options octets lines → StandsBehind d options (octets ++ more) lines)
     → Consumes before after piece → cleared ≡ [] → TellsPiece hex options half d (content ++ piece) told cleared mid
     → ((c t : List ℕ) → ToldSoFar hex options half d c t → EndsFile hex options c t mid text × IsJudged verdict hex options c)
@@ -182,7 +202,8 @@ prints_refused verdict hex options half d content piece told cleared mid text be
     }
 
 -- nothing was read, so nothing is left
-pub nothing_read : (n : ℕ) (known after : Option (List ℕ)) (piece : List ℕ) → Reads (Some n) known after piece → n ≡ 0 → 0 < length piece → (take n piece ≡ []) × IsAtEnd after
+pub nothing_read : (n : ℕ) (known after : Option (List ℕ)) (piece : List ℕ) → Reads (Some n) known after piece → n ≡ 0 → 0 < length piece
+    → (take n piece ≡ []) × IsAtEnd after
 nothing_read zero known after piece r none room = (refl, r.2 refl room)
 nothing_read (suc n) known after piece r none room = absurd cc
 
@@ -209,7 +230,8 @@ appends_none : (known : Option (List ℕ)) → Appends known known []
 appends_none None = tt
 appends_none (Some xs) = sym (append-nil xs)
 
-pub read_first : (hex : Bool) (options : DissectOptions) (half : Option ℕ) (d : Dissector) (known held : Option (List ℕ)) → half ≡ None → StandsBehind d options [] [] → ReadSoFar hex options half d known known held held
+pub read_first : (hex : Bool) (options : DissectOptions) (half : Option ℕ) (d : Dissector) (known held : Option (List ℕ)) → half ≡ None
+    → StandsBehind d options [] [] → ReadSoFar hex options half d known known held held
 read_first hex options half d known held none stands = record {
   content = [];
   told = [];
@@ -218,7 +240,9 @@ read_first hex options half d known held none stands = record {
   added = appends_none held;
 }
 
-pub reads_on : (hex : Bool) (options : DissectOptions) (half half2 : Option ℕ) (d e : Dissector) (before now after old held new : Option (List ℕ)) (s : ReadSoFar hex options half d before now old held) → PrintsPiece hex options half2 e s.content s.told now after held new → ReadSoFar hex options half2 e before after old new
+pub reads_on : (hex : Bool) (options : DissectOptions) (half half2 : Option ℕ) (d e : Dissector) (before now after old held new : Option (List ℕ))
+    (s : ReadSoFar hex options half d before now old held) → PrintsPiece hex options half2 e s.content s.told now after held new
+    → ReadSoFar hex options half2 e before after old new
 reads_on hex options half half2 d e before now after old held new s p = record {
   content = s.content ++ p.piece;
   told = s.told ++ p.lines;
@@ -227,7 +251,9 @@ reads_on hex options half half2 d e before now after old held new s p = record {
   added = appends_more old held new s.told p.lines s.added p.added;
 }
 
-pub reads_all : (verdict : Verdict) (hex : Bool) (options : DissectOptions) (half : Option ℕ) (d : Dissector) (before now after old held new : Option (List ℕ)) (s : ReadSoFar hex options half d before now old held) → PrintsLast verdict hex options s.content s.told now after held new → DissectsAll verdict hex options before after old new
+pub reads_all : (verdict : Verdict) (hex : Bool) (options : DissectOptions) (half : Option ℕ) (d : Dissector) (before now after old held new : Option (List ℕ))
+    (s : ReadSoFar hex options half d before now old held) → PrintsLast verdict hex options s.content s.told now after held new
+    → DissectsAll verdict hex options before after old new
 reads_all verdict hex options half d before now after old held new s p = record {
   content = s.content ++ p.piece;
   consumed = consumes_more before now after s.content p.piece s.consumed p.consumed;
@@ -238,7 +264,8 @@ reads_all verdict hex options half d before now after old held new s p = record 
   added = appends_more old held new s.told p.line s.added p.added;
 }
 
-pub has_begun : (hex : Bool) (options : DissectOptions) (half : Option ℕ) (d : Dissector) (before now old held : Option (List ℕ)) → ReadSoFar hex options half d before now old held → HasBegunDissecting hex options before old held
+pub has_begun : (hex : Bool) (options : DissectOptions) (half : Option ℕ) (d : Dissector) (before now old held : Option (List ℕ))
+    → ReadSoFar hex options half d before now old held → HasBegunDissecting hex options before old held
 has_begun hex options half d before now old held s = record {
   after = now;
   content = s.content;
@@ -258,18 +285,23 @@ gives_none hex (Some xs) None content h none all is = absurd h
 gives_none hex (Some xs) (Some ys) content h none all is =
     subst (λ (u : List ℕ). HoldsNone hex u) (sym h ∙ ap (λ (o : Option (List ℕ)). unwrap_or o []) is) (none ys refl)
 
-pub stops_reading : (hex : Bool) (file : Bor (List ℕ)) (before now : Option (List ℕ)) (content : List ℕ) (why : Stop) → Consumes before now content → StopsNext hex file content now why → StopsReading hex file before why
+pub stops_reading : (hex : Bool) (file : Bor (List ℕ)) (before now : Option (List ℕ)) (content : List ℕ) (why : Stop) → Consumes before now content
+    → StopsNext hex file content now why → StopsReading hex file before why
 stops_reading hex file before now content why h (inl output) = inl output
 stops_reading hex file before now content why h (inr (inl memory)) = inr (inl memory)
 stops_reading hex file before now content why h (inr (inr (inl read))) = inr (inr (inl read))
 stops_reading hex file before now content why h (inr (inr (inr refused))) = inr (inr (inr (refused.0, gives_none hex before now content h refused.1)))
 
 -- a read that is the last one, or is not
-pub as_piece : (ended : Option Verdict) (hex : Bool) (options : DissectOptions) (half : Option ℕ) (d : Dissector) (content told : List ℕ) (before after old new : Option (List ℕ)) → ended ≡ None → PrintsNext ended hex options half d content told before after old new → PrintsPiece hex options half d content told before after old new
+pub as_piece : (ended : Option Verdict) (hex : Bool) (options : DissectOptions) (half : Option ℕ) (d : Dissector) (content told : List ℕ)
+    (before after old new : Option (List ℕ)) → ended ≡ None → PrintsNext ended hex options half d content told before after old new
+    → PrintsPiece hex options half d content told before after old new
 as_piece None hex options half d content told before after old new is p = p
 as_piece (Some v) hex options half d content told before after old new is p = absurd cc
 
-pub as_last : (ended : Option Verdict) (verdict : Verdict) (hex : Bool) (options : DissectOptions) (half : Option ℕ) (d : Dissector) (content told : List ℕ) (before after old new : Option (List ℕ)) → ended ≡ Some verdict → PrintsNext ended hex options half d content told before after old new → PrintsLast verdict hex options content told before after old new
+pub as_last : (ended : Option Verdict) (verdict : Verdict) (hex : Bool) (options : DissectOptions) (half : Option ℕ) (d : Dissector) (content told : List ℕ)
+    (before after old new : Option (List ℕ)) → ended ≡ Some verdict → PrintsNext ended hex options half d content told before after old new
+    → PrintsLast verdict hex options content told before after old new
 as_last (Some v) verdict hex options half d content told before after old new is p =
     let same : v ≡ verdict = cc in
     subst (λ (w : Verdict). PrintsLast w hex options content told before after old new) same p
@@ -277,7 +309,8 @@ as_last None verdict hex options half d content told before after old new is p =
 
 -- ---- what a run leaves
 
-pub dissected : (verdict : Verdict) (hex : Bool) (options : DissectOptions) (before after old new : Option (List ℕ)) → DissectsAll verdict hex options before after old new → HasDissected old new
+pub dissected : (verdict : Verdict) (hex : Bool) (options : DissectOptions) (before after old new : Option (List ℕ))
+    → DissectsAll verdict hex options before after old new → HasDissected old new
 dissected verdict hex options before after old new d = record {
   text = d.text;
   lines = record { options = options; octets = d.lines.octets; lines = d.lines.lines };
@@ -288,10 +321,12 @@ pub told_some : (hex : Bool) (options : DissectOptions) (source old new : Option
 told_some hex options source old new h = record { hex = hex; options = options; source = source; lines = h }
 
 -- a script that stopped has begun
-pub loop_stops : {A B : Type 0} (people names : Bool) (why : Stop) (old new : Option (List ℕ)) → A ⊎ (B ⊎ HasLoopedUntil people names why old new) → A ⊎ (B ⊎ HasBegun old new)
+pub loop_stops : {A B : Type 0} (people names : Bool) (why : Stop) (old new : Option (List ℕ)) → A ⊎ (B ⊎ HasLoopedUntil people names why old new)
+    → A ⊎ (B ⊎ HasBegun old new)
 loop_stops people names why old new (inl a) = inl a
 loop_stops people names why old new (inr (inl b)) = inr (inl b)
-loop_stops people names why old new (inr (inr h)) = inr (inr (inr (inr (inr (inr (inl (record { people = people; names = names; fault = Some h.fault; looped = h.looped })))))))
+loop_stops people names why old new (inr (inr h)) =
+    inr (inr (inr (inr (inr (inr (inl (record { people = people; names = names; fault = Some h.fault; looped = h.looped })))))))
 
 -- a session that stopped has begun
 pub talk_stops : {A B : Type 0} (style : AnswerStyle) (old new : Option (List ℕ)) → A ⊎ HasTalked style old new → A ⊎ (B ⊎ HasBegun old new)
@@ -311,7 +346,8 @@ listed_stops style old new (inr (inl b)) = inr (inl b)
 listed_stops style old new (inr (inr h)) = inr (inr (inr (inr (inl (record { style = style; listed = h })))))
 
 -- where only the writer failed nothing is told, but for a reason that is asked for, and of a server that goes on
-pub told_or_not : {A B C Kept D S W : Type 0} → A ⊎ (B ⊎ C) → (A → Kept ⊎ W) → (aloud : Bool) → (aloud ≡ true → S) → (aloud ≡ false → Kept → D) → B ⊎ (D ⊎ (C ⊎ (S ⊎ W)))
+pub told_or_not : {A B C Kept D S W : Type 0} → A ⊎ (B ⊎ C) → (A → Kept ⊎ W) → (aloud : Bool) → (aloud ≡ true → S) → (aloud ≡ false → Kept → D)
+    → B ⊎ (D ⊎ (C ⊎ (S ⊎ W)))
 told_or_not (inl a) f aloud says keeps = untold (f a) aloud says keeps
   where
     untold : {B C Kept D S W : Type 0} → Kept ⊎ W → (aloud : Bool) → (aloud ≡ true → S) → (aloud ≡ false → Kept → D) → B ⊎ (D ⊎ (C ⊎ (S ⊎ W)))

@@ -1,5 +1,6 @@
 -- The lines of `ua serve`, one connection after the other.
-use Rattle.std.proofs.Common.{◌≡◌, ◌<◌, ◌^◌, ◌⊎◌, inl, inr, ℕ, suc, ◌+◌, Bool, true, List, [], ◌∷◌, ◌++◌, length, Option, Some, None, Result, Ok, Err, IsErrAnd, IfErr, OnOk, ap, sym, subst, ◌∙◌, append_assoc, length-append, refl, arith}
+use Rattle.std.proofs.Common.{◌≡◌, ◌<◌, ◌^◌, ◌⊎◌, inl, inr, ℕ, suc, ◌+◌, Bool, true, List, [], ◌∷◌, ◌++◌, length, Option, Some, None}
+use Rattle.std.proofs.Common.{Result, Ok, Err, IsErrAnd, IfErr, OnOk, ap, sym, subst, ◌∙◌, append_assoc, length-append, refl, arith}
 use Rattle.std.proofs.lemmas.List.{append-nil}
 use Rattle.std.proofs.KnownBytes.{Appends-nil, Appends-trans}
 use Rattle.std.specs.Io.KnownBytes.{Appends}
@@ -17,7 +18,9 @@ use Rattle.ua_program.specs.declared.output.Stop.TheVariants as stop
 use Rattle.ua_program.specs.declared.serve.Halt.{Halt}
 use Rattle.ua_program.specs.declared.serve.Halt.TheVariants.{Memory, Output}
 use Rattle.ua_program.specs.declared.serve.RequestLines.{RequestLines}
-use Rattle.ua_program.specs.Served.{Connection, HasServed, HasServedSome, HasTold, IsConnection, IsConnectionLine, Prints, PrintsNext, PrintsRequest, SaysOutcome, ServesOne, connection_line, connection_lines, connection_text, endpoint_on, listening_line, no_memory, request_line}
+use Rattle.ua_program.specs.Served.{Connection, HasServed, HasServedSome, HasTold, IsConnection, IsConnectionLine, Prints}
+use Rattle.ua_program.specs.Served.{PrintsNext, PrintsRequest, SaysOutcome, ServesOne, connection_line, connection_lines}
+use Rattle.ua_program.specs.Served.{connection_text, endpoint_on, listening_line, no_memory, request_line}
 
 -- one more of which it holds
 all_then : {X : Type 0} (P : X → Type 0) (xs : List X) (x : X) → AllByRecursion P xs → P x → AllByRecursion P (xs ++ x ∷ [])
@@ -35,7 +38,8 @@ lines_then first number (d ∷ before) c is =
     ∙ sym (append_assoc (connection_text first d) (connection_lines (suc first) before) (connection_text number c))
 
 -- no connection yet
-pub none_served : (requests goes_on : Bool) (port : ℕ) (old new : Option (List ℕ)) → Appends old new (listening_line port) → HasServed requests goes_on port 0 old new
+pub none_served : (requests goes_on : Bool) (port : ℕ) (old new : Option (List ℕ)) → Appends old new (listening_line port)
+    → HasServed requests goes_on port 0 old new
 none_served requests goes_on port old new added = record {
   served = [];
   each = tt;
@@ -44,7 +48,8 @@ none_served requests goes_on port old new added = record {
 }
 
 -- one connection more
-pub one_served : (requests goes_on : Bool) (port number more count : ℕ) (old mid new : Option (List ℕ)) → HasServed requests goes_on port number old mid → ServesOne requests goes_on more mid new
+pub one_served : (requests goes_on : Bool) (port number more count : ℕ) (old mid new : Option (List ℕ)) → HasServed requests goes_on port number old mid
+    → ServesOne requests goes_on more mid new
     → more ≡ number + 1 → count ≡ number + 1 → HasServed requests goes_on port count old new
 one_served requests goes_on port number more count old mid new all one next counts =
     let counted = all.count in
@@ -75,7 +80,8 @@ at_any_ok (Ok x) p = p
 at_any_ok (Err e) p = tt
 
 -- what a stop behind some connections leaves
-pub some_served : (requests goes_on : Bool) (port number more connections : ℕ) (old mid new : Option (List ℕ)) → HasServed requests goes_on port number old mid → number < connections
+pub some_served : (requests goes_on : Bool) (port number more connections : ℕ) (old mid new : Option (List ℕ)) → HasServed requests goes_on port number old mid
+    → number < connections
     → HasTold requests more mid new → more ≡ number + 1 → HasServedSome requests goes_on port connections old new
 some_served requests goes_on port number more connections old mid new all fewer told next = record {
   served = number;
@@ -90,7 +96,8 @@ pub own_fits : (port : ℕ) → port < 2 ^ 16 → Fits (endpoint_on port)
 own_fits port small = record { url = local_url_fits port small; application_uri = server_uri_fits; name = name_fits }
 
 -- the line of a connection that was served, and added to a writer behind the lines of its requests
-pub one_said : (requests goes_on : Bool) (number : ℕ) (line shown : List ℕ) (old mid new : Option (List ℕ)) → HasTold requests number old mid → IsConnectionLine number line
+pub one_said : (requests goes_on : Bool) (number : ℕ) (line shown : List ℕ) (old mid new : Option (List ℕ)) → HasTold requests number old mid
+    → IsConnectionLine number line
     → shown ≡ line → Appends mid new shown → ServesOne requests goes_on number old new
 one_said requests goes_on number line shown old mid new told is same added = record {
   connection = record { told = told.told; outcome = is.text };
@@ -99,7 +106,8 @@ one_said requests goes_on number line shown old mid new told is same added = rec
 }
 
 -- the line of a connection at which memory was refused, behind the lines of its requests
-pub memory_said : (requests goes_on : Bool) (number : ℕ) (old mid new : Option (List ℕ)) → HasTold requests number old mid → goes_on ≡ true → Appends mid new (connection_line number no_memory)
+pub memory_said : (requests goes_on : Bool) (number : ℕ) (old mid new : Option (List ℕ)) → HasTold requests number old mid → goes_on ≡ true
+    → Appends mid new (connection_line number no_memory)
     → ServesOne requests goes_on number old new
 memory_said requests goes_on number old mid new told on added = record {
   connection = record { told = told.told; outcome = no_memory };
@@ -116,7 +124,8 @@ starved_left why is (inr left) = left
 
 -- what stops a connection, or the server, leaves what it left
 pub outlived_left : {O : Type 0} (contents : O → Option (List ℕ)) (requests : Bool) (number : ℕ) (old : Option (List ℕ)) (mid new : O) (first why : Stop)
-    → StopsWriting first ⊎ HasTold requests number old (contents mid) → StopsWriting why ⊎ ((why ≡ first) × (new ≡ mid)) → StopsWriting why ⊎ HasTold requests number old (contents new)
+    → StopsWriting first ⊎ HasTold requests number old (contents mid) → StopsWriting why ⊎ ((why ≡ first) × (new ≡ mid))
+    → StopsWriting why ⊎ HasTold requests number old (contents new)
 outlived_left contents requests number old mid new first why left (inl output) = inl output
 outlived_left {O} contents requests number old mid new first why left (inr same) =
     subst (λ (o : O). StopsWriting why ⊎ HasTold requests number old (contents o)) (sym same.1)
@@ -133,7 +142,8 @@ pub none_told : (requests : Bool) (number : ℕ) (old new : Option (List ℕ)) �
 none_told requests number old new same = record { told = []; wanted = λ _. refl; added = subst (λ w. Appends old w []) (sym same) (Appends-nil old) }
 
 -- the line of one request in front
-told_first : (number : ℕ) (r : AnsweredRequest) (old mid new : Option (List ℕ)) → Appends old mid (request_line number r) → HasTold true number mid new → HasTold true number old new
+told_first : (number : ℕ) (r : AnsweredRequest) (old mid new : Option (List ℕ)) → Appends old mid (request_line number r) → HasTold true number mid new
+    → HasTold true number old new
 told_first number r old mid new added rest = record {
   told = r ∷ rest.told;
   wanted = λ e. cc;
@@ -146,7 +156,8 @@ ComesTo None number old new = HasTold true number old new
 ComesTo (Some Memory) number old new = HasTold true number old new
 ComesTo (Some (Output e)) number old new = ⊤
 
-comes_first : (h : Option Halt) (number : ℕ) (r : AnsweredRequest) (old mid new : Option (List ℕ)) → Appends old mid (request_line number r) → ComesTo h number mid new → ComesTo h number old new
+comes_first : (h : Option Halt) (number : ℕ) (r : AnsweredRequest) (old mid new : Option (List ℕ)) → Appends old mid (request_line number r)
+    → ComesTo h number mid new → ComesTo h number old new
 comes_first None number r old mid new added rest = told_first number r old mid new added rest
 comes_first (Some Memory) number r old mid new added rest = told_first number r old mid new added rest
 comes_first (Some (Output e)) number r old mid new added rest = tt
@@ -160,7 +171,8 @@ module _ {O : Type 0} (contents : O → Option (List ℕ)) where
   keeps_writer p q (r ∷ rs) led = keeps_writer led.0 q rs led.2 ∙ led.1.same_writer
 
   -- once a line could not be printed none more is
-  halted : (h : Halt) (p q : RequestLines O) (rs : List AnsweredRequest) → p.halt ≡ Some h → Goes p rs q → (q.halt ≡ Some h) × (contents q.out.now ≡ contents p.out.now)
+  halted : (h : Halt) (p q : RequestLines O) (rs : List AnsweredRequest) → p.halt ≡ Some h → Goes p rs q
+      → (q.halt ≡ Some h) × (contents q.out.now ≡ contents p.out.now)
   halted h p q [] is led = (ap (λ (x : RequestLines O). x.halt) (sym led) ∙ is, ap (λ (x : RequestLines O). contents x.out.now) (sym led))
   halted h p q (r ∷ rs) is led =
       let mid = led.0 in
@@ -171,7 +183,8 @@ module _ {O : Type 0} (contents : O → Option (List ℕ)) where
   -- what comes behind the first line, where the rest follows
   comes_behind : (h : Option Halt) (r : AnsweredRequest) (p mid q : RequestLines O) (rs : List AnsweredRequest) → mid.halt ≡ h → mid.number ≡ p.number
       → Prints h (request_line p.number r) (contents p.out.now) (contents mid.out.now) → Goes mid rs q
-      → (mid.halt ≡ None → ComesTo q.halt mid.number (contents mid.out.now) (contents q.out.now)) → ComesTo q.halt p.number (contents p.out.now) (contents q.out.now)
+      → (mid.halt ≡ None → ComesTo q.halt mid.number (contents mid.out.now) (contents q.out.now))
+      → ComesTo q.halt p.number (contents p.out.now) (contents q.out.now)
   comes_behind None r p mid q rs is number added led rest =
       comes_first q.halt p.number r _ _ _ added (subst (λ n. ComesTo q.halt n (contents mid.out.now) (contents q.out.now)) number (rest is))
   comes_behind (Some Memory) r p mid q rs is number same led rest =
@@ -192,13 +205,15 @@ module _ {O : Type 0} (contents : O → Option (List ℕ)) where
       comes_behind mid.halt r p mid q rs refl led.1.same_number printed led.2 (λ none. comes mid q rs none led.2)
 
   -- the lines that were printed, where w is what the lent writer ends as
-  pub lines_told : (p q : RequestLines O) (w : O) → (rs : List AnsweredRequest) × Goes p rs q → p.halt ≡ None → (p.out.ghost_name ≡ q.out.ghost_name → w ≡ q.out.now)
+  pub lines_told : (p q : RequestLines O) (w : O) → (rs : List AnsweredRequest) × Goes p rs q → p.halt ≡ None
+      → (p.out.ghost_name ≡ q.out.ghost_name → w ≡ q.out.now)
       → ComesTo q.halt p.number (contents p.out.now) (contents w)
   lines_told p q w led none back =
       let same = back (sym (keeps_writer p q led.0 led.1)) in
       subst (λ x. ComesTo q.halt p.number (contents p.out.now) (contents x)) (sym same) (comes p q led.0 none led.1)
 
 -- where the output did not fail
-pub told_by : (h : Option Halt) (number : ℕ) (old new : Option (List ℕ)) → ComesTo h number old new → (h ≡ None) ⊎ (h ≡ Some Memory) → HasTold true number old new
+pub told_by : (h : Option Halt) (number : ℕ) (old new : Option (List ℕ)) → ComesTo h number old new → (h ≡ None) ⊎ (h ≡ Some Memory)
+    → HasTold true number old new
 told_by h number old new comes (inl is) = subst (λ x. ComesTo x number old new) is comes
 told_by h number old new comes (inr is) = subst (λ x. ComesTo x number old new) is comes

@@ -17,7 +17,8 @@ at_fault P (Ok x) fault h p = absurd h
 at_fault P (Err e) fault h p = subst P (sym h) p
 
 -- the whole text of a file whose lines write nodes and name namespaces
-pub whole_so : (text whole : List ℕ) (nodes : Nodes) (uris passed : List (List ℕ)) (keeps_time : Bool) → WriteNodes (node_lines text) nodes → AreNamed (namespace_lines text) uris
+pub whole_so : (text whole : List ℕ) (nodes : Nodes) (uris passed : List (List ℕ)) (keeps_time : Bool) → WriteNodes (node_lines text) nodes
+    → AreNamed (namespace_lines text) uris
     → whole ≡ standard_text nodes passed text → passed ≡ uris → keeps_time ≡ lacks nodes 2258 → IsWhole text keeps_time whole
 whole_so text whole nodes uris passed keeps_time written named is same keeps = record {
   nodes = nodes;
@@ -38,12 +39,15 @@ of_nodes text fault (inl memory) = inl memory
 of_nodes text fault (inr bad) = inr (inr (inl bad))
 
 -- and for what stands behind them
-pub of_whole : (text whole passed : List ℕ) (keeps_time : Bool) (fault : Fault) → IsWhole text keeps_time whole → passed ≡ whole → RefusesNodes passed fault → RefusesStandard text fault
+pub of_whole : (text whole passed : List ℕ) (keeps_time : Bool) (fault : Fault) → IsWhole text keeps_time whole → passed ≡ whole → RefusesNodes passed fault
+    → RefusesStandard text fault
 of_whole text whole passed keeps_time fault is same (inl memory) = inl memory
 of_whole text whole passed keeps_time fault is same (inr bad) =
     inr (inr (inr (record { keeps_time = keeps_time; whole = whole; is = is; refused = subst (λ t. RefusesLine t fault) same bad })))
 
 -- services over the whole text begin with what the file has
-pub begins_so : (text whole passed : List ℕ) (port : ℕ) (keeps_time : Bool) (services : State) → IsWhole text keeps_time whole → passed ≡ whole → BeginsWith passed port services
+pub begins_so : (text whole passed : List ℕ) (port : ℕ) (keeps_time : Bool) (services : State) → IsWhole text keeps_time whole → passed ≡ whole
+    → BeginsWith passed port services
     → BeginsStandard text port keeps_time services
-begins_so text whole passed port keeps_time services is same begins = record { whole = whole; is = is; begins = subst (λ t. BeginsWith t port services) same begins }
+begins_so text whole passed port keeps_time services is same begins =
+    record { whole = whole; is = is; begins = subst (λ t. BeginsWith t port services) same begins }

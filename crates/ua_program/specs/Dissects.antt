@@ -104,7 +104,8 @@ Reads None before after piece = Consumes before after []
 Reads (Some n) before after piece = (n ≤ length piece) × Consumes before after (take n piece) × (n ≡ 0 → 0 < length piece → IsAtEnd after)
 
 -- one more fragment was read, and the lines of what is complete with it were printed
-pub record PrintsPiece (hex : Bool) (options : DissectOptions) (half : Option ℕ) (d : Dissector) (content told : List ℕ) (before after old new : Option (List ℕ)) : Type 0 where
+pub record PrintsPiece (hex : Bool) (options : DissectOptions) (half : Option ℕ) (d : Dissector) (content told : List ℕ)
+    (before after old new : Option (List ℕ)) : Type 0 where
   pub piece : List ℕ
   pub consumed : Consumes before after piece
   pub lines : List ℕ
@@ -113,7 +114,8 @@ pub record PrintsPiece (hex : Bool) (options : DissectOptions) (half : Option �
 
 -- one more fragment was read, none at the end, and the lines of what is complete with it were
 -- printed, with the last line: nothing more has lines
-pub record PrintsLast (verdict : Verdict) (hex : Bool) (options : DissectOptions) (content told : List ℕ) (before after old new : Option (List ℕ)) : Type 0 where
+pub record PrintsLast (verdict : Verdict) (hex : Bool) (options : DissectOptions) (content told : List ℕ) (before after old new : Option (List ℕ)) : Type
+    0 where
   pub piece : List ℕ
   pub consumed : Consumes before after piece
   pub line : List ℕ
@@ -123,7 +125,8 @@ pub record PrintsLast (verdict : Verdict) (hex : Bool) (options : DissectOptions
   pub judged : IsJudged verdict hex options (content ++ piece)
 
 -- what one more read prints, as the last one or not
-abbrev pub PrintsNext : Option Verdict → Bool → DissectOptions → Option ℕ → Dissector → List ℕ → List ℕ → Option (List ℕ) → Option (List ℕ) → Option (List ℕ) → Option (List ℕ) → Type 0
+abbrev pub PrintsNext : Option Verdict → Bool → DissectOptions → Option ℕ → Dissector → List ℕ → List ℕ → Option (List ℕ) → Option (List ℕ) → Option (List ℕ)
+    → Option (List ℕ) → Type 0
 PrintsNext None hex options half d content told before after old new = PrintsPiece hex options half d content told before after old new
 PrintsNext (Some verdict) hex options half d content told before after old new = PrintsLast verdict hex options content told before after old new
 
@@ -139,4 +142,5 @@ LeavesNone hex content known = (rest : List ℕ) → known ≡ Some rest → Hol
 -- why one more read stops
 abbrev pub StopsNext : Bool → Bor (List ℕ) → List ℕ → Option (List ℕ) → Stop → Type 0
 StopsNext hex file content known why =
-    StopsWriting why ⊎ (why ≡ stop.Fault NoMemory) ⊎ (why ≡ stop.Fault (CannotRead file)) ⊎ ((why ≡ stop.Fault (NotHexadecimal file)) × LeavesNone hex content known)
+    StopsWriting why ⊎ (why ≡ stop.Fault NoMemory) ⊎ (why ≡ stop.Fault (CannotRead file))
+    ⊎ ((why ≡ stop.Fault (NotHexadecimal file)) × LeavesNone hex content known)

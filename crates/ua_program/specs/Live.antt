@@ -26,7 +26,8 @@ pub record TakesReading (last after : List ℕ) (old new : State) : Type 0 where
 
 -- a look at a file: nothing has changed, or a reading was taken
 abbrev pub FollowsFile : {F : Type 0} → LiveFile F → State → LiveFile F → State → Type 0
-FollowsFile before old after new = ((string_bytes after.text ≡ string_bytes before.text) × (new ≡ old)) ⊎ TakesReading (string_bytes before.text) (string_bytes after.text) old new
+FollowsFile before old after new = ((string_bytes after.text ≡ string_bytes before.text) × (new ≡ old))
+    ⊎ TakesReading (string_bytes before.text) (string_bytes after.text) old new
 
 -- the same where no file may be followed: then nothing has changed
 abbrev pub LooksAt : {F : Type 0} → Option (LiveFile F) → State → Option (LiveFile F) → State → Type 0

@@ -61,7 +61,8 @@ pub record HasToldSome (old new : Option (List ℕ)) : Type 0 where
 -- what a run may append that then meets a fault: the lines of frames, the first lines of
 -- `ua serve`, lines of endpoints or of answers, those of a script, or those of a session
 abbrev pub HasBegun : Option (List ℕ) → Option (List ℕ) → Type 0
-HasBegun old new = HasToldSome old new ⊎ HasBegunServing old new ⊎ HasListedSome old new ⊎ HasAnsweredSome old new ⊎ HasLoopedSome old new ⊎ HasTalkedSome old new
+HasBegun old new = HasToldSome old new ⊎ HasBegunServing old new ⊎ HasListedSome old new ⊎ HasAnsweredSome old new ⊎ HasLoopedSome old new
+    ⊎ HasTalkedSome old new
 
 -- what `ua version` prints: the name, the version, and the kit that it was proved with
 abbrev pub version_line : List ℕ

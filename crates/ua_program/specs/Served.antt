@@ -1,5 +1,6 @@
 -- The lines of `ua serve`, and what it answers from.
-use Rattle.std.specs.Prelude.{◌≡◌, ◌<◌, ◌+◌, ◌⊎◌, ℕ, ℤ, pos, suc, Bool, true, false, ◌||◌, ⊤, List, [], ◌∷◌, ◌++◌, length, flat_map, Option, Some, None, Result, Ok, Err, codes}
+use Rattle.std.specs.Prelude.{◌≡◌, ◌<◌, ◌+◌, ◌⊎◌, ℕ, ℤ, pos, suc, Bool, true, false, ◌||◌, ⊤, List, []}
+use Rattle.std.specs.Prelude.{◌∷◌, ◌++◌, length, flat_map, Option, Some, None, Result, Ok, Err, codes}
 use Rattle.std.specs.Fmt.{decimal}
 use Rattle.std.specs.Io.KnownBytes.{Appends}
 use Rattle.std.specs.List.{AllByRecursion}
@@ -30,7 +31,12 @@ use Rattle.ua_program.specs.declared.serve.RequestLines.{RequestLines}
 
 -- how the program describes itself on a port of this machine
 abbrev pub endpoint_on : ℕ → Endpoint
-endpoint_on port = record { url = Some (local_url port); application_uri = Some (codes "urn:ua:server"); name = Some (codes "ua"); message_limit = message_size }
+endpoint_on port = record {
+  url = Some (local_url port);
+  application_uri = Some (codes "urn:ua:server");
+  name = Some (codes "ua");
+  message_limit = message_size;
+}
 
 -- no session was made yet, over the nodes that the lines of this text define
 pub record BeginsWith (text : List ℕ) (port : ℕ) (services : State) : Type 0 where
@@ -123,7 +129,8 @@ encoding_part (Some number) = codes " i=" ++ decimal number ++ name_part (name_i
 -- the line of a request that was answered on a connection: its name, the number of its items,
 -- the code of its response, and the encoding of what is no request
 unfoldable pub request_line : ℕ → AnsweredRequest → List ℕ
-request_line number r = codes "connection " ++ decimal number ++ codes " " ++ kind_name r.kind ++ codes " " ++ decimal r.items ++ codes " " ++ code_text r.code.code ++ encoding_part r.encoding ++ codes "\n"
+request_line number r = codes "connection " ++ decimal number ++ codes " " ++ kind_name r.kind ++ codes " " ++ decimal r.items ++ codes " "
+    ++ code_text r.code.code ++ encoding_part r.encoding ++ codes "\n"
 
 -- the lines of requests that were answered on a connection, one after the other
 abbrev pub request_lines : ℕ → List AnsweredRequest → List ℕ

@@ -21,7 +21,8 @@ pub record IsStoredLine (plain : Bool) (item : WriteValue) (line : List ℕ) : T
 -- the lines of these items, each once and in their order
 abbrev pub AreStoredLines : Bool → List WriteValue → List ℕ → Type 0
 AreStoredLines plain [] text = text ≡ []
-AreStoredLines plain (item ∷ items) text = (line : List ℕ) × (rest : List ℕ) × (text ≡ line ++ rest) × IsStoredLine plain item line × AreStoredLines plain items rest
+AreStoredLines plain (item ∷ items) text = (line : List ℕ) × (rest : List ℕ) × (text ≡ line ++ rest) × IsStoredLine plain item line
+    × AreStoredLines plain items rest
 
 -- the line for items whose lines could not be made, since an allocation failed
 abbrev pub lost_line : List ℕ

@@ -51,7 +51,8 @@ IsNoted (Ok verdict) old new result = (result ≡ Ok tt) × (new ≡ worse old v
 IsNoted (Err fault) old new result = (result ≡ Err fault) × (new ≡ old)
 
 -- a question was asked at this time, and the reply printed
-pub record AsksNow {O : Type 0} (contents : O → Option (List ℕ)) (question : Question) (moment : DateTime) (old new : Talk) (before after : LineState) (had have : O) (result : Result (Unit {0}) QuestionFault) : Type 0 where
+pub record AsksNow {O : Type 0} (contents : O → Option (List ℕ)) (question : Question) (moment : DateTime) (old new : Talk) (before after : LineState)
+    (had have : O) (result : Result (Unit {0}) QuestionFault) : Type 0 where
   pub asked : Result Verdict QuestionFault
   pub asks : AsksQuestion contents old.style question moment old.session new.session before after had have asked
   pub noted : IsNoted asked old.verdict new.verdict result
@@ -63,7 +64,8 @@ abbrev pub beside : AnswerStyle → EndpointStyle
 beside style = record { policies = false; json = style.lines.json }
 
 -- the endpoints were asked for at this time, and the reply printed
-pub record ListsNow {O : Type 0} (contents : O → Option (List ℕ)) (moment : DateTime) (old new : Talk) (before after : LineState) (had have : O) (result : Result (Unit {0}) QuestionFault) : Type 0 where
+pub record ListsNow {O : Type 0} (contents : O → Option (List ℕ)) (moment : DateTime) (old new : Talk) (before after : LineState) (had have : O)
+    (result : Result (Unit {0}) QuestionFault) : Type 0 where
   pub asks : AsksEndpointsIn contents (beside old.style) moment old.session new.session before after had have result
   pub style : new.style ≡ old.style
   pub verdict : new.verdict ≡ old.verdict
@@ -71,7 +73,8 @@ pub record ListsNow {O : Type 0} (contents : O → Option (List ℕ)) (moment : 
 
 -- the token was renewed first if it was due, and then something done; if that failed it is told,
 -- and nothing was written
-pub record RenewsFirst {O : Type 0} (lifetime : ℕ) (moment : DateTime) (old new : Talk) (before after : LineState) (had have : O) (result : Result (Unit {0}) QuestionFault) (Does : Talk → LineState → Type 0) : Type 0 where
+pub record RenewsFirst {O : Type 0} (lifetime : ℕ) (moment : DateTime) (old new : Talk) (before after : LineState) (had have : O)
+    (result : Result (Unit {0}) QuestionFault) (Does : Talk → LineState → Type 0) : Type 0 where
   pub renewed : Result (Unit {0}) QuestionFault
   pub between : Talk
   pub once : LineState
@@ -82,7 +85,8 @@ pub record RenewsFirst {O : Type 0} (lifetime : ℕ) (moment : DateTime) (old ne
 -- ---- a line
 
 -- what was done of a line that requests this: at most one call, before it a renewal if one was due
-abbrev pub Performs : {O : Type 0} → (O → Option (List ℕ)) → ℕ → LineTask → DateTime → Talk → Talk → LineState → LineState → O → O → Result (Unit {0}) QuestionFault → Type 0
+abbrev pub Performs : {O : Type 0} → (O → Option (List ℕ)) → ℕ → LineTask → DateTime → Talk → Talk → LineState → LineState → O → O
+    → Result (Unit {0}) QuestionFault → Type 0
 Performs contents lifetime (task.Ask question) moment old new before after had have result =
     RenewsFirst lifetime moment old new before after had have result (λ between once. AsksNow contents question moment between new once after had have result)
 Performs contents lifetime task.Endpoints moment old new before after had have result =

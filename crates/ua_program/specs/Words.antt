@@ -53,7 +53,8 @@ with_path (Some url) path = Some (url ++ path)
 -- a word requests all connections, in one of the two ways in which `--connections all` is written, or
 -- that the node file is read again: faults are then told after which the command goes on
 abbrev pub MayTell : {S : Type 0} → (S → List ℕ) → List S → Type 0
-MayTell text words = Any (λ word. text word ≡ codes "all") words ⊎ Any (λ word. text word ≡ codes "--connections=all") words ⊎ Any (λ word. text word ≡ codes "--live") words
+MayTell text words = Any (λ word. text word ≡ codes "all") words ⊎ Any (λ word. text word ≡ codes "--connections=all") words
+    ⊎ Any (λ word. text word ≡ codes "--live") words
 
 -- a word requests reasons
 abbrev pub SaysWhy : {S : Type 0} → (S → List ℕ) → List S → Type 0

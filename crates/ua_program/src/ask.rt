@@ -71,7 +71,9 @@ fn with_path(alloc: Global, url: &UaString, path: &str) -> Result<UaString, Allo
 
 /// The URL by which a server is asked.
 pub fn url_of<'a>(alloc: Global, server: &Address<'_>) -> Result<UaString, Stop<'a>>
-    ensures is { IfOk result (λ url. url ≡ with_path (base_url server.now.port (option_map (λ text. text.now) server.now.url)) server.now.path.now) }
+    ensures is { IfOk result
+        (λ url. url ≡ with_path (base_url server.now.port (option_map (λ text. text.now) server.now.url))
+        server.now.path.now) }
     ensures encodable { IfOk result (λ url. IsTrue (text.encodable url)) }
     ensures starved { IfErr result (λ why. is_starved why ≡ true) }
 {
@@ -94,7 +96,8 @@ fn endpoints_line<R: Clock + AllocGlobal, L: Line, O: Write>(
     out: &mut O,
 ) -> Result<(), QuestionFault>
     ensures answered { OnOk result (HasListed asked.now.style (O.contents out.old) (O.contents out.new)) }
-    ensures left { IfErr result (λ fault. LeavesLines O.contents (AreEndpointLines asked.now.style) fault out.old out.new) }
+    ensures left { IfErr result
+        (λ fault. LeavesLines O.contents (AreEndpointLines asked.now.style) fault out.old out.new) }
 {
     let Ok(url) = url_of(rt.alloc(), &asked.server) else {
         return Err(QuestionFault::NoMemory);
@@ -119,7 +122,8 @@ fn endpoints_heard<'a, R: Clock + AllocGlobal, S: Read + Write, O: Write>(
     out: &mut O,
 ) -> Result<(), Stop<'a>>
     ensures answered { OnOk result (HasListed asked.now.style (O.contents out.old) (O.contents out.new)) }
-    ensures stopped { IfErr result (λ stop. StopsWriting stop ⊎ (out.new ≡ out.old) ⊎ HasListed asked.now.style (O.contents out.old) (O.contents out.new)) }
+    ensures stopped { IfErr result (λ stop. StopsWriting stop ⊎ (out.new ≡ out.old)
+        ⊎ HasListed asked.now.style (O.contents out.old) (O.contents out.new)) }
 {
     let mut line = TcpLine::new(&mut *heard);
     let ended = endpoints_line(rt, &mut line, asked, out);
@@ -140,7 +144,8 @@ fn endpoints_recorded<'a, R: Files + Clock + AllocGlobal, S: Read + Write, O: Wr
     out: &mut O,
 ) -> Result<(), Stop<'a>>
     ensures answered { OnOk result (HasListed asked.now.style (O.contents out.old) (O.contents out.new)) }
-    ensures stopped { IfErr result (λ stop. StopsWriting stop ⊎ (out.new ≡ out.old) ⊎ HasListed asked.now.style (O.contents out.old) (O.contents out.new)) }
+    ensures stopped { IfErr result (λ stop. StopsWriting stop ⊎ (out.new ≡ out.old)
+        ⊎ HasListed asked.now.style (O.contents out.old) (O.contents out.new)) }
 {
     let mut line = RecordedLine::new(rt.alloc(), TcpLine::new(&mut *heard));
     let ended = endpoints_line(rt, &mut line, asked, out);
@@ -165,7 +170,8 @@ pub fn endpoints<'a, R: Files + Net + Clock + AllocGlobal, O: Write>(
     out: &mut O,
 ) -> Result<(), Stop<'a>>
     ensures answered { OnOk result (HasListed asked.now.style (O.contents out.old) (O.contents out.new)) }
-    ensures stopped { IfErr result (λ stop. StopsWriting stop ⊎ (out.new ≡ out.old) ⊎ HasListed asked.now.style (O.contents out.old) (O.contents out.new)) }
+    ensures stopped { IfErr result (λ stop. StopsWriting stop ⊎ (out.new ≡ out.old)
+        ⊎ HasListed asked.now.style (O.contents out.old) (O.contents out.new)) }
 {
     let mut heard = connect(rt, asked.server.port, why)?;
     match asked.record {
@@ -242,7 +248,8 @@ fn ask_heard<'a, R: Clock + AllocGlobal, S: Read + Write, O: Write>(
     out: &mut O,
 ) -> Result<Verdict, Stop<'a>>
     ensures answered { OnOk result (HasAnswered how.now.style (O.contents out.old) (O.contents out.new)) }
-    ensures stopped { IfErr result (λ stop. StopsWriting stop ⊎ (out.new ≡ out.old) ⊎ HasAnswered how.now.style (O.contents out.old) (O.contents out.new)) }
+    ensures stopped { IfErr result (λ stop. StopsWriting stop ⊎ (out.new ≡ out.old)
+        ⊎ HasAnswered how.now.style (O.contents out.old) (O.contents out.new)) }
 {
     let mut line = TcpLine::new(&mut *heard);
     let ended = ask_line(rt, &mut line, question, how, out);
@@ -264,7 +271,8 @@ fn ask_recorded<'a, R: Files + Clock + AllocGlobal, S: Read + Write, O: Write>(
     out: &mut O,
 ) -> Result<Verdict, Stop<'a>>
     ensures answered { OnOk result (HasAnswered how.now.style (O.contents out.old) (O.contents out.new)) }
-    ensures stopped { IfErr result (λ stop. StopsWriting stop ⊎ (out.new ≡ out.old) ⊎ HasAnswered how.now.style (O.contents out.old) (O.contents out.new)) }
+    ensures stopped { IfErr result (λ stop. StopsWriting stop ⊎ (out.new ≡ out.old)
+        ⊎ HasAnswered how.now.style (O.contents out.old) (O.contents out.new)) }
 {
     let mut line = RecordedLine::new(rt.alloc(), TcpLine::new(&mut *heard));
     let ended = ask_line(rt, &mut line, question, how, out);
@@ -288,7 +296,8 @@ fn ask<'a, R: Files + Net + Clock + AllocGlobal, O: Write>(
     out: &mut O,
 ) -> Result<Verdict, Stop<'a>>
     ensures answered { OnOk result (HasAnswered how.now.style (O.contents out.old) (O.contents out.new)) }
-    ensures stopped { IfErr result (λ stop. StopsWriting stop ⊎ (out.new ≡ out.old) ⊎ HasAnswered how.now.style (O.contents out.old) (O.contents out.new)) }
+    ensures stopped { IfErr result (λ stop. StopsWriting stop ⊎ (out.new ≡ out.old)
+        ⊎ HasAnswered how.now.style (O.contents out.old) (O.contents out.new)) }
 {
     let mut heard = connect(rt, how.server.port, how.why)?;
     match how.record {
@@ -308,14 +317,16 @@ pub fn counted(verdict: Verdict, strict: bool) -> Verdict
 
 /// The question of the words of `ua read`.
 pub fn read_question(alloc: Global, asked: &ReadNodes<'_>) -> Result<Question, WordFault>
-    ensures { GivesRead (λ text. text.now) asked.now.nodes.items asked.now.attribute (option_map (λ text. text.now) asked.now.range) result }
+    ensures { GivesRead (λ text. text.now) asked.now.nodes.items asked.now.attribute
+        (option_map (λ text. text.now) asked.now.range) result }
 {
     Question::parse_read(alloc, &asked.nodes, asked.attribute, asked.range)
 }
 
 /// The question of the words of `ua write`. With `--plain` the value may be a decimal or a time.
 pub fn write_question(alloc: Global, asked: &WriteNode<'_>) -> Result<Question, WordFault>
-    ensures { GivesWrite asked.now.node.now asked.now.kind.now (value_given asked.now.style.plain asked.now.kind.now asked.now.value.now) result }
+    ensures { GivesWrite asked.now.node.now asked.now.kind.now
+        (value_given asked.now.style.plain asked.now.kind.now asked.now.value.now) result }
 {
     if asked.style.plain {
         Question::parse_plain_write(alloc, asked.node, asked.kind, asked.value)
@@ -333,7 +344,8 @@ fn ask_counted<'a, R: Files + Net + Clock + AllocGlobal, O: Write>(
 ) -> Result<Verdict, Stop<'a>>
     ensures answered { OnOk result (HasAnswered how.now.style (O.contents out.old) (O.contents out.new)) }
     ensures strict { IfOk result (λ verdict. verdict ≡ SomeBad → how.now.strict ≡ true) }
-    ensures stopped { IfErr result (λ stop. StopsWriting stop ⊎ (out.new ≡ out.old) ⊎ HasAnswered how.now.style (O.contents out.old) (O.contents out.new)) }
+    ensures stopped { IfErr result (λ stop. StopsWriting stop ⊎ (out.new ≡ out.old)
+        ⊎ HasAnswered how.now.style (O.contents out.old) (O.contents out.new)) }
 {
     match ask(rt, question, how, out) {
         Ok(verdict) => Ok(counted(verdict, how.strict)),
@@ -350,7 +362,8 @@ pub fn read<'a, R: Files + Net + Clock + AllocGlobal, O: Write>(
 ) -> Result<Verdict, Stop<'a>>
     ensures answered { OnOk result (HasAnswered asked.now.style (O.contents out.old) (O.contents out.new)) }
     ensures strict { IfOk result (λ verdict. verdict ≡ SomeBad → asked.now.strict ≡ true) }
-    ensures stopped { IfErr result (λ stop. StopsWriting stop ⊎ (out.new ≡ out.old) ⊎ HasAnswered asked.now.style (O.contents out.old) (O.contents out.new)) }
+    ensures stopped { IfErr result (λ stop. StopsWriting stop ⊎ (out.new ≡ out.old)
+        ⊎ HasAnswered asked.now.style (O.contents out.old) (O.contents out.new)) }
 {
     let how = Asking {
         server: asked.server,
@@ -376,7 +389,8 @@ pub fn write<'a, R: Files + Net + Clock + AllocGlobal, O: Write>(
 ) -> Result<Verdict, Stop<'a>>
     ensures answered { OnOk result (HasAnswered asked.now.style (O.contents out.old) (O.contents out.new)) }
     ensures strict { IfOk result (λ verdict. verdict ≡ SomeBad → asked.now.strict ≡ true) }
-    ensures stopped { IfErr result (λ stop. StopsWriting stop ⊎ (out.new ≡ out.old) ⊎ HasAnswered asked.now.style (O.contents out.old) (O.contents out.new)) }
+    ensures stopped { IfErr result (λ stop. StopsWriting stop ⊎ (out.new ≡ out.old)
+        ⊎ HasAnswered asked.now.style (O.contents out.old) (O.contents out.new)) }
 {
     let how = Asking {
         server: asked.server,

@@ -84,7 +84,8 @@ fn talk_on<R: Clock, T: Tasks, L: Line, O: Write>(
     out: &mut O,
 ) -> Result<(), TalkFault>
     ensures talked { OnOk result (HasTalked talk.old.style (O.contents out.old) (O.contents out.new)) }
-    ensures stopped { IfErr result (λ fault. IsWriters fault ⊎ HasTalked talk.old.style (O.contents out.old) (O.contents out.new)) }
+    ensures stopped { IfErr result (λ fault. IsWriters fault ⊎ HasTalked talk.old.style (O.contents out.old)
+        (O.contents out.new)) }
 {
     for _turns in 0..u64::MAX {
         let task = match tasks.next_task() {
@@ -140,7 +141,8 @@ fn talk_over<R: Clock + AllocGlobal, T: Tasks, L: Line, O: Write>(
     out: &mut O,
 ) -> Result<Verdict, TalkFault>
     ensures talked { OnOk result (HasTalked asked.now.style (O.contents out.old) (O.contents out.new)) }
-    ensures stopped { IfErr result (λ fault. IsWriters fault ⊎ HasTalked asked.now.style (O.contents out.old) (O.contents out.new)) }
+    ensures stopped { IfErr result (λ fault. IsWriters fault ⊎ HasTalked asked.now.style (O.contents out.old)
+        (O.contents out.new)) }
 {
     let mut talk = match begin(rt, line, asked) {
         Ok(talk) => talk,
@@ -169,7 +171,8 @@ fn talk_heard<'a, R: Clock + AllocGlobal, S: Read + Write, T: Tasks, O: Write>(
     out: &mut O,
 ) -> Result<Verdict, Stop<'a>>
     ensures talked { OnOk result (HasTalked asked.now.style (O.contents out.old) (O.contents out.new)) }
-    ensures stopped { IfErr result (λ stop. StopsWriting stop ⊎ HasTalked asked.now.style (O.contents out.old) (O.contents out.new)) }
+    ensures stopped { IfErr result (λ stop. StopsWriting stop ⊎ HasTalked asked.now.style (O.contents out.old)
+        (O.contents out.new)) }
 {
     let mut line = LifetimeLine::new(rt.alloc(), TcpLine::new(&mut *heard));
     let ended = talk_over(rt, &mut line, asked, tasks, out);
@@ -191,7 +194,8 @@ fn talk_recorded<'a, R: Files + Clock + AllocGlobal, S: Read + Write, T: Tasks, 
     out: &mut O,
 ) -> Result<Verdict, Stop<'a>>
     ensures talked { OnOk result (HasTalked asked.now.style (O.contents out.old) (O.contents out.new)) }
-    ensures stopped { IfErr result (λ stop. StopsWriting stop ⊎ HasTalked asked.now.style (O.contents out.old) (O.contents out.new)) }
+    ensures stopped { IfErr result (λ stop. StopsWriting stop ⊎ HasTalked asked.now.style (O.contents out.old)
+        (O.contents out.new)) }
 {
     let recorded = RecordedLine::new(rt.alloc(), TcpLine::new(&mut *heard));
     let mut line = LifetimeLine::new(rt.alloc(), recorded);
@@ -218,7 +222,8 @@ fn talk<'a, R: Files + Net + Clock + AllocGlobal, T: Tasks, O: Write>(
 ) -> Result<Verdict, Stop<'a>>
     ensures talked { OnOk result (HasTalked asked.now.style (O.contents out.old) (O.contents out.new)) }
     ensures strict { IfOk result (λ verdict. verdict ≡ SomeBad → asked.now.strict ≡ true) }
-    ensures stopped { IfErr result (λ stop. StopsWriting stop ⊎ HasTalked asked.now.style (O.contents out.old) (O.contents out.new)) }
+    ensures stopped { IfErr result (λ stop. StopsWriting stop ⊎ HasTalked asked.now.style (O.contents out.old)
+        (O.contents out.new)) }
 {
     let mut heard = connect(rt, asked.server.port, why)?;
     let talked = match asked.record {
@@ -242,7 +247,8 @@ fn talk_lines<'a, R: Files + Net + Clock + AllocGlobal, I: Read + Drop, O: Write
 ) -> Result<Verdict, Stop<'a>>
     ensures talked { OnOk result (HasTalked asked.now.style (O.contents out.old) (O.contents out.new)) }
     ensures strict { IfOk result (λ verdict. verdict ≡ SomeBad → asked.now.strict ≡ true) }
-    ensures stopped { IfErr result (λ stop. StopsWriting stop ⊎ HasTalked asked.now.style (O.contents out.old) (O.contents out.new)) }
+    ensures stopped { IfErr result (λ stop. StopsWriting stop ⊎ HasTalked asked.now.style (O.contents out.old)
+        (O.contents out.new)) }
 {
     match BufReader::new(rt.alloc(), source) {
         Ok(source) => {
@@ -264,7 +270,8 @@ pub fn ask_server<'a, R: Files + Net + Clock + AllocGlobal, I: Read, O: Write>(
 ) -> Result<Verdict, Stop<'a>>
     ensures talked { OnOk result (HasTalked asked.now.style (O.contents out.old) (O.contents out.new)) }
     ensures strict { IfOk result (λ verdict. verdict ≡ SomeBad → asked.now.strict ≡ true) }
-    ensures stopped { IfErr result (λ stop. StopsWriting stop ⊎ HasTalked asked.now.style (O.contents out.old) (O.contents out.new)) }
+    ensures stopped { IfErr result (λ stop. StopsWriting stop ⊎ HasTalked asked.now.style (O.contents out.old)
+        (O.contents out.new)) }
 {
     match &asked.what {
         Asked::Rounds(rounds) => {

@@ -1,7 +1,8 @@
 //! `ua serve --at-once`: serves connections on a port of this machine, many at a time.
 
 ghost use Rattle.std.specs.Prelude.{◌≡◌, ◌⊎◌, IfErr, IsOk, MatchResult, None, OnOk, Some, false};
-ghost use Rattle.ua_program.specs.AtOnce.{HasServedAtOnce, HasServedSomeAtOnce, IsUnwritten, SaysEnd, SaysStored, StopsAtHalt, halt_of, outcome_of, writes_of};
+ghost use Rattle.ua_program.specs.AtOnce.{HasServedAtOnce, HasServedSomeAtOnce, IsUnwritten, SaysEnd};
+ghost use Rattle.ua_program.specs.AtOnce.{SaysStored, StopsAtHalt, halt_of, outcome_of, writes_of};
 ghost use Rattle.ua_program.specs.Live.{LooksAt};
 ghost use Rattle.ua_program.specs.Reasons.{StopsWriting};
 
@@ -289,8 +290,12 @@ pub fn serve_places<'r, 'a, R: Files + Net + Clock + AllocGlobal, O: Write, E: W
     telling: Telling,
     err: &mut E,
 ) -> Result<(), Stop<'a>>
-    ensures served { OnOk result (HasServedAtOnce (writes_of asked.now) asked.now.goes_on asked.now.port asked.now.connections (O.contents out.old) (O.contents out.new)) }
-    ensures stopped { IfErr result (λ stop. StopsWriting stop ⊎ (out.new ≡ out.old) ⊎ HasServedSomeAtOnce (writes_of asked.now) asked.now.goes_on asked.now.port asked.now.connections (O.contents out.old) (O.contents out.new)) }
+    ensures served { OnOk result
+        (HasServedAtOnce (writes_of asked.now) asked.now.goes_on asked.now.port asked.now.connections
+        (O.contents out.old) (O.contents out.new)) }
+    ensures stopped { IfErr result (λ stop. StopsWriting stop ⊎ (out.new ≡ out.old)
+        ⊎ HasServedSomeAtOnce (writes_of asked.now) asked.now.goes_on asked.now.port asked.now.connections
+        (O.contents out.old) (O.contents out.new)) }
     ensures quiet { telling.aloud ≡ false → err.new ≡ err.old }
 {
     say_listening(rt.alloc(), asked.port, out)?;

@@ -68,7 +68,9 @@ pub fn blame_write<'a>(alloc: Global, asked: &WriteNode<'a>, fault: WordFault) -
 
 /// What is told of a type that is none, or else of a value that is none of its type.
 fn value_text(alloc: Global, asked: &WriteNode<'_>) -> Result<String, AllocError>
-    ensures { IfOk result (λ text. string_bytes text ≡ value_told asked.now.style.plain asked.now.kind.now asked.now.value.now (type_denoted asked.now.kind.now)) }
+    ensures { IfOk result
+        (λ text. string_bytes text ≡ value_told asked.now.style.plain asked.now.kind.now asked.now.value.now
+        (type_denoted asked.now.kind.now)) }
 {
     let (kind, value) = (asked.kind, asked.value);
     let Some((id, array)) = parse_type(kind) else {

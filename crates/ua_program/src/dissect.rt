@@ -1,12 +1,14 @@
 //! The output of `ua dissect` for a source.
 
-ghost use Rattle.std.specs.Prelude.{◌≡◌, ◌++◌, ◌⊎◌, ◌<◌, [], ℕ, List, length, true, false, cond, string_bytes, IfOk, IfErr, OnOk};
+ghost use Rattle.std.specs.Prelude.{◌≡◌, ◌++◌, ◌⊎◌, ◌<◌, [], ℕ, List, length, true};
+ghost use Rattle.std.specs.Prelude.{false, cond, string_bytes, IfOk, IfErr, OnOk};
 ghost use Rattle.std.specs.Io.KnownBytes.{Appends};
 ghost use Rattle.ua_pair.specs.Dissecting.{StandsBehind};
 ghost use Rattle.ua_pair.specs.declared.options.DissectOptions.{DissectOptions};
 ghost use Rattle.ua_session.specs.declared.verdict.Verdict.TheVariants.{AllGood, SomeBad};
 ghost use Rattle.ua_program.specs.Digits.{HoldsNone, HoldsNever, HoldsOctets, HoldsSoFar};
-ghost use Rattle.ua_program.specs.Dissects.{DissectsAll, EndsFile, HasBegunDissecting, IsJudged, PrintsNext, Reads, StopsLast, StopsNext, StopsReading, TellsPiece, ToldSoFar};
+ghost use Rattle.ua_program.specs.Dissects.{DissectsAll, EndsFile, HasBegunDissecting, IsJudged, PrintsNext};
+ghost use Rattle.ua_program.specs.Dissects.{Reads, StopsLast, StopsNext, StopsReading, TellsPiece, ToldSoFar};
 ghost use Rattle.ua_program.specs.declared.fault.Fault.TheVariants.{CannotRead, NoMemory, NotHexadecimal};
 ghost use Rattle.ua_program.specs.Reasons.{StopsWriting};
 ghost use Rattle.ua_program.specs.declared.output.Stop.TheVariants as stop;
@@ -32,10 +34,15 @@ fn push_piece<'a>(
     piece: &[u8],
     text: &mut String,
 ) -> Result<(), Fault<'a>>
-    ensures lines { (content told : List ℕ) → ToldSoFar asked.now.hex asked.now.options digits.old.half dissector.old content told
-        → OnOk result (TellsPiece asked.now.hex asked.now.options digits.new.half dissector.new (content ++ piece.now) told (string_bytes text.old) (string_bytes text.new)) }
-    ensures faults { (content told : List ℕ) → ToldSoFar asked.now.hex asked.now.options digits.old.half dissector.old content told
-        → IfErr result (λ fault. (fault ≡ NoMemory) ⊎ ((fault ≡ NotHexadecimal asked.now.file) × HoldsNever asked.now.hex (content ++ piece.now))) }
+    ensures lines { (content told : List ℕ)
+        → ToldSoFar asked.now.hex asked.now.options digits.old.half dissector.old content told
+        → OnOk result (TellsPiece asked.now.hex asked.now.options digits.new.half dissector.new (content ++ piece.now)
+        told (string_bytes text.old) (string_bytes text.new)) }
+    ensures faults { (content told : List ℕ)
+        → ToldSoFar asked.now.hex asked.now.options digits.old.half dissector.old content told
+        → IfErr result
+        (λ fault. (fault ≡ NoMemory)
+        ⊎ ((fault ≡ NotHexadecimal asked.now.file) × HoldsNever asked.now.hex (content ++ piece.now))) }
 {
     if asked.hex {
         let octets = digits.take(alloc, asked.file, piece)?;
@@ -53,11 +60,17 @@ fn push_last<'a>(
     dissector: &Dissector,
     text: &mut String,
 ) -> Result<(), Fault<'a>>
-    ensures lines { (content told : List ℕ) → ToldSoFar asked.now.hex asked.now.options digits.now.half dissector.now content told
-        → OnOk result (EndsFile asked.now.hex asked.now.options content told (string_bytes text.old) (string_bytes text.new)) }
-    ensures faults { (content told : List ℕ) → ToldSoFar asked.now.hex asked.now.options digits.now.half dissector.now content told
-        → IfErr result (λ fault. (fault ≡ NoMemory) ⊎ ((fault ≡ NotHexadecimal asked.now.file) × HoldsNone asked.now.hex content)) }
-    ensures whole { (content told : List ℕ) → (s : ToldSoFar asked.now.hex asked.now.options digits.now.half dissector.now content told)
+    ensures lines { (content told : List ℕ)
+        → ToldSoFar asked.now.hex asked.now.options digits.now.half dissector.now content told
+        → OnOk result (EndsFile asked.now.hex asked.now.options content told (string_bytes text.old)
+        (string_bytes text.new)) }
+    ensures faults { (content told : List ℕ)
+        → ToldSoFar asked.now.hex asked.now.options digits.now.half dissector.now content told
+        → IfErr result
+        (λ fault. (fault ≡ NoMemory)
+        ⊎ ((fault ≡ NotHexadecimal asked.now.file) × HoldsNone asked.now.hex content)) }
+    ensures whole { (content told : List ℕ)
+        → (s : ToldSoFar asked.now.hex asked.now.options digits.now.half dissector.now content told)
         → OnOk result (HoldsOctets asked.now.hex content s.octets) }
 {
     if asked.hex && !digits.is_whole() {
@@ -95,11 +108,14 @@ fn print_last<'a, O: Write>(
     text: &mut String,
     out: &mut O,
 ) -> Result<Verdict, Stop<'a>>
-    ensures prints { (content told : List ℕ) → ToldSoFar asked.now.hex asked.now.options digits.now.half dissector.now content told
-        → IfOk result (λ verdict. EndsFile asked.now.hex asked.now.options content told (string_bytes text.old) (string_bytes text.new) × IsJudged verdict asked.now.hex asked.now.options content) }
+    ensures prints { (content told : List ℕ)
+        → ToldSoFar asked.now.hex asked.now.options digits.now.half dissector.now content told
+        → IfOk result (λ verdict. EndsFile asked.now.hex asked.now.options content told (string_bytes text.old)
+        (string_bytes text.new) × IsJudged verdict asked.now.hex asked.now.options content) }
     ensures added { OnOk result (Appends (O.contents out.old) (O.contents out.new) (string_bytes text.new)) }
     ensures kept { IfErr result (λ stop. StopsWriting stop ⊎ (out.new ≡ out.old)) }
-    ensures stopped { (content told : List ℕ) → ToldSoFar asked.now.hex asked.now.options digits.now.half dissector.now content told
+    ensures stopped { (content told : List ℕ)
+        → ToldSoFar asked.now.hex asked.now.options digits.now.half dissector.now content told
         → IfErr result (λ stop. StopsLast asked.now.hex asked.now.file content stop) }
 {
     push_last(asked, digits, dissector, text)?;
@@ -121,7 +137,8 @@ fn verdict_of(has_refused: bool) -> Verdict
 /// Whether a frame is refused in a file of raw bytes: there is no output for the bytes that follow.
 fn is_told(asked: &Dissect<'_>, dissector: &Dissector) -> bool
     ensures plain { result ≡ true → asked.now.hex ≡ false }
-    ensures stays { (options : DissectOptions) (octets told more : List ℕ) → result ≡ true → StandsBehind dissector.now options octets told → StandsBehind dissector.now options (octets ++ more) told }
+    ensures stays { (options : DissectOptions) (octets told more : List ℕ) → result ≡ true
+        → StandsBehind dissector.now options octets told → StandsBehind dissector.now options (octets ++ more) told }
 {
     !asked.hex && dissector.has_refused()
 }
@@ -140,10 +157,13 @@ fn print_next<'a, I: Read, O: Write>(
     out: &mut O,
 ) -> Result<Option<Verdict>, Stop<'a>>
     requires room { 0 < length piece.old }
-    ensures prints { (content told : List ℕ) → ToldSoFar asked.now.hex asked.now.options digits.old.half dissector.old content told
-        → IfOk result (λ ended. PrintsNext ended asked.now.hex asked.now.options digits.new.half dissector.new content told (I.remaining source.old) (I.remaining source.new) (O.contents out.old) (O.contents out.new)) }
+    ensures prints { (content told : List ℕ)
+        → ToldSoFar asked.now.hex asked.now.options digits.old.half dissector.old content told
+        → IfOk result (λ ended. PrintsNext ended asked.now.hex asked.now.options digits.new.half dissector.new content
+        told (I.remaining source.old) (I.remaining source.new) (O.contents out.old) (O.contents out.new)) }
     ensures kept { IfErr result (λ stop. StopsWriting stop ⊎ (out.new ≡ out.old)) }
-    ensures stopped { (content told : List ℕ) → ToldSoFar asked.now.hex asked.now.options digits.old.half dissector.old content told
+    ensures stopped { (content told : List ℕ)
+        → ToldSoFar asked.now.hex asked.now.options digits.old.half dissector.old content told
         → IfErr result (λ stop. StopsNext asked.now.hex asked.now.file content (I.remaining source.old) stop) }
 {
     text.clear();
@@ -173,8 +193,10 @@ pub fn dissect_source<'a, I: Read, O: Write>(
     source: &mut I,
     out: &mut O,
 ) -> Result<Verdict, Stop<'a>>
-    ensures lines { IfOk result (λ verdict. DissectsAll verdict asked.now.hex asked.now.options (I.remaining source.old) (I.remaining source.new) (O.contents out.old) (O.contents out.new)) }
-    ensures begun { IfErr result (λ stop. StopsWriting stop ⊎ HasBegunDissecting asked.now.hex asked.now.options (I.remaining source.old) (O.contents out.old) (O.contents out.new)) }
+    ensures lines { IfOk result (λ verdict. DissectsAll verdict asked.now.hex asked.now.options (I.remaining source.old)
+        (I.remaining source.new) (O.contents out.old) (O.contents out.new)) }
+    ensures begun { IfErr result (λ stop. StopsWriting stop ⊎ HasBegunDissecting asked.now.hex asked.now.options
+        (I.remaining source.old) (O.contents out.old) (O.contents out.new)) }
     ensures stopped { IfErr result (λ stop. StopsReading asked.now.hex asked.now.file (I.remaining source.old) stop) }
 {
     let mut digits = HexPieces::new();

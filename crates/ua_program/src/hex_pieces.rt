@@ -90,7 +90,9 @@ impl HexPieces {
         ensures octets { (content octets : List ℕ) → HexSoFar self.old.half content octets
             → IfOk result (λ more. HexSoFar self.new.half (content ++ piece.now) (octets ++ more.items)) }
         ensures faults { (content octets : List ℕ) → HexSoFar self.old.half content octets
-            → IfErr result (λ fault. (fault ≡ NoMemory) ⊎ ((fault ≡ NotHexadecimal file.entry) × IsNeverHex (content ++ piece.now))) }
+            → IfErr result
+            (λ fault. (fault ≡ NoMemory)
+            ⊎ ((fault ≡ NotHexadecimal file.entry) × IsNeverHex (content ++ piece.now))) }
     {
         let mut digits = self.digits(alloc, piece)?;
         self.half = split_half(&mut digits);

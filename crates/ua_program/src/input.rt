@@ -102,7 +102,8 @@ fn read_input_lines<'a, I: Read>(
     plain: bool,
     input: &mut I,
 ) -> Result<String, Stop<'a>>
-    ensures lines { IfOk result (λ lines. IfSome (I.remaining input.old) (λ all. string_bytes lines ≡ form_given plain all)) }
+    ensures lines { IfOk result
+        (λ lines. IfSome (I.remaining input.old) (λ all. string_bytes lines ≡ form_given plain all)) }
     ensures faults { IfErr result (λ stop. StopsAtFile file.entry stop) }
 {
     let octets = read_input(alloc, file, input)?;

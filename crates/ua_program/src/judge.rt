@@ -2,7 +2,8 @@
 
 ghost use Rattle.std.specs.Prelude.{◌≡◌, ◌++◌, ◌⊎◌, true, string_bytes, IfErr, IfOk, OnOk};
 ghost use Rattle.ua_session.specs.declared.verdict.Verdict.TheVariants.{SomeBad};
-ghost use Rattle.ua_program.specs.Judges.{AreVerdicts, HasJudged, IsPlaceOf, code_of, code_text, is_break, verdict_line, verdict_words};
+ghost use Rattle.ua_program.specs.Judges.{AreVerdicts, HasJudged, IsPlaceOf, code_of};
+ghost use Rattle.ua_program.specs.Judges.{code_text, is_break, verdict_line, verdict_words};
 ghost use Rattle.ua_program.specs.Reasons.{StopsWriting};
 
 use crate::arguments::JudgeRecord;
@@ -166,7 +167,8 @@ fn push_line(
     place: usize,
     verdict: &Judged,
 ) -> Result<(), AllocError>
-    ensures { OnOk result (string_bytes out.new ≡ string_bytes out.old ++ verdict_line side.now names place verdict.now) }
+    ensures { OnOk result
+        (string_bytes out.new ≡ string_bytes out.old ++ verdict_line side.now names place verdict.now) }
 {
     out.push_str(side)?;
     out.push_str(words_of(verdict))?;

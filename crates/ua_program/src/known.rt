@@ -52,7 +52,8 @@ pub fn push_code_line(
     code: StatusCode,
     said: Option<&str>,
 ) -> Result<(), AllocError>
-    ensures { OnOk result (string_bytes out.new ≡ string_bytes out.old ++ known_line code.code (option_map (λ text. text.now) said.entry)) }
+    ensures { OnOk result (string_bytes out.new ≡ string_bytes out.old ++ known_line code.code
+        (option_map (λ text. text.now) said.entry)) }
 {
     out.push_str("  because ")?;
     out.push_str(name_known(code))?;

@@ -181,7 +181,8 @@ fn take_reading<'f, 'a, F: Files + Clock + AllocGlobal>(
 /// Gives the nodes that changed to the services, in order.
 fn put_all(services: &mut Services, nodes: Vec<Node>, moment: DateTime) -> Result<(), AllocError>
     requires sound { IsSound (map entry_of nodes.items) }
-    ensures all { OnOk result (services.new ≡ with_nodes services.old (with_all_changed moment nodes.items services.old.nodes)) }
+    ensures all { OnOk result
+        (services.new ≡ with_nodes services.old (with_all_changed moment nodes.items services.old.nodes)) }
     ensures some { OnErr result (TakesSome moment nodes.items services.old services.new) }
 {
     for node in nodes {

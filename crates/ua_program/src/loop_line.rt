@@ -86,8 +86,10 @@ impl<S: Read + Write> LoopLine<'_, S> {
     fn carry_up(&mut self, buffer: &mut [u8]) -> Result<usize, LineFault>
         ensures within { IfOk result (λ n. n ≤ length buffer.new) }
         ensures failed { self.new.failures ≡ failures_after self.old.failures result }
-        ensures written { IfOk result (λ n. Appends (S.contents self.old.near) (S.contents self.new.near) (take n self.old.up.now)) }
-        ensures came { IfOk result (λ n. Consumes (S.remaining self.old.far) (S.remaining self.new.far) (take n buffer.new)) }
+        ensures written { IfOk result
+            (λ n. Appends (S.contents self.old.near) (S.contents self.new.near) (take n self.old.up.now)) }
+        ensures came { IfOk result (λ n. Consumes (S.remaining self.old.far) (S.remaining self.new.far)
+            (take n buffer.new)) }
         ensures left { IfOk result (λ n. self.new.up.now ≡ drop n self.old.up.now) }
     {
         let n = self.up.len().min(buffer.len()).min(MOST_OCTETS);
@@ -107,8 +109,10 @@ impl<S: Read + Write> LoopLine<'_, S> {
         ensures within { IfOk result (λ n. n ≤ length octets.now) }
         ensures some { 0 < length octets.now → IfOk result (λ n. 0 < n) }
         ensures failed { self.new.failures ≡ failures_after self.old.failures result }
-        ensures written { IfOk result (λ n. Appends (S.contents self.old.far) (S.contents self.new.far) (take n octets.now)) }
-        ensures came { IfOk result (λ n. Consumes (S.remaining self.old.near) (S.remaining self.new.near) (take n self.old.down.now)) }
+        ensures written { IfOk result
+            (λ n. Appends (S.contents self.old.far) (S.contents self.new.far) (take n octets.now)) }
+        ensures came { IfOk result (λ n. Consumes (S.remaining self.old.near) (S.remaining self.new.near)
+            (take n self.old.down.now)) }
         ensures left { IfOk result (λ n. self.new.down.now ≡ drop n self.old.down.now) }
     {
         let n = octets.len().min(MOST_OCTETS);

@@ -166,8 +166,10 @@ pub fn run_files<'a, R: Files + Net + AllocGlobal, I: Read, O: Write>(
     out: &mut O,
 ) -> Result<Verdict, Stop<'a>>
     ensures strict { IfOk result (λ verdict. verdict ≡ SomeBad → asked.now.strict ≡ true) }
-    ensures looped { OnOk result (HasLooped asked.now.plain asked.now.names None (O.contents out.old) (O.contents out.new)) }
-    ensures stopped { IfErr result (λ stop. StopsWriting stop ⊎ (out.new ≡ out.old) ⊎ HasLoopedUntil asked.now.plain asked.now.names stop (O.contents out.old) (O.contents out.new)) }
+    ensures looped { OnOk result (HasLooped asked.now.plain asked.now.names None (O.contents out.old)
+        (O.contents out.new)) }
+    ensures stopped { IfErr result (λ stop. StopsWriting stop ⊎ (out.new ≡ out.old)
+        ⊎ HasLoopedUntil asked.now.plain asked.now.names stop (O.contents out.old) (O.contents out.new)) }
 {
     let text = read_nodes(rt, asked.nodes, asked.plain, input)?;
     let nodes = load_nodes(rt.alloc(), &text)?;

@@ -49,7 +49,8 @@ pub fn run<S: AsStr, R: Files + Net + Clock + AllocGlobal, I: Read, O: Write, E:
     ensures done { (result ≡ 0) ⊎ (result ≡ 3) → HasPrinted (O.contents out.old) (O.contents out.new) }
     ensures silent { (result ≡ 0) ⊎ (result ≡ 3) → (err.new ≡ err.old) ⊎ MayTell (λ word. S.text word) words.now }
     ensures refused { result ≡ 2 → out.new ≡ out.old }
-    ensures streams { (out.new ≡ out.old) ⊎ (err.new ≡ err.old) ⊎ HasBegun (O.contents out.old) (O.contents out.new) ⊎ MayTell (λ word. S.text word) words.now ⊎ SaysWhy (λ word. S.text word) words.now }
+    ensures streams { (out.new ≡ out.old) ⊎ (err.new ≡ err.old) ⊎ HasBegun (O.contents out.old) (O.contents out.new)
+        ⊎ MayTell (λ word. S.text word) words.now ⊎ SaysWhy (λ word. S.text word) words.now }
 {
     let Parsed { task, why } = match arguments::parse(rt.alloc(), words) {
         Ok(parsed) => parsed,
@@ -126,7 +127,8 @@ fn perform<'a, R: Files + Net + Clock + AllocGlobal, I: Read, O: Write, E: Write
 ) -> Result<Verdict, Stop<'a>>
     ensures done { OnOk result (HasPrinted (O.contents out.old) (O.contents out.new)) }
     ensures strict { IfOk result (λ verdict. verdict ≡ SomeBad → IsStrict task.entry) }
-    ensures stopped { IfErr result (λ stop. StopsWriting stop ⊎ (out.new ≡ out.old) ⊎ HasBegun (O.contents out.old) (O.contents out.new)) }
+    ensures stopped { IfErr result (λ stop. StopsWriting stop ⊎ (out.new ≡ out.old)
+        ⊎ HasBegun (O.contents out.old) (O.contents out.new)) }
     ensures quiet { telling.aloud ≡ false → err.new ≡ err.old }
 {
     match task {
@@ -194,7 +196,8 @@ fn dissect<'a, R: Files + AllocGlobal, I: Read, O: Write>(
 ) -> Result<Verdict, Stop<'a>>
     ensures strict { IfOk result (λ verdict. verdict ≡ SomeBad → asked.now.strict ≡ true) }
     ensures dissected { OnOk result (HasDissected (O.contents out.old) (O.contents out.new)) }
-    ensures stopped { IfErr result (λ stop. StopsWriting stop ⊎ (out.new ≡ out.old) ⊎ HasToldSome (O.contents out.old) (O.contents out.new)) }
+    ensures stopped { IfErr result (λ stop. StopsWriting stop ⊎ (out.new ≡ out.old)
+        ⊎ HasToldSome (O.contents out.old) (O.contents out.new)) }
 {
     if asked.file == "-" {
         return dissect_watched(rt.alloc(), asked, input, out);

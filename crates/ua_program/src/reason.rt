@@ -68,7 +68,8 @@ pub fn cannot_connect<'a>(error: io::Error) -> Stop<'a>
 /// Appends the line of a reason. In a text, each byte in UTF-8 of a control character is written as
 /// `\x` and two digits, and a backslash is doubled.
 fn push_reason(out: &mut String, reason: &Reason) -> Result<(), AllocError>
-    ensures { IfSome (reason_line reason.now) (λ line. OnOk result (string_bytes out.new ≡ string_bytes out.old ++ line)) }
+    ensures { IfSome (reason_line reason.now)
+        (λ line. OnOk result (string_bytes out.new ≡ string_bytes out.old ++ line)) }
 {
     match reason {
         Reason::System(error) => write!(out, "  because {error}\n"),
@@ -85,7 +86,8 @@ pub fn push_known(
     fault: &Fault<'_>,
     reason: Option<&Reason>,
 ) -> Result<(), AllocError>
-    ensures { IfSome (known_text (code_in fault.now) (option_map (λ r. r.now) reason.entry)) (λ line. OnOk result (string_bytes out.new ≡ string_bytes out.old ++ line)) }
+    ensures { IfSome (known_text (code_in fault.now) (option_map (λ r. r.now) reason.entry))
+        (λ line. OnOk result (string_bytes out.new ≡ string_bytes out.old ++ line)) }
 {
     match (code_of(fault), reason) {
         (Some(code), Some(Reason::Text(said))) => push_code_line(out, code, Some(said)),

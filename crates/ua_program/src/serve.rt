@@ -7,8 +7,12 @@ ghost use Rattle.ua_server.specs.Serving.{Serves};
 ghost use Rattle.ua_server.specs.State.{begun};
 ghost use Rattle.ua_program.specs.Refused.{RefusesNodes};
 ghost use Rattle.ua_program.specs.AtOnce.{ServesAsked, ServesSomeAsked};
-ghost use Rattle.ua_program.specs.Served.{AddsOutcome, BeginsWith, HasServed, HasServedSome, HasTold, IsConnectionLine, IsLimitedTo, Prints, SaysOutcome, ServesOne, TellsOf, connection_line, encoding_part, endpoint_on, is_of_connection, kind_name, limited_to, listening_line, no_memory, request_line};
-ghost use Rattle.ua_program.specs.Reasons.{EndsServing, NeverAccepts, StopsAt, StopsConnection, StopsWriting, is_starved};
+ghost use Rattle.ua_program.specs.Served.{AddsOutcome, BeginsWith, HasServed, HasServedSome, HasTold};
+ghost use Rattle.ua_program.specs.Served.{IsConnectionLine, IsLimitedTo, Prints, SaysOutcome, ServesOne, TellsOf};
+ghost use Rattle.ua_program.specs.Served.{connection_line, encoding_part, endpoint_on, is_of_connection};
+ghost use Rattle.ua_program.specs.Served.{kind_name, limited_to, listening_line, no_memory, request_line};
+ghost use Rattle.ua_program.specs.Reasons.{EndsServing, NeverAccepts, StopsAt};
+ghost use Rattle.ua_program.specs.Reasons.{StopsConnection, StopsWriting, is_starved};
 ghost use Rattle.ua_program.specs.declared.fault.Fault.TheVariants.{CannotListen};
 
 use crate::arguments::Serve;
@@ -110,7 +114,10 @@ pub fn serve_line<L: Line, M: Moments>(
     most: u32,
     moments: &mut M,
 ) -> Result<String, AllocError>
-    ensures { IfOk result (λ text. TellsOf number most (λ limits outcome. Serves limits number M.gives (begun services.old) moments.old outcome services.new moments.new (L.traffic line.old) (L.traffic line.new)) (string_bytes text)) }
+    ensures { IfOk result
+        (λ text.
+        TellsOf number most (λ limits outcome. Serves limits number M.gives (begun services.old) moments.old outcome
+        services.new moments.new (L.traffic line.old) (L.traffic line.new)) (string_bytes text)) }
 {
     let limits = limits_for(most);
     let outcome = serve(alloc, line, services, limits, number, moments);
@@ -234,8 +241,10 @@ fn tell_beside<'a, L: Line, M: Moments, A: Application, O: Write>(
     application: &mut A,
     out: &mut O,
 ) -> Result<String, Stop<'a>>
-    ensures served { IfOk result (λ text. HasTold true terms.number (O.contents out.old) (O.contents out.new) × IsConnectionLine terms.number (string_bytes text)) }
-    ensures stopped { IfErr result (λ stop. StopsWriting stop ⊎ HasTold true terms.number (O.contents out.old) (O.contents out.new)) }
+    ensures served { IfOk result (λ text. HasTold true terms.number (O.contents out.old) (O.contents out.new)
+        × IsConnectionLine terms.number (string_bytes text)) }
+    ensures stopped { IfErr result (λ stop. StopsWriting stop ⊎ HasTold true terms.number (O.contents out.old)
+        (O.contents out.new)) }
     ensures only { IfErr result StopsConnection }
 {
     let mut lines = RequestLines {
@@ -280,8 +289,10 @@ fn serve_beside<'a, L: Line, M: Moments, A: Application, O: Write>(
     application: &mut A,
     out: &mut O,
 ) -> Result<String, Stop<'a>>
-    ensures served { IfOk result (λ text. HasTold terms.requests terms.number (O.contents out.old) (O.contents out.new) × IsConnectionLine terms.number (string_bytes text)) }
-    ensures stopped { IfErr result (λ stop. StopsWriting stop ⊎ HasTold terms.requests terms.number (O.contents out.old) (O.contents out.new)) }
+    ensures served { IfOk result (λ text. HasTold terms.requests terms.number (O.contents out.old) (O.contents out.new)
+        × IsConnectionLine terms.number (string_bytes text)) }
+    ensures stopped { IfErr result (λ stop. StopsWriting stop ⊎ HasTold terms.requests terms.number (O.contents out.old)
+        (O.contents out.new)) }
     ensures only { IfErr result StopsConnection }
 {
     if terms.requests {
@@ -312,8 +323,10 @@ fn serve_stream<'a, S: Read + Write + Drop, M: Moments, A: Application, O: Write
     application: &mut A,
     out: &mut O,
 ) -> Result<String, Stop<'a>>
-    ensures served { IfOk result (λ text. HasTold terms.requests terms.number (O.contents out.old) (O.contents out.new) × IsConnectionLine terms.number (string_bytes text)) }
-    ensures stopped { IfErr result (λ stop. StopsWriting stop ⊎ HasTold terms.requests terms.number (O.contents out.old) (O.contents out.new)) }
+    ensures served { IfOk result (λ text. HasTold terms.requests terms.number (O.contents out.old) (O.contents out.new)
+        × IsConnectionLine terms.number (string_bytes text)) }
+    ensures stopped { IfErr result (λ stop. StopsWriting stop ⊎ HasTold terms.requests terms.number (O.contents out.old)
+        (O.contents out.new)) }
     ensures only { IfErr result StopsConnection }
 {
     let mut line = GatheringLine::new(alloc, TcpLine::new(stream));
@@ -332,8 +345,10 @@ fn serve_asked<'a, R: Clock + AllocGlobal, S: Read + Write + Drop, O: Write>(
     asked: &Serve<'a>,
     out: &mut O,
 ) -> Result<String, Stop<'a>>
-    ensures served { IfOk result (λ text. HasTold asked.now.requests number (O.contents out.old) (O.contents out.new) × IsConnectionLine number (string_bytes text)) }
-    ensures stopped { IfErr result (λ stop. StopsWriting stop ⊎ HasTold asked.now.requests number (O.contents out.old) (O.contents out.new)) }
+    ensures served { IfOk result (λ text. HasTold asked.now.requests number (O.contents out.old) (O.contents out.new)
+        × IsConnectionLine number (string_bytes text)) }
+    ensures stopped { IfErr result (λ stop. StopsWriting stop ⊎ HasTold asked.now.requests number (O.contents out.old)
+        (O.contents out.new)) }
     ensures only { IfErr result StopsConnection }
 {
     let alloc = rt.alloc();
@@ -451,8 +466,10 @@ fn serve_next<'a, R: Net + Clock + AllocGlobal, O: Write, E: Write>(
     telling: Telling,
     err: &mut E,
 ) -> Result<(), Stop<'a>>
-    ensures served { OnOk result (ServesOne asked.now.requests asked.now.goes_on number (O.contents out.old) (O.contents out.new)) }
-    ensures stopped { IfErr result (λ stop. StopsWriting stop ⊎ HasTold asked.now.requests number (O.contents out.old) (O.contents out.new)) }
+    ensures served { OnOk result (ServesOne asked.now.requests asked.now.goes_on number (O.contents out.old)
+        (O.contents out.new)) }
+    ensures stopped { IfErr result (λ stop. StopsWriting stop ⊎ HasTold asked.now.requests number (O.contents out.old)
+        (O.contents out.new)) }
     ensures lasts { asked.now.goes_on ≡ true → IfErr result EndsServing }
     ensures quiet { telling.aloud ≡ false → err.new ≡ err.old }
 {
@@ -472,7 +489,8 @@ fn outlive<'a, O: Write>(
     number: u32,
     out: &mut O,
 ) -> Result<(), Stop<'a>>
-    ensures said { OnOk result ((goes_on ≡ true) × (is_starved stop.entry ≡ true) × Appends (O.contents out.old) (O.contents out.new) (connection_line number no_memory)) }
+    ensures said { OnOk result ((goes_on ≡ true) × (is_starved stop.entry ≡ true)
+        × Appends (O.contents out.old) (O.contents out.new) (connection_line number no_memory)) }
     ensures stopped { IfErr result (λ why. StopsWriting why ⊎ ((why ≡ stop.entry) × (out.new ≡ out.old))) }
     ensures lasts { goes_on ≡ true → StopsConnection stop.entry → IfErr result StopsWriting }
 {
@@ -569,8 +587,11 @@ pub fn serve_all<'a, R: Net + Clock + AllocGlobal, O: Write, E: Write>(
     telling: Telling,
     err: &mut E,
 ) -> Result<(), Stop<'a>>
-    ensures served { OnOk result (HasServed asked.now.requests asked.now.goes_on asked.now.port asked.now.connections (O.contents out.old) (O.contents out.new)) }
-    ensures stopped { IfErr result (λ stop. StopsWriting stop ⊎ (out.new ≡ out.old) ⊎ HasServedSome asked.now.requests asked.now.goes_on asked.now.port asked.now.connections (O.contents out.old) (O.contents out.new)) }
+    ensures served { OnOk result (HasServed asked.now.requests asked.now.goes_on asked.now.port asked.now.connections
+        (O.contents out.old) (O.contents out.new)) }
+    ensures stopped { IfErr result (λ stop. StopsWriting stop ⊎ (out.new ≡ out.old)
+        ⊎ HasServedSome asked.now.requests asked.now.goes_on asked.now.port asked.now.connections (O.contents out.old)
+        (O.contents out.new)) }
     // Once it listens, neither a failed allocation nor an error of the listener with its reason
     // ends a server that goes on.
     ensures lasts { asked.now.goes_on ≡ true → IfErr result (λ why. EndsServing why ⊎ (out.new ≡ out.old)) }
@@ -594,9 +615,11 @@ pub fn serve_connections<'a, R: Files + Net + Clock + AllocGlobal, I: Read, O: W
     err: &mut E,
 ) -> Result<(), Stop<'a>>
     ensures served { OnOk result (ServesAsked asked.now (O.contents out.old) (O.contents out.new)) }
-    ensures stopped { IfErr result (λ stop. StopsWriting stop ⊎ (out.new ≡ out.old) ⊎ ServesSomeAsked asked.now (O.contents out.old) (O.contents out.new)) }
+    ensures stopped { IfErr result (λ stop. StopsWriting stop ⊎ (out.new ≡ out.old)
+        ⊎ ServesSomeAsked asked.now (O.contents out.old) (O.contents out.new)) }
     // Where one is served after the other.
-    ensures lasts { asked.now.at_once ≡ None → asked.now.goes_on ≡ true → IfErr result (λ why. EndsServing why ⊎ (out.new ≡ out.old)) }
+    ensures lasts { asked.now.at_once ≡ None → asked.now.goes_on ≡ true
+        → IfErr result (λ why. EndsServing why ⊎ (out.new ≡ out.old)) }
     ensures quiet { telling.aloud ≡ false → err.new ≡ err.old }
 {
     let Loaded { made, live } = load_asked(rt, asked, input)?;

@@ -2,7 +2,8 @@
 
 ghost use Rattle.std.specs.Prelude.{◌≡◌, ◌⊎◌, IfErr, OnOk};
 ghost use Rattle.ua_session.specs.Printed.{HasAdded, LeavesLines};
-ghost use Rattle.ua_program.specs.Talked.{AreTalkLines, AsksNow, ListsNow, Performs, RenewsFirst, RenewsIfDue, RenewsTalk, beside, ticks_of, worse};
+ghost use Rattle.ua_program.specs.Talked.{AreTalkLines, AsksNow, ListsNow, Performs, RenewsFirst};
+ghost use Rattle.ua_program.specs.Talked.{RenewsIfDue, RenewsTalk, beside, ticks_of, worse};
 
 use crate::lifetime::is_due;
 use crate::line_task::LineTask;
@@ -58,7 +59,9 @@ pub struct Talk {
 impl Talk {
     /// Renews the token of the channel.
     fn renew<L: Line>(&mut self, line: &mut L, moment: DateTime) -> Result<(), QuestionFault>
-        ensures { RenewsTalk moment self.old self.new (record { traffic = L.traffic line.old; failures = L.failures line.old }) (record { traffic = L.traffic line.new; failures = L.failures line.new }) result }
+        ensures { RenewsTalk moment self.old self.new
+            (record { traffic = L.traffic line.old; failures = L.failures line.old })
+            (record { traffic = L.traffic line.new; failures = L.failures line.new }) result }
     {
         match self.session.renew(line, moment) {
             Ok(()) => {
@@ -76,7 +79,9 @@ impl Talk {
         lifetime: u32,
         moment: DateTime,
     ) -> Result<(), QuestionFault>
-        ensures { RenewsIfDue lifetime moment self.old self.new (record { traffic = L.traffic line.old; failures = L.failures line.old }) (record { traffic = L.traffic line.new; failures = L.failures line.new }) result }
+        ensures { RenewsIfDue lifetime moment self.old self.new
+            (record { traffic = L.traffic line.old; failures = L.failures line.old })
+            (record { traffic = L.traffic line.new; failures = L.failures line.new }) result }
     {
         if is_due(ticks_of(moment), self.renewed_at, lifetime) {
             return self.renew(line, moment);
@@ -92,9 +97,13 @@ impl Talk {
         moment: DateTime,
         out: &mut O,
     ) -> Result<(), QuestionFault>
-        ensures asks { AsksNow O.contents question.now moment self.old self.new (record { traffic = L.traffic line.old; failures = L.failures line.old }) (record { traffic = L.traffic line.new; failures = L.failures line.new }) out.old out.new result }
-        ensures answered { OnOk result (HasAdded (AreTalkLines self.old.style) (O.contents out.old) (O.contents out.new)) }
-        ensures left { IfErr result (λ fault. LeavesLines O.contents (AreTalkLines self.old.style) fault out.old out.new) }
+        ensures asks { AsksNow O.contents question.now moment self.old self.new
+            (record { traffic = L.traffic line.old; failures = L.failures line.old })
+            (record { traffic = L.traffic line.new; failures = L.failures line.new }) out.old out.new result }
+        ensures answered { OnOk result
+            (HasAdded (AreTalkLines self.old.style) (O.contents out.old) (O.contents out.new)) }
+        ensures left { IfErr result
+            (λ fault. LeavesLines O.contents (AreTalkLines self.old.style) fault out.old out.new) }
     {
         match self.session.ask(line, question, self.style, moment, out) {
             Ok(verdict) => {
@@ -112,9 +121,13 @@ impl Talk {
         moment: DateTime,
         out: &mut O,
     ) -> Result<(), QuestionFault>
-        ensures asks { ListsNow O.contents moment self.old self.new (record { traffic = L.traffic line.old; failures = L.failures line.old }) (record { traffic = L.traffic line.new; failures = L.failures line.new }) out.old out.new result }
-        ensures answered { OnOk result (HasAdded (AreTalkLines self.old.style) (O.contents out.old) (O.contents out.new)) }
-        ensures left { IfErr result (λ fault. LeavesLines O.contents (AreTalkLines self.old.style) fault out.old out.new) }
+        ensures asks { ListsNow O.contents moment self.old self.new
+            (record { traffic = L.traffic line.old; failures = L.failures line.old })
+            (record { traffic = L.traffic line.new; failures = L.failures line.new }) out.old out.new result }
+        ensures answered { OnOk result
+            (HasAdded (AreTalkLines self.old.style) (O.contents out.old) (O.contents out.new)) }
+        ensures left { IfErr result
+            (λ fault. LeavesLines O.contents (AreTalkLines self.old.style) fault out.old out.new) }
     {
         self.session
             .ask_endpoints(line, beside(self.style), moment, out)
@@ -129,10 +142,16 @@ impl Talk {
         moment: DateTime,
         out: &mut O,
     ) -> Result<(), QuestionFault>
-        ensures asks { RenewsFirst lifetime moment self.old self.new (record { traffic = L.traffic line.old; failures = L.failures line.old }) (record { traffic = L.traffic line.new; failures = L.failures line.new }) out.old out.new result (λ between once. AsksNow O.contents question.now moment between self.new once (record { traffic = L.traffic line.new; failures = L.failures line.new }) out.old out.new result) }
+        ensures asks { RenewsFirst lifetime moment self.old self.new
+            (record { traffic = L.traffic line.old; failures = L.failures line.old })
+            (record { traffic = L.traffic line.new; failures = L.failures line.new }) out.old out.new result
+            (λ between once. AsksNow O.contents question.now moment between self.new once
+            (record { traffic = L.traffic line.new; failures = L.failures line.new }) out.old out.new result) }
         ensures style { self.new.style ≡ self.old.style }
-        ensures answered { OnOk result (HasAdded (AreTalkLines self.old.style) (O.contents out.old) (O.contents out.new)) }
-        ensures left { IfErr result (λ fault. LeavesLines O.contents (AreTalkLines self.old.style) fault out.old out.new) }
+        ensures answered { OnOk result
+            (HasAdded (AreTalkLines self.old.style) (O.contents out.old) (O.contents out.new)) }
+        ensures left { IfErr result
+            (λ fault. LeavesLines O.contents (AreTalkLines self.old.style) fault out.old out.new) }
     {
         match self.renew_if_due(line, lifetime, moment) {
             Ok(()) => self.ask(line, question, moment, out),
@@ -148,10 +167,16 @@ impl Talk {
         moment: DateTime,
         out: &mut O,
     ) -> Result<(), QuestionFault>
-        ensures asks { RenewsFirst lifetime moment self.old self.new (record { traffic = L.traffic line.old; failures = L.failures line.old }) (record { traffic = L.traffic line.new; failures = L.failures line.new }) out.old out.new result (λ between once. ListsNow O.contents moment between self.new once (record { traffic = L.traffic line.new; failures = L.failures line.new }) out.old out.new result) }
+        ensures asks { RenewsFirst lifetime moment self.old self.new
+            (record { traffic = L.traffic line.old; failures = L.failures line.old })
+            (record { traffic = L.traffic line.new; failures = L.failures line.new }) out.old out.new result
+            (λ between once. ListsNow O.contents moment between self.new once
+            (record { traffic = L.traffic line.new; failures = L.failures line.new }) out.old out.new result) }
         ensures style { self.new.style ≡ self.old.style }
-        ensures answered { OnOk result (HasAdded (AreTalkLines self.old.style) (O.contents out.old) (O.contents out.new)) }
-        ensures left { IfErr result (λ fault. LeavesLines O.contents (AreTalkLines self.old.style) fault out.old out.new) }
+        ensures answered { OnOk result
+            (HasAdded (AreTalkLines self.old.style) (O.contents out.old) (O.contents out.new)) }
+        ensures left { IfErr result
+            (λ fault. LeavesLines O.contents (AreTalkLines self.old.style) fault out.old out.new) }
     {
         match self.renew_if_due(line, lifetime, moment) {
             Ok(()) => self.list(line, moment, out),
@@ -170,10 +195,14 @@ impl Talk {
         moment: DateTime,
         out: &mut O,
     ) -> Result<(), QuestionFault>
-        ensures performs { Performs O.contents lifetime task.now moment self.old self.new (record { traffic = L.traffic line.old; failures = L.failures line.old }) (record { traffic = L.traffic line.new; failures = L.failures line.new }) out.old out.new result }
+        ensures performs { Performs O.contents lifetime task.now moment self.old self.new
+            (record { traffic = L.traffic line.old; failures = L.failures line.old })
+            (record { traffic = L.traffic line.new; failures = L.failures line.new }) out.old out.new result }
         ensures style { self.new.style ≡ self.old.style }
-        ensures answered { OnOk result ((out.new ≡ out.old) ⊎ HasAdded (AreTalkLines self.old.style) (O.contents out.old) (O.contents out.new)) }
-        ensures left { IfErr result (λ fault. LeavesLines O.contents (AreTalkLines self.old.style) fault out.old out.new) }
+        ensures answered { OnOk result
+            ((out.new ≡ out.old) ⊎ HasAdded (AreTalkLines self.old.style) (O.contents out.old) (O.contents out.new)) }
+        ensures left { IfErr result
+            (λ fault. LeavesLines O.contents (AreTalkLines self.old.style) fault out.old out.new) }
     {
         match task {
             LineTask::Ask(question) => self.ask_first(line, lifetime, question, moment, out),

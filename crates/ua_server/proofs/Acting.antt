@@ -30,10 +30,12 @@ told_in-append (Became nodes made ∷ a) b = told_in-append a b
 pub moments_of-append : (a b : List ConnectionEvent) → moments_of (a ++ b) ≡ moments_of a ++ moments_of b
 moments_of-append [] b = refl
 moments_of-append (Heard t m ∷ a) b =
-    ap (λ (x : List DateTime). times_of_answers (t ∷ []) m ++ x) (moments_of-append a b) ∙ sym (append_assoc (times_of_answers (t ∷ []) m) (moments_of a) (moments_of b))
+    ap (λ (x : List DateTime). times_of_answers (t ∷ []) m ++ x) (moments_of-append a b)
+    ∙ sym (append_assoc (times_of_answers (t ∷ []) m) (moments_of a) (moments_of b))
 moments_of-append (Became nodes made ∷ a) b = moments_of-append a b
 
-pub requests_over-append : (channel : ℕ) (c : Course) (a b : List ConnectionEvent) → requests_over channel c (a ++ b) ≡ requests_over channel c a ++ requests_over channel (course_over channel c a) b
+pub requests_over-append : (channel : ℕ) (c : Course) (a b : List ConnectionEvent) → requests_over channel c (a ++ b) ≡ requests_over channel c a
+    ++ requests_over channel (course_over channel c a) b
 requests_over-append channel c [] b = refl
 requests_over-append channel c (Heard t m ∷ a) b =
     let next = (event_answer channel c (Heard t m)).1 in
@@ -58,15 +60,18 @@ module _ {A : Type 0} (changes : A → State → A → State → Type 0) (channe
   acts-here c a m [] = refl
   acts-here c a m (t ∷ told) = acts-here (event_answer channel c (Heard t m)).1 a m told
 
-  pub acts-append : (c : Course) (a b d : A) (hs more : List ConnectionEvent) → Acts changes channel c a hs b → Acts changes channel (course_over channel c hs) b more d → Acts changes channel c a (hs ++ more) d
+  pub acts-append : (c : Course) (a b d : A) (hs more : List ConnectionEvent) → Acts changes channel c a hs b
+      → Acts changes channel (course_over channel c hs) b more d → Acts changes channel c a (hs ++ more) d
   acts-append c a b d [] more p q = subst (λ (x : A). Acts changes channel c x more d) (sym p) q
   acts-append c a b d (Heard t m ∷ hs) more p q = acts-append (event_answer channel c (Heard t m)).1 a b d hs more p q
   acts-append c a b d (Became nodes made ∷ hs) more p q = (p.0, p.1, p.2, acts-append (event_answer channel c (Became nodes made)).1 p.0 b d hs more p.3 q)
 
-  pub acts-heard : (c : Course) (a b : A) (hs : List ConnectionEvent) (m : DateTime) (told : List Told) → Acts changes channel c a hs b → Acts changes channel c a (hs ++ heard_at m told) b
+  pub acts-heard : (c : Course) (a b : A) (hs : List ConnectionEvent) (m : DateTime) (told : List Told) → Acts changes channel c a hs b
+      → Acts changes channel c a (hs ++ heard_at m told) b
   acts-heard c a b hs m told p = acts-append c a b b hs (heard_at m told) p (acts-here (course_over channel c hs) b m told)
 
-  pub acts-became : (c : Course) (a b d : A) (hs : List ConnectionEvent) (before after : State) → Acts changes channel c a hs b → (course_over channel c hs).state ≡ before → changes b before d after → after ≡ with_nodes before after.nodes
+  pub acts-became : (c : Course) (a b d : A) (hs : List ConnectionEvent) (before after : State) → Acts changes channel c a hs b
+      → (course_over channel c hs).state ≡ before → changes b before d after → after ≡ with_nodes before after.nodes
       → Acts changes channel c a (hs ++ Became after.nodes before.made ∷ []) d
   acts-became c a b d hs before after p state did alone =
       let did_so : changes b before d (with_nodes before after.nodes) = subst (λ (s : State). changes b before d s) alone did in
@@ -96,7 +101,8 @@ quiet-silent m [] more h = h
 quiet-silent m (id ∷ ids) more h = (refl, quiet-silent m ids more h)
 
 -- one thing at most, behind which the step stops
-pub acting-one : (new : ServerChannel) (octets piece : List ℕ) (n : ℕ) (out : List ℕ) (told more : List Told) (m : DateTime) → Stops new octets piece n out told more → ActsFirst true (heard_at m more)
+pub acting-one : (new : ServerChannel) (octets piece : List ℕ) (n : ℕ) (out : List ℕ) (told more : List Told) (m : DateTime)
+    → Stops new octets piece n out told more → ActsFirst true (heard_at m more)
 acting-one new octets piece n out told [] m h = tt
 acting-one new octets piece n out told (t ∷ []) m h = (λ e. refl, tt)
 acting-one new octets piece n out told (t ∷ (u ∷ more)) m h = absurd h
@@ -105,23 +111,28 @@ acting-quiet : (m : DateTime) (ids : List ℕ) (more : List Told) → ActsFirst 
 acting-quiet m [] more h = h
 acting-quiet m (id ∷ ids) more h = (λ e. refl, acting-quiet m ids more h)
 
-pub acting-on : (hs : List ConnectionEvent) (m : DateTime) (ids : List ℕ) (more : List Told) → has_acted false hs ≡ true → ActsFirst false hs → ActsFirst true (heard_at m more) → ActsFirst false (hs ++ heard_at m (given_up ids ++ more))
+pub acting-on : (hs : List ConnectionEvent) (m : DateTime) (ids : List ℕ) (more : List Told) → has_acted false hs ≡ true → ActsFirst false hs
+    → ActsFirst true (heard_at m more) → ActsFirst false (hs ++ heard_at m (given_up ids ++ more))
 acting-on hs m ids more acted p h =
-    acting-append false hs (heard_at m (given_up ids ++ more)) p (subst (λ (b : Bool). ActsFirst b (heard_at m (given_up ids ++ more))) (sym acted) (acting-quiet m ids more h))
+    acting-append false hs (heard_at m (given_up ids ++ more)) p
+    (subst (λ (b : Bool). ActsFirst b (heard_at m (given_up ids ++ more))) (sym acted) (acting-quiet m ids more h))
 
 quiet-moments : (m : DateTime) (ids : List ℕ) (more : List Told) → moments_of (heard_at m (given_up ids ++ more)) ≡ moments_of (heard_at m more)
 quiet-moments m [] more = refl
 quiet-moments m (id ∷ ids) more = quiet-moments m ids more
 
-pub moments-heard : (hs : List ConnectionEvent) (m : DateTime) (ids : List ℕ) (more : List Told) → moments_of (hs ++ heard_at m (given_up ids ++ more)) ≡ moments_of hs ++ moments_of (heard_at m more)
-moments-heard hs m ids more = moments_of-append hs (heard_at m (given_up ids ++ more)) ∙ ap (λ (x : List DateTime). moments_of hs ++ x) (quiet-moments m ids more)
+pub moments-heard : (hs : List ConnectionEvent) (m : DateTime) (ids : List ℕ) (more : List Told) → moments_of (hs ++ heard_at m (given_up ids ++ more))
+    ≡ moments_of hs ++ moments_of (heard_at m more)
+moments-heard hs m ids more = moments_of-append hs (heard_at m (given_up ids ++ more))
+    ∙ ap (λ (x : List DateTime). moments_of hs ++ x) (quiet-moments m ids more)
 
 quiet-requests : (channel : ℕ) (s : State) (n : ℕ) (a : Option Agreement) (m : DateTime) (ids : List ℕ) (more : List Told)
     → requests_over channel (course s n [] a) (heard_at m (given_up ids ++ more)) ≡ requests_over channel (course s n [] a) (heard_at m more)
 quiet-requests channel s n a m [] more = refl
 quiet-requests channel s n a m (id ∷ ids) more = quiet-requests channel s n a m ids more
 
-pub requests-behind : (x : ServerChannel) (octets : List ℕ) (hs : List ConnectionEvent) (first before : State) (m : DateTime) (ids : List ℕ) (more : List Told) → StandsOver x octets hs first before
+pub requests-behind : (x : ServerChannel) (octets : List ℕ) (hs : List ConnectionEvent) (first before : State) (m : DateTime) (ids : List ℕ) (more : List Told)
+    → StandsOver x octets hs first before
     → requests_over (channel_of x) (start first []) (hs ++ heard_at m (given_up ids ++ more))
     ≡ requests_over (channel_of x) (start first []) hs ++ requests_over (channel_of x) (course before (next_of x) [] (agreed_by (told_in hs))) (heard_at m more)
 requests-behind x octets hs first before m ids more s =
@@ -131,7 +142,8 @@ requests-behind x octets hs first before m ids more s =
     ∙ quiet-requests (channel_of x) before (next_of x) (agreed_by (told_in hs)) m ids more)
 
 -- at most one thing is told at a moment
-pub one-request : (channel : ℕ) (s : State) (n : ℕ) (a : Option Agreement) (m : DateTime) (new : ServerChannel) (octets piece : List ℕ) (k : ℕ) (out : List ℕ) (told more : List Told) → Stops new octets piece k out told more
+pub one-request : (channel : ℕ) (s : State) (n : ℕ) (a : Option Agreement) (m : DateTime) (new : ServerChannel) (octets piece : List ℕ) (k : ℕ) (out : List ℕ)
+    (told more : List Told) → Stops new octets piece k out told more
     → requests_over channel (course s n [] a) (heard_at m more) ≡ requests_of channel (standing s n a more m) more
 one-request channel s n a m new octets piece k out told [] h = refl
 one-request channel s n a m new octets piece k out told (t ∷ []) h = refl

@@ -53,7 +53,8 @@ there-is None e = absurd cc
 there-is (Some a) e = (a, refl)
 
 -- the moment that is kept behind an answer
-kept-by : (greeted : Bool) (t : Told) (m : DateTime) → IsTrue (is_answered t) → (greeted ≡ false → (a : Agreement) × (t ≡ Agreed a)) → (greeted ≡ true → (a : Agreement) → t ≡ Agreed a → ⊥)
+kept-by : (greeted : Bool) (t : Told) (m : DateTime) → IsTrue (is_answered t) → (greeted ≡ false → (a : Agreement) × (t ≡ Agreed a))
+    → (greeted ≡ true → (a : Agreement) → t ≡ Agreed a → ⊥)
     → times_of_answers (t ∷ []) m ++ listed (cond greeted None (Some m)) ≡ m ∷ []
 kept-by false (Agreed a) m h first later = refl
 kept-by true (Agreed a) m h first later = absurd (later refl a refl)
@@ -65,7 +66,8 @@ kept-by greeted (GaveUp id) m h first later = absurd cc
 kept-by greeted Closed m h first later = absurd cc
 
 -- behind an answer there is an agreement
-agreed-behind : (channel : ℕ) (d : Course) (t : Told) (greeted : Bool) → (greeted ≡ false → (a : Agreement) × (t ≡ Agreed a)) → greeted ≡ is_there d.agreement → is_there (say channel d t).1.agreement ≡ true
+agreed-behind : (channel : ℕ) (d : Course) (t : Told) (greeted : Bool) → (greeted ≡ false → (a : Agreement) × (t ≡ Agreed a)) → greeted ≡ is_there d.agreement
+    → is_there (say channel d t).1.agreement ≡ true
 agreed-behind channel d (Agreed a) greeted first e = refl
 agreed-behind channel d (Opened id handle token lifetime) true first e = sym e
 agreed-behind channel d (Opened id handle token lifetime) false first e = let f = (first refl).1 in absurd cc
@@ -81,10 +83,12 @@ agreed-behind channel d Closed false first e = let f = (first refl).1 in absurd 
 same-rules : (x y : ServerChannel) → limits_of y ≡ limits_of x → channel_of y ≡ channel_of x → rules_of y ≡ rules_of x
 same-rules x y limits channel = ap (λ (l : Limits). server_rules l (channel_of y)) limits ∙ ap (λ (n : ℕ). server_rules (limits_of x) n) channel
 
-module _ {A : Type 0} (changes : A → State → A → State → Type 0) (x : Serving) (server : Server) (m : DateTime) (piece read written : List ℕ) (given ts : List Event) (first : State × A) (now0 now1 : State) (app : A) (some : 0 < length piece)
+module _ {A : Type 0} (changes : A → State → A → State → Type 0) (x : Serving) (server : Server) (m : DateTime) (piece read written : List ℕ)
+    (given ts : List Event) (first : State × A) (now0 now1 : State) (app : A) (some : 0 < length piece)
     (lim : limits_of (channel_in server) ≡ limits_of (channel_in x.server)) (chan : channel_of (channel_in server) ≡ channel_of (channel_in x.server))
     (asked : listed x.moment ++ moments_in ts ≡ m ∷ [])
-    (o : Keeps changes x (limits_of (channel_in x.server)) (channel_of (channel_in x.server)) first read written given (now0, app)) (acted : has_acted false o.history ≡ true) where
+    (o : Keeps changes x (limits_of (channel_in x.server)) (channel_of (channel_in x.server)) first read written given (now0, app))
+    (acted : has_acted false o.history ≡ true) where
   abbrev l : Limits
   l = limits_of (channel_in x.server)
 
@@ -114,7 +118,8 @@ module _ {A : Type 0} (changes : A → State → A → State → Type 0) (x : Se
   rules-here : rules_of ch ≡ server_rules l c
   rules-here = same-rules (channel_in x.server) ch lim chan
 
-  run-here : (octets : List ℕ) (frames : List Frame) (rest : List ℕ) (end : End ℕ) → Run (rules_of ch) octets frames rest end → Run (server_rules l c) octets frames rest end
+  run-here : (octets : List ℕ) (frames : List Frame) (rest : List ℕ) (end : End ℕ) → Run (rules_of ch) octets frames rest end
+      → Run (server_rules l c) octets frames rest end
   run-here octets frames rest end run = subst (λ (R : Rules Told ℕ). Run R octets frames rest end) rules-here run
 
   stops-here : (frames : List Frame) (rest : List ℕ) (code : ℕ) → StopsAt (rules_of ch) frames rest code → StopsAt (server_rules l c) frames rest code
@@ -138,7 +143,8 @@ module _ {A : Type 0} (changes : A → State → A → State → Type 0) (x : Se
 
   whole-history : (q : List ℕ) (t : Told) → behind q (t ∷ []) ≡ behind q [] ++ (heard_at m (t ∷ []) ++ [])
   whole-history q t =
-      ap (λ (h : List ConnectionEvent). hs ++ h) (heard-append m (given_up q) (t ∷ []) ∙ ap (λ (d : List Told). heard_at m d ++ heard_at m (t ∷ [])) (sym (append-nil (given_up q))))
+      ap (λ (h : List ConnectionEvent). hs ++ h) (heard-append m (given_up q) (t ∷ [])
+      ∙ ap (λ (d : List Told). heard_at m d ++ heard_at m (t ∷ [])) (sym (append-nil (given_up q))))
       ∙ sym (append_assoc hs (heard_at m (given_up q ++ [])) (heard_at m (t ∷ [])))
 
   quiet-here : (q : List ℕ) → told_in (behind q []) ≡ told_in hs ++ given_up q
@@ -151,11 +157,13 @@ module _ {A : Type 0} (changes : A → State → A → State → Type 0) (x : Se
   acts-here q more h = acting-on hs m q more acted o.acts_first h
 
   -- what is said over them, and the requests
-  said-here : (q : List ℕ) (more : List Told) (out : List ℕ) → output_over c s0 (behind q more) ≡ output_over c s0 hs ++ out → output_over c s0 (behind q more) ≡ written ++ out
+  said-here : (q : List ℕ) (more : List Told) (out : List ℕ) → output_over c s0 (behind q more) ≡ output_over c s0 hs ++ out
+      → output_over c s0 (behind q more) ≡ written ++ out
   said-here q more out e = e ∙ ap (λ (w : List ℕ). w ++ out) (o.said_is ∙ append-nil written)
 
   said-quiet : (q : List ℕ) → output_over c s0 (behind q []) ≡ written
-  said-quiet q = output-behind (channel_in x.server) read hs first.0 now0 m q [] o.stands ∙ (append-nil (output_over c s0 hs) ∙ (o.said_is ∙ append-nil written))
+  said-quiet q = output-behind (channel_in x.server) read hs first.0 now0 m q [] o.stands
+      ∙ (append-nil (output_over c s0 hs) ∙ (o.said_is ∙ append-nil written))
 
   said-before : (q : List ℕ) → written ≡ output_over c s0 (behind q []) ++ []
   said-before q = sym (append-nil (output_over c s0 (behind q [])) ∙ said-quiet q)
@@ -163,32 +171,38 @@ module _ {A : Type 0} (changes : A → State → A → State → Type 0) (x : Se
   state-quiet : (q : List ℕ) → (course_over c s0 (behind q [])).state ≡ now0
   state-quiet q = ap (λ (d : Course). d.state) (course-behind (channel_in x.server) read hs first.0 now0 m q [] o.stands)
 
-  requests-here : (q : List ℕ) (more : List Told) (rs : List AnsweredRequest) → noted_in ts ≡ rs → requests_over c (course now0 (next_of (channel_in x.server)) [] (agreed_by (told_in hs))) (heard_at m more) ≡ rs
+  requests-here : (q : List ℕ) (more : List Told) (rs : List AnsweredRequest) → noted_in ts ≡ rs
+      → requests_over c (course now0 (next_of (channel_in x.server)) [] (agreed_by (told_in hs))) (heard_at m more) ≡ rs
       → noted_in (given ++ ts) ≡ requests_over c s0 (behind q more)
   requests-here q more rs is e =
       noted-append given ts ∙ (ap (λ (a : List AnsweredRequest). a ++ noted_in ts) o.requests_are
-      ∙ (ap (λ (a : List AnsweredRequest). requests_over c s0 hs ++ a) (is ∙ sym e) ∙ sym (requests-behind (channel_in x.server) read hs first.0 now0 m q more o.stands)))
+      ∙ (ap (λ (a : List AnsweredRequest). requests_over c s0 hs ++ a) (is ∙ sym e)
+      ∙ sym (requests-behind (channel_in x.server) read hs first.0 now0 m q more o.stands)))
 
   noted-told : noted_in ts ≡ [] → noted_in (given ++ ts) ≡ requests_over c s0 hs
   noted-told none = noted-append given ts ∙ (ap (λ (a : List AnsweredRequest). noted_in given ++ a) none ∙ (append-nil (noted_in given) ∙ o.requests_are))
 
   -- the moments of what a step adds
-  moments-here : (q : List ℕ) (more : List Told) (kept : List DateTime) → moments_of (heard_at m more) ++ kept ≡ m ∷ [] → moments_in (given ++ ts) ≡ moments_of (behind q more) ++ kept
+  moments-here : (q : List ℕ) (more : List Told) (kept : List DateTime) → moments_of (heard_at m more) ++ kept ≡ m ∷ []
+      → moments_in (given ++ ts) ≡ moments_of (behind q more) ++ kept
   moments-here q more kept e =
       moments-are ∙ (ap (λ (a : List DateTime). moments_of hs ++ a) (sym e)
       ∙ (sym (append_assoc (moments_of hs) (moments_of (heard_at m more)) kept) ∙ ap (λ (a : List DateTime). a ++ kept) (sym (moments-heard hs m q more))))
 
   -- they are asked for so
-  asked-here : (octets : List ℕ) (q : List ℕ) (more : List Told) (kept : Option DateTime) → moments_in (given ++ ts) ≡ moments_of (behind q more) ++ listed kept → IsKept l c octets kept
+  asked-here : (octets : List ℕ) (q : List ℕ) (more : List Told) (kept : Option DateTime) → moments_in (given ++ ts) ≡ moments_of (behind q more) ++ listed kept
+      → IsKept l c octets kept
       → AreAsked l c octets (told_in (behind q more)) (moments_in (given ++ ts))
   asked-here octets q more kept are k =
-      subst (λ (ms : List DateTime). AreAsked l c octets (told_in (behind q more)) ms) (sym are) (asked-by l c octets (told_in (behind q more)) (moments_of (behind q more)) kept (moments-count (behind q more)) k)
+      subst (λ (ms : List DateTime). AreAsked l c octets (told_in (behind q more)) ms) (sym are)
+      (asked-by l c octets (told_in (behind q more)) (moments_of (behind q more)) kept (moments-count (behind q more)) k)
 
   used-before : (q : List ℕ) → used_in (told_in (behind q [])) ≡ used_in (told_in hs)
   used-before q = ap used_in (quiet-here q) ∙ used-quiet (told_in hs) q
 
   -- a moment is left over behind a piece of which nothing is answered
-  silent-left : (n : ℕ) (q : List ℕ) → n ≡ length piece → (frames : List Frame) (rest : List ℕ) → Run (server_rules l c) (read ++ take n piece) frames rest Going
+  silent-left : (n : ℕ) (q : List ℕ) → n ≡ length piece → (frames : List Frame) (rest : List ℕ)
+      → Run (server_rules l c) (read ++ take n piece) frames rest Going
       → events (server_rules l c) frames ≡ told_in (behind q []) → IsUsedUp l c (read ++ take n piece) → ⊥
   silent-left n q all frames rest run told_is =
       let g = o.stands.goes in
@@ -196,11 +210,14 @@ module _ {A : Type 0} (changes : A → State → A → State → Type 0) (x : Se
       (ap used_in told_is ∙ (used-before q ∙ ap used_in (sym g.told_is)))
 
   -- and behind what is refused
-  refused-left : (n code : ℕ) (frames : List Frame) (rest : List ℕ) → Run (rules_of ch) (read ++ take n piece) frames rest (Stopped code) → IsUsedUp l c (read ++ take n piece) → ⊥
-  refused-left n code frames rest run = over-left l c (read ++ take n piece) frames rest (Stopped code) (λ e. absurd cc) (run-here (read ++ take n piece) frames rest (Stopped code) run)
+  refused-left : (n code : ℕ) (frames : List Frame) (rest : List ℕ) → Run (rules_of ch) (read ++ take n piece) frames rest (Stopped code)
+      → IsUsedUp l c (read ++ take n piece) → ⊥
+  refused-left n code frames rest run = over-left l c (read ++ take n piece) frames rest (Stopped code) (λ e. absurd cc)
+      (run-here (read ++ take n piece) frames rest (Stopped code) run)
 
   -- what was not written is what it was
-  last-silent : (n : ℕ) (out q : List ℕ) (more : List Told) → out ≡ [] → IsSilent (heard_at m more) → LastSaid l c first.0 (read ++ take n piece) out written (behind q more)
+  last-silent : (n : ℕ) (out q : List ℕ) (more : List Told) → out ≡ [] → IsSilent (heard_at m more)
+      → LastSaid l c first.0 (read ++ take n piece) out written (behind q more)
   last-silent n out q more none quiet =
       subst (λ (w : List ℕ). LastSaid l c first.0 (read ++ take n piece) w written (behind q more)) (sym none)
       (last-on l c first.0 read (take n piece) [] written hs (heard_at m (given_up q ++ more)) (quiet-silent m q more quiet) o.last)
@@ -217,7 +234,9 @@ module _ {A : Type 0} (changes : A → State → A → State → Type 0) (x : Se
     acts_first = acts-here q [] tt;
     moments_are = moments-here q [] (m ∷ []) refl;
     stands = stands;
-    kept_is = silent-left n q stops.0 stands.goes.frames stands.goes.rest (run-here (read ++ take n piece) stands.goes.frames stands.goes.rest Going stands.goes.stands.run) (events-here stands.goes.frames _ stands.goes.told_is);
+    kept_is = silent-left n q stops.0 stands.goes.frames stands.goes.rest
+        (run-here (read ++ take n piece) stands.goes.frames stands.goes.rest Going stands.goes.stands.run)
+        (events-here stands.goes.frames _ stands.goes.told_is);
     greeted_is = o.greeted_is ∙ ap is_there (sym (ap agreed_by (quiet-here q) ∙ agreed-quiet c first.0 (told_in hs) q []));
     count_is = o.count_is;
     said_is = said-here q [] out said;
@@ -228,7 +247,8 @@ module _ {A : Type 0} (changes : A → State → A → State → Type 0) (x : Se
   on-silent n out q (t ∷ more) no_request none stops stands said = absurd cc
 
   -- something is answered
-  on-saying : (request : Option AnsweredRequest) (n : ℕ) (out q : List ℕ) (more : List Told) → noted_in ts ≡ listed request → true ≡ has_some more → Stops ch read piece n out (told_in hs ++ given_up q) more
+  on-saying : (request : Option AnsweredRequest) (n : ℕ) (out q : List ℕ) (more : List Told) → noted_in ts ≡ listed request → true ≡ has_some more
+      → Stops ch read piece n out (told_in hs ++ given_up q) more
       → StandsOver ch (read ++ take n piece) (behind q more) first.0 now1 → output_over c s0 (behind q more) ≡ output_over c s0 hs ++ out
       → listed request ≡ requests_of c (standing now0 (next_of (channel_in x.server)) (agreed_by (told_in hs)) more m) more
       → Owes changes (noted y) l c first (read ++ take n piece) out written (given ++ ts) (now1, app)
@@ -240,15 +260,19 @@ module _ {A : Type 0} (changes : A → State → A → State → Type 0) (x : Se
       let greets : (x.greeted ≡ false → (a : Agreement) × (t ≡ Agreed a)) =
       λ e. agrees_first ch (read ++ take n piece) (told_in hs ++ given_up q) t g (before ∙ not-there (agreed_by (told_in hs)) (sym o.greeted_is ∙ e)) in
       let greeted : (x.greeted ≡ true → (a : Agreement) → t ≡ Agreed a → ⊥) =
-      λ e a is. let b = there-is (agreed_by (told_in hs)) (sym o.greeted_is ∙ e) in agrees_once ch (read ++ take n piece) (told_in hs ++ given_up q) t g b.0 a (before ∙ b.1) is in
+      λ e a is. let b = there-is (agreed_by (told_in hs)) (sym o.greeted_is ∙ e) in agrees_once ch (read ++ take n piece) (told_in hs ++ given_up q) t g b.0 a
+      (before ∙ b.1) is in
       let kept = kept-by x.greeted t m stops.2 greets greeted in
       let run = run-here (read ++ take n piece) (g.frames ++ g.frame ∷ []) [] Going g.stands.run in
       let tells = ap (λ (R : Rules Told ℕ). R.tells g.frames g.frame) (sym rules-here) ∙ g.tells in
       let kept_here = answer-kept l c x.greeted t m (read ++ take n piece) g.frames g.frame stops.2 greets greeted run tells in
-      let moments_now = moments-here q (t ∷ []) (listed (cond x.greeted None (Some m))) (ap (λ (a : List DateTime). a ++ listed (cond x.greeted None (Some m))) (append-nil (times_of_answers (t ∷ []) m)) ∙ kept) in
+      let moments_now = moments-here q (t ∷ []) (listed (cond x.greeted None (Some m)))
+      (ap (λ (a : List DateTime). a ++ listed (cond x.greeted None (Some m))) (append-nil (times_of_answers (t ∷ []) m)) ∙ kept) in
       let agreed : is_there (agreed_by ((told_in hs ++ given_up q) ++ t ∷ [])) ≡ true =
-      ap is_there (sym (left-agreement c first.0 ((told_in hs ++ given_up q) ++ t ∷ []) []) ∙ ap (λ (d : Course). d.agreement) (left-append c first.0 (told_in hs ++ given_up q) (t ∷ []) []))
-      ∙ agreed-behind c (state_after c first.0 (told_in hs ++ given_up q) []) t x.greeted greets (o.greeted_is ∙ ap is_there (sym (left-agreement c first.0 (told_in hs ++ given_up q) [] ∙ before))) in
+      ap is_there (sym (left-agreement c first.0 ((told_in hs ++ given_up q) ++ t ∷ []) [])
+      ∙ ap (λ (d : Course). d.agreement) (left-append c first.0 (told_in hs ++ given_up q) (t ∷ []) []))
+      ∙ agreed-behind c (state_after c first.0 (told_in hs ++ given_up q) []) t x.greeted greets
+      (o.greeted_is ∙ ap is_there (sym (left-agreement c first.0 (told_in hs ++ given_up q) [] ∙ before))) in
       let whole : behind q (t ∷ []) ≡ behind q [] ++ (heard_at m (t ∷ []) ++ []) = whole-history q t in
       let words : output_over c s0 (behind q (t ∷ [])) ≡ written ++ out = said-here q (t ∷ []) out said in
       record {
@@ -264,7 +288,8 @@ module _ {A : Type 0} (changes : A → State → A → State → Type 0) (x : Se
         count_is = o.count_is;
         said_is = words;
         requests_are = requests-here q (t ∷ []) (listed request) telling
-            (one-request c now0 (next_of (channel_in x.server)) (agreed_by (told_in hs)) m ch read piece n out (told_in hs ++ given_up q) (t ∷ []) stops ∙ sym asks);
+            (one-request c now0 (next_of (channel_in x.server)) (agreed_by (told_in hs)) m ch read piece n out (told_in hs ++ given_up q) (t ∷ []) stops
+            ∙ sym asks);
         last = record {
           front = read ++ take n piece;
           behind = [];
@@ -285,14 +310,17 @@ module _ {A : Type 0} (changes : A → State → A → State → Type 0) (x : Se
           };
           part = [];
           written_is = said-before q;
-          said_is = append-nil (output_over c s0 (behind q [] ++ heard_at m (t ∷ []))) ∙ (ap (λ (h : List ConnectionEvent). output_over c s0 h) (sym whole) ∙ words);
+          said_is = append-nil (output_over c s0 (behind q [] ++ heard_at m (t ∷ [])))
+              ∙ (ap (λ (h : List ConnectionEvent). output_over c s0 h) (sym whole) ∙ words);
         };
-        asked = λ some_words. subst (λ (d : List Told). AreAsked l c (read ++ take n piece) d (moments_in (given ++ ts))) (sym (told-here q (t ∷ [])) ∙ ap (λ (d : List Told). d ++ t ∷ []) (sym (quiet-here q)))
+        asked = λ some_words. subst (λ (d : List Told). AreAsked l c (read ++ take n piece) d (moments_in (given ++ ts))) (sym (told-here q (t ∷ []))
+            ∙ ap (λ (d : List Told). d ++ t ∷ []) (sym (quiet-here q)))
             (asked-here (read ++ take n piece) q (t ∷ []) (cond x.greeted None (Some m)) moments_now kept_here);
       }
 
   -- the connection ends
-  on-end : noted_in ts ≡ [] → (end : Ending) (n : ℕ) (out : List ℕ) → NowBy c (next_of (channel_in x.server)) m piece (Some end) n out ch read (told_in hs) now0 now1
+  on-end : noted_in ts ≡ [] → (end : Ending) (n : ℕ) (out : List ℕ)
+      → NowBy c (next_of (channel_in x.server)) m piece (Some end) n out ch read (told_in hs) now0 now1
       → Ends changes y end l c first (read ++ take n piece) out written (given ++ ts) (now1, app)
   on-end no_request ending.Closed n out s =
       let q = s.0.quiet in
@@ -313,11 +341,14 @@ module _ {A : Type 0} (changes : A → State → A → State → Type 0) (x : Se
           to = record {
             run = run;
             told_is = events-here closed.frames _ closed.told_is ∙ told-here q more;
-            written_is = ap (λ (w : List ℕ). written ++ w) s.1 ∙ (append-nil written ∙ sym (append-nil (output_over c s0 (behind q more)) ∙ (words ∙ (append-nil (output_over c s0 hs) ∙ (o.said_is ∙ append-nil written)))));
+            written_is = ap (λ (w : List ℕ). written ++ w) s.1
+                ∙ (append-nil written
+                ∙ sym (append-nil (output_over c s0 (behind q more)) ∙ (words ∙ (append-nil (output_over c s0 hs) ∙ (o.said_is ∙ append-nil written)))));
             requests_are = requests-here q more [] no_request refl;
             state_is = ap (λ (d : Course). d.state) still ∙ sym s.2;
             moments_are = (m ∷ [], moments_now, one-kept);
-            asked = asked-here (read ++ take n piece) q more (Some m) moments_now (over-left l c (read ++ take n piece) closed.frames [] Over (λ e. absurd cc) run);
+            asked = asked-here (read ++ take n piece) q more (Some m) moments_now
+                (over-left l c (read ++ take n piece) closed.frames [] Over (λ e. absurd cc) run);
           };
         };
         last = last-silent n out q more s.1 (refl, tt);
@@ -329,7 +360,8 @@ module _ {A : Type 0} (changes : A → State → A → State → Type 0) (x : Se
       let run = run-here (read ++ take n piece) refused.frames refused.rest (Stopped code.code) refused.run in
       let moments_now = moments-here q [] (m ∷ []) refl in
       let left_over = refused-left n code.code refused.frames refused.rest refused.run in
-      let words : output_over c s0 (behind q []) ++ last_words (Stopped code.code) ≡ written ++ out = ap (λ (w : List ℕ). w ++ last_words (Stopped code.code)) (said-quiet q) ∙ ap (λ (w : List ℕ). written ++ w) (sym s.1) in
+      let words : output_over c s0 (behind q []) ++ last_words (Stopped code.code) ≡ written ++ out = ap (λ (w : List ℕ). w ++ last_words (Stopped code.code))
+      (said-quiet q) ∙ ap (λ (w : List ℕ). written ++ w) (sym s.1) in
       let told_now = events-here refused.frames _ refused.told_is ∙ sym (quiet-here q) in
       record {
         count_is = o.count_is;
@@ -370,24 +402,29 @@ module _ {A : Type 0} (changes : A → State → A → State → Type 0) (x : Se
           written_is = said-before q;
           said_is = ap (λ (h : List ConnectionEvent). output_over c s0 h ++ last_words (Stopped code.code)) (append-nil (behind q [])) ∙ words;
         };
-        asked = λ some_words. subst (λ (d : List Told). AreAsked l c (read ++ take n piece) d (moments_in (given ++ ts))) (sym (append-nil (told_in (behind q [])))) (asked-here (read ++ take n piece) q [] (Some m) moments_now left_over);
+        asked = λ some_words. subst (λ (d : List Told). AreAsked l c (read ++ take n piece) d (moments_in (given ++ ts)))
+            (sym (append-nil (told_in (behind q [])))) (asked-here (read ++ take n piece) q [] (Some m) moments_now left_over);
       }
   on-end no_request ending.NoClose n out s = absurd s
   on-end no_request ending.Cut n out s = absurd s
 
   -- what became of the first octets of the piece
-  pub advanced-quiet : (request : Option AnsweredRequest) → noted_in ts ≡ [] → (end : Option Ending) (n : ℕ) (out : List ℕ) → AdvanceNowBy false request c (next_of (channel_in x.server)) m piece end n out ch read (told_in hs) now0 now1
+  pub advanced-quiet : (request : Option AnsweredRequest) → noted_in ts ≡ [] → (end : Option Ending) (n : ℕ) (out : List ℕ)
+      → AdvanceNowBy false request c (next_of (channel_in x.server)) m piece end n out ch read (told_in hs) now0 now1
       → AdvancesTo changes end y l c first (read ++ take n piece) out written (given ++ ts) (now1, app)
   advanced-quiet request no_request None n out t =
       on-silent n out t.goes.quiet t.goes.more no_request t.answered_is t.goes.stops
-      (goes-stands (channel_in x.server) ch m piece read hs first.0 now0 now1 o.stands chan n out t.goes) (goes-output (channel_in x.server) ch m piece read hs first.0 now0 now1 o.stands chan n out t.goes)
+      (goes-stands (channel_in x.server) ch m piece read hs first.0 now0 now1 o.stands chan n out t.goes)
+      (goes-output (channel_in x.server) ch m piece read hs first.0 now0 now1 o.stands chan n out t.goes)
   advanced-quiet request no_request (Some end) n out t = on-end no_request end n out t.0
 
-  pub advanced-saying : (request : Option AnsweredRequest) → noted_in ts ≡ listed request → (end : Option Ending) (n : ℕ) (out : List ℕ) → AdvanceNowBy true request c (next_of (channel_in x.server)) m piece end n out ch read (told_in hs) now0 now1
+  pub advanced-saying : (request : Option AnsweredRequest) → noted_in ts ≡ listed request → (end : Option Ending) (n : ℕ) (out : List ℕ)
+      → AdvanceNowBy true request c (next_of (channel_in x.server)) m piece end n out ch read (told_in hs) now0 now1
       → AdvancesTo changes end (noted y) l c first (read ++ take n piece) out written (given ++ ts) (now1, app)
   advanced-saying request telling None n out t =
       on-saying request n out t.goes.quiet t.goes.more telling t.answered_is t.goes.stops
-      (goes-stands (channel_in x.server) ch m piece read hs first.0 now0 now1 o.stands chan n out t.goes) (goes-output (channel_in x.server) ch m piece read hs first.0 now0 now1 o.stands chan n out t.goes) t.requests_are
+      (goes-stands (channel_in x.server) ch m piece read hs first.0 now0 now1 o.stands chan n out t.goes)
+      (goes-output (channel_in x.server) ch m piece read hs first.0 now0 now1 o.stands chan n out t.goes) t.requests_are
   advanced-saying request telling (Some end) n out t = absurd cc
 
   -- memory was refused
@@ -396,10 +433,20 @@ module _ {A : Type 0} (changes : A → State → A → State → Type 0) (x : Se
     history = hs;
     acted = o.acted;
     acts_first = o.acts_first;
-    fails = (record { unwritten = []; last = last-read l c first.0 read piece [] written hs o.last; state_is = o.stands.state_is ∙ sym e; moments_are = (m ∷ [], moments-are, one-kept) }, inr (refl, noted-told no_request));
+    fails = (
+      record {
+        unwritten = [];
+        last = last-read l c first.0 read piece [] written hs o.last;
+        state_is = o.stands.state_is
+            ∙ sym e;
+        moments_are = (m ∷ [], moments-are, one-kept);
+      },
+      inr (refl, noted-told no_request),
+    );
   }
 
-  pub advanced-broken : noted_in ts ≡ [] → (f : StepFault) → StepNow l c (next_of (channel_in x.server)) m piece (Err f) ch read (told_in hs) now0 now1 → FailsTelling changes serve_fault.OutOfMemory l c first (read ++ piece) written (given ++ ts) (now1, app)
+  pub advanced-broken : noted_in ts ≡ [] → (f : StepFault) → StepNow l c (next_of (channel_in x.server)) m piece (Err f) ch read (told_in hs) now0 now1
+      → FailsTelling changes serve_fault.OutOfMemory l c first (read ++ piece) written (given ++ ts) (now1, app)
   advanced-broken no_request step_fault.Closed s = absurd s
   advanced-broken no_request step_fault.OutOfMemory (done, inl e) = broken-on no_request e
   advanced-broken no_request step_fault.OutOfMemory (done, inr by) =

@@ -15,7 +15,9 @@ use Rattle.ua_services.specs.Response.{response}
 use Rattle.ua_builtin.specs.declared.date_time.DateTime.{DateTime}
 use Rattle.ua_opening.specs.declared.header.RequestHeader.{RequestHeader}
 use Rattle.ua_services.specs.declared.response.Response.{Response}
-use Rattle.ua_services.specs.declared.response.Response.TheVariants.{GetEndpoints as GetEndpointsMessage, CreateSession as CreateSessionMessage, ActivateSession as ActivateSessionMessage, Read as ReadMessage, Write as WriteMessage, ServiceFault as ServiceFaultMessage}
+use Rattle.ua_services.specs.declared.response.Response.TheVariants.{GetEndpoints as GetEndpointsMessage, CreateSession as CreateSessionMessage}
+use Rattle.ua_services.specs.declared.response.Response.TheVariants.{ActivateSession as ActivateSessionMessage, Read as ReadMessage}
+use Rattle.ua_services.specs.declared.response.Response.TheVariants.{Write as WriteMessage, ServiceFault as ServiceFaultMessage}
 use Rattle.ua_services.specs.declared.response.ResponseKind.TheVariants.{GetEndpoints, CreateSession, ActivateSession, Read, Write, ServiceFault as Fault}
 use Rattle.ua_opening.specs.Array.{array}
 use Rattle.ua_structures.specs.Attribute.{read_response, write_response}
@@ -65,7 +67,8 @@ signature_fits : IsTrue (signature_data.encodable null_signature)
 unfolding signature_data
 signature_fits = both_are (string.encodable None) _ no_text no_octets
 
-pub session_fits : (n most : ℕ) (timeout : DoubleBits) (e : Endpoint) (header : ResponseHeader) → n < 2 ^ 32 → most < 2 ^ 32 → timeout.bits < 2 ^ 64 → Fits e → IsTrue (response_header.encodable header)
+pub session_fits : (n most : ℕ) (timeout : DoubleBits) (e : Endpoint) (header : ResponseHeader) → n < 2 ^ 32 → most < 2 ^ 32 → timeout.bits < 2 ^ 64 → Fits e
+    → IsTrue (response_header.encodable header)
     → IsTrue (response.encodable (CreateSessionMessage (session_of header (session_id n) (session_token n) timeout (Some (description_of e ∷ [])) most)))
 unfolding create_session_response
 session_fits n most timeout e header small limit bits w h =
@@ -76,11 +79,13 @@ session_fits n most timeout e header small limit bits w h =
     (both_are (double_bits.encodable timeout) _ (timeout_fits timeout bits)
     (both_are (byte_string.encodable None) _ no_octets
     (both_are (byte_string.encodable None) _ no_octets
-    (both_are ((array endpoint_description).encodable (Some (description_of e ∷ []))) _ (one_fits endpoint_description (description_of e) (description_fits e w))
+    (both_are ((array endpoint_description).encodable (Some (description_of e ∷ []))) _
+    (one_fits endpoint_description (description_of e) (description_fits e w))
     (both_are ((array signed_software_certificate).encodable None) _ (no_array signed_software_certificate)
     (both_are (signature_data.encodable null_signature) _ signature_fits (lt-ltb most (256 ^ 4) (omega (arith, limit)))))))))))
 
-pub activation_fits : (header : ResponseHeader) → IsTrue (response_header.encodable header) → IsTrue (response.encodable (ActivateSessionMessage (activated_of header)))
+pub activation_fits : (header : ResponseHeader) → IsTrue (response_header.encodable header)
+    → IsTrue (response.encodable (ActivateSessionMessage (activated_of header)))
 unfolding activate_session_response
 activation_fits header h =
     response-encodable ActivateSession _

@@ -37,7 +37,8 @@ by-hello : (limits : Limits) (hello : Option Hello) → bound_behind limits hell
 by-hello limits None = refl
 by-hello limits (Some h) = refl
 
-by-frames : (x : ServerChannel) (frames : List Frame) (told : List Told) → bound_of x ≡ bound_after (limits_of x) (received frames) → events (rules_of x) frames ≡ told → bound_of x ≡ bound_at (limits_of x) (agreed_by told)
+by-frames : (x : ServerChannel) (frames : List Frame) (told : List Told) → bound_of x ≡ bound_after (limits_of x) (received frames)
+    → events (rules_of x) frames ≡ told → bound_of x ≡ bound_at (limits_of x) (agreed_by told)
 by-frames x frames told bound is =
     bound ∙ (by-hello (limits_of x) (received frames).hello
     ∙ ap (bound_at (limits_of x)) (sym (agreed_told (limits_of x) (channel_of x) frames) ∙ ap agreed_by is))
@@ -53,27 +54,36 @@ none-agreed (id ∷ ids) = none-agreed ids
 
 agreed-still : (told more : List Told) → flat_map agreements_in more ≡ [] → agreed_by (told ++ more) ≡ agreed_by told
 agreed-still told more none =
-    ap latest (flat_map-append agreements_in told more ∙ (ap (λ (a : List Agreement). flat_map agreements_in told ++ a) none ∙ append-nil (flat_map agreements_in told)))
+    ap latest (flat_map-append agreements_in told more
+    ∙ (ap (λ (a : List Agreement). flat_map agreements_in told ++ a) none ∙ append-nil (flat_map agreements_in told)))
 
-same-bound : (old mid : ServerChannel) (octets : List ℕ) (told more : List Told) → Goes old octets told → limits_of mid ≡ limits_of old → flat_map agreements_in more ≡ []
+same-bound : (old mid : ServerChannel) (octets : List ℕ) (told more : List Told) → Goes old octets told → limits_of mid ≡ limits_of old
+    → flat_map agreements_in more ≡ []
     → bound_of mid ≡ bound_at (limits_of mid) (agreed_by (told ++ more)) → bound_of mid ≡ bound_of old
 same-bound old mid octets told more g limits none is =
     is ∙ (ap (λ (l : Limits). bound_at l (agreed_by (told ++ more))) limits
     ∙ (ap (bound_at (limits_of old)) (agreed-still told more none) ∙ sym (by-told old octets told g)))
 
 -- behind messages that were given up
-pub passed-bound : (old mid : ServerChannel) (piece : List ℕ) (taken : ℕ) (octets : List ℕ) (told : List Told) → Passed old mid piece taken → Goes old octets told → bound_of mid ≡ bound_of old
+pub passed-bound : (old mid : ServerChannel) (piece : List ℕ) (taken : ℕ) (octets : List ℕ) (told : List Told) → Passed old mid piece taken
+    → Goes old octets told → bound_of mid ≡ bound_of old
 passed-bound old mid piece taken octets told p g =
     let behind = p.passed octets told g in
-    same-bound old mid octets told (given_up behind.0) g p.limits (none-agreed behind.0) (by-told mid (octets ++ take taken piece) (told ++ given_up behind.0) behind.1)
+    same-bound old mid octets told (given_up behind.0) g p.limits (none-agreed behind.0)
+    (by-told mid (octets ++ take taken piece) (told ++ given_up behind.0) behind.1)
 
-module _ (old mid : ServerChannel) (moment : DateTime) (piece : List ℕ) (n : ℕ) (octets : List ℕ) (told : List Told) (g : Goes old octets told) (limits : limits_of mid ≡ limits_of old) where
+module _ (old mid : ServerChannel) (moment : DateTime) (piece : List ℕ) (n : ℕ) (octets : List ℕ) (told : List Told) (g : Goes old octets told)
+    (limits : limits_of mid ≡ limits_of old) where
   -- behind a message
-  pub asked-bound : (id : ℕ) (message : List (List ℕ)) → AnswersBehind (channel_of old) (next_of old) moment piece n (Ok (event.Asked id message)) mid octets told → bound_of mid ≡ bound_of old
+  pub asked-bound : (id : ℕ) (message : List (List ℕ)) → AnswersBehind (channel_of old) (next_of old) moment piece n (Ok (event.Asked id message)) mid octets
+      told → bound_of mid ≡ bound_of old
   asked-bound id message b =
       let asks = b.answers.1.0 in
-      let agreed : agreed_by ((told ++ given_up b.quiet) ++ Asked id asks.token (concat message) ∷ []) ≡ agreed_by told = agreed-still (told ++ given_up b.quiet) (Asked id asks.token (concat message) ∷ []) refl ∙ agreed-still told (given_up b.quiet) (none-agreed b.quiet) in
-      by-told mid (octets ++ take n piece) ((told ++ given_up b.quiet) ++ Asked id asks.token (concat message) ∷ []) (goes_behind mid (octets ++ take n piece) (told ++ given_up b.quiet) (Asked id asks.token (concat message)) asks.goes)
+      let agreed : agreed_by ((told ++ given_up b.quiet) ++ Asked id asks.token (concat message) ∷ []) ≡ agreed_by told =
+      agreed-still (told ++ given_up b.quiet) (Asked id asks.token (concat message) ∷ []) refl
+      ∙ agreed-still told (given_up b.quiet) (none-agreed b.quiet) in
+      by-told mid (octets ++ take n piece) ((told ++ given_up b.quiet) ++ Asked id asks.token (concat message) ∷ [])
+      (goes_behind mid (octets ++ take n piece) (told ++ given_up b.quiet) (Asked id asks.token (concat message)) asks.goes)
       ∙ (ap (bound_at (limits_of mid)) agreed
       ∙ (ap (λ (l : Limits). bound_at l (agreed_by told)) limits ∙ sym (by-told old octets told g)))
 
@@ -82,6 +92,7 @@ module _ (old mid : ServerChannel) (moment : DateTime) (piece : List ℕ) (n : �
       → AnswersBehind (channel_of old) (next_of old) moment piece n (Err f) mid octets told → bound_of mid ≡ bound_of old
   fault-bound (fault.Refused code frame) r is starved b =
       let refused = b.answers.1 in
-      same-bound old mid octets told (given_up b.quiet) g limits (none-agreed b.quiet) (by-frames mid refused.frames (told ++ given_up b.quiet) refused.bound_is refused.told_is)
+      same-bound old mid octets told (given_up b.quiet) g limits (none-agreed b.quiet)
+      (by-frames mid refused.frames (told ++ given_up b.quiet) refused.bound_is refused.told_is)
   fault-bound fault.OutOfMemory r is starved b = starved is
   fault-bound fault.Closed r is starved b = absurd b.answers

@@ -36,18 +36,23 @@ keys-written : (items : List WriteValue) (moment : DateTime) (nodes : Nodes) →
 unfolding after_write
 keys-written items moment nodes = keys-mapped _ nodes
 
-unless-stays : (o : Option ℕ) (s : State) (moment : DateTime) (h : RequestHeader) (given : State × Response) → Stays s given.0 → Stays s (unless o s moment h given).0
+unless-stays : (o : Option ℕ) (s : State) (moment : DateTime) (h : RequestHeader) (given : State × Response) → Stays s given.0
+    → Stays s (unless o s moment h given).0
 unless-stays None s moment h given e = e
 unless-stays (Some code) s moment h given e = (refl, refl, refl)
 
 answer-stays : (s : State) (moment : DateTime) (m : Request) → Stays s (answer s moment m).0
 answer-stays s moment (GetEndpoints m) = (refl, refl, refl)
-answer-stays s moment (CreateSession m) = unless-stays (first_reason (create_reasons s)) s moment m.request_header (with_next_session s, session_given s moment m) (refl, refl, refl)
-answer-stays s moment (ActivateSession m) = unless-stays (first_reason (activate_reasons s m)) s moment m.request_header (with_activated s, activation_given moment m) (refl, refl, refl)
-answer-stays s moment (CloseSession m) = unless-stays (first_reason (close_reasons s m)) s moment m.request_header (begun s, close_given moment m) (refl, refl, refl)
+answer-stays s moment (CreateSession m) = unless-stays (first_reason (create_reasons s)) s moment m.request_header
+    (with_next_session s, session_given s moment m) (refl, refl, refl)
+answer-stays s moment (ActivateSession m) = unless-stays (first_reason (activate_reasons s m)) s moment m.request_header
+    (with_activated s, activation_given moment m) (refl, refl, refl)
+answer-stays s moment (CloseSession m) = unless-stays (first_reason (close_reasons s m)) s moment m.request_header (begun s, close_given moment m)
+    (refl, refl, refl)
 answer-stays s moment (Read m) = unless-stays (first_reason (read_reasons s m)) s moment m.request_header (s, values_given s moment m) (refl, refl, refl)
 answer-stays s moment (Write m) =
-    unless-stays (first_reason (write_reasons s m)) s moment m.request_header (with_written s moment m, statuses_given s moment m) (refl, keys-written (roomy_items s.memory_limit s.nodes (items_of m.nodes_to_write)) moment s.nodes, refl)
+    unless-stays (first_reason (write_reasons s m)) s moment m.request_header (with_written s moment m, statuses_given s moment m)
+    (refl, keys-written (roomy_items s.memory_limit s.nodes (items_of m.nodes_to_write)) moment s.nodes, refl)
 
 all-stays : (s : State) (moment : DateTime) (octets : List ℕ) → Stays s (answered s moment octets).0
 all-stays s moment octets = by (request_read octets)

@@ -31,7 +31,8 @@ pub rules-same : (x y : ServerChannel) → limits_of y ≡ limits_of x → chann
 rules-same x y limits channel = ap (λ (l : Limits). server_rules l (channel_of y)) limits ∙ ap (λ (n : ℕ). server_rules (limits_of x) n) channel
 
 -- it stands where it stood
-pub telling-on : (x y : ServerChannel) (octets : List ℕ) (before : List Told) (e : Told) (g : GoesTelling x octets before e) → limits_of y ≡ limits_of x → channel_of y ≡ channel_of x
+pub telling-on : (x y : ServerChannel) (octets : List ℕ) (before : List Told) (e : Told) (g : GoesTelling x octets before e) → limits_of y ≡ limits_of x
+    → channel_of y ≡ channel_of x
     → Holds y octets (g.frames ++ g.frame ∷ []) [] → GoesTelling y octets before e
 telling-on x y octets before e g limits channel stands =
     let same = rules-same x y limits channel in
@@ -44,13 +45,15 @@ telling-on x y octets before e g limits channel stands =
     }
 
 reply-at : (channel token : ℕ) (agreement : Option Agreement) (a : Agreement) (lane : Lane) (body : List ℕ) (number id : ℕ) (octets : List ℕ) (next : ℕ)
-    → agreement ≡ Some a → lane ≡ lane_of channel token a → IsReply lane body number id octets next → IsReplyAt channel token agreement body number id octets next
+    → agreement ≡ Some a → lane ≡ lane_of channel token a → IsReply lane body number id octets next
+    → IsReplyAt channel token agreement body number id octets next
 reply-at channel token agreement a lane body number id octets next e l r =
     subst (λ (o : Option Agreement). IsReplyAt channel token o body number id octets next) (sym e)
     (subst (λ (x : Lane). IsReply x body number id octets next) l r)
 
 -- it replied to what was agreed
-pub replied-there : (x : ServerChannel) (octets : List ℕ) (before : List Told) (id token : ℕ) (message : List ℕ) (g : GoesTelling x octets before (Asked id token message)) (lane : Lane) (body out : List ℕ) (next : ℕ)
+pub replied-there : (x : ServerChannel) (octets : List ℕ) (before : List Told) (id token : ℕ) (message : List ℕ)
+    (g : GoesTelling x octets before (Asked id token message)) (lane : Lane) (body out : List ℕ) (next : ℕ)
     → RepliesGo (limits_of x) (channel_of x) (received (g.frames ++ g.frame ∷ [])) lane → IsReply lane body (next_of x) id out next
     → IsReplyAt (channel_of x) token (agreed_by before) body (next_of x) id out next
 replied-there x octets before id token message g lane body out next goes reply =
@@ -58,9 +61,13 @@ replied-there x octets before id token message g lane body out next goes reply =
     reply-at (channel_of x) token (agreed_by before) there.0 lane body (next_of x) id out next there.1 there.2 reply
 
 -- what is told of a message, by the reply that goes there
-pub noted-there : (x : ServerChannel) (octets : List ℕ) (before : List Told) (id token : ℕ) (message : List ℕ) (g : GoesTelling x octets before (Asked id token message)) (lane : Lane) (s : State) (moment : DateTime) (body : List ℕ) (request sent : AnsweredRequest)
-    → RepliesGo (limits_of x) (channel_of x) (received (g.frames ++ g.frame ∷ [])) lane → ((code : StatusCode) → code_by (cut_refusal lane body) code ≡ code_by (cut_refusal lane (response.canonical (answered s moment message).1)) code) → request ≡ request_answered None s moment message
-    → sent ≡ with-code request (code_by (cut_refusal lane body) request.code) → sent ≡ request_answered (lane_at (channel_of x) token (agreed_by before)) s moment message
+pub noted-there : (x : ServerChannel) (octets : List ℕ) (before : List Told) (id token : ℕ) (message : List ℕ)
+    (g : GoesTelling x octets before (Asked id token message)) (lane : Lane) (s : State) (moment : DateTime) (body : List ℕ) (request sent : AnsweredRequest)
+    → RepliesGo (limits_of x) (channel_of x) (received (g.frames ++ g.frame ∷ [])) lane
+    → ((code : StatusCode) → code_by (cut_refusal lane body) code ≡ code_by (cut_refusal lane (response.canonical (answered s moment message).1)) code)
+    → request ≡ request_answered None s moment message
+    → sent ≡ with-code request (code_by (cut_refusal lane body) request.code)
+    → sent ≡ request_answered (lane_at (channel_of x) token (agreed_by before)) s moment message
 noted-there x octets before id token message g lane s moment body request sent goes is asked as_sent =
     let there = reply_goes x octets before id token message (g.frames ++ g.frame ∷ []) [] lane g g.stands goes in
     let r = (answered s moment message).1 in

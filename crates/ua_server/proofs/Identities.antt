@@ -19,7 +19,8 @@ use Rattle.ua_opening.proofs.BodyRead.{body_found, body_is}
 use Rattle.ua_server.specs.Sessions.{is_token, is_anonymous_by, is_anonymous}
 
 token_found : (token : AnonymousIdentityToken) (octets : List ℕ) → IsBody anonymous_identity_token token octets → is_token (Some octets) ≡ true
-token_found token octets h = ap (λ (o : Option AnonymousIdentityToken). not (is_none o)) (body_found anonymous_identity_token lawful_anonymous_identity_token octets token h)
+token_found token octets h = ap (λ (o : Option AnonymousIdentityToken). not (is_none o))
+    (body_found anonymous_identity_token lawful_anonymous_identity_token octets token h)
 
 pub carried : (object : ExtensionObject) (token : AnonymousIdentityToken) → Carries object token → true ≡ is_anonymous object
 carried object token h = sym (ap is_anonymous h.1 ∙ token_found token h.0 h.2)
@@ -43,16 +44,22 @@ no_token : (id : NodeId) (octets : List ℕ) (o : Option AnonymousIdentityToken)
     → CarriesNone (record { type_id = id; body = ByteString (Some octets) }) → is_token (Some octets) ≡ false
 no_token id octets None e same none = ap (λ (o : Option AnonymousIdentityToken). not (is_none o)) e
 no_token id octets (Some token) e same none =
-    absurd (none token (octets, ap (λ (i : NodeId). record { type_id = i; body = ByteString (Some octets) }) same, body_is anonymous_identity_token lawful_anonymous_identity_token octets token e))
+    absurd (none token (
+      octets,
+      ap (λ (i : NodeId). record { type_id = i; body = ByteString (Some octets) }) same,
+      body_is anonymous_identity_token lawful_anonymous_identity_token octets token e,
+    ))
 
-not_carried_by : (id : NodeId) (body : ExtensionBody) → (id ≡ null_id → ⊥) → CarriesNone (record { type_id = id; body = body }) → is_anonymous (record { type_id = id; body = body }) ≡ false
+not_carried_by : (id : NodeId) (body : ExtensionBody) → (id ≡ null_id → ⊥) → CarriesNone (record { type_id = id; body = body })
+    → is_anonymous (record { type_id = id; body = body }) ≡ false
 not_carried_by id body other none = by (standard_number id) body refl none
   where
     zero : (n : ℕ) (t : Bool) → nat_eq n 0 ≡ t → standard_number id ≡ Some n → t ≡ false
     zero n true f e = absurd (other (standard_is id n e ∙ ap standard (eqb-true n 0 f)))
     zero n false f e = refl
 
-    held : (n : ℕ) (octets : List ℕ) (t : Bool) → nat_eq n 321 ≡ t → standard_number id ≡ Some n → CarriesNone (record { type_id = id; body = ByteString (Some octets) }) → t && is_token (Some octets) ≡ false
+    held : (n : ℕ) (octets : List ℕ) (t : Bool) → nat_eq n 321 ≡ t → standard_number id ≡ Some n
+        → CarriesNone (record { type_id = id; body = ByteString (Some octets) }) → t && is_token (Some octets) ≡ false
     held n octets true f e c = no_token id octets (body_of anonymous_identity_token octets) refl (standard_is id n e ∙ ap standard (eqb-true n 321 f)) c
     held n octets false f e c = refl
 

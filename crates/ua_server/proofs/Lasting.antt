@@ -21,7 +21,8 @@ use Rattle.ua_server.specs.declared.serving.Serving.{Serving}
 
 module _ (limits : Limits) (channel : ℕ) (first : State) where
   -- more octets are read, and nothing is answered at the events behind
-  pub last-on : (read more out written : List ℕ) (hs later : List ConnectionEvent) → IsSilent later → LastSaid limits channel first read out written hs → LastSaid limits channel first (read ++ more) out written (hs ++ later)
+  pub last-on : (read more out written : List ℕ) (hs later : List ConnectionEvent) → IsSilent later → LastSaid limits channel first read out written hs
+      → LastSaid limits channel first (read ++ more) out written (hs ++ later)
   last-on read more out written hs later quiet p = record {
     front = p.front;
     behind = p.behind ++ more;
@@ -31,7 +32,8 @@ module _ (limits : Limits) (channel : ℕ) (first : State) where
     moment = p.moment;
     later = p.later ++ later;
     history_is = ap (λ (h : List ConnectionEvent). h ++ later) p.history_is
-        ∙ (append_assoc p.before (heard_at p.moment (told_at p.word) ++ p.later) later ∙ ap (λ (h : List ConnectionEvent). p.before ++ h) (append_assoc (heard_at p.moment (told_at p.word)) p.later later));
+        ∙ (append_assoc p.before (heard_at p.moment (told_at p.word) ++ p.later) later
+        ∙ ap (λ (h : List ConnectionEvent). p.before ++ h) (append_assoc (heard_at p.moment (told_at p.word)) p.later later));
     silent = silent-append p.later later p.silent quiet;
     ends = p.ends;
     part = p.part;
@@ -40,11 +42,14 @@ module _ (limits : Limits) (channel : ℕ) (first : State) where
   }
 
   -- more octets are read
-  pub last-read : (read more out written : List ℕ) (hs : List ConnectionEvent) → LastSaid limits channel first read out written hs → LastSaid limits channel first (read ++ more) out written hs
-  last-read read more out written hs p = subst (λ (h : List ConnectionEvent). LastSaid limits channel first (read ++ more) out written h) (append-nil hs) (last-on read more out written hs [] tt p)
+  pub last-read : (read more out written : List ℕ) (hs : List ConnectionEvent) → LastSaid limits channel first read out written hs
+      → LastSaid limits channel first (read ++ more) out written hs
+  last-read read more out written hs p = subst (λ (h : List ConnectionEvent). LastSaid limits channel first (read ++ more) out written h) (append-nil hs)
+      (last-on read more out written hs [] tt p)
 
   -- more octets are written
-  abbrev pub last-written : (read out written : List ℕ) (hs : List ConnectionEvent) (done unwritten : List ℕ) → out ≡ done ++ unwritten → LastSaid limits channel first read out written hs → LastSaid limits channel first read unwritten (written ++ done) hs
+  abbrev pub last-written : (read out written : List ℕ) (hs : List ConnectionEvent) (done unwritten : List ℕ) → out ≡ done ++ unwritten
+      → LastSaid limits channel first read out written hs → LastSaid limits channel first read unwritten (written ++ done) hs
   last-written read out written hs done unwritten e p = record {
     front = p.front;
     behind = p.behind;
@@ -63,7 +68,8 @@ module _ (limits : Limits) (channel : ℕ) (first : State) where
 
 module _ {A : Type 0} (changes : A → State → A → State → Type 0) where
   -- before any octet
-  pub keeps-first : (x : Serving) (limits : Limits) (channel : ℕ) (first : State × A) → Begins x limits channel → Keeps changes x limits channel first [] [] [] first
+  pub keeps-first : (x : Serving) (limits : Limits) (channel : ℕ) (first : State × A) → Begins x limits channel
+      → Keeps changes x limits channel first [] [] [] first
   keeps-first x limits channel first b = record {
     limits_is = b.limits_is;
     channel_is = b.channel_is;
@@ -77,12 +83,27 @@ module _ {A : Type 0} (changes : A → State → A → State → Type 0) where
     count_is = b.none_written;
     said_is = refl;
     requests_are = refl;
-    last = record { front = []; behind = []; front_is = refl; before = []; word = Nothing; moment = record { ticks = pos 0 }; later = []; history_is = refl; silent = tt; ends = (refl, refl); part = []; written_is = refl; said_is = refl };
+    last = record {
+      front = [];
+      behind = [];
+      front_is = refl;
+      before = [];
+      word = Nothing;
+      moment = record { ticks = pos 0 };
+      later = [];
+      history_is = refl;
+      silent = tt;
+      ends = (refl, refl);
+      part = [];
+      written_is = refl;
+      said_is = refl;
+    };
     asked = λ some. absurd (no-words [] refl some);
   }
 
   -- the application acted
-  module _ (x : Serving) (limits : Limits) (channel : ℕ) (first : State × A) (read written : List ℕ) (ticks : List Event) (before after : State) (a b : A) (k : Keeps changes x limits channel first read written ticks (before, a))
+  module _ (x : Serving) (limits : Limits) (channel : ℕ) (first : State × A) (read written : List ℕ) (ticks : List Event) (before after : State) (a b : A)
+      (k : Keeps changes x limits channel first read written ticks (before, a))
       (did : changes a before b after) (alone : after ≡ with_nodes before after.nodes) where
     told-same : told_in (k.history ++ Became after.nodes before.made ∷ []) ≡ told_in k.history
     told-same = told_in-append k.history (Became after.nodes before.made ∷ []) ∙ append-nil (told_in k.history)
@@ -98,14 +119,18 @@ module _ {A : Type 0} (changes : A → State → A → State → Type 0) where
         history = k.history ++ Became after.nodes before.made ∷ [];
         acted = acts-became changes channel (start first.0 []) first.1 a b k.history before after k.acted state-there did alone;
         acts_first = acting-append false k.history (Became after.nodes before.made ∷ []) k.acts_first tt;
-        moments_are = k.moments_are ∙ ap (λ (ms : List DateTime). ms ++ listed x.moment) (sym (moments_of-append k.history (Became after.nodes before.made ∷ []) ∙ append-nil (moments_of k.history)));
+        moments_are = k.moments_are
+            ∙ ap (λ (ms : List DateTime). ms ++ listed x.moment)
+            (sym (moments_of-append k.history (Became after.nodes before.made ∷ []) ∙ append-nil (moments_of k.history)));
         stands = subst (λ (s : State). StandsOver (channel_in x.server) read (k.history ++ Became after.nodes before.made ∷ []) first.0 s) (sym alone)
             (history-became (channel_in x.server) read k.history first.0 before after.nodes before.made k.stands);
         kept_is = k.kept_is;
         greeted_is = k.greeted_is ∙ ap (λ (t : List Told). is_there (agreed_by t)) (sym told-same);
         count_is = k.count_is;
-        said_is = output_over-append channel (start first.0 []) k.history (Became after.nodes before.made ∷ []) ∙ (append-nil (output_over channel (start first.0 []) k.history) ∙ k.said_is);
-        requests_are = k.requests_are ∙ sym (requests_over-append channel (start first.0 []) k.history (Became after.nodes before.made ∷ []) ∙ append-nil (requests_over channel (start first.0 []) k.history));
+        said_is = output_over-append channel (start first.0 []) k.history (Became after.nodes before.made ∷ [])
+            ∙ (append-nil (output_over channel (start first.0 []) k.history) ∙ k.said_is);
+        requests_are = k.requests_are ∙ sym (requests_over-append channel (start first.0 []) k.history (Became after.nodes before.made ∷ [])
+            ∙ append-nil (requests_over channel (start first.0 []) k.history));
         last = subst (λ (r : List ℕ). LastSaid limits channel first.0 r [] written (k.history ++ Became after.nodes before.made ∷ [])) (append-nil read)
             (last-on limits channel first.0 read [] [] written k.history (Became after.nodes before.made ∷ []) tt k.last);
         asked = λ some. absurd (no-words [] refl some);

@@ -23,7 +23,8 @@ use Rattle.ua_server.specs.ServingParts.{IsKept}
 -- ---- lists
 
 -- a list with one item more that begins with another: nothing is behind that one, or the list does without the item
-pub front_or_whole : {A : Type 0} (first later most : List A) (last : A) → most ++ last ∷ [] ≡ first ++ later → (later ≡ []) ⊎ ((more : List A) × (most ≡ first ++ more))
+pub front_or_whole : {A : Type 0} (first later most : List A) (last : A) → most ++ last ∷ [] ≡ first ++ later
+    → (later ≡ []) ⊎ ((more : List A) × (most ≡ first ++ more))
 front_or_whole {A = A} [] later most last e = inr (most, refl)
 front_or_whole {A = A} (x ∷ first) later [] last e = inl (none-behind first later (tails e))
   where
@@ -54,14 +55,16 @@ module _ (limits : Limits) (channel : ℕ) where
   abbrev rules : Rules Told ℕ
   rules = server_rules limits channel
 
-  no-octets : (octets : List ℕ) (frames : List Frame) (rest : List ℕ) (end : End ℕ) → Run rules octets frames rest end → octets ≡ [] → (frames ≡ []) × (end ≡ Going)
+  no-octets : (octets : List ℕ) (frames : List Frame) (rest : List ℕ) (end : End ℕ) → Run rules octets frames rest end → octets ≡ []
+      → (frames ≡ []) × (end ≡ Going)
   unfolding received closings
   no-octets octets frames rest end run none =
       let same = unique rules [] frames [] rest [] end Going (subst (λ (o : List ℕ). Run rules o frames rest end) none run) (run_nil rules refl) in
       (same.frames, same.ends)
 
   -- where the connection ended one is left over
-  pub over-left : (octets : List ℕ) (frames : List Frame) (rest : List ℕ) (end : End ℕ) → (end ≡ Going → ⊥) → Run rules octets frames rest end → IsUsedUp limits channel octets → ⊥
+  pub over-left : (octets : List ℕ) (frames : List Frame) (rest : List ℕ) (end : End ℕ) → (end ≡ Going → ⊥) → Run rules octets frames rest end
+      → IsUsedUp limits channel octets → ⊥
   over-left octets frames rest end over run (inl none) = over (no-octets octets frames rest end run none).1
   over-left octets frames rest end over run (inr u) = over (unique rules octets frames (u.frames ++ u.frame ∷ []) rest [] end Going run u.run).ends
 
@@ -69,10 +72,19 @@ module _ (limits : Limits) (channel : ℕ) where
   not-more a b c d p q r = omega (arith, p, q, r)
 
   no-piece : (read piece frames rest : List ℕ) → 0 < length piece → read ≡ frames ++ rest → read ++ piece ≡ frames ++ [] → ⊥
-  no-piece read piece frames rest some p q = omega (arith, some, ap length p, ap length q, length-append read piece, length-append frames rest, length-append frames [])
+  no-piece read piece frames rest some p q = omega (
+    arith,
+    some,
+    ap length p,
+    ap length q,
+    length-append read piece,
+    length-append frames rest,
+    length-append frames [],
+  )
 
   -- behind a piece of which nothing uses a moment one is left over
-  pub quiet-left : (read piece : List ℕ) (before after : List Frame) (rest left : List ℕ) → 0 < length piece → Run rules read before rest Going → Run rules (read ++ piece) after left Going
+  pub quiet-left : (read piece : List ℕ) (before after : List Frame) (rest left : List ℕ) → 0 < length piece → Run rules read before rest Going
+      → Run rules (read ++ piece) after left Going
       → used_in (events rules after) ≡ used_in (events rules before) → IsUsedUp limits channel (read ++ piece) → ⊥
   quiet-left read piece before after rest left some run later same (inl none) = omega (arith, some, ap length none, length-append read piece)
   quiet-left read piece before after rest left some run later same (inr u) = by (front_or_whole before front.0 u.frames u.frame front.1)
@@ -93,27 +105,35 @@ module _ (limits : Limits) (channel : ℕ) where
           let same_frames : u.frames ++ u.frame ∷ [] ≡ before = front.1 ∙ (ap (λ (m : List Frame). before ++ m) none ∙ append-nil before) in
           no-piece read piece (frames_octets before) rest some run.whole (u.run.whole ∙ ap (λ (fs : List Frame). frames_octets fs ++ []) same_frames)
       by (inr (more, is)) =
-          not-more (used_in (events rules before)) (used_in (events rules u.frames)) (used_in (each_from rules.tells before more)) (used_in (events rules after)) same last
-          (ap (λ (fs : List Frame). used_in (events rules fs)) is ∙ (ap used_in (events_on rules before more) ∙ used_in-append (events rules before) (each_from rules.tells before more)))
+          not-more (used_in (events rules before)) (used_in (events rules u.frames)) (used_in (each_from rules.tells before more))
+          (used_in (events rules after)) same last
+          (ap (λ (fs : List Frame). used_in (events rules fs)) is
+          ∙ (ap used_in (events_on rules before more) ∙ used_in-append (events rules before) (each_from rules.tells before more)))
 
   -- behind a frame that uses none one is left over
-  unused-left : (octets : List ℕ) (frames : List Frame) (frame : Frame) → Run rules octets (frames ++ frame ∷ []) [] Going → used_in (rules.tells frames frame) ≡ 0 → IsUsedUp limits channel octets → ⊥
+  unused-left : (octets : List ℕ) (frames : List Frame) (frame : Frame) → Run rules octets (frames ++ frame ∷ []) [] Going
+      → used_in (rules.tells frames frame) ≡ 0 → IsUsedUp limits channel octets → ⊥
   unused-left octets frames frame run none (inl nothing) = no-item frames frame (sym (no-octets octets (frames ++ frame ∷ []) [] Going run nothing).0)
   unused-left octets frames frame run none (inr u) =
       let same = (unique rules octets (frames ++ frame ∷ []) (u.frames ++ u.frame ∷ []) [] [] Going Going run u.run).frames in
       let count : used_in (events rules (frames ++ frame ∷ [])) ≡ used_in (events rules frames) + 0 =
-      ap used_in (events-push rules frames frame) ∙ (used_in-append (events rules frames) (rules.tells frames frame) ∙ ap (λ (n : ℕ). used_in (events rules frames) + n) none) in
+      ap used_in (events-push rules frames frame)
+      ∙ (used_in-append (events rules frames) (rules.tells frames frame) ∙ ap (λ (n : ℕ). used_in (events rules frames) + n) none) in
       let other : used_in (events rules (u.frames ++ u.frame ∷ [])) ≡ used_in (events rules u.frames) + 1 =
-      ap used_in (events-push rules u.frames u.frame) ∙ (used_in-append (events rules u.frames) (rules.tells u.frames u.frame) ∙ ap (λ (n : ℕ). used_in (events rules u.frames) + n) u.uses_one) in
+      ap used_in (events-push rules u.frames u.frame)
+      ∙ (used_in-append (events rules u.frames) (rules.tells u.frames u.frame) ∙ ap (λ (n : ℕ). used_in (events rules u.frames) + n) u.uses_one) in
       by-front (front_or_whole frames (frame ∷ []) u.frames u.frame (sym same)) count other same
     where
-      by-front : (frame ∷ [] ≡ []) ⊎ ((more : List Frame) × (u.frames ≡ frames ++ more)) → used_in (events rules (frames ++ frame ∷ [])) ≡ used_in (events rules frames) + 0
+      by-front : (frame ∷ [] ≡ []) ⊎ ((more : List Frame) × (u.frames ≡ frames ++ more))
+          → used_in (events rules (frames ++ frame ∷ [])) ≡ used_in (events rules frames) + 0
           → used_in (events rules (u.frames ++ u.frame ∷ [])) ≡ used_in (events rules u.frames) + 1 → frames ++ frame ∷ [] ≡ u.frames ++ u.frame ∷ [] → ⊥
       by-front (inl empty) count other same = absurd cc
       by-front (inr (more, is)) count other same =
           let on : used_in (events rules u.frames) ≡ used_in (events rules frames) + used_in (each_from rules.tells frames more) =
-          ap (λ (fs : List Frame). used_in (events rules fs)) is ∙ (ap used_in (events_on rules frames more) ∙ used_in-append (events rules frames) (each_from rules.tells frames more)) in
-          let one : used_in (events rules (frames ++ frame ∷ [])) ≡ used_in (events rules (u.frames ++ u.frame ∷ [])) = ap (λ (fs : List Frame). used_in (events rules fs)) same in
+          ap (λ (fs : List Frame). used_in (events rules fs)) is
+          ∙ (ap used_in (events_on rules frames more) ∙ used_in-append (events rules frames) (each_from rules.tells frames more)) in
+          let one : used_in (events rules (frames ++ frame ∷ [])) ≡ used_in (events rules (u.frames ++ u.frame ∷ [])) =
+          ap (λ (fs : List Frame). used_in (events rules fs)) same in
           omega (arith, count, other, on, one)
 
   -- the moment that is kept behind an answer
@@ -123,26 +143,32 @@ module _ (limits : Limits) (channel : ℕ) where
   answer-kept false (Agreed a) m octets frames frame h first later run tells = unused-left octets frames frame run (ap used_in tells)
   answer-kept true (Agreed a) m octets frames frame h first later run tells = absurd (later refl a refl)
   answer-kept false (Opened id handle token lifetime) m octets frames frame h first later run tells = let e = (first refl).1 in absurd cc
-  answer-kept true (Opened id handle token lifetime) m octets frames frame h first later run tells = inr (record { frames = frames; frame = frame; run = run; uses_one = ap used_in tells })
+  answer-kept true (Opened id handle token lifetime) m octets frames frame h first later run tells =
+      inr (record { frames = frames; frame = frame; run = run; uses_one = ap used_in tells })
   answer-kept false (Asked id token message) m octets frames frame h first later run tells = let e = (first refl).1 in absurd cc
-  answer-kept true (Asked id token message) m octets frames frame h first later run tells = inr (record { frames = frames; frame = frame; run = run; uses_one = ap used_in tells })
+  answer-kept true (Asked id token message) m octets frames frame h first later run tells =
+      inr (record { frames = frames; frame = frame; run = run; uses_one = ap used_in tells })
   answer-kept greeted (GaveUp id) m octets frames frame h first later run tells = absurd cc
   answer-kept greeted Closed m octets frames frame h first later run tells = absurd cc
 
   -- ---- how many are asked for
 
-  pub asked-by : (octets : List ℕ) (told : List Told) (used : List DateTime) (kept : Option DateTime) → length used ≡ used_in told → IsKept limits channel octets kept → AreAsked limits channel octets told (used ++ listed kept)
+  pub asked-by : (octets : List ℕ) (told : List Told) (used : List DateTime) (kept : Option DateTime) → length used ≡ used_in told
+      → IsKept limits channel octets kept → AreAsked limits channel octets told (used ++ listed kept)
   asked-by octets told used None e k = inl (k, ap length (append-nil used) ∙ e)
   asked-by octets told used (Some m) e k = inr (k, length-append used (m ∷ []) ∙ ap (λ (n : ℕ). n + 1) e)
 
   -- more octets behind the end make no difference
-  pub asked-over : (octets more : List ℕ) (frames : List Frame) (rest : List ℕ) (end : End ℕ) (told : List Told) (moments : List DateTime) → (end ≡ Going → ⊥) → Run rules octets frames rest end
+  pub asked-over : (octets more : List ℕ) (frames : List Frame) (rest : List ℕ) (end : End ℕ) (told : List Told) (moments : List DateTime) → (end ≡ Going → ⊥)
+      → Run rules octets frames rest end
       → AreAsked limits channel octets told moments → AreAsked limits channel (octets ++ more) told moments
   asked-over octets more frames rest end told moments over run (inl a) = absurd (over-left octets frames rest end over run a.0)
-  asked-over octets more frames rest end told moments over run (inr a) = inr (over-left (octets ++ more) frames (rest ++ more) end over (ends_stay rules octets more frames rest end over run), a.1)
+  asked-over octets more frames rest end told moments over run (inr a) =
+      inr (over-left (octets ++ more) frames (rest ++ more) end over (ends_stay rules octets more frames rest end over run), a.1)
 
   -- of the same octets as many are asked for
-  pub as-many : (octets : List ℕ) (told : List Told) (moments others : List DateTime) → AreAsked limits channel octets told moments → AreAsked limits channel octets told others → length moments ≡ length others
+  pub as-many : (octets : List ℕ) (told : List Told) (moments others : List DateTime) → AreAsked limits channel octets told moments
+      → AreAsked limits channel octets told others → length moments ≡ length others
   as-many octets told moments others (inl a) (inl b) = a.1 ∙ sym b.1
   as-many octets told moments others (inl a) (inr b) = absurd (b.0 a.0)
   as-many octets told moments others (inr a) (inl b) = absurd (a.0 b.0)
@@ -153,17 +179,21 @@ module _ (limits : Limits) (channel : ℕ) where
   all-asked octets told moments (inr a) = omega (arith, a.1)
 
   -- up to an answer, and up to what is refused
-  pub answered-count : (octets : List ℕ) (before : List Told) (t : Told) (moments : List DateTime) → EndsAnswered limits channel octets before t → AreAsked limits channel octets (before ++ t ∷ []) moments → length moments + times_used_by t ≡ used_in (before ++ t ∷ []) + 1
+  pub answered-count : (octets : List ℕ) (before : List Told) (t : Told) (moments : List DateTime) → EndsAnswered limits channel octets before t
+      → AreAsked limits channel octets (before ++ t ∷ []) moments → length moments + times_used_by t ≡ used_in (before ++ t ∷ []) + 1
   answered-count octets before (Agreed a) moments e (inl m) = absurd (unused-left octets e.frames e.frame e.run (ap used_in e.tells) m.0)
   answered-count octets before (Agreed a) moments e (inr m) = omega (arith, m.1)
   answered-count octets before (Opened id handle token lifetime) moments e (inl m) = ap (λ (n : ℕ). n + 1) m.1
-  answered-count octets before (Opened id handle token lifetime) moments e (inr m) = absurd (m.0 (inr (record { frames = e.frames; frame = e.frame; run = e.run; uses_one = ap used_in e.tells })))
+  answered-count octets before (Opened id handle token lifetime) moments e (inr m) =
+      absurd (m.0 (inr (record { frames = e.frames; frame = e.frame; run = e.run; uses_one = ap used_in e.tells })))
   answered-count octets before (Asked id token message) moments e (inl m) = ap (λ (n : ℕ). n + 1) m.1
-  answered-count octets before (Asked id token message) moments e (inr m) = absurd (m.0 (inr (record { frames = e.frames; frame = e.frame; run = e.run; uses_one = ap used_in e.tells })))
+  answered-count octets before (Asked id token message) moments e (inr m) =
+      absurd (m.0 (inr (record { frames = e.frames; frame = e.frame; run = e.run; uses_one = ap used_in e.tells })))
   answered-count octets before (GaveUp id) moments e m = let h = e.answered in absurd cc
   answered-count octets before Closed moments e m = let h = e.answered in absurd cc
 
-  pub refused-count : (octets : List ℕ) (before : List Told) (code : ℕ) (moments : List DateTime) → EndsRefused limits channel octets before code → AreAsked limits channel octets (before ++ []) moments → length moments ≡ used_in (before ++ []) + 1
+  pub refused-count : (octets : List ℕ) (before : List Told) (code : ℕ) (moments : List DateTime) → EndsRefused limits channel octets before code
+      → AreAsked limits channel octets (before ++ []) moments → length moments ≡ used_in (before ++ []) + 1
   refused-count octets before code moments e (inl m) = absurd (over-left octets e.frames e.rest (Stopped code) (λ p. absurd cc) e.run m.0)
   refused-count octets before code moments e (inr m) = m.1
 

@@ -30,7 +30,8 @@ listed-is (Some x) (Some y) e = cc
 
 module _ (old new : ServerChannel) (moment : DateTime) (piece octets : List ℕ) (told : List Told) (first : State) (ms : List DateTime) (before now : State)
     (s : ServerStands old octets told first ms before) (same : channel_of new ≡ channel_of old) where
-  goes-by : (n : ℕ) (out quiet : List ℕ) (more : List Told) → Stops new octets piece n out (told ++ given_up quiet) more → Goes new (octets ++ take n piece) ((told ++ given_up quiet) ++ more)
+  goes-by : (n : ℕ) (out quiet : List ℕ) (more : List Told) → Stops new octets piece n out (told ++ given_up quiet) more
+      → Goes new (octets ++ take n piece) ((told ++ given_up quiet) ++ more)
       → out ≡ said_of (channel_of old) (standing before (next_of old) (agreed_by told) more moment) more
       → now ≡ (course_after (channel_of old) (standing before (next_of old) (agreed_by told) more moment) more).state
       → next_of new ≡ (course_after (channel_of old) (standing before (next_of old) (agreed_by told) more moment) more).number
@@ -38,15 +39,23 @@ module _ (old new : ServerChannel) (moment : DateTime) (piece octets : List ℕ)
   goes-by n out quiet [] stops goes said state number =
       subst (λ (o : List ℕ). StepGoes (channel_of old) moment piece n o new octets told first ms now) (sym said)
       (subst (λ (t : State). StepGoes (channel_of old) moment piece n [] new octets told first ms t) (sym state)
-      (goes-silent old new moment piece n octets told first ms before quiet s same stops.0 (subst (λ (t : List Told). Goes new (octets ++ take n piece) t) (append-nil (told ++ given_up quiet)) goes) number).goes)
+      (goes-silent old new moment piece n octets told first ms before quiet s same stops.0
+      (subst (λ (t : List Told). Goes new (octets ++ take n piece) t) (append-nil (told ++ given_up quiet)) goes) number).goes)
   goes-by n out quiet (t ∷ []) stops goes said state number =
       let c = standing before (next_of old) (agreed_by told) (t ∷ []) moment in
       (goes-saying old new moment piece n octets told first ms before quiet s same (request_at (channel_of old) c t) t out now (stops.0, stops.1) stops.3
-      (record { out_is = sym (said ∙ append-nil (say (channel_of old) c t).0); state_is = sym state; number_is = sym number; answered = stops.2; request_is = refl })).goes
+      (record {
+        out_is = sym (said ∙ append-nil (say (channel_of old) c t).0);
+        state_is = sym state;
+        number_is = sym number;
+        answered = stops.2;
+        request_is = refl;
+      })).goes
   goes-by n out quiet (t ∷ (u ∷ more)) stops goes said state number = absurd stops
 
   -- with whether something was answered, and which request
-  tells-by : (n : ℕ) (out quiet : List ℕ) (more : List Told) (answered : Bool) (request : Option AnsweredRequest) → Stops new octets piece n out (told ++ given_up quiet) more → Goes new (octets ++ take n piece) ((told ++ given_up quiet) ++ more)
+  tells-by : (n : ℕ) (out quiet : List ℕ) (more : List Told) (answered : Bool) (request : Option AnsweredRequest)
+      → Stops new octets piece n out (told ++ given_up quiet) more → Goes new (octets ++ take n piece) ((told ++ given_up quiet) ++ more)
       → out ≡ said_of (channel_of old) (standing before (next_of old) (agreed_by told) more moment) more
       → now ≡ (course_after (channel_of old) (standing before (next_of old) (agreed_by told) more moment) more).state
       → next_of new ≡ (course_after (channel_of old) (standing before (next_of old) (agreed_by told) more moment) more).number
@@ -57,15 +66,23 @@ module _ (old new : ServerChannel) (moment : DateTime) (piece octets : List ℕ)
       (subst (λ (q : Option AnsweredRequest). Tells false q (channel_of old) moment piece n out new octets told first ms now) (sym (listed-is request None r))
       (subst (λ (o : List ℕ). Tells false None (channel_of old) moment piece n o new octets told first ms now) (sym said)
       (subst (λ (t : State). Tells false None (channel_of old) moment piece n [] new octets told first ms t) (sym state)
-      (goes-silent old new moment piece n octets told first ms before quiet s same stops.0 (subst (λ (t : List Told). Goes new (octets ++ take n piece) t) (append-nil (told ++ given_up quiet)) goes) number))))
+      (goes-silent old new moment piece n octets told first ms before quiet s same stops.0
+      (subst (λ (t : List Told). Goes new (octets ++ take n piece) t) (append-nil (told ++ given_up quiet)) goes) number))))
   tells-by n out quiet (t ∷ []) answered request stops goes said state number a r =
       let c = standing before (next_of old) (agreed_by told) (t ∷ []) moment in
       subst (λ (b : Bool). Tells b request (channel_of old) moment piece n out new octets told first ms now) (sym a)
       (goes-saying old new moment piece n octets told first ms before quiet s same request t out now (stops.0, stops.1) stops.3
-      (record { out_is = sym (said ∙ append-nil (say (channel_of old) c t).0); state_is = sym state; number_is = sym number; answered = stops.2; request_is = sym (listed-is request (request_at (channel_of old) c t) r) }))
+      (record {
+        out_is = sym (said ∙ append-nil (say (channel_of old) c t).0);
+        state_is = sym state;
+        number_is = sym number;
+        answered = stops.2;
+        request_is = sym (listed-is request (request_at (channel_of old) c t) r);
+      }))
   tells-by n out quiet (t ∷ (u ∷ more)) answered request stops goes said state number a r = absurd stops
 
-  ends-by : (end : Option Ending) (n : ℕ) (out : List ℕ) → NowBy (channel_of old) (next_of old) moment piece end n out new octets told before now → StepBy (channel_of old) moment piece end n out new octets told first ms before now
+  ends-by : (end : Option Ending) (n : ℕ) (out : List ℕ) → NowBy (channel_of old) (next_of old) moment piece end n out new octets told before now
+      → StepBy (channel_of old) moment piece end n out new octets told first ms before now
   ends-by None n out g = goes-by n out g.quiet g.more g.stops g.goes g.out_is g.state_is g.number_is
   ends-by (Some ending.Closed) n out g =
       subst (λ (o : List ℕ). StepCloses (channel_of old) piece n o new octets told first ms before now) (sym g.1)
@@ -84,10 +101,12 @@ module _ (old new : ServerChannel) (moment : DateTime) (piece octets : List ℕ)
   step-by (Err step_fault.OutOfMemory) g = g
   step-by (Err step_fault.Closed) g = absurd g
 
-  advanced-by : (answered : Bool) (request : Option AnsweredRequest) (end : Option Ending) (n : ℕ) (out : List ℕ) → AdvanceNowBy answered request (channel_of old) (next_of old) moment piece end n out new octets told before now
+  advanced-by : (answered : Bool) (request : Option AnsweredRequest) (end : Option Ending) (n : ℕ) (out : List ℕ)
+      → AdvanceNowBy answered request (channel_of old) (next_of old) moment piece end n out new octets told before now
       → AdvanceBy answered request (channel_of old) moment piece end n out new octets told first ms before now
   advanced-by answered request None n out g =
-      tells-by n out g.goes.quiet g.goes.more answered request g.goes.stops g.goes.goes g.goes.out_is g.goes.state_is g.goes.number_is g.answered_is g.requests_are
+      tells-by n out g.goes.quiet g.goes.more answered request g.goes.stops g.goes.goes g.goes.out_is g.goes.state_is g.goes.number_is g.answered_is
+      g.requests_are
   advanced-by answered request (Some end) n out g = (ends-by (Some end) n out g.0, g.1)
 
   advance-by : (result : Result Advanced StepFault) → AdvanceNow (limits_of old) (channel_of old) (next_of old) moment piece result new octets told before now
@@ -96,15 +115,19 @@ module _ (old new : ServerChannel) (moment : DateTime) (piece octets : List ℕ)
   advance-by (Err f) g = step-by (Err f) g
 
 -- the same of a step that tells which request it answered
-pub as-advanced : (old new : ServerChannel) (moment : DateTime) (piece octets : List ℕ) (told : List Told) (first : State) (moments : List DateTime) (before now : State) (result : Result Advanced StepFault)
+pub as-advanced : (old new : ServerChannel) (moment : DateTime) (piece octets : List ℕ) (told : List Told) (first : State) (moments : List DateTime)
+    (before now : State) (result : Result Advanced StepFault)
     → ServerStands old octets told first moments before → channel_of new ≡ channel_of old
     → AdvanceNow (limits_of old) (channel_of old) (next_of old) moment piece result new octets told before now
     → Advances (limits_of old) (channel_of old) moment piece result new octets told first moments before now
-as-advanced old new moment piece octets told first moments before now result s same g = advance-by old new moment piece octets told first moments before now s same result g
+as-advanced old new moment piece octets told first moments before now result s same g =
+    advance-by old new moment piece octets told first moments before now s same result g
 
 -- what stands answers as all that was told
-pub as-told : (old new : ServerChannel) (moment : DateTime) (piece octets : List ℕ) (told : List Told) (first : State) (moments : List DateTime) (before now : State) (result : Result Step StepFault)
+pub as-told : (old new : ServerChannel) (moment : DateTime) (piece octets : List ℕ) (told : List Told) (first : State) (moments : List DateTime)
+    (before now : State) (result : Result Step StepFault)
     → ServerStands old octets told first moments before → channel_of new ≡ channel_of old
     → StepNow (limits_of old) (channel_of old) (next_of old) moment piece result new octets told before now
     → StepAnswers (limits_of old) (channel_of old) moment piece result new octets told first moments before now
-as-told old new moment piece octets told first moments before now result s same g = step-by old new moment piece octets told first moments before now s same result g
+as-told old new moment piece octets told first moments before now result s same g =
+    step-by old new moment piece octets told first moments before now s same result g

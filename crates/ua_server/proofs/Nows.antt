@@ -49,7 +49,8 @@ module _ (old mid : ServerChannel) (moment : DateTime) (piece : List ℕ) (n : �
     limits = limits;
     channel = channel;
     quiet = a.quiet;
-    answers = subst (λ (x : Result ServerEvent ChannelFault). AnswersAt (channel_of old) (next_of old) moment piece n x mid octets (told ++ given_up a.quiet)) is a.answers;
+    answers = subst (λ (x : Result ServerEvent ChannelFault). AnswersAt (channel_of old) (next_of old) moment piece n x mid octets (told ++ given_up a.quiet))
+        is a.answers;
   }
 
   -- the same event, or fault, by another name
@@ -66,14 +67,19 @@ module _ (old mid : ServerChannel) (moment : DateTime) (piece : List ℕ) (n : �
       → AdvanceNowBy false None (channel_of old) (next_of old) moment piece s.end s.taken s.out.items mid octets told before before
   now-silently s end taken out is by =
       subst (λ (k : ℕ). AdvanceNowBy false None (channel_of old) (next_of old) moment piece s.end k s.out.items mid octets told before before) (sym taken)
-      (subst (λ (e : Option Ending). AdvanceNowBy false None (channel_of old) (next_of old) moment piece e n s.out.items mid octets told before before) (sym is) (by s.out.items out))
+      (subst (λ (e : Option Ending). AdvanceNowBy false None (channel_of old) (next_of old) moment piece e n s.out.items mid octets told before before) (sym is)
+      (by s.out.items out))
 
-  pub now-saying : (request : Option AnsweredRequest) (s t : Step) (new : ServerChannel) (now : State) → s ≡ t → AdvanceNowBy true request (channel_of old) (next_of old) moment piece t.end t.taken t.out.items new octets told before now
+  pub now-saying : (request : Option AnsweredRequest) (s t : Step) (new : ServerChannel) (now : State) → s ≡ t
+      → AdvanceNowBy true request (channel_of old) (next_of old) moment piece t.end t.taken t.out.items new octets told before now
       → AdvanceNowBy true request (channel_of old) (next_of old) moment piece s.end s.taken s.out.items new octets told before now
-  now-saying request s t new now is a = subst (λ (x : Step). AdvanceNowBy true request (channel_of old) (next_of old) moment piece x.end x.taken x.out.items new octets told before now) (sym is) a
+  now-saying request s t new now is a =
+      subst (λ (x : Step). AdvanceNowBy true request (channel_of old) (next_of old) moment piece x.end x.taken x.out.items new octets told before now)
+      (sym is) a
 
   -- nothing came
-  pub now-quiet : NowBehind old moment piece n (Ok event.NeedMore) mid octets told → (out : List ℕ) → out ≡ [] → NowTells false None (channel_of old) (next_of old) moment piece n out mid octets told before before
+  pub now-quiet : NowBehind old moment piece n (Ok event.NeedMore) mid octets told → (out : List ℕ) → out ≡ []
+      → NowTells false None (channel_of old) (next_of old) moment piece n out mid octets told before before
   now-quiet b out none = record {
     answered_is = refl;
     requests_are = refl;
@@ -89,8 +95,10 @@ module _ (old mid : ServerChannel) (moment : DateTime) (piece : List ℕ) (n : �
   }
 
   -- one thing is answered
-  now-one : (request : Option AnsweredRequest) (quiet : List ℕ) (t : Told) (new : ServerChannel) (out : List ℕ) (now : State) → (0 < n) × (n ≤ length piece) → GoesTelling new (octets ++ take n piece) (told ++ given_up quiet) t
-      → Says request (channel_of old) (next_of old) (next_of new) moment before now (agreed_by told) t out → NowTells true request (channel_of old) (next_of old) moment piece n out new octets told before now
+  now-one : (request : Option AnsweredRequest) (quiet : List ℕ) (t : Told) (new : ServerChannel) (out : List ℕ) (now : State) → (0 < n) × (n ≤ length piece)
+      → GoesTelling new (octets ++ take n piece) (told ++ given_up quiet) t
+      → Says request (channel_of old) (next_of old) (next_of new) moment before now (agreed_by told) t out
+      → NowTells true request (channel_of old) (next_of old) moment piece n out new octets told before now
   now-one request quiet t new out now counts goes says =
       record {
         answered_is = refl;
@@ -107,16 +115,19 @@ module _ (old mid : ServerChannel) (moment : DateTime) (piece : List ℕ) (n : �
       }
 
   -- an ACK or an OPN response
-  pub now-send : (sent : Vec ℕ Global) → NowBehind old moment piece n (Ok (event.Send sent)) mid octets told → NowTells true None (channel_of old) (next_of old) moment piece n sent.items mid octets told before before
+  pub now-send : (sent : Vec ℕ Global) → NowBehind old moment piece n (Ok (event.Send sent)) mid octets told
+      → NowTells true None (channel_of old) (next_of old) moment piece n sent.items mid octets told before before
   now-send sent b =
       let sends = b.answers.1 in
       now-one None b.quiet sends.said mid sent.items before b.answers.0 sends.goes
       (says-sent (channel_of old) (next_of old) (next_of mid) moment before (agreed_by told) sends.said sent.items sends.are_sent sends.counted)
 
   -- a message, and its reply
-  pub now-reply : (request : AnsweredRequest) (new : ServerChannel) (id : ℕ) (message : List (List ℕ)) (out : List ℕ) (now : State) (b : NowBehind old moment piece n (Ok (event.Asked id message)) mid octets told)
+  pub now-reply : (request : AnsweredRequest) (new : ServerChannel) (id : ℕ) (message : List (List ℕ)) (out : List ℕ) (now : State)
+      (b : NowBehind old moment piece n (Ok (event.Asked id message)) mid octets told)
       → GoesTelling new (octets ++ take n piece) (told ++ given_up b.quiet) (Asked id b.answers.1.0.token (concat message))
-      × IsReplyAt (channel_of mid) b.answers.1.0.token (agreed_by (told ++ given_up b.quiet)) (response.canonical (answered before moment (concat message)).1) (next_of mid) id out (next_of new)
+      × IsReplyAt (channel_of mid) b.answers.1.0.token (agreed_by (told ++ given_up b.quiet)) (response.canonical (answered before moment (concat message)).1)
+      (next_of mid) id out (next_of new)
       → now ≡ (answered before moment (concat message)).0
       → request ≡ request_answered (lane_at (channel_of mid) b.answers.1.0.token (agreed_by (told ++ given_up b.quiet))) before moment (concat message)
       → NowTells true (Some request) (channel_of old) (next_of old) moment piece n out new octets told before now
@@ -133,8 +144,10 @@ module _ (old mid : ServerChannel) (moment : DateTime) (piece : List ℕ) (n : �
       ∙ ap (λ (a : Option Agreement). request_answered (lane_at (channel_of old) token a) before moment (concat message)) same)))
 
   -- a message, and no memory for its reply
-  pub now-break : (new : ServerChannel) (id : ℕ) (message : List (List ℕ)) (now : State) → NowBehind old moment piece n (Ok (event.Asked id message)) mid octets told → IsDone new
-      → (now ≡ before) ⊎ (now ≡ (answered before moment (concat message)).0) → StepBreaks (limits_of old) (channel_of old) moment piece new octets told before now
+  pub now-break : (new : ServerChannel) (id : ℕ) (message : List (List ℕ)) (now : State)
+      → NowBehind old moment piece n (Ok (event.Asked id message)) mid octets told → IsDone new
+      → (now ≡ before) ⊎ (now ≡ (answered before moment (concat message)).0)
+      → StepBreaks (limits_of old) (channel_of old) moment piece new octets told before now
   now-break new id message now b done (inl e) = (done, inl e)
   now-break new id message now b done (inr e) =
       let g = b.answers.1.0.goes in
@@ -159,15 +172,18 @@ module _ (old mid : ServerChannel) (moment : DateTime) (piece : List ℕ) (n : �
       )
 
   -- a CLO
-  pub now-close : NowBehind old moment piece n (Ok event.Closed) mid octets told → (out : List ℕ) → out ≡ [] → NowBy (channel_of old) (next_of old) moment piece (Some ending.Closed) n out mid octets told before before
+  pub now-close : NowBehind old moment piece n (Ok event.Closed) mid octets told → (out : List ℕ) → out ≡ []
+      → NowBy (channel_of old) (next_of old) moment piece (Some ending.Closed) n out mid octets told before before
   now-close b out none = (record { quiet = b.quiet; some = b.answers.0; closed = b.answers.1 }, none, refl)
 
   -- a refusal
-  pub now-refusal : (code : StatusCode) (frame out : List ℕ) → NowBehind old moment piece n (Err (fault.Refused code frame)) mid octets told → out ≡ frame → NowBy (channel_of old) (next_of old) moment piece (Some (ending.Refused code)) n out mid octets told before before
+  pub now-refusal : (code : StatusCode) (frame out : List ℕ) → NowBehind old moment piece n (Err (fault.Refused code frame)) mid octets told → out ≡ frame
+      → NowBy (channel_of old) (next_of old) moment piece (Some (ending.Refused code)) n out mid octets told before before
   now-refusal code frame out b same = (record { quiet = b.quiet; within = b.answers.0; refused = b.answers.1 }, same ∙ b.answers.2, refl)
 
   -- a fault of the channel that is told as want of memory
-  pub now-starved : (f : ChannelFault) → NowBehind old moment piece n (Err f) mid octets told → StepBreaks (limits_of old) (channel_of old) moment piece mid octets told before before
+  pub now-starved : (f : ChannelFault) → NowBehind old moment piece n (Err f) mid octets told
+      → StepBreaks (limits_of old) (channel_of old) moment piece mid octets told before before
   now-starved (fault.Refused code frame) b = (b.answers.1.done, inl refl)
   now-starved fault.OutOfMemory b = (b.answers.1, inl refl)
   now-starved fault.Closed b = absurd b.answers
@@ -176,19 +192,26 @@ same-fault : {A : Type 0} (f g : StepFault) → ◌≡◌ {A = Result A StepFaul
 same-fault f g e = cc
 
 -- a fault for want of memory
-pub now-breaks : {A : Type 0} (limits : Limits) (channel number : ℕ) (moment : DateTime) (piece : List ℕ) (f : StepFault) (new : ServerChannel) (octets : List ℕ) (told : List Told) (before now : State)
-    → ◌≡◌ {A = Result A StepFault} (Err f) (Err step_fault.OutOfMemory) → StepBreaks limits channel moment piece new octets told before now → StepNow limits channel number moment piece (Err f) new octets told before now
+pub now-breaks : {A : Type 0} (limits : Limits) (channel number : ℕ) (moment : DateTime) (piece : List ℕ) (f : StepFault) (new : ServerChannel)
+    (octets : List ℕ) (told : List Told) (before now : State)
+    → ◌≡◌ {A = Result A StepFault} (Err f) (Err step_fault.OutOfMemory) → StepBreaks limits channel moment piece new octets told before now
+    → StepNow limits channel number moment piece (Err f) new octets told before now
 now-breaks {A = A} limits channel number moment piece f new octets told before now e b =
-    subst (λ (x : StepFault). StepNow limits channel number moment piece (Err x) new octets told before now) (sym (same-fault {A = A} f step_fault.OutOfMemory e)) b
+    subst (λ (x : StepFault). StepNow limits channel number moment piece (Err x) new octets told before now)
+    (sym (same-fault {A = A} f step_fault.OutOfMemory e)) b
 
 -- a refusal ends the connection
-pub now-ended : (channel number : ℕ) (moment : DateTime) (piece : List ℕ) (end : Option Ending) (n : ℕ) (out : List ℕ) (new : ServerChannel) (octets : List ℕ) (told : List Told) (before now : State)
-    → (end ≡ None → ⊥) → NowBy channel number moment piece end n out new octets told before now → AdvanceNowBy false None channel number moment piece end n out new octets told before now
+pub now-ended : (channel number : ℕ) (moment : DateTime) (piece : List ℕ) (end : Option Ending) (n : ℕ) (out : List ℕ) (new : ServerChannel) (octets : List ℕ)
+    (told : List Told) (before now : State)
+    → (end ≡ None → ⊥) → NowBy channel number moment piece end n out new octets told before now
+    → AdvanceNowBy false None channel number moment piece end n out new octets told before now
 now-ended channel number moment piece None n out new octets told before now some s = absurd (some refl)
 now-ended channel number moment piece (Some end) n out new octets told before now some s = (s, refl)
 
 -- without whether something was answered
-pub now-without : (answered : Bool) (request : Option AnsweredRequest) (channel number : ℕ) (moment : DateTime) (piece : List ℕ) (end : Option Ending) (n : ℕ) (out : List ℕ) (new : ServerChannel) (octets : List ℕ) (told : List Told) (before now : State)
-    → AdvanceNowBy answered request channel number moment piece end n out new octets told before now → NowBy channel number moment piece end n out new octets told before now
+pub now-without : (answered : Bool) (request : Option AnsweredRequest) (channel number : ℕ) (moment : DateTime) (piece : List ℕ) (end : Option Ending) (n : ℕ)
+    (out : List ℕ) (new : ServerChannel) (octets : List ℕ) (told : List Told) (before now : State)
+    → AdvanceNowBy answered request channel number moment piece end n out new octets told before now
+    → NowBy channel number moment piece end n out new octets told before now
 now-without answered request channel number moment piece None n out new octets told before now a = a.goes
 now-without answered request channel number moment piece (Some end) n out new octets told before now a = a.0

@@ -32,10 +32,12 @@ one-more told quiet id = append_assoc told (given_up quiet) (GaveUp id ∷ []) �
     pushed (i ∷ ids) = ap (λ (t : List Told). GaveUp i ∷ t) (pushed ids)
 
 -- a message that was given up
-gone : (channel number : ℕ) (moment : DateTime) (piece : List ℕ) (n : ℕ) (answer : Result ServerEvent ChannelFault) (new : ServerChannel) (octets : List ℕ) (before : List Told)
+gone : (channel number : ℕ) (moment : DateTime) (piece : List ℕ) (n : ℕ) (answer : Result ServerEvent ChannelFault) (new : ServerChannel) (octets : List ℕ)
+    (before : List Told)
     → AnswersAt channel number moment piece n answer new octets before → is_given_up answer ≡ true
     → (id : ℕ) × Goes new (octets ++ take n piece) (before ++ GaveUp id ∷ []) × (next_of new ≡ number)
-gone channel number moment piece n (Ok (event.Aborted id)) new octets before a e = (id, goes_behind new (octets ++ take n piece) before (GaveUp id) a.1.0, a.1.1)
+gone channel number moment piece n (Ok (event.Aborted id)) new octets before a e =
+    (id, goes_behind new (octets ++ take n piece) before (GaveUp id) a.1.0, a.1.1)
 gone channel number moment piece n (Ok event.NeedMore) new octets before a e = absurd cc
 gone channel number moment piece n (Ok (event.Send sent)) new octets before a e = absurd cc
 gone channel number moment piece n (Ok (event.Asked id message)) new octets before a e = absurd cc
@@ -46,7 +48,8 @@ pub progress-within : (piece : List ℕ) (n : ℕ) (answer : Result ServerEvent 
 progress-within piece n (Ok e) p = p.0
 progress-within piece n (Err f) p = p
 
-progress-some : (piece : List ℕ) (n : ℕ) (answer : Result ServerEvent ChannelFault) → Progress piece n answer → is_given_up answer ≡ true → 0 < length piece → 0 < n
+progress-some : (piece : List ℕ) (n : ℕ) (answer : Result ServerEvent ChannelFault) → Progress piece n answer → is_given_up answer ≡ true → 0 < length piece
+    → 0 < n
 progress-some piece n (Ok e) p g some = p.1 some
 progress-some piece n (Err f) p g some = absurd cc
 
@@ -55,7 +58,8 @@ closed-not answer e g = let not : is_given_up answer ≡ false = ap is_given_up 
 
 pub first-passed : (old new : ServerChannel) (moment : DateTime) (piece : List ℕ) (n : ℕ) (answer : Result ServerEvent ChannelFault)
     → ((octets : List ℕ) (told : List Told) → Goes old octets told → AnswersAt (channel_of old) (next_of old) moment piece n answer new octets told)
-    → Progress piece n answer → (IsDone old → answer ≡ Err fault.Closed) → limits_of new ≡ limits_of old → channel_of new ≡ channel_of old → is_given_up answer ≡ true → Passed old new piece n
+    → Progress piece n answer → (IsDone old → answer ≡ Err fault.Closed) → limits_of new ≡ limits_of old → channel_of new ≡ channel_of old
+    → is_given_up answer ≡ true → Passed old new piece n
 first-passed old new moment piece n answer answers progress closed limits channel e = record {
   within = progress-within piece n answer progress;
   some = progress-some piece n answer progress e;
@@ -68,22 +72,27 @@ first-passed old new moment piece n answer answers progress closed limits channe
 pub fewer : (l m n d : ℕ) → m < l → d ≡ l - m → n ≤ d → (0 < d → 0 < n) → l - (m + n) < l - m
 fewer l m n d h e k some = let more = some (omega (arith, h, e)) in omega (arith, h, e, k, more)
 
-pub fewer-left : (piece : List ℕ) (taken n : ℕ) (answer : Result ServerEvent ChannelFault) → taken < length piece → Progress (rest_of piece taken) n answer → is_given_up answer ≡ true
+pub fewer-left : (piece : List ℕ) (taken n : ℕ) (answer : Result ServerEvent ChannelFault) → taken < length piece → Progress (rest_of piece taken) n answer
+    → is_given_up answer ≡ true
     → length piece - (taken + n) < length piece - taken
 fewer-left piece taken n answer h p e =
-    fewer (length piece) taken n (length (rest_of piece taken)) h (rest-length piece taken) (progress-within (rest_of piece taken) n answer p) (progress-some (rest_of piece taken) n answer p e)
+    fewer (length piece) taken n (length (rest_of piece taken)) h (rest-length piece taken) (progress-within (rest_of piece taken) n answer p)
+    (progress-some (rest_of piece taken) n answer p e)
 
 more-taken : (m n : ℕ) → 0 < m → 0 < m + n
 more-taken m n h = omega (arith, h)
 
-pub progress-on : (old mid : ServerChannel) (piece : List ℕ) (taken n : ℕ) (answer : Result ServerEvent ChannelFault) → Passed old mid piece taken → Progress (rest_of piece taken) n answer → Progress piece (taken + n) answer
+pub progress-on : (old mid : ServerChannel) (piece : List ℕ) (taken n : ℕ) (answer : Result ServerEvent ChannelFault) → Passed old mid piece taken
+    → Progress (rest_of piece taken) n answer → Progress piece (taken + n) answer
 progress-on old mid piece taken n (Ok e) p q = (within-piece piece taken n p.within q.0, λ h. more-taken taken n (p.some h))
 progress-on old mid piece taken n (Err f) p q = within-piece piece taken n p.within q
 
 pub next-passed : (old mid new : ServerChannel) (moment : DateTime) (piece : List ℕ) (taken n : ℕ) (answer : Result ServerEvent ChannelFault)
     → Passed old mid piece taken
-    → ((octets : List ℕ) (told : List Told) → Goes mid octets told → AnswersAt (channel_of mid) (next_of mid) moment (rest_of piece taken) n answer new octets told)
-    → Progress (rest_of piece taken) n answer → limits_of new ≡ limits_of mid → channel_of new ≡ channel_of mid → is_given_up answer ≡ true → Passed old new piece (taken + n)
+    → ((octets : List ℕ) (told : List Told) → Goes mid octets told
+    → AnswersAt (channel_of mid) (next_of mid) moment (rest_of piece taken) n answer new octets told)
+    → Progress (rest_of piece taken) n answer → limits_of new ≡ limits_of mid → channel_of new ≡ channel_of mid → is_given_up answer ≡ true
+    → Passed old new piece (taken + n)
 next-passed old mid new moment piece taken n answer p answers progress limits channel e = record {
   within = within-piece piece taken n p.within (progress-within (rest_of piece taken) n answer progress);
   some = λ h. more-taken taken n (p.some h);
@@ -92,8 +101,13 @@ next-passed old mid new moment piece taken n answer p answers progress limits ch
   alive = p.alive;
   passed = λ octets told h.
       let before = p.passed octets told h in
-      let g = gone (channel_of mid) (next_of mid) moment (rest_of piece taken) n answer new (octets ++ take taken piece) (told ++ given_up before.0) (answers (octets ++ take taken piece) (told ++ given_up before.0) before.1) e in
-      (before.0 ++ g.0 ∷ [], subst (λ (t : List Told). Goes new (octets ++ take (taken + n) piece) t) (one-more told before.0 g.0) (subst (λ (o : List ℕ). Goes new o ((told ++ given_up before.0) ++ GaveUp g.0 ∷ [])) (joined octets piece taken n) g.1), g.2 ∙ before.2);
+      let g = gone (channel_of mid) (next_of mid) moment (rest_of piece taken) n answer new (octets ++ take taken piece) (told ++ given_up before.0)
+      (answers (octets ++ take taken piece) (told ++ given_up before.0) before.1) e in (
+        before.0 ++ g.0 ∷ [],
+        subst (λ (t : List Told). Goes new (octets ++ take (taken + n) piece) t) (one-more told before.0 g.0)
+            (subst (λ (o : List ℕ). Goes new o ((told ++ given_up before.0) ++ GaveUp g.0 ∷ [])) (joined octets piece taken n) g.1),
+        g.2 ∙ before.2,
+      );
 }
 
 -- ---- what is answered at last
@@ -101,20 +115,29 @@ next-passed old mid new moment piece taken n answer p answers progress limits ch
 counts-on : (piece : List ℕ) (taken n : ℕ) (e : ServerEvent) → taken ≤ length piece → Counts (rest_of piece taken) n e → Counts piece (taken + n) e
 counts-on piece taken n event.NeedMore h c = let l = rest-length piece taken in omega (arith, h, l, c)
 counts-on piece taken n (event.Send sent) h c = let l = rest-length piece taken in let a = c.0 in let b = c.1 in (omega (arith, a), omega (arith, h, l, b))
-counts-on piece taken n (event.Asked id message) h c = let l = rest-length piece taken in let a = c.0 in let b = c.1 in (omega (arith, a), omega (arith, h, l, b))
+counts-on piece taken n (event.Asked id message) h c = let l = rest-length piece taken in let a = c.0 in let b =
+    c.1 in (omega (arith, a), omega (arith, h, l, b))
 counts-on piece taken n (event.Aborted id) h c = let l = rest-length piece taken in let a = c.0 in let b = c.1 in (omega (arith, a), omega (arith, h, l, b))
 counts-on piece taken n event.Closed h c = let l = rest-length piece taken in let a = c.0 in let b = c.1 in (omega (arith, a), omega (arith, h, l, b))
 
 hands-moved : (channel number channel' number' : ℕ) (moment : DateTime) (e : ServerEvent) (new : ServerChannel) (octets octets' : List ℕ) (before : List Told)
-    → channel' ≡ channel → number' ≡ number → octets' ≡ octets → EventHandedOut channel' number' moment e new octets' before → EventHandedOut channel number moment e new octets before
+    → channel' ≡ channel → number' ≡ number → octets' ≡ octets → EventHandedOut channel' number' moment e new octets' before
+    → EventHandedOut channel number moment e new octets before
 hands-moved channel number channel' number' moment e new octets octets' before c k o a =
-    subst (λ (x : List ℕ). EventHandedOut channel number moment e new x before) o (subst (λ (x : ℕ). EventHandedOut channel x moment e new octets' before) k (subst (λ (x : ℕ). EventHandedOut x number' moment e new octets' before) c a))
+    subst (λ (x : List ℕ). EventHandedOut channel number moment e new x before) o
+    (subst (λ (x : ℕ). EventHandedOut channel x moment e new octets' before) k
+    (subst (λ (x : ℕ). EventHandedOut x number' moment e new octets' before) c a))
 
-answers-moved : (channel number channel' number' : ℕ) (moment : DateTime) (piece : List ℕ) (taken n : ℕ) (answer : Result ServerEvent ChannelFault) (new : ServerChannel) (octets : List ℕ) (before : List Told)
+answers-moved : (channel number channel' number' : ℕ) (moment : DateTime) (piece : List ℕ) (taken n : ℕ) (answer : Result ServerEvent ChannelFault)
+    (new : ServerChannel) (octets : List ℕ) (before : List Told)
     → taken ≤ length piece → channel' ≡ channel → number' ≡ number
-    → AnswersAt channel' number' moment (rest_of piece taken) n answer new (octets ++ take taken piece) before → AnswersAt channel number moment piece (taken + n) answer new octets before
-answers-moved channel number channel' number' moment piece taken n (Ok e) new octets before h c k a =
-    (counts-on piece taken n e h a.0, hands-moved channel number channel' number' moment e new (octets ++ take (taken + n) piece) ((octets ++ take taken piece) ++ take n (rest_of piece taken)) before c k (joined octets piece taken n) a.1)
+    → AnswersAt channel' number' moment (rest_of piece taken) n answer new (octets ++ take taken piece) before
+    → AnswersAt channel number moment piece (taken + n) answer new octets before
+answers-moved channel number channel' number' moment piece taken n (Ok e) new octets before h c k a = (
+  counts-on piece taken n e h a.0,
+  hands-moved channel number channel' number' moment e new (octets ++ take (taken + n) piece)
+      ((octets ++ take taken piece) ++ take n (rest_of piece taken)) before c k (joined octets piece taken n) a.1,
+)
 answers-moved channel number channel' number' moment piece taken n (Err (fault.Refused code err)) new octets before h c k a =
     (within-piece piece taken n h a.0, subst (λ (x : List ℕ). RefusedAt new x before code.code) (joined octets piece taken n) a.1, a.2)
 answers-moved channel number channel' number' moment piece taken n (Err fault.OutOfMemory) new octets before h c k a = (within-piece piece taken n h a.0, a.1)
@@ -124,11 +147,16 @@ pub at-first : (old new : ServerChannel) (moment : DateTime) (piece : List ℕ) 
     → ((octets : List ℕ) (told : List Told) → Goes old octets told → AnswersAt (channel_of old) (next_of old) moment piece n answer new octets told)
     → (octets : List ℕ) (told : List Told) → Goes old octets told → AnswersBehind (channel_of old) (next_of old) moment piece n answer new octets told
 at-first old new moment piece n answer answers octets told h =
-    record { quiet = []; answers = subst (λ (t : List Told). AnswersAt (channel_of old) (next_of old) moment piece n answer new octets t) (sym (append-nil told)) (answers octets told h) }
+    record {
+      quiet = [];
+      answers = subst (λ (t : List Told). AnswersAt (channel_of old) (next_of old) moment piece n answer new octets t)
+          (sym (append-nil told)) (answers octets told h);
+    }
 
 pub at-last : (old mid new : ServerChannel) (moment : DateTime) (piece : List ℕ) (taken n : ℕ) (answer : Result ServerEvent ChannelFault)
     → Passed old mid piece taken
-    → ((octets : List ℕ) (told : List Told) → Goes mid octets told → AnswersAt (channel_of mid) (next_of mid) moment (rest_of piece taken) n answer new octets told)
+    → ((octets : List ℕ) (told : List Told) → Goes mid octets told
+    → AnswersAt (channel_of mid) (next_of mid) moment (rest_of piece taken) n answer new octets told)
     → (octets : List ℕ) (told : List Told) → Goes old octets told → AnswersBehind (channel_of old) (next_of old) moment piece (taken + n) answer new octets told
 at-last old mid new moment piece taken n answer p answers octets told h =
     let before = p.passed octets told h in
@@ -141,11 +169,13 @@ at-last old mid new moment piece taken n answer p answers octets told h =
 all-taken : (l m : ℕ) → m ≤ l → l ≤ m → m ≡ l
 all-taken l m h k = omega (arith, h, k)
 
-pub all-progress : (old new : ServerChannel) (piece : List ℕ) (taken : ℕ) → Passed old new piece taken → Progress {A = ServerEvent} {E = ChannelFault} piece taken (Ok event.NeedMore)
+pub all-progress : (old new : ServerChannel) (piece : List ℕ) (taken : ℕ) → Passed old new piece taken
+    → Progress {A = ServerEvent} {E = ChannelFault} piece taken (Ok event.NeedMore)
 all-progress old new piece taken p = (p.within, p.some)
 
 pub all-passed : (old new : ServerChannel) (moment : DateTime) (piece : List ℕ) (taken : ℕ) → Passed old new piece taken → length piece ≤ taken
-    → (octets : List ℕ) (told : List Told) → Goes old octets told → AnswersBehind (channel_of old) (next_of old) moment piece taken (Ok event.NeedMore) new octets told
+    → (octets : List ℕ) (told : List Told) → Goes old octets told
+    → AnswersBehind (channel_of old) (next_of old) moment piece taken (Ok event.NeedMore) new octets told
 all-passed old new moment piece taken p all octets told h =
     let before = p.passed octets told h in
     record { quiet = before.0; answers = (all-taken (length piece) taken p.within all, (before.1, before.2)) }

@@ -37,12 +37,14 @@ abbrev pub front : ResponseHeader → ℕ → List ℕ
 front header results = node_id.canonical (standard 634) ++ (response_header.canonical header ++ number_octets 4 results)
 
 -- what the array of the results is written as
-array_octets : (values : List DataValue) → (array data_value_format).canonical (Some values) ≡ number_octets 4 (length values) ++ flat_map data_value_format.canonical values
+array_octets : (values : List DataValue) → (array data_value_format).canonical (Some values) ≡ number_octets 4 (length values)
+    ++ flat_map data_value_format.canonical values
 unfolding array
 array_octets values = refl
 
 no_diagnostics : (header : ResponseHeader) (values : List DataValue)
-    → read_response.canonical (values_of header values) ≡ response_header.canonical header ++ ((array data_value_format).canonical (Some values) ++ number_octets 4 null_count)
+    → read_response.canonical (values_of header values) ≡ response_header.canonical header
+    ++ ((array data_value_format).canonical (Some values) ++ number_octets 4 null_count)
 unfolding read_response array
 no_diagnostics header values = refl
 
@@ -58,9 +60,11 @@ results_octets : (nodes : Nodes) (items : List ReadValueId) (stamps : Stamps) (m
 results_octets nodes [] stamps moment = refl
 results_octets nodes (item ∷ items) stamps moment =
     ap (λ (b : List ℕ). b ++ flat_map (answer_octets nodes stamps moment) items) (value_octets (read_answer (node_at nodes item.node_id) item stamps moment))
-    ∙ ap (λ (b : List ℕ). data_value_format.canonical (value_from (read_answer (node_at nodes item.node_id) item stamps moment)) ++ b) (results_octets nodes items stamps moment)
+    ∙ ap (λ (b : List ℕ). data_value_format.canonical (value_from (read_answer (node_at nodes item.node_id) item stamps moment)) ++ b)
+    (results_octets nodes items stamps moment)
 
-pub results_count : (nodes : Nodes) (items : List ReadValueId) (stamps : Stamps) (moment : DateTime) → length items ≡ length (read_answers nodes items stamps moment)
+pub results_count : (nodes : Nodes) (items : List ReadValueId) (stamps : Stamps) (moment : DateTime)
+    → length items ≡ length (read_answers nodes items stamps moment)
 results_count nodes [] stamps moment = refl
 results_count nodes (item ∷ items) stamps moment = ap suc (results_count nodes items stamps moment)
 
@@ -81,13 +85,16 @@ written_whole header nodes items stamps moment =
     let values = read_answers nodes items stamps moment in
     ap (λ (b : List ℕ). (front header (length items) ++ b) ++ number_octets 4 null_count) (results_octets nodes items stamps moment)
     ∙ ap (λ (n : ℕ). (front header n ++ flat_map data_value_format.canonical values) ++ number_octets 4 null_count) (results_count nodes items stamps moment)
-    ∙ regrouped (node_id.canonical (standard 634)) (response_header.canonical header) (number_octets 4 (length values)) (flat_map data_value_format.canonical values) (number_octets 4 null_count)
-    ∙ ap (λ (b : List ℕ). node_id.canonical (standard 634) ++ (response_header.canonical header ++ (b ++ number_octets 4 null_count))) (sym (array_octets values))
+    ∙ regrouped (node_id.canonical (standard 634)) (response_header.canonical header) (number_octets 4 (length values))
+    (flat_map data_value_format.canonical values) (number_octets 4 null_count)
+    ∙ ap (λ (b : List ℕ). node_id.canonical (standard 634) ++ (response_header.canonical header ++ (b ++ number_octets 4 null_count)))
+    (sym (array_octets values))
     ∙ ap (λ (b : List ℕ). node_id.canonical (standard 634) ++ b) (sym (no_diagnostics header values))
     ∙ sym (response-canonical Read (values_of header values))
 
 -- the front, as it is written: the NodeId and the header, and behind them the count
-front-parts : (header : ResponseHeader) (results : ℕ) → (node_id.canonical (standard 634) ++ response_header.canonical header) ++ number_octets 4 results ≡ front header results
+front-parts : (header : ResponseHeader) (results : ℕ) → (node_id.canonical (standard 634) ++ response_header.canonical header) ++ number_octets 4 results
+    ≡ front header results
 front-parts header results = append_assoc (node_id.canonical (standard 634)) (response_header.canonical header) (number_octets 4 results)
 
 null_diagnostics : (array diagnostic_format).canonical None ≡ number_octets 4 null_count
@@ -99,19 +106,23 @@ unfolding array
 null_fits {A = A} format items is = subst (λ (o : Option (List A)). IsTrue ((array format).encodable o)) (sym is) refl
 
 -- what stands there is the front, the results and no diagnostics
-pub written_parts : (most : Option ℕ) (header : ResponseHeader) (nodes : Nodes) (items : List ReadValueId) (stamps : Stamps) (moment : DateTime) (id body : List ℕ)
+pub written_parts : (most : Option ℕ) (header : ResponseHeader) (nodes : Nodes) (items : List ReadValueId) (stamps : Stamps) (moment : DateTime)
+    (id body : List ℕ)
     → id ≡ node_id.canonical (standard 634)
     → AddsResponse (λ old new. IsWithin most (answer_octets nodes stamps moment) items (old ++ number_octets 4 (length items)) new) header None id body
-    → (results : List ℕ) × IsWithin most (answer_octets nodes stamps moment) items (front header (length items)) results × (body ≡ results ++ number_octets 4 null_count)
+    → (results : List ℕ) × IsWithin most (answer_octets nodes stamps moment) items (front header (length items)) results
+    × (body ≡ results ++ number_octets 4 null_count)
 written_parts most header nodes items stamps moment id body is adds =
     let named = λ (b : List ℕ). IsWithin most (answer_octets nodes stamps moment) items b adds.behind in (
       adds.behind,
-      subst named (front-parts header (length items)) (subst (λ (i : List ℕ). named ((i ++ response_header.canonical header) ++ number_octets 4 (length items))) is adds.results),
+      subst named (front-parts header (length items))
+          (subst (λ (i : List ℕ). named ((i ++ response_header.canonical header) ++ number_octets 4 (length items))) is adds.results),
       adds.rest ∙ ap (λ (b : List ℕ). adds.behind ++ b) null_diagnostics,
     )
 
 -- the body that is written, which may have been given up
-pub written_within : (most : Option ℕ) (header : ResponseHeader) (nodes : Nodes) (items : List ReadValueId) (stamps : Stamps) (moment : DateTime) (results body : List ℕ)
+pub written_within : (most : Option ℕ) (header : ResponseHeader) (nodes : Nodes) (items : List ReadValueId) (stamps : Stamps) (moment : DateTime)
+    (results body : List ℕ)
     → IsWithin most (answer_octets nodes stamps moment) items (front header (length items)) results → body ≡ results ++ number_octets 4 null_count
     → IsBodyWithin most (response.canonical (ReadMessage (values_of header (read_answers nodes items stamps moment)))) body
 written_within most header nodes items stamps moment results body within is =
@@ -133,6 +144,7 @@ written_within most header nodes items stamps moment results body within is =
 pub written_some : (results : List ℕ) → 0 < length (results ++ number_octets 4 null_count)
 unfolding number_octets
 written_some results =
-    let count : length (results ++ number_octets 4 null_count) ≡ length results + length (number_octets 4 null_count) = length-append results (number_octets 4 null_count) in
+    let count : length (results ++ number_octets 4 null_count) ≡ length results + length (number_octets 4 null_count) =
+    length-append results (number_octets 4 null_count) in
     let four : length (number_octets 4 null_count) ≡ 4 = refl in
     omega (arith, count, four)

@@ -18,13 +18,15 @@ pub first-append : (o : Option AnsweredRequest) (xs ys : List AnsweredRequest) �
 first-append None xs ys = refl
 first-append (Some x) xs ys = refl
 
-requests_of-append : (channel : ℕ) (c : Course) (a b : List Told) → requests_of channel c (a ++ b) ≡ requests_of channel c a ++ requests_of channel (course_after channel c a) b
+requests_of-append : (channel : ℕ) (c : Course) (a b : List Told) → requests_of channel c (a ++ b) ≡ requests_of channel c a
+    ++ requests_of channel (course_after channel c a) b
 requests_of-append channel c [] b = refl
 requests_of-append channel c (t ∷ a) b =
     ap (λ (r : List AnsweredRequest). with_first (request_at channel c t) r) (requests_of-append channel (say channel c t).1 a b)
     ∙ first-append (request_at channel c t) (requests_of channel (say channel c t).1 a) (requests_of channel (course_after channel (say channel c t).1 a) b)
 
-pub requests-append : (channel : ℕ) (s : State) (a b : List Told) (moments : List DateTime) → requests channel s (a ++ b) moments ≡ requests channel s a moments ++ requests_of channel (state_after channel s a moments) b
+pub requests-append : (channel : ℕ) (s : State) (a b : List Told) (moments : List DateTime) → requests channel s (a ++ b) moments ≡ requests channel s a moments
+    ++ requests_of channel (state_after channel s a moments) b
 unfolding requests state_after
 requests-append channel s a b moments = requests_of-append channel (start s moments) a b
 
@@ -32,13 +34,16 @@ quiet-asked : (channel : ℕ) (c : Course) (ids : List ℕ) → requests_of chan
 quiet-asked channel c [] = refl
 quiet-asked channel c (id ∷ ids) = quiet-asked channel c ids
 
-pub requests-silent : (channel : ℕ) (s : State) (told : List Told) (ids : List ℕ) (moments : List DateTime) → requests channel s (told ++ given_up ids) moments ≡ requests channel s told moments
+pub requests-silent : (channel : ℕ) (s : State) (told : List Told) (ids : List ℕ) (moments : List DateTime) → requests channel s (told ++ given_up ids) moments
+    ≡ requests channel s told moments
 requests-silent channel s told ids moments =
     requests-append channel s told (given_up ids) moments
-    ∙ (ap (λ (r : List AnsweredRequest). requests channel s told moments ++ r) (quiet-asked channel (state_after channel s told moments) ids) ∙ append-nil (requests channel s told moments))
+    ∙ (ap (λ (r : List AnsweredRequest). requests channel s told moments ++ r) (quiet-asked channel (state_after channel s told moments) ids)
+    ∙ append-nil (requests channel s told moments))
 
 -- a CLO is no request
-pub requests-closed : (channel : ℕ) (s : State) (told : List Told) (moments : List DateTime) → requests channel s (told ++ Closed ∷ []) moments ≡ requests channel s told moments
+pub requests-closed : (channel : ℕ) (s : State) (told : List Told) (moments : List DateTime) → requests channel s (told ++ Closed ∷ []) moments
+    ≡ requests channel s told moments
 requests-closed channel s told moments = requests-append channel s told (Closed ∷ []) moments ∙ append-nil (requests channel s told moments)
 
 -- ---- with moments that come later
@@ -59,8 +64,10 @@ requests_of-more channel c more (t ∷ told) h =
     let enough = uses-first t told (length c.moments) h in
     let one = say-more channel c.state c.number c.moments c.agreement more t enough in
     ap (λ (p : List ℕ × Course). with_first (request_at channel (with_more c more) t) (requests_of channel p.1 told)) one
-    ∙ (ap (λ (r : List AnsweredRequest). with_first (request_at channel (with_more c more) t) r) (requests_of-more channel (say channel c t).1 more told (enough-left channel c t told h))
-    ∙ ap (λ (o : Option AnsweredRequest). with_first o (requests_of channel (say channel c t).1 told)) (request-more channel c.state c.number c.moments c.agreement more t enough))
+    ∙ (ap (λ (r : List AnsweredRequest). with_first (request_at channel (with_more c more) t) r)
+    (requests_of-more channel (say channel c t).1 more told (enough-left channel c t told h))
+    ∙ ap (λ (o : Option AnsweredRequest). with_first o (requests_of channel (say channel c t).1 told))
+    (request-more channel c.state c.number c.moments c.agreement more t enough))
 
 pub requests-more : (channel : ℕ) (s : State) (told : List Told) (moments more : List DateTime) → used_in told ≤ length moments
     → requests channel s told (moments ++ more) ≡ requests channel s told moments
@@ -73,10 +80,13 @@ first-only : (o : Option AnsweredRequest) → with_first o [] ≡ listed o
 first-only None = refl
 first-only (Some x) = refl
 
-pub requests-one : (channel : ℕ) (first : State) (told : List Told) (t : Told) (ms extra : List DateTime) (c : Course) → state_after channel first told ms ≡ c → used_in told ≤ length ms
+pub requests-one : (channel : ℕ) (first : State) (told : List Told) (t : Told) (ms extra : List DateTime) (c : Course) → state_after channel first told ms ≡ c
+    → used_in told ≤ length ms
     → requests channel first (told ++ t ∷ []) (ms ++ extra) ≡ requests channel first told ms ++ listed (request_at channel (with_more c extra) t)
 requests-one channel first told t ms extra c e h =
     requests-append channel first told (t ∷ []) (ms ++ extra)
-    ∙ (ap (λ (r : List AnsweredRequest). r ++ requests_of channel (state_after channel first told (ms ++ extra)) (t ∷ [])) (requests-more channel first told ms extra h)
-    ∙ (ap (λ (d : Course). requests channel first told ms ++ requests_of channel d (t ∷ [])) (left-more channel first told ms extra h ∙ ap (λ (d : Course). with_more d extra) e)
+    ∙ (ap (λ (r : List AnsweredRequest). r ++ requests_of channel (state_after channel first told (ms ++ extra)) (t ∷ []))
+    (requests-more channel first told ms extra h)
+    ∙ (ap (λ (d : Course). requests channel first told ms ++ requests_of channel d (t ∷ [])) (left-more channel first told ms extra h
+    ∙ ap (λ (d : Course). with_more d extra) e)
     ∙ ap (λ (r : List AnsweredRequest). requests channel first told ms ++ r) (first-only (request_at channel (with_more c extra) t))))

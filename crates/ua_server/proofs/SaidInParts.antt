@@ -14,7 +14,8 @@ pub left_by-append : (channel : ℕ) (c : Course) (a b : List Told) → course_a
 left_by-append channel c [] b = refl
 left_by-append channel c (t ∷ a) b = left_by-append channel (say channel c t).1 a b
 
-pub said_of-append : (channel : ℕ) (c : Course) (a b : List Told) → said_of channel c (a ++ b) ≡ said_of channel c a ++ said_of channel (course_after channel c a) b
+pub said_of-append : (channel : ℕ) (c : Course) (a b : List Told) → said_of channel c (a ++ b) ≡ said_of channel c a
+    ++ said_of channel (course_after channel c a) b
 said_of-append channel c [] b = refl
 said_of-append channel c (t ∷ a) b =
     ap (λ (o : List ℕ). (say channel c t).0 ++ o) (said_of-append channel (say channel c t).1 a b)
@@ -52,7 +53,8 @@ say-uses channel s n ms a Closed h = omega arith
 pub uses-first : (t : Told) (told : List Told) (n : ℕ) → used_in (t ∷ told) ≤ n → times_used_by t ≤ n
 uses-first t told n h = omega (arith, h)
 
-pub enough-left : (channel : ℕ) (c : Course) (t : Told) (told : List Told) → used_in (t ∷ told) ≤ length c.moments → used_in told ≤ length (say channel c t).1.moments
+pub enough-left : (channel : ℕ) (c : Course) (t : Told) (told : List Told) → used_in (t ∷ told) ≤ length c.moments
+    → used_in told ≤ length (say channel c t).1.moments
 enough-left channel c t told h =
     let spent = say-uses channel c.state c.number c.moments c.agreement t (uses-first t told (length c.moments) h) in
     omega (arith, h, spent)
@@ -85,12 +87,14 @@ left_by-uses channel c (t ∷ told) h =
 regrouped : (a b w : List ℕ) → (a ++ b) ++ w ≡ (a ++ []) ++ (b ++ w)
 regrouped a b w = append_assoc a b w ∙ ap (λ (x : List ℕ). x ++ (b ++ w)) (sym (append-nil a))
 
-pub left-append : (channel : ℕ) (s : State) (a b : List Told) (moments : List DateTime) → state_after channel s (a ++ b) moments ≡ course_after channel (state_after channel s a moments) b
+pub left-append : (channel : ℕ) (s : State) (a b : List Told) (moments : List DateTime)
+    → state_after channel s (a ++ b) moments ≡ course_after channel (state_after channel s a moments) b
 unfolding state_after
 left-append channel s a b moments = left_by-append channel (start s moments) a b
 
 pub said-append : (channel : ℕ) (s : State) (a b : List Told) (ending : End ℕ) (moments : List DateTime)
-    → output_of channel s (a ++ b) ending moments ≡ output_of channel s a Going moments ++ (said_of channel (state_after channel s a moments) b ++ last_words ending)
+    → output_of channel s (a ++ b) ending moments ≡ output_of channel s a Going moments
+    ++ (said_of channel (state_after channel s a moments) b ++ last_words ending)
 unfolding output_of state_after
 said-append channel s a b ending moments =
     ap (λ (o : List ℕ). o ++ last_words ending) (said_of-append channel (start s moments) a b)

@@ -20,7 +20,8 @@ code-whole : (o : Option CutFault) (code : StatusCode) → is_some o ≡ false �
 code-whole None code e = refl
 code-whole (Some fault) code e = absurd cc
 
-pub sent-aborted : (r : AnsweredRequest) (o : Option CutFault) → is_some o ≡ true → with-code r (of_code bad_response_too_large) ≡ with-code r (code_by o r.code)
+pub sent-aborted : (r : AnsweredRequest) (o : Option CutFault) → is_some o ≡ true
+    → with-code r (of_code bad_response_too_large) ≡ with-code r (code_by o r.code)
 sent-aborted r o is = ap (with-code r) (code-aborted o r.code is)
 
 pub sent-whole : (r : AnsweredRequest) (o : Option CutFault) → is_some o ≡ false → r ≡ with-code r (code_by o r.code)

@@ -8,8 +8,10 @@ use Rattle.ua_channel.specs.ServerStands.{limits_of, channel_of, next_of, Goes}
 use Rattle.ua_channel.specs.ServerTold.{Told, Agreed, Opened, Asked, GaveUp, Closed}
 use Rattle.ua_channel.specs.declared.server.ServerChannel.{ServerChannel}
 use Rattle.ua_nodes.specs.Table.{Nodes}
-use Rattle.ua_server.specs.History.{ConnectionEvent, Heard, Became, EndedAt, EndsOver, IsHandled, OverBy, ResultOver, StandsOver, StepOver, course_over, event_answer, heard_at, output_over, told_in, with_changes}
-use Rattle.ua_server.specs.Sharing.{SharedEvent, At, Changed, Own, SharedState, AmongBy, EndsAmong, OthersStand, ResultAmong, StandsAmong, StepAmong, answer_at, at_moment, course_at, opened, seen_as, seen_by, sent_at, sent_to, shared_by, shared_over, told_by, with_course}
+use Rattle.ua_server.specs.History.{ConnectionEvent, Heard, Became, EndedAt, EndsOver, IsHandled, OverBy, ResultOver, StandsOver}
+use Rattle.ua_server.specs.History.{StepOver, course_over, event_answer, heard_at, output_over, told_in, with_changes}
+use Rattle.ua_server.specs.Sharing.{SharedEvent, At, Changed, Own, SharedState, AmongBy, EndsAmong, OthersStand, ResultAmong, StandsAmong, StepAmong}
+use Rattle.ua_server.specs.Sharing.{answer_at, at_moment, course_at, opened, seen_as, seen_by, sent_at, sent_to, shared_by, shared_over, told_by, with_course}
 use Rattle.ua_server.specs.Said.{Course, first_of, last_words, say, start}
 use Rattle.ua_server.specs.State.{State, begun, with_nodes, with_session}
 use Rattle.ua_server.specs.Stepping.{times_of_answers}
@@ -50,7 +52,14 @@ say-stays channel c (GaveUp id) = (refl, refl)
 say-stays channel c Closed = (refl, refl)
 
 answer-stays : (channels : ℕ → ℕ) (p : SharedState) (k : ℕ) (t : Told) (moment : DateTime) → Stays p.state (answer_at channels p k t moment).1.state
-answer-stays channels p k t moment = say-stays (channels k) (record { state = with_session p.state (p.own k).session; number = (p.own k).number; moments = times_of_answers (t ∷ []) moment; agreement = (p.own k).agreement }) t
+answer-stays channels p k t moment =
+    say-stays (channels k)
+    (record {
+      state = with_session p.state (p.own k).session;
+      number = (p.own k).number;
+      moments = times_of_answers (t ∷ []) moment;
+      agreement = (p.own k).agreement;
+    }) t
 
 -- ---- one event, as a connection sees it
 
@@ -58,19 +67,34 @@ answer-stays channels p k t moment = say-stays (channels k) (record { state = wi
 course-own : (p : SharedState) (k : ℕ) (c : Course) → c.moments ≡ [] → Stays p.state c.state → course_at (with_course p k c) k ≡ c
 course-own p k c none same =
     ap (λ (b : Bool). record {
-      state = with_session (with_changes p.state c.state.nodes c.state.made) (cond b (record { session = c.state.session; number = c.number; agreement = c.agreement }) (p.own k)).session;
+      state = with_session (with_changes p.state c.state.nodes c.state.made)
+          (cond b (record { session = c.state.session; number = c.number; agreement = c.agreement }) (p.own k)).session;
       number = (cond b (record { session = c.state.session; number = c.number; agreement = c.agreement }) (p.own k)).number;
       moments = [];
       agreement = (cond b (record { session = c.state.session; number = c.number; agreement = c.agreement }) (p.own k)).agreement;
     }) (same-number k)
-    ∙ (ap (λ (e : Endpoint). record { state = record { nodes = c.state.nodes; endpoint = e; memory_limit = p.state.memory_limit; made = c.state.made; session = c.state.session }; number = c.number; moments = []; agreement = c.agreement }) (sym same.0)
-    ∙ ap (λ (o : Option ℕ). record { state = record { nodes = c.state.nodes; endpoint = c.state.endpoint; memory_limit = o; made = c.state.made; session = c.state.session }; number = c.number; moments = []; agreement = c.agreement }) (sym same.1)
+    ∙ (ap (λ (e : Endpoint).
+    record {
+      state = record { nodes = c.state.nodes; endpoint = e; memory_limit = p.state.memory_limit; made = c.state.made; session = c.state.session };
+      number = c.number;
+      moments = [];
+      agreement = c.agreement;
+    }) (sym same.0)
+    ∙ ap (λ (o : Option ℕ).
+    record {
+      state = record { nodes = c.state.nodes; endpoint = c.state.endpoint; memory_limit = o; made = c.state.made; session = c.state.session };
+      number = c.number;
+      moments = [];
+      agreement = c.agreement;
+    }) (sym same.1)
     ∙ ap (λ (ms : List DateTime). record { state = c.state; number = c.number; moments = ms; agreement = c.agreement }) (sym none))
 
-course-other : (p : SharedState) (j k : ℕ) (c : Course) → nat_eq k j ≡ false → course_at (with_course p j c) k ≡ (event_answer 0 (course_at p k) (Became c.state.nodes c.state.made)).1
+course-other : (p : SharedState) (j k : ℕ) (c : Course) → nat_eq k j ≡ false
+    → course_at (with_course p j c) k ≡ (event_answer 0 (course_at p k) (Became c.state.nodes c.state.made)).1
 course-other p j k c apart =
     ap (λ (b : Bool). record {
-      state = with_session (with_changes p.state c.state.nodes c.state.made) (cond b (record { session = c.state.session; number = c.number; agreement = c.agreement }) (p.own k)).session;
+      state = with_session (with_changes p.state c.state.nodes c.state.made)
+          (cond b (record { session = c.state.session; number = c.number; agreement = c.agreement }) (p.own k)).session;
       number = (cond b (record { session = c.state.session; number = c.number; agreement = c.agreement }) (p.own k)).number;
       moments = [];
       agreement = (cond b (record { session = c.state.session; number = c.number; agreement = c.agreement }) (p.own k)).agreement;
@@ -110,18 +134,21 @@ sees-one channels k p (At j t moment) = by (nat_eq k j) refl
 
 -- ---- all events, as a connection sees them
 
-pub course-seen : (channels : ℕ → ℕ) (k : ℕ) (p : SharedState) (es : List SharedEvent) → course_at (shared_over channels p es) k ≡ course_over (channels k) (course_at p k) (seen_by channels k p es)
+pub course-seen : (channels : ℕ → ℕ) (k : ℕ) (p : SharedState) (es : List SharedEvent)
+    → course_at (shared_over channels p es) k ≡ course_over (channels k) (course_at p k) (seen_by channels k p es)
 course-seen channels k p [] = refl
 course-seen channels k p (e ∷ es) =
     course-seen channels k (shared_by channels p e) es
     ∙ ap (λ (c : Course). course_over (channels k) c (seen_by channels k (shared_by channels p e) es)) (sees-one channels k p e).0
 
-pub sent-seen : (channels : ℕ → ℕ) (k : ℕ) (p : SharedState) (es : List SharedEvent) → sent_to channels k p es ≡ output_over (channels k) (course_at p k) (seen_by channels k p es)
+pub sent-seen : (channels : ℕ → ℕ) (k : ℕ) (p : SharedState) (es : List SharedEvent)
+    → sent_to channels k p es ≡ output_over (channels k) (course_at p k) (seen_by channels k p es)
 sent-seen channels k p [] = refl
 sent-seen channels k p (e ∷ es) =
     ap (λ (o : List ℕ). sent_at channels k p e ++ o) (sent-seen channels k (shared_by channels p e) es
     ∙ ap (λ (c : Course). output_over (channels k) c (seen_by channels k (shared_by channels p e) es)) (sees-one channels k p e).0)
-    ∙ ap (λ (o : List ℕ). o ++ output_over (channels k) (event_answer (channels k) (course_at p k) (seen_as channels k p e)).1 (seen_by channels k (shared_by channels p e) es)) (sees-one channels k p e).1
+    ∙ ap (λ (o : List ℕ). o ++ output_over (channels k) (event_answer (channels k) (course_at p k) (seen_as channels k p e)).1
+    (seen_by channels k (shared_by channels p e) es)) (sees-one channels k p e).1
 
 pub told-seen : (channels : ℕ → ℕ) (k : ℕ) (p : SharedState) (es : List SharedEvent) → told_in (seen_by channels k p es) ≡ told_by k es
 told-seen channels k p [] = refl
@@ -134,58 +161,74 @@ told-seen channels k p (At j t moment ∷ es) = by (nat_eq k j) (told-seen chann
     rest : List ConnectionEvent
     rest = seen_by channels k (shared_by channels p (At j t moment)) es
 
-    by : (b : Bool) → told_in rest ≡ told_by k es → told_in (cond b (Heard t moment) (Became c.state.nodes c.state.made) ∷ rest) ≡ cond b (t ∷ told_by k es) (told_by k es)
+    by : (b : Bool) → told_in rest ≡ told_by k es → told_in (cond b (Heard t moment) (Became c.state.nodes c.state.made) ∷ rest) ≡ cond b (t ∷ told_by k es)
+        (told_by k es)
     by true e = ap (λ (ts : List Told). t ∷ ts) e
     by false e = e
 
 -- ---- in two parts
 
-pub shared-append : (channels : ℕ → ℕ) (p : SharedState) (a b : List SharedEvent) → shared_over channels p (a ++ b) ≡ shared_over channels (shared_over channels p a) b
+pub shared-append : (channels : ℕ → ℕ) (p : SharedState) (a b : List SharedEvent)
+    → shared_over channels p (a ++ b) ≡ shared_over channels (shared_over channels p a) b
 shared-append channels p [] b = refl
 shared-append channels p (e ∷ a) b = shared-append channels (shared_by channels p e) a b
 
-seen-append : (channels : ℕ → ℕ) (k : ℕ) (p : SharedState) (a b : List SharedEvent) → seen_by channels k p (a ++ b) ≡ seen_by channels k p a ++ seen_by channels k (shared_over channels p a) b
+seen-append : (channels : ℕ → ℕ) (k : ℕ) (p : SharedState) (a b : List SharedEvent) → seen_by channels k p (a ++ b) ≡ seen_by channels k p a
+    ++ seen_by channels k (shared_over channels p a) b
 seen-append channels k p [] b = refl
 seen-append channels k p (e ∷ a) b = ap (λ (hs : List ConnectionEvent). seen_as channels k p e ∷ hs) (seen-append channels k (shared_by channels p e) a b)
 
-pub sent-append : (channels : ℕ → ℕ) (k : ℕ) (p : SharedState) (a b : List SharedEvent) → sent_to channels k p (a ++ b) ≡ sent_to channels k p a ++ sent_to channels k (shared_over channels p a) b
+pub sent-append : (channels : ℕ → ℕ) (k : ℕ) (p : SharedState) (a b : List SharedEvent) → sent_to channels k p (a ++ b) ≡ sent_to channels k p a
+    ++ sent_to channels k (shared_over channels p a) b
 sent-append channels k p [] b = refl
 sent-append channels k p (e ∷ a) b =
     ap (λ (o : List ℕ). sent_at channels k p e ++ o) (sent-append channels k (shared_by channels p e) a b)
-    ∙ sym (append_assoc (sent_at channels k p e) (sent_to channels k (shared_by channels p e) a) (sent_to channels k (shared_over channels (shared_by channels p e) a) b))
+    ∙ sym (append_assoc (sent_at channels k p e) (sent_to channels k (shared_by channels p e) a)
+    (sent_to channels k (shared_over channels (shared_by channels p e) a) b))
 
 pub told-append : (k : ℕ) (a b : List SharedEvent) → told_by k (a ++ b) ≡ told_by k a ++ told_by k b
 told-append k [] b = refl
 told-append k (Changed nodes ∷ a) b = told-append k a b
 told-append k (At j t moment ∷ a) b = by (nat_eq k j) (told-append k a b)
   where
-    by : (x : Bool) → told_by k (a ++ b) ≡ told_by k a ++ told_by k b → cond x (t ∷ told_by k (a ++ b)) (told_by k (a ++ b)) ≡ cond x (t ∷ told_by k a) (told_by k a) ++ told_by k b
+    by : (x : Bool) → told_by k (a ++ b) ≡ told_by k a ++ told_by k b → cond x (t ∷ told_by k (a ++ b)) (told_by k (a ++ b)) ≡ cond x (t ∷ told_by k a)
+        (told_by k a) ++ told_by k b
     by true e = ap (λ (ts : List Told). t ∷ ts) e
     by false e = e
 
 -- ---- events of one connection alone
 
-seen-own : (channels : ℕ → ℕ) (k : ℕ) (p : SharedState) (moment : DateTime) (told : List Told) → seen_by channels k p (at_moment k moment told) ≡ heard_at moment told
+seen-own : (channels : ℕ → ℕ) (k : ℕ) (p : SharedState) (moment : DateTime) (told : List Told)
+    → seen_by channels k p (at_moment k moment told) ≡ heard_at moment told
 seen-own channels k p moment [] = refl
 seen-own channels k p moment (t ∷ told) =
-    ap (λ (b : Bool). cond b (Heard t moment) (Became (answer_at channels p k t moment).1.state.nodes (answer_at channels p k t moment).1.state.made) ∷ seen_by channels k (shared_by channels p (At k t moment)) (at_moment k moment told)) (same-number k)
+    ap (λ (b : Bool). cond b (Heard t moment) (Became (answer_at channels p k t moment).1.state.nodes (answer_at channels p k t moment).1.state.made)
+    ∷ seen_by channels k (shared_by channels p (At k t moment)) (at_moment k moment told)) (same-number k)
     ∙ ap (λ (hs : List ConnectionEvent). Heard t moment ∷ hs) (seen-own channels k (shared_by channels p (At k t moment)) moment told)
 
 pub told-other : (j k : ℕ) (moment : DateTime) (told : List Told) → nat_eq j k ≡ false → told_by j (at_moment k moment told) ≡ []
 told-other j k moment [] e = refl
-told-other j k moment (t ∷ told) e = ap (λ (b : Bool). cond b (t ∷ told_by j (at_moment k moment told)) (told_by j (at_moment k moment told))) e ∙ told-other j k moment told e
+told-other j k moment (t ∷ told) e = ap (λ (b : Bool). cond b (t ∷ told_by j (at_moment k moment told)) (told_by j (at_moment k moment told))) e
+    ∙ told-other j k moment told e
 
-pub sent-other : (channels : ℕ → ℕ) (j k : ℕ) (p : SharedState) (moment : DateTime) (told : List Told) → nat_eq j k ≡ false → sent_to channels j p (at_moment k moment told) ≡ []
+pub sent-other : (channels : ℕ → ℕ) (j k : ℕ) (p : SharedState) (moment : DateTime) (told : List Told) → nat_eq j k ≡ false
+    → sent_to channels j p (at_moment k moment told) ≡ []
 sent-other channels j k p moment [] e = refl
 sent-other channels j k p moment (t ∷ told) e =
     ap (λ (b : Bool). cond b (answer_at channels p k t moment).0 [] ++ sent_to channels j (shared_by channels p (At k t moment)) (at_moment k moment told)) e
     ∙ sent-other channels j k (shared_by channels p (At k t moment)) moment told e
 
-own-other : (channels : ℕ → ℕ) (j k : ℕ) (p : SharedState) (moment : DateTime) (told : List Told) → nat_eq j k ≡ false → (shared_over channels p (at_moment k moment told)).own j ≡ p.own j
+own-other : (channels : ℕ → ℕ) (j k : ℕ) (p : SharedState) (moment : DateTime) (told : List Told) → nat_eq j k ≡ false
+    → (shared_over channels p (at_moment k moment told)).own j ≡ p.own j
 own-other channels j k p moment [] e = refl
 own-other channels j k p moment (t ∷ told) e =
     own-other channels j k (shared_by channels p (At k t moment)) moment told e
-    ∙ ap (λ (b : Bool). cond b (record { session = (answer_at channels p k t moment).1.state.session; number = (answer_at channels p k t moment).1.number; agreement = (answer_at channels p k t moment).1.agreement }) (p.own j)) e
+    ∙ ap (λ (b : Bool).
+    cond b (record {
+      session = (answer_at channels p k t moment).1.state.session;
+      number = (answer_at channels p k t moment).1.number;
+      agreement = (answer_at channels p k t moment).1.agreement;
+    }) (p.own j)) e
 
 -- the session of the state is that of no connection
 session-apart : (channels : ℕ → ℕ) (p : SharedState) (es : List SharedEvent) → (shared_over channels p es).state.session ≡ p.state.session
@@ -201,7 +244,8 @@ same-state a b mine theirs e s =
     ∙ ap (λ (o : Option Session). record { nodes = b.nodes; endpoint = b.endpoint; memory_limit = b.memory_limit; made = b.made; session = o }) s
 
 -- a connection that stands among others stands over what it sees
-pub stands-over : (channels : ℕ → ℕ) (k : ℕ) (x : ServerChannel) (session : Option Session) (octets : List ℕ) (es : List SharedEvent) (first now : State) → StandsAmong channels k x session octets es first now
+pub stands-over : (channels : ℕ → ℕ) (k : ℕ) (x : ServerChannel) (session : Option Session) (octets : List ℕ) (es : List SharedEvent) (first now : State)
+    → StandsAmong channels k x session octets es first now
     → StandsOver x octets (seen_by channels k (opened first) es) (begun first) (with_session now session)
 stands-over channels k x session octets es first now s =
     let seen = seen_by channels k (opened first) es in
@@ -221,15 +265,22 @@ own-none channels k p [] h = refl
 own-none channels k p (Changed nodes ∷ es) h = own-none channels k (shared_by channels p (Changed nodes)) es h
 own-none channels k p (At j t moment ∷ es) h = by (nat_eq k j) refl h (own-none channels k (shared_by channels p (At j t moment)) es)
   where
-    by : (b : Bool) → nat_eq k j ≡ b → cond b (t ∷ told_by k es) (told_by k es) ≡ [] → (told_by k es ≡ [] → (shared_over channels (shared_by channels p (At j t moment)) es).own k ≡ (shared_by channels p (At j t moment)).own k)
+    by : (b : Bool) → nat_eq k j ≡ b → cond b (t ∷ told_by k es) (told_by k es) ≡ []
+        → (told_by k es ≡ [] → (shared_over channels (shared_by channels p (At j t moment)) es).own k ≡ (shared_by channels p (At j t moment)).own k)
         → (shared_over channels (shared_by channels p (At j t moment)) es).own k ≡ p.own k
     by true e f more = absurd cc
     by false e f more =
         more f
-        ∙ ap (λ (b : Bool). cond b (record { session = (answer_at channels p j t moment).1.state.session; number = (answer_at channels p j t moment).1.number; agreement = (answer_at channels p j t moment).1.agreement }) (p.own k)) e
+        ∙ ap (λ (b : Bool).
+        cond b (record {
+          session = (answer_at channels p j t moment).1.state.session;
+          number = (answer_at channels p j t moment).1.number;
+          agreement = (answer_at channels p j t moment).1.agreement;
+        }) (p.own k)) e
 
 -- before its first octet, whatever happened to others
-pub stands_first : (channels : ℕ → ℕ) (k : ℕ) (x : ServerChannel) (es : List SharedEvent) (first now : State) → Goes x [] [] → next_of x ≡ 1 → channel_of x ≡ channels k → told_by k es ≡ []
+pub stands_first : (channels : ℕ → ℕ) (k : ℕ) (x : ServerChannel) (es : List SharedEvent) (first now : State) → Goes x [] [] → next_of x ≡ 1
+    → channel_of x ≡ channels k → told_by k es ≡ []
     → (shared_over channels (opened first) es).state ≡ now → StandsAmong channels k x None [] es first now
 stands_first channels k x es first now goes next channel none state = record {
   channel_is = channel;
@@ -240,7 +291,8 @@ stands_first channels k x es first now goes next channel none state = record {
 }
 
 -- the application changes the nodes
-pub stands_changed : (channels : ℕ → ℕ) (k : ℕ) (x : ServerChannel) (session : Option Session) (octets : List ℕ) (es : List SharedEvent) (first now : State) (nodes : Nodes) → StandsAmong channels k x session octets es first now
+pub stands_changed : (channels : ℕ → ℕ) (k : ℕ) (x : ServerChannel) (session : Option Session) (octets : List ℕ) (es : List SharedEvent) (first now : State)
+    (nodes : Nodes) → StandsAmong channels k x session octets es first now
     → StandsAmong channels k x session octets (es ++ Changed nodes ∷ []) first (with_nodes now nodes)
 stands_changed channels k x session octets es first now nodes s =
     let behind = shared-append channels (opened first) es (Changed nodes ∷ []) in
@@ -254,7 +306,8 @@ stands_changed channels k x session octets es first now nodes s =
 
 -- ---- a step of one connection
 
-module _ (channels : ℕ → ℕ) (k : ℕ) (old new : ServerChannel) (session session' : Option Session) (moment : DateTime) (piece octets : List ℕ) (es : List SharedEvent) (first before now : State)
+module _ (channels : ℕ → ℕ) (k : ℕ) (old new : ServerChannel) (session session' : Option Session) (moment : DateTime) (piece octets : List ℕ)
+    (es : List SharedEvent) (first before now : State)
     (s : StandsAmong channels k old session octets es first before) (same : channel_of new ≡ channel_of old) (apart : now.session ≡ before.session) where
   -- what the connection sees of the events so far, and how far the server is behind more of its own
   abbrev seen : List ConnectionEvent
@@ -264,15 +317,18 @@ module _ (channels : ℕ → ℕ) (k : ℕ) (old new : ServerChannel) (session s
   begins = start (begun first) []
 
   seen-more : (told : List Told) → seen_by channels k (opened first) (es ++ at_moment k moment told) ≡ seen ++ heard_at moment told
-  seen-more told = seen-append channels k (opened first) es (at_moment k moment told) ∙ ap (λ (hs : List ConnectionEvent). seen ++ hs) (seen-own channels k (shared_over channels (opened first) es) moment told)
+  seen-more told = seen-append channels k (opened first) es (at_moment k moment told)
+      ∙ ap (λ (hs : List ConnectionEvent). seen ++ hs) (seen-own channels k (shared_over channels (opened first) es) moment told)
 
-  course-more : (told : List Told) → course_at (shared_over channels (opened first) (es ++ at_moment k moment told)) k ≡ course_over (channel_of old) begins (seen ++ heard_at moment told)
+  course-more : (told : List Told) → course_at (shared_over channels (opened first) (es ++ at_moment k moment told)) k ≡ course_over (channel_of old) begins
+      (seen ++ heard_at moment told)
   course-more told =
       course-seen channels k (opened first) (es ++ at_moment k moment told)
       ∙ (ap (λ (hs : List ConnectionEvent). course_over (channels k) begins hs) (seen-more told)
       ∙ ap (λ (c : ℕ). course_over c begins (seen ++ heard_at moment told)) (sym s.channel_is))
 
-  sent-more : (told : List Told) → sent_to channels k (opened first) (es ++ at_moment k moment told) ≡ output_over (channel_of old) begins (seen ++ heard_at moment told)
+  sent-more : (told : List Told) → sent_to channels k (opened first) (es ++ at_moment k moment told) ≡ output_over (channel_of old) begins
+      (seen ++ heard_at moment told)
   sent-more told =
       sent-seen channels k (opened first) (es ++ at_moment k moment told)
       ∙ (ap (λ (hs : List ConnectionEvent). output_over (channels k) begins hs) (seen-more told)
@@ -285,16 +341,19 @@ module _ (channels : ℕ → ℕ) (k : ℕ) (old new : ServerChannel) (session s
   told-more told = ap (λ (hs : List ConnectionEvent). told_in hs) (sym (seen-more told)) ∙ told-seen channels k (opened first) (es ++ at_moment k moment told)
 
   module _ (told : List Told) (left : (course_over (channel_of old) begins (seen ++ heard_at moment told)).state ≡ with_session now session') where
-    state-more : with_session (shared_over channels (opened first) (es ++ at_moment k moment told)).state ((shared_over channels (opened first) (es ++ at_moment k moment told)).own k).session ≡ with_session now session'
+    state-more : with_session (shared_over channels (opened first) (es ++ at_moment k moment told)).state
+        ((shared_over channels (opened first) (es ++ at_moment k moment told)).own k).session ≡ with_session now session'
     state-more = ap (λ (c : Course). c.state) (course-more told) ∙ left
 
     shared-more : (shared_over channels (opened first) (es ++ at_moment k moment told)).state ≡ now
     shared-more =
-        same-state (shared_over channels (opened first) (es ++ at_moment k moment told)).state now ((shared_over channels (opened first) (es ++ at_moment k moment told)).own k).session session' state-more
+        same-state (shared_over channels (opened first) (es ++ at_moment k moment told)).state now
+        ((shared_over channels (opened first) (es ++ at_moment k moment told)).own k).session session' state-more
         (session-apart channels (opened first) (es ++ at_moment k moment told)
         ∙ (sym (session-apart channels (opened first) es) ∙ (ap (λ (n : State). n.session) s.state_is ∙ sym apart)))
 
-    ends : (end : End ℕ) (n : ℕ) (out : List ℕ) → EndsOver end new (channel_of old) (octets ++ take n piece) out seen (heard_at moment told) (begun first) (with_session before session) (with_session now session')
+    ends : (end : End ℕ) (n : ℕ) (out : List ℕ) → EndsOver end new (channel_of old) (octets ++ take n piece) out seen (heard_at moment told) (begun first)
+        (with_session before session) (with_session now session')
         → EndsAmong end channels k new (octets ++ take n piece) out es (at_moment k moment told) first before now
     ends end n out g = (
       subst (λ (t : List Told). EndedAt end new (octets ++ take n piece) t) (told-more told) g.0,
@@ -302,7 +361,8 @@ module _ (channels : ℕ → ℕ) (k : ℕ) (old new : ServerChannel) (session s
       ap (λ (o : List ℕ). o ++ last_words end) (sent-more told) ∙ (g.2 ∙ ap (λ (o : List ℕ). o ++ out) sent-before),
     )
 
-    mine : (end : Option Ending) (n : ℕ) (out : List ℕ) → OverBy end new (channel_of old) (octets ++ take n piece) out seen (heard_at moment told) (begun first) (with_session before session) (with_session now session')
+    mine : (end : Option Ending) (n : ℕ) (out : List ℕ) → OverBy end new (channel_of old) (octets ++ take n piece) out seen (heard_at moment told) (begun first)
+        (with_session before session) (with_session now session')
         → AmongBy end channels k new session' (octets ++ take n piece) out es (at_moment k moment told) first before now
     mine None n out g = (
       record {
@@ -310,7 +370,8 @@ module _ (channels : ℕ → ℕ) (k : ℕ) (old new : ServerChannel) (session s
         goes = subst (λ (t : List Told). Goes new (octets ++ take n piece) t) (told-more told) g.0.goes;
         state_is = shared-more;
         session_is = ap (λ (n : State). n.session) state-more;
-        number_is = ap (λ (c : Course). c.number) (course-more told) ∙ (ap (λ (c : ℕ). (course_over c begins (seen ++ heard_at moment told)).number) (sym same) ∙ g.0.number_is);
+        number_is = ap (λ (c : Course). c.number) (course-more told) ∙ (ap (λ (c : ℕ). (course_over c begins (seen ++ heard_at moment told)).number) (sym same)
+            ∙ g.0.number_is);
       },
       sent-more told ∙ (g.1 ∙ ap (λ (o : List ℕ). o ++ out) sent-before),
     )
@@ -319,7 +380,8 @@ module _ (channels : ℕ → ℕ) (k : ℕ) (old new : ServerChannel) (session s
     mine (Some ending.NoClose) n out g = absurd g
     mine (Some ending.Cut) n out g = absurd g
 
-    results : (result : Result Step StepFault) → ResultOver (limits_of old) (channel_of old) piece result new octets seen (heard_at moment told) told (begun first) (with_session before session) (with_session now session')
+    results : (result : Result Step StepFault) → ResultOver (limits_of old) (channel_of old) piece result new octets seen (heard_at moment told) told
+        (begun first) (with_session before session) (with_session now session')
         → ResultAmong (limits_of old) channels k piece result new session' octets es (at_moment k moment told) told first before now
     results (Ok step) g = mine step.end step.taken step.out.items g
     results (Err step_fault.OutOfMemory) g = (
@@ -341,7 +403,8 @@ module _ (channels : ℕ → ℕ) (k : ℕ) (old new : ServerChannel) (session s
         told-append j es (at_moment k moment told) ∙ (ap (λ (t : List Told). told_by j es ++ t) (told-other j k moment told e) ∙ append-nil (told_by j es)) in (
           hears,
           sent-append channels j (opened first) es (at_moment k moment told)
-              ∙ (ap (λ (w : List ℕ). sent_to channels j (opened first) es ++ w) (sent-other channels j k p moment told e) ∙ append-nil (sent_to channels j (opened first) es)),
+              ∙ (ap (λ (w : List ℕ). sent_to channels j (opened first) es ++ w) (sent-other channels j k p moment told e)
+              ∙ append-nil (sent_to channels j (opened first) es)),
           λ x theirs sent o. record {
             channel_is = o.channel_is;
             goes = subst (λ (t : List Told). Goes x sent t) (sym hears) o.goes;
@@ -352,7 +415,8 @@ module _ (channels : ℕ → ℕ) (k : ℕ) (old new : ServerChannel) (session s
         )
 
 -- a step of one connection, by what it is over what the connection sees
-pub step_among : (channels : ℕ → ℕ) (k : ℕ) (old new : ServerChannel) (session session' : Option Session) (moment : DateTime) (piece octets : List ℕ) (es : List SharedEvent) (first before now : State) (result : Result Step StepFault)
+pub step_among : (channels : ℕ → ℕ) (k : ℕ) (old new : ServerChannel) (session session' : Option Session) (moment : DateTime) (piece octets : List ℕ)
+    (es : List SharedEvent) (first before now : State) (result : Result Step StepFault)
     → StandsAmong channels k old session octets es first before → channel_of new ≡ channel_of old → now.session ≡ before.session
     → ((hs : List ConnectionEvent) (begins : State) → StandsOver old octets hs begins (with_session before session)
     → StepOver (limits_of old) (channel_of old) moment piece result new octets hs begins (with_session before session) (with_session now session'))
@@ -371,5 +435,6 @@ step_among channels k old new session session' moment piece octets es first befo
 pub other-told : (j k : ℕ) (moment : DateTime) (told : List Told) → (j ≡ k → ⊥) → told_by j (at_moment k moment told) ≡ []
 other-told j k moment told differ = told-other j k moment told (other-number j k differ)
 
-pub other-sent : (channels : ℕ → ℕ) (j k : ℕ) (p : SharedState) (moment : DateTime) (told : List Told) → (j ≡ k → ⊥) → sent_to channels j p (at_moment k moment told) ≡ []
+pub other-sent : (channels : ℕ → ℕ) (j k : ℕ) (p : SharedState) (moment : DateTime) (told : List Told) → (j ≡ k → ⊥)
+    → sent_to channels j p (at_moment k moment told) ≡ []
 other-sent channels j k p moment told differ = sent-other channels j k p moment told (other-number j k differ)

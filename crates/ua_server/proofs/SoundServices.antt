@@ -1,5 +1,6 @@
 -- Sound services answer each request by a response of its kind that can be encoded, and stay sound.
-use Rattle.std.specs.Prelude.{◌≡◌, ℕ, ◌+◌, ◌<◌, ◌≤◌, ◌^◌, Bool, true, false, ◌||◌, not, nat_eq, nat_lt, if◌then◌else◌, is_none, List, [], ◌∷◌, length, IsTrue, Option, Some, None}
+use Rattle.std.specs.Prelude.{◌≡◌, ℕ, ◌+◌, ◌<◌, ◌≤◌, ◌^◌, Bool, true, false, ◌||◌, not, nat_eq, nat_lt}
+use Rattle.std.specs.Prelude.{if◌then◌else◌, is_none, List, [], ◌∷◌, length, IsTrue, Option, Some, None}
 use Rattle.std.specs.List.{AllByRecursion, list_all}
 use Rattle.std.proofs.Common.{refl, sym, ◌∙◌, subst, arith, lit<, inl, inr}
 use Rattle.std.proofs.lemmas.Bool.{eqb-false, lt-ltb, ltb-true, ltb-false}
@@ -48,33 +49,42 @@ use Rattle.ua_nodes.proofs.Fits.{both_are}
 use Rattle.ua_nodes.proofs.SoundRead.{read_sound}
 use Rattle.ua_nodes.proofs.SoundWrite.{write_sound}
 use Rattle.ua_server.specs.Answer.{answer, fault_of, unless}
-use Rattle.ua_server.specs.Attributes.{items_of, most_age, most_items, read_answers, read_reasons, stamps_or, statuses_given, value_from, values_given, with_written, write_reasons}
+use Rattle.ua_server.specs.Attributes.{items_of, most_age, most_items, read_answers, read_reasons, stamps_or}
+use Rattle.ua_server.specs.Attributes.{statuses_given, value_from, values_given, with_written, write_reasons}
 use Rattle.ua_server.specs.Endpoint.{are_served}
-use Rattle.ua_server.specs.Sessions.{activate_reasons, activation_given, close_given, close_reasons, create_reasons, good_header, most_sessions, session_given, with_activated}
+use Rattle.ua_server.specs.Sessions.{activate_reasons, activation_given, close_given, close_reasons}
+use Rattle.ua_server.specs.Sessions.{create_reasons, good_header, most_sessions, session_given, with_activated}
 use Rattle.ua_server.specs.Sound.{IsSoundState}
 use Rattle.ua_server.specs.State.{State, begun, is_activated, is_own, with_next_session}
-use Rattle.ua_server.specs.Status.{bad_max_age_invalid, bad_nothing_to_do, bad_session_id_invalid, bad_session_not_activated, bad_timestamps_to_return_invalid, bad_too_many_operations, bad_too_many_sessions}
+use Rattle.ua_server.specs.Status.{bad_max_age_invalid, bad_nothing_to_do, bad_session_id_invalid, bad_session_not_activated}
+use Rattle.ua_server.specs.Status.{bad_timestamps_to_return_invalid, bad_too_many_operations, bad_too_many_sessions}
 use Rattle.ua_server.proofs.Answered.{activation_fits, endpoints_fit, fault_fits, session_fits, statuses_fit, values_fit}
 use Rattle.ua_server.proofs.ReadBody.{results_count}
 use Rattle.ua_server.proofs.Statuses.{answers_count, answers_fit}
 
 -- ---- kinds
 
-unless_answers : (k : RequestKind) (reason : Option ℕ) (s : State) (moment : DateTime) (asking : RequestHeader) (given : State × Response) → kind_of_response given.1 ≡ own_answer k → Answers (kind_of_response (unless reason s moment asking given).1) k
+unless_answers : (k : RequestKind) (reason : Option ℕ) (s : State) (moment : DateTime) (asking : RequestHeader) (given : State × Response)
+    → kind_of_response given.1 ≡ own_answer k → Answers (kind_of_response (unless reason s moment asking given).1) k
 unless_answers k None s moment asking given own = inl own
 unless_answers k (Some code) s moment asking given own = inr refl
 
 pub answer_kind_is : (s : State) (moment : DateTime) (m : Request) → Answers (kind_of_response (answer s moment m).1) (kind_of m)
 answer_kind_is s moment (GetEndpoints m) = inl refl
-answer_kind_is s moment (CreateSession m) = unless_answers kind.CreateSession (first_reason (create_reasons s)) s moment m.request_header (with_next_session s, session_given s moment m) refl
-answer_kind_is s moment (ActivateSession m) = unless_answers kind.ActivateSession (first_reason (activate_reasons s m)) s moment m.request_header (with_activated s, activation_given moment m) refl
-answer_kind_is s moment (CloseSession m) = unless_answers kind.CloseSession (first_reason (close_reasons s m)) s moment m.request_header (begun s, close_given moment m) refl
+answer_kind_is s moment (CreateSession m) = unless_answers kind.CreateSession (first_reason (create_reasons s)) s moment m.request_header
+    (with_next_session s, session_given s moment m) refl
+answer_kind_is s moment (ActivateSession m) = unless_answers kind.ActivateSession (first_reason (activate_reasons s m)) s moment m.request_header
+    (with_activated s, activation_given moment m) refl
+answer_kind_is s moment (CloseSession m) = unless_answers kind.CloseSession (first_reason (close_reasons s m)) s moment m.request_header
+    (begun s, close_given moment m) refl
 answer_kind_is s moment (Read m) = unless_answers kind.Read (first_reason (read_reasons s m)) s moment m.request_header (s, values_given s moment m) refl
-answer_kind_is s moment (Write m) = unless_answers kind.Write (first_reason (write_reasons s m)) s moment m.request_header (with_written s moment m, statuses_given s moment m) refl
+answer_kind_is s moment (Write m) = unless_answers kind.Write (first_reason (write_reasons s m)) s moment m.request_header
+    (with_written s moment m, statuses_given s moment m) refl
 
 -- ---- what is left is sound
 
-unless_sound : (reason : Option ℕ) (s : State) (moment : DateTime) (asking : RequestHeader) (given : State × Response) → IsSoundState s → (reason ≡ None → IsSoundState given.0) → IsSoundState (unless reason s moment asking given).0
+unless_sound : (reason : Option ℕ) (s : State) (moment : DateTime) (asking : RequestHeader) (given : State × Response) → IsSoundState s
+    → (reason ≡ None → IsSoundState given.0) → IsSoundState (unless reason s moment asking given).0
 unless_sound None s moment asking given h more = more refl
 unless_sound (Some code) s moment asking given h more = h
 
@@ -89,7 +99,10 @@ second_false false b e = e
 
 next_made : (s : State) → s.made < 2 ^ 32 → first_reason (create_reasons s) ≡ None → s.made + 1 < 2 ^ 32
 next_made s small free =
-    let most = eqb-false s.made most_sessions (second_false (not (is_none s.session)) (nat_eq s.made most_sessions) (none_holds (not (is_none s.session) || nat_eq s.made most_sessions) bad_too_many_sessions None free).0) in
+    let most =
+    eqb-false s.made most_sessions
+    (second_false (not (is_none s.session)) (nat_eq s.made most_sessions)
+    (none_holds (not (is_none s.session) || nat_eq s.made most_sessions) bad_too_many_sessions None free).0) in
     less s.made small most
   where
     less : (n : ℕ) → n < 2 ^ 32 → (n ≡ most_sessions → ⊥) → n + 1 < 2 ^ 32
@@ -112,7 +125,12 @@ answer_sound s moment (CloseSession m) h dated =
 answer_sound s moment (Read m) h dated = unless_sound (first_reason (read_reasons s m)) s moment m.request_header (s, values_given s moment m) h (λ free. h)
 answer_sound s moment (Write m) h dated =
     unless_sound (first_reason (write_reasons s m)) s moment m.request_header (with_written s moment m, statuses_given s moment m) h
-    (λ free. record { nodes = write_sound (roomy_items s.memory_limit s.nodes (items_of m.nodes_to_write)) moment s.nodes dated h.nodes; endpoint = h.endpoint; limit = h.limit; made = h.made })
+    (λ free. record {
+      nodes = write_sound (roomy_items s.memory_limit s.nodes (items_of m.nodes_to_write)) moment s.nodes dated h.nodes;
+      endpoint = h.endpoint;
+      limit = h.limit;
+      made = h.made;
+    })
 
 -- ---- faults
 
@@ -132,11 +150,14 @@ status_fits : (code : ℕ) → code < 4294967296 → IsTrue (status_code.encodab
 unfolding status_code
 status_fits code h = lt-ltb code (256 ^ 4) (omega (arith, h))
 
-fault_is : (handle code : ℕ) (moment : DateTime) → IsTrue (date_time.encodable moment) → handle < 2 ^ 32 → code < 4294967296 → IsTrue (response.encodable (fault_of handle code moment))
+fault_is : (handle code : ℕ) (moment : DateTime) → IsTrue (date_time.encodable moment) → handle < 2 ^ 32 → code < 4294967296
+    → IsTrue (response.encodable (fault_of handle code moment))
 unfolding service_fault
-fault_is handle code moment dated small is = fault_fits (service_fault_of moment handle (of_code code)) (response_header_fits moment handle (of_code code) dated small (status_fits code is))
+fault_is handle code moment dated small is = fault_fits (service_fault_of moment handle (of_code code))
+    (response_header_fits moment handle (of_code code) dated small (status_fits code is))
 
-unless_fits : (reasons : List (ℕ × Bool)) (s : State) (moment : DateTime) (asking : RequestHeader) (given : State × Response) → AreCodes reasons → IsTrue (date_time.encodable moment) → asking.request_handle < 2 ^ 32
+unless_fits : (reasons : List (ℕ × Bool)) (s : State) (moment : DateTime) (asking : RequestHeader) (given : State × Response) → AreCodes reasons
+    → IsTrue (date_time.encodable moment) → asking.request_handle < 2 ^ 32
     → (first_reason reasons ≡ None → IsTrue (response.encodable given.1)) → IsTrue (response.encodable (unless (first_reason reasons) s moment asking given).1)
 unless_fits reasons s moment asking given codes dated small good = by (first_reason reasons) refl
   where
@@ -196,7 +217,8 @@ timeout_fits m h =
 
 -- ---- items
 
-few_items : (n : ℕ) → (if nat_eq n 0 then Some bad_nothing_to_do else if nat_lt most_items n then Some bad_too_many_operations else None) ≡ None → n ≤ most_items
+few_items : (n : ℕ) → (if nat_eq n 0 then Some bad_nothing_to_do else if nat_lt most_items n then Some bad_too_many_operations else None) ≡ None
+    → n ≤ most_items
 few_items n free =
     let some = none_holds (nat_eq n 0) bad_nothing_to_do _ free in
     let few = none_holds (nat_lt most_items n) bad_too_many_operations _ some.1 in
@@ -221,28 +243,35 @@ unfolding data_value_format
 value_fits (bare f) h = h
 value_fits (valued v f) h = h
 
-answers_read : (nodes : Nodes) (items : List ReadValueId) (stamps : Stamps) (moment : DateTime) → IsTrue (date_time.encodable moment) → IsSound nodes → IsTrue (list_all data_value_format.encodable (read_answers nodes items stamps moment))
+answers_read : (nodes : Nodes) (items : List ReadValueId) (stamps : Stamps) (moment : DateTime) → IsTrue (date_time.encodable moment) → IsSound nodes
+    → IsTrue (list_all data_value_format.encodable (read_answers nodes items stamps moment))
 answers_read nodes [] stamps moment dated sound = refl
 answers_read nodes (item ∷ items) stamps moment dated sound =
     both_are (data_value_format.encodable (value_from (read_answer (node_at nodes item.node_id) item stamps moment))) _
-    (value_fits (read_answer (node_at nodes item.node_id) item stamps moment) (read_sound nodes item stamps moment dated sound)) (answers_read nodes items stamps moment dated sound)
+    (value_fits (read_answer (node_at nodes item.node_id) item stamps moment) (read_sound nodes item stamps moment dated sound))
+    (answers_read nodes items stamps moment dated sound)
 
 -- ---- answers
 
-good_fits : (moment : DateTime) (asking : RequestHeader) → IsTrue (date_time.encodable moment) → asking.request_handle < 2 ^ 32 → IsTrue (response_header.encodable (good_header moment asking))
+good_fits : (moment : DateTime) (asking : RequestHeader) → IsTrue (date_time.encodable moment) → asking.request_handle < 2 ^ 32
+    → IsTrue (response_header.encodable (good_header moment asking))
 good_fits moment asking dated small = response_header_fits moment asking.request_handle (of_code 0) dated small (status_fits 0 (lit< tt))
 
-closed_fits : (moment : DateTime) (m : CloseSessionRequest) → IsTrue (response_header.encodable (good_header moment m.request_header)) → IsTrue (response.encodable (close_given moment m))
+closed_fits : (moment : DateTime) (m : CloseSessionRequest) → IsTrue (response_header.encodable (good_header moment m.request_header))
+    → IsTrue (response.encodable (close_given moment m))
 unfolding close_session_response
 closed_fits moment m h = response-encodable answer_kind.CloseSession _ ∙ h
 
-pub answer_fits : (s : State) (moment : DateTime) (m : Request) → IsSoundState s → IsTrue (date_time.encodable moment) → IsTrue (request.encodable m) → IsTrue (response.encodable (answer s moment m).1)
+pub answer_fits : (s : State) (moment : DateTime) (m : Request) → IsSoundState s → IsTrue (date_time.encodable moment) → IsTrue (request.encodable m)
+    → IsTrue (response.encodable (answer s moment m).1)
 answer_fits s moment (GetEndpoints m) h dated fits =
-    endpoints_fit (are_served m.profile_uris) s.endpoint (good_header moment m.request_header) h.endpoint (good_fits moment m.request_header dated (handle_fits m.request_header (asked_endpoints m fits)))
+    endpoints_fit (are_served m.profile_uris) s.endpoint (good_header moment m.request_header) h.endpoint
+    (good_fits moment m.request_header dated (handle_fits m.request_header (asked_endpoints m fits)))
 answer_fits s moment (CreateSession m) h dated fits =
     let small = handle_fits m.request_header (asked_session m fits) in
     unless_fits (create_reasons s) s moment m.request_header (with_next_session s, session_given s moment m) (lit< tt, tt) dated small
-    (λ free. session_fits (s.made + 1) s.endpoint.message_limit m.requested_session_timeout s.endpoint (good_header moment m.request_header) (next_made s h.made free) h.limit (timeout_fits m fits) h.endpoint (good_fits moment m.request_header dated small))
+    (λ free. session_fits (s.made + 1) s.endpoint.message_limit m.requested_session_timeout s.endpoint (good_header moment m.request_header)
+    (next_made s h.made free) h.limit (timeout_fits m fits) h.endpoint (good_fits moment m.request_header dated small))
 answer_fits s moment (ActivateSession m) h dated fits =
     let small = handle_fits m.request_header (asked_activation m fits) in
     unless_fits (activate_reasons s m) s moment m.request_header (with_activated s, activation_given moment m) (lit< tt, (lit< tt, tt)) dated small
@@ -255,20 +284,24 @@ answer_fits s moment (Read m) h dated fits =
     let small = handle_fits m.request_header (asked_read m fits) in
     let items = items_of m.nodes_to_read in
     let stamps = stamps_or (stamps_numbered m.timestamps_to_return) in
-    unless_fits (read_reasons s m) s moment m.request_header (s, values_given s moment m) (lit< tt, (lit< tt, (lit< tt, (lit< tt, (lit< tt, (lit< tt, tt)))))) dated small
+    unless_fits (read_reasons s m) s moment m.request_header (s, values_given s moment m) (lit< tt, (lit< tt, (lit< tt, (lit< tt, (lit< tt, (lit< tt, tt))))))
+    dated small
     (λ free.
     let few = few_read s m free in
     let count = results_count s.nodes items stamps moment in
     values_fit (values_of (good_header moment m.request_header) (read_answers s.nodes items stamps moment))
-    (read_response_fits (good_header moment m.request_header) (read_answers s.nodes items stamps moment) (good_fits moment m.request_header dated small) (omega (arith, few, count))
+    (read_response_fits (good_header moment m.request_header) (read_answers s.nodes items stamps moment) (good_fits moment m.request_header dated small)
+    (omega (arith, few, count))
     (answers_read s.nodes items stamps moment dated h.nodes)))
 answer_fits s moment (Write m) h dated fits =
     let small = handle_fits m.request_header (asked_write m fits) in
     let items = items_of m.nodes_to_write in
-    unless_fits (write_reasons s m) s moment m.request_header (with_written s moment m, statuses_given s moment m) (lit< tt, (lit< tt, (lit< tt, (lit< tt, tt)))) dated small
+    unless_fits (write_reasons s m) s moment m.request_header (with_written s moment m, statuses_given s moment m)
+    (lit< tt, (lit< tt, (lit< tt, (lit< tt, tt)))) dated small
     (λ free.
     let few = few_written s m free in
     let limit = s.memory_limit in
     let count = answers_count limit s.nodes items in
     statuses_fit (statuses_of (good_header moment m.request_header) (limited_answers limit s.nodes items))
-    (write_response_fits (good_header moment m.request_header) (limited_answers limit s.nodes items) (good_fits moment m.request_header dated small) (omega (arith, few, count)) (answers_fit limit s.nodes items)))
+    (write_response_fits (good_header moment m.request_header) (limited_answers limit s.nodes items) (good_fits moment m.request_header dated small)
+    (omega (arith, few, count)) (answers_fit limit s.nodes items)))

@@ -30,27 +30,33 @@ sent-answered channel number moment Closed octets s = absurd s
 
 module _ (channel number : ℕ) (moment : DateTime) (piece : List ℕ) (n : ℕ) (mid : ServerChannel) (octets : List ℕ) (told : List Told) where
   -- the same answer by another name
-  pub behind-as : (r e : Result ServerEvent ChannelFault) → r ≡ e → AnswersBehind channel number moment piece n r mid octets told → AnswersBehind channel number moment piece n e mid octets told
+  pub behind-as : (r e : Result ServerEvent ChannelFault) → r ≡ e → AnswersBehind channel number moment piece n r mid octets told
+      → AnswersBehind channel number moment piece n e mid octets told
   behind-as r e is b = subst (λ (x : Result ServerEvent ChannelFault). AnswersBehind channel number moment piece n x mid octets told) is b
 
-  pub event-as : (e f : ServerEvent) → e ≡ f → AnswersBehind channel number moment piece n (Ok e) mid octets told → AnswersBehind channel number moment piece n (Ok f) mid octets told
+  pub event-as : (e f : ServerEvent) → e ≡ f → AnswersBehind channel number moment piece n (Ok e) mid octets told
+      → AnswersBehind channel number moment piece n (Ok f) mid octets told
   event-as e f is b = subst (λ (x : ServerEvent). AnswersBehind channel number moment piece n (Ok x) mid octets told) is b
 
-  pub fault-as : (e f : ChannelFault) → e ≡ f → AnswersBehind channel number moment piece n (Err e) mid octets told → AnswersBehind channel number moment piece n (Err f) mid octets told
+  pub fault-as : (e f : ChannelFault) → e ≡ f → AnswersBehind channel number moment piece n (Err e) mid octets told
+      → AnswersBehind channel number moment piece n (Err f) mid octets told
   fault-as e f is b = subst (λ (x : ChannelFault). AnswersBehind channel number moment piece n (Err x) mid octets told) is b
 
   -- a step that says nothing, and one that says something
-  pub silent-stands : (s : Step) (end : Option Ending) → s.taken ≡ n → s.out.items ≡ [] → s.end ≡ end → ((out : List ℕ) → out ≡ [] → StandsBy piece end n out mid octets told)
+  pub silent-stands : (s : Step) (end : Option Ending) → s.taken ≡ n → s.out.items ≡ [] → s.end ≡ end
+      → ((out : List ℕ) → out ≡ [] → StandsBy piece end n out mid octets told)
       → StandsBy piece s.end s.taken s.out.items mid octets told
   silent-stands s end taken out is by =
       subst (λ (k : ℕ). StandsBy piece s.end k s.out.items mid octets told) (sym taken)
       (subst (λ (e : Option Ending). StandsBy piece e n s.out.items mid octets told) (sym is) (by s.out.items out))
 
-  pub saying-stands : (s t : Step) (new : ServerChannel) → s ≡ t → StandsBy piece t.end t.taken t.out.items new octets told → StandsBy piece s.end s.taken s.out.items new octets told
+  pub saying-stands : (s t : Step) (new : ServerChannel) → s ≡ t → StandsBy piece t.end t.taken t.out.items new octets told
+      → StandsBy piece s.end s.taken s.out.items new octets told
   saying-stands s t new is a = subst (λ (x : Step). StandsBy piece x.end x.taken x.out.items new octets told) (sym is) a
 
   -- nothing came
-  abbrev pub stands-quiet : AnswersBehind channel number moment piece n (Ok event.NeedMore) mid octets told → (out : List ℕ) → out ≡ [] → StandsBy piece None n out mid octets told
+  abbrev pub stands-quiet : AnswersBehind channel number moment piece n (Ok event.NeedMore) mid octets told → (out : List ℕ) → out ≡ []
+      → StandsBy piece None n out mid octets told
   stands-quiet b out none = record {
     quiet = b.quiet;
     more = [];
@@ -59,7 +65,8 @@ module _ (channel number : ℕ) (moment : DateTime) (piece : List ℕ) (n : ℕ)
   }
 
   -- an ACK or an OPN response
-  abbrev pub stands-sent : (sent : Vec ℕ Global) → AnswersBehind channel number moment piece n (Ok (event.Send sent)) mid octets told → StandsBy piece None n sent.items mid octets told
+  abbrev pub stands-sent : (sent : Vec ℕ Global) → AnswersBehind channel number moment piece n (Ok (event.Send sent)) mid octets told
+      → StandsBy piece None n sent.items mid octets told
   stands-sent sent b =
       let s = b.answers.1 in
       record {
@@ -70,8 +77,10 @@ module _ (channel number : ℕ) (moment : DateTime) (piece : List ℕ) (n : ℕ)
       }
 
   -- a message, and its reply
-  abbrev pub stands-replied : (id : ℕ) (message : List (List ℕ)) (new : ServerChannel) (out : List ℕ) (b : AnswersBehind channel number moment piece n (Ok (event.Asked id message)) mid octets told)
-      → GoesTelling new (octets ++ take n piece) (told ++ given_up b.quiet) (Asked id b.answers.1.0.token (concat message)) → StandsBy piece None n out new octets told
+  abbrev pub stands-replied : (id : ℕ) (message : List (List ℕ)) (new : ServerChannel) (out : List ℕ)
+      (b : AnswersBehind channel number moment piece n (Ok (event.Asked id message)) mid octets told)
+      → GoesTelling new (octets ++ take n piece) (told ++ given_up b.quiet) (Asked id b.answers.1.0.token (concat message))
+      → StandsBy piece None n out new octets told
   stands-replied id message new out b goes = record {
     quiet = b.quiet;
     more = Asked id b.answers.1.0.token (concat message) ∷ [];
@@ -80,11 +89,13 @@ module _ (channel number : ℕ) (moment : DateTime) (piece : List ℕ) (n : ℕ)
   }
 
   -- a CLO
-  pub stands-closed : AnswersBehind channel number moment piece n (Ok event.Closed) mid octets told → (out : List ℕ) → out ≡ [] → StandsBy piece (Some ending.Closed) n out mid octets told
+  pub stands-closed : AnswersBehind channel number moment piece n (Ok event.Closed) mid octets told → (out : List ℕ) → out ≡ []
+      → StandsBy piece (Some ending.Closed) n out mid octets told
   stands-closed b out none = record { quiet = b.quiet; some = b.answers.0; closed = b.answers.1 }
 
   -- a refusal
-  pub stands-refused : (code : StatusCode) (frame out : List ℕ) → AnswersBehind channel number moment piece n (Err (fault.Refused code frame)) mid octets told → StandsBy piece (Some (ending.Refused code)) n out mid octets told
+  pub stands-refused : (code : StatusCode) (frame out : List ℕ) → AnswersBehind channel number moment piece n (Err (fault.Refused code frame)) mid octets told
+      → StandsBy piece (Some (ending.Refused code)) n out mid octets told
   stands-refused code frame out b = record { quiet = b.quiet; within = b.answers.0; refused = b.answers.1 }
 
   -- a fault of the channel that is told as want of memory
@@ -94,6 +105,7 @@ module _ (channel number : ℕ) (moment : DateTime) (piece : List ℕ) (n : ℕ)
   stands-starved fault.Closed b = absurd b.answers
 
 -- a fault of a reply
-pub stands-broken : {A : Type 0} (piece octets : List ℕ) (told : List Told) (new : ServerChannel) (f : StepFault) → ◌≡◌ {A = Result A StepFault} (Err f) (Err step_fault.OutOfMemory) → IsDone new → StepStands piece (Err f) new octets told
+pub stands-broken : {A : Type 0} (piece octets : List ℕ) (told : List Told) (new : ServerChannel) (f : StepFault)
+    → ◌≡◌ {A = Result A StepFault} (Err f) (Err step_fault.OutOfMemory) → IsDone new → StepStands piece (Err f) new octets told
 stands-broken piece octets told new step_fault.OutOfMemory e done = done
 stands-broken piece octets told new step_fault.Closed e done = absurd cc

@@ -17,7 +17,8 @@ use Rattle.ua_structures.specs.declared.attribute.WriteValue.{WriteValue}
 abbrev CodeFits : Option StatusCode → Type 0
 CodeFits o = (code : StatusCode) → o ≡ Some code → status_code.encodable code ≡ true
 
-where_fits : (test : Bool) (code : StatusCode) (rest : Option StatusCode) → status_code.encodable code ≡ true → CodeFits rest → CodeFits (cond test (Some code) rest)
+where_fits : (test : Bool) (code : StatusCode) (rest : Option StatusCode) → status_code.encodable code ≡ true → CodeFits rest
+    → CodeFits (cond test (Some code) rest)
 where_fits true code rest here more c e = let is : code ≡ c = cc in ap status_code.encodable (sym is) ∙ here
 where_fits false code rest here more c e = more c e
 
@@ -44,7 +45,8 @@ answer_fits (Some v) item = good_or_fits (first_reason (write_item_reasons v ite
 
 all_fit : (nodes : Nodes) (items : List WriteValue) → IsTrue (list_all status_code.encodable (write_answers nodes items))
 all_fit nodes [] = refl
-all_fit nodes (item ∷ items) = both_are (status_code.encodable (write_answer (node_at nodes item.node_id) item)) _ (answer_fits (node_at nodes item.node_id) item) (all_fit nodes items)
+all_fit nodes (item ∷ items) = both_are (status_code.encodable (write_answer (node_at nodes item.node_id) item)) _
+    (answer_fits (node_at nodes item.node_id) item) (all_fit nodes items)
 
 all_count : (nodes : Nodes) (items : List WriteValue) → length (write_answers nodes items) ≡ length items
 all_count nodes [] = refl
@@ -61,7 +63,8 @@ within_fit : (room : ℕ) (nodes : Nodes) (items : List WriteValue) → IsTrue (
 within_fit room nodes [] = refl
 within_fit room nodes (item ∷ items) =
     let v = node_at nodes item.node_id in
-    both_are (status_code.encodable (answer_within room v item)) _ (either_fits (outgrows room v item) (write_answer v item) (answer_fits v item)) (within_fit (room_after room v item) nodes items)
+    both_are (status_code.encodable (answer_within room v item)) _ (either_fits (outgrows room v item) (write_answer v item) (answer_fits v item))
+    (within_fit (room_after room v item) nodes items)
 
 within_count : (room : ℕ) (nodes : Nodes) (items : List WriteValue) → length (answers_within room nodes items) ≡ length items
 within_count room nodes [] = refl

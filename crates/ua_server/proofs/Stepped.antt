@@ -25,20 +25,26 @@ use Rattle.ua_server.specs.declared.serve_fault.ServeFault.TheVariants as serve_
 
 -- an answer is noted
 pub noted-again : (server : Server) (m : Option DateTime) (greeted : Bool) (n : ℕ) → greeted ≡ true
-    → ◌≡◌ {A = Serving} (record { server = server; moment = None; greeted = greeted; written = n }) (noted (record { server = server; moment = m; greeted = greeted; written = n }))
+    → ◌≡◌ {A = Serving} (record { server = server; moment = None; greeted = greeted; written = n })
+    (noted (record { server = server; moment = m; greeted = greeted; written = n }))
 noted-again server m true n e = refl
 noted-again server m false n e = absurd cc
 
 pub noted-first : (server : Server) (m : Option DateTime) (greeted : Bool) (n : ℕ) → greeted ≡ false
-    → ◌≡◌ {A = Serving} (record { server = server; moment = m; greeted = true; written = n }) (noted (record { server = server; moment = m; greeted = greeted; written = n }))
+    → ◌≡◌ {A = Serving} (record { server = server; moment = m; greeted = true; written = n })
+    (noted (record { server = server; moment = m; greeted = greeted; written = n }))
 noted-first server m false n e = refl
 noted-first server m true n e = absurd cc
 
-module _ {M W A : Type 0} (changes : A → State → A → State → Type 0) (gives : M → ℤ → M → Type 0) (notes : W → AnsweredRequest → W → Type 0) (m0 m1 : M) (limits : Limits) (channel : ℕ) (first : State × A) (x mid : Serving) (server : Server) (mom : DateTime) (piece read written : List ℕ) (given : List Event) (now0 now1 : State) (app : A) (some : 0 < length piece)
+module _ {M W A : Type 0} (changes : A → State → A → State → Type 0) (gives : M → ℤ → M → Type 0) (notes : W → AnsweredRequest → W → Type 0) (m0 m1 : M)
+    (limits : Limits) (channel : ℕ) (first : State × A) (x mid : Serving) (server : Server) (mom : DateTime) (piece read written : List ℕ) (given : List Event)
+    (now0 now1 : State) (app : A) (some : 0 < length piece)
     (kept : mid ≡ record x { moment = Some mom }) (a : Asked gives m0 m1 (λ ts. listed x.moment ++ map moment_of ts ≡ mom ∷ []))
-    (lim : limits_of (channel_in server) ≡ limits_of (channel_in mid.server)) (chan : channel_of (channel_in server) ≡ channel_of (channel_in mid.server)) (result : Result Advanced StepFault)
+    (lim : limits_of (channel_in server) ≡ limits_of (channel_in mid.server)) (chan : channel_of (channel_in server) ≡ channel_of (channel_in mid.server))
+    (result : Result Advanced StepFault)
     (answers : (octets : List ℕ) (told : List Told) → Goes (channel_in mid.server) octets told
-    → AdvanceNow (limits_of (channel_in mid.server)) (channel_of (channel_in mid.server)) (next_of (channel_in mid.server)) mom piece result (channel_in server) octets told now0 now1)
+    → AdvanceNow (limits_of (channel_in mid.server)) (channel_of (channel_in mid.server)) (next_of (channel_in mid.server)) mom piece result
+    (channel_in server) octets told now0 now1)
     (k : Keeps changes x limits channel first read written given (now0, app)) (acted : has_acted false k.history ≡ true) where
   abbrev l : Limits
   l = limits_of (channel_in x.server)
@@ -59,15 +65,20 @@ module _ {M W A : Type 0} (changes : A → State → A → State → Type 0) (gi
   own : (j : Keeps changes x l c first read written given (now0, app)) × (has_acted false j.history ≡ true)
   own =
       subst (λ (v : Limits). (j : Keeps changes x v c first read written given (now0, app)) × (has_acted false j.history ≡ true)) (sym k.limits_is)
-      (subst (λ (n : ℕ). (j : Keeps changes x limits n first read written given (now0, app)) × (has_acted false j.history ≡ true)) (sym k.channel_is) (k, acted))
+      (subst (λ (n : ℕ). (j : Keeps changes x limits n first read written given (now0, app)) × (has_acted false j.history ≡ true)) (sym k.channel_is)
+      (k, acted))
 
   advanced : AdvanceNow l c (next_of (channel_in x.server)) mom piece result (channel_in server) read (told_in own.0.history) now0 now1
   advanced =
-      subst (λ (s : Server). AdvanceNow (limits_of (channel_in s)) (channel_of (channel_in s)) (next_of (channel_in s)) mom piece result (channel_in server) read (told_in own.0.history) now0 now1) same
+      subst (λ (s : Server). AdvanceNow (limits_of (channel_in s)) (channel_of (channel_in s)) (next_of (channel_in s)) mom piece result
+      (channel_in server) read (told_in own.0.history) now0 now1) same
       (answers read (told_in own.0.history) (subst (λ (s : Server). Goes (channel_in s) read (told_in own.0.history)) (sym same) own.0.stands.goes))
 
-  advanced-at : (r : Result Advanced StepFault) → result ≡ r → AdvanceNow l c (next_of (channel_in x.server)) mom piece r (channel_in server) read (told_in own.0.history) now0 now1
-  advanced-at r is = subst (λ (v : Result Advanced StepFault). AdvanceNow l c (next_of (channel_in x.server)) mom piece v (channel_in server) read (told_in own.0.history) now0 now1) is advanced
+  advanced-at : (r : Result Advanced StepFault) → result ≡ r → AdvanceNow l c (next_of (channel_in x.server)) mom piece r (channel_in server) read
+      (told_in own.0.history) now0 now1
+  advanced-at r is =
+      subst (λ (v : Result Advanced StepFault). AdvanceNow l c (next_of (channel_in x.server)) mom piece v (channel_in server) read (told_in own.0.history) now0
+      now1) is advanced
 
   -- at the limits and the channel that are named
   there : (P : Limits → ℕ → Type 0) → P l c → P limits channel
@@ -77,37 +88,49 @@ module _ {M W A : Type 0} (changes : A → State → A → State → Type 0) (gi
   kept-moment request = ap (λ (ms : List DateTime). listed x.moment ++ ms) (meeting-moments a.ticks request) ∙ a.holds
 
   pub steps-quiet : (w : W) (found : Advanced) → result ≡ Ok found → found.answered ≡ false
-      → OfEventsBetween (Happens gives notes) (m0, w) (m1, w) (λ ts. Steps changes (Ok found.step) (record mid { server = server }) limits channel first piece read written (given ++ ts) (now1, app))
+      → OfEventsBetween (Happens gives notes) (m0, w) (m1, w)
+      (λ ts. Steps changes (Ok found.step) (record mid { server = server }) limits channel first piece read written (given ++ ts) (now1, app))
   steps-quiet w found is quiet =
       let ts = meeting a.ticks None in
       record {
         ticks = ts;
         given = meeting-led gives notes m0 m1 w w a.ticks None a.given refl;
-        holds = subst (λ (z : Serving). AdvancesTo changes found.step.end (record z { server = server }) limits channel first (read ++ take found.step.taken piece) found.step.out.items written (given ++ ts) (now1, app)) (sym kept)
-            (there (λ v n. AdvancesTo changes found.step.end (record x { server = server; moment = Some mom }) v n first (read ++ take found.step.taken piece) found.step.out.items written (given ++ ts) (now1, app))
-            (advanced-quiet changes x server mom piece read written given ts first now0 now1 app some lim-here chan-here (kept-moment None) own.0 own.1 found.request (meeting-noted a.ticks None) found.step.end found.step.taken found.step.out.items
-            (subst (λ (b : Bool). AdvanceNowBy b found.request c (next_of (channel_in x.server)) mom piece found.step.end found.step.taken found.step.out.items (channel_in server) read (told_in own.0.history) now0 now1) quiet (advanced-at (Ok found) is))));
+        holds = subst (λ (z : Serving). AdvancesTo changes found.step.end (record z { server = server }) limits channel first
+            (read ++ take found.step.taken piece) found.step.out.items written (given ++ ts) (now1, app)) (sym kept)
+            (there (λ v n. AdvancesTo changes found.step.end (record x { server = server; moment = Some mom }) v n first (read ++ take found.step.taken piece)
+            found.step.out.items written (given ++ ts) (now1, app))
+            (advanced-quiet changes x server mom piece read written given ts first now0 now1 app some lim-here chan-here (kept-moment None) own.0 own.1
+            found.request (meeting-noted a.ticks None) found.step.end found.step.taken found.step.out.items
+            (subst (λ (b : Bool). AdvanceNowBy b found.request c (next_of (channel_in x.server)) mom piece found.step.end found.step.taken found.step.out.items
+            (channel_in server) read (told_in own.0.history) now0 now1) quiet (advanced-at (Ok found) is))));
       }
 
   pub steps-saying : (w w' : W) (found : Advanced) → IsTold notes w found.request w' → result ≡ Ok found → found.answered ≡ true
-      → OfEventsBetween (Happens gives notes) (m0, w) (m1, w') (λ ts. Steps changes (Ok found.step) (noted (record mid { server = server })) limits channel first piece read written (given ++ ts) (now1, app))
+      → OfEventsBetween (Happens gives notes) (m0, w) (m1, w')
+      (λ ts. Steps changes (Ok found.step) (noted (record mid { server = server })) limits channel first piece read written (given ++ ts) (now1, app))
   steps-saying w w' found led is said =
       let ts = meeting a.ticks found.request in
       record {
         ticks = ts;
         given = meeting-led gives notes m0 m1 w w' a.ticks found.request a.given led;
-        holds = subst (λ (z : Serving). AdvancesTo changes found.step.end (noted (record z { server = server })) limits channel first (read ++ take found.step.taken piece) found.step.out.items written (given ++ ts) (now1, app)) (sym kept)
-            (there (λ v n. AdvancesTo changes found.step.end (noted (record x { server = server; moment = Some mom })) v n first (read ++ take found.step.taken piece) found.step.out.items written (given ++ ts) (now1, app))
-            (advanced-saying changes x server mom piece read written given ts first now0 now1 app some lim-here chan-here (kept-moment found.request) own.0 own.1 found.request (meeting-noted a.ticks found.request) found.step.end found.step.taken found.step.out.items
-            (subst (λ (b : Bool). AdvanceNowBy b found.request c (next_of (channel_in x.server)) mom piece found.step.end found.step.taken found.step.out.items (channel_in server) read (told_in own.0.history) now0 now1) said (advanced-at (Ok found) is))));
+        holds = subst (λ (z : Serving). AdvancesTo changes found.step.end (noted (record z { server = server })) limits channel first
+            (read ++ take found.step.taken piece) found.step.out.items written (given ++ ts) (now1, app)) (sym kept)
+            (there (λ v n. AdvancesTo changes found.step.end (noted (record x { server = server; moment = Some mom })) v n first
+            (read ++ take found.step.taken piece) found.step.out.items written (given ++ ts) (now1, app))
+            (advanced-saying changes x server mom piece read written given ts first now0 now1 app some lim-here chan-here (kept-moment found.request) own.0
+            own.1 found.request (meeting-noted a.ticks found.request) found.step.end found.step.taken found.step.out.items
+            (subst (λ (b : Bool). AdvanceNowBy b found.request c (next_of (channel_in x.server)) mom piece found.step.end found.step.taken found.step.out.items
+            (channel_in server) read (told_in own.0.history) now0 now1) said (advanced-at (Ok found) is))));
       }
 
-  pub steps-broken : (w : W) (f : StepFault) (y : Serving) → result ≡ Err f → OfEventsBetween (Happens gives notes) (m0, w) (m1, w) (λ ts. Steps changes (Err f) y limits channel first piece read written (given ++ ts) (now1, app))
+  pub steps-broken : (w : W) (f : StepFault) (y : Serving) → result ≡ Err f
+      → OfEventsBetween (Happens gives notes) (m0, w) (m1, w) (λ ts. Steps changes (Err f) y limits channel first piece read written (given ++ ts) (now1, app))
   steps-broken w f y is =
       let ts = meeting a.ticks None in
       record {
         ticks = ts;
         given = meeting-led gives notes m0 m1 w w a.ticks None a.given refl;
         holds = there (λ v n. FailsTelling changes serve_fault.OutOfMemory v n first (read ++ piece) written (given ++ ts) (now1, app))
-            (advanced-broken changes x server mom piece read written given ts first now0 now1 app some lim-here chan-here (kept-moment None) own.0 own.1 (meeting-noted a.ticks None) f (advanced-at (Err f) is));
+            (advanced-broken changes x server mom piece read written given ts first now0 now1 app some lim-here chan-here (kept-moment None) own.0 own.1
+            (meeting-noted a.ticks None) f (advanced-at (Err f) is));
       }

@@ -21,7 +21,8 @@ some-reason None e = absurd cc
 some-reason (Some code) e = refl
 
 -- an item that is not stored is good for no node
-not-good : (nodes : Nodes) (id : NodeId) (v : Variable) (item : WriteValue) → node_at nodes id ≡ Some v → is_stored nodes item ≡ false → is_good_for (id, v) item ≡ false
+not-good : (nodes : Nodes) (id : NodeId) (v : Variable) (item : WriteValue) → node_at nodes id ≡ Some v → is_stored nodes item ≡ false
+    → is_good_for (id, v) item ≡ false
 not-good nodes id v item there refused = by (same_id item.node_id id) refl
   where
     good : Bool → Bool
@@ -33,7 +34,8 @@ not-good nodes id v item there refused = by (same_id item.node_id id) refl
         ap good e ∙ some-reason (first_reason (write_item_reasons v item)) (ap (λ (o : Option Variable). is_good (write_answer o item)) (sym found) ∙ refused)
     by false e = ap good e
 
-last-stored : (nodes : Nodes) (id : NodeId) (v : Variable) (items : List WriteValue) → node_at nodes id ≡ Some v → last_good (id, v) (stored_items None nodes items) ≡ last_good (id, v) items
+last-stored : (nodes : Nodes) (id : NodeId) (v : Variable) (items : List WriteValue) → node_at nodes id ≡ Some v
+    → last_good (id, v) (stored_items None nodes items) ≡ last_good (id, v) items
 last-stored nodes id v [] there = refl
 last-stored nodes id v (item ∷ items) there = by (is_stored nodes item) refl (last-stored nodes id v items there)
   where
@@ -41,10 +43,12 @@ last-stored nodes id v (item ∷ items) there = by (is_stored nodes item) refl (
         → last_good (id, v) (cond t (item ∷ stored_items None nodes items) (stored_items None nodes items)) ≡ last_good (id, v) (item ∷ items)
     by true e more = ap (λ (l : Option WriteValue). later (cond (is_good_for (id, v) item) (Some item) None) l) more
     by false e more =
-        more ∙ sym (ap (λ (t : Bool). later (cond t (Some item) None) (last_good (id, v) items)) (not-good nodes id v item there e) ∙ later-none (last_good (id, v) items))
+        more ∙ sym (ap (λ (t : Bool). later (cond t (Some item) None) (last_good (id, v) items)) (not-good nodes id v item there e)
+        ∙ later-none (last_good (id, v) items))
 
 -- what becomes of a node, by whether there is one
 pub stored-leave : (nodes : Nodes) (id : NodeId) (items : List WriteValue) (moment : DateTime) (o : Option Variable) → node_at nodes id ≡ o
-    → option_map (λ v. written_by v (last_good (id, v) (stored_items None nodes items)) moment) o ≡ option_map (λ v. written_by v (last_good (id, v) items) moment) o
+    → option_map (λ v. written_by v (last_good (id, v) (stored_items None nodes items)) moment) o
+    ≡ option_map (λ v. written_by v (last_good (id, v) items) moment) o
 stored-leave nodes id items moment None there = refl
 stored-leave nodes id items moment (Some v) there = ap (λ (l : Option WriteValue). Some (written_by v l moment)) (last-stored nodes id v items there)

@@ -40,17 +40,20 @@ good_nothing (item ∷ items) = good_nothing items
 
 good-all : (nodes : Nodes) (items : List WriteValue) → good_items items (write_answers nodes items) ≡ stored_items None nodes items
 good-all nodes [] = refl
-good-all nodes (item ∷ items) = ap (λ (r : List WriteValue). cond (is_good (write_answer (node_at nodes item.node_id) item)) (item ∷ r) r) (good-all nodes items)
+good-all nodes (item ∷ items) = ap (λ (r : List WriteValue). cond (is_good (write_answer (node_at nodes item.node_id) item)) (item ∷ r) r)
+    (good-all nodes items)
 
 -- under a limit
-good-within : (room : ℕ) (nodes : Nodes) (items : List WriteValue) → good_items items (answers_within room nodes items) ≡ stored_items None nodes (items_within room nodes items)
+good-within : (room : ℕ) (nodes : Nodes) (items : List WriteValue) → good_items items (answers_within room nodes items) ≡ stored_items None nodes
+    (items_within room nodes items)
 good-within room nodes [] = refl
 good-within room nodes (item ∷ items) =
     by (outgrows room (node_at nodes item.node_id) item) _ (items_within (room_after room (node_at nodes item.node_id) item) nodes items)
     (good-within (room_after room (node_at nodes item.node_id) item) nodes items)
   where
     by : (t : Bool) (were are : List WriteValue) → were ≡ stored_items None nodes are
-        → cond (is_good (cond t bad_out_of_memory (write_answer (node_at nodes item.node_id) item))) (item ∷ were) were ≡ stored_items None nodes (cond t are (item ∷ are))
+        → cond (is_good (cond t bad_out_of_memory (write_answer (node_at nodes item.node_id) item))) (item ∷ were) were ≡ stored_items None nodes
+        (cond t are (item ∷ are))
     by true were are same = same
     by false were are same = ap (λ (r : List WriteValue). cond (is_good (write_answer (node_at nodes item.node_id) item)) (item ∷ r) r) same
 
@@ -59,11 +62,13 @@ good-stored None nodes items = good-all nodes items
 good-stored (Some most) nodes items = good-within (room_of most nodes) nodes items
 
 good-unless : (o : Option ℕ) (s : State) (moment : DateTime) (m : WriteRequest)
-    → good_items (items_of m.nodes_to_write) (items_of (results_of (unless o s moment m.request_header (with_written s moment m, statuses_given s moment m)).1)) ≡ unless_refused o (stored_items s.memory_limit s.nodes (items_of m.nodes_to_write))
+    → good_items (items_of m.nodes_to_write) (items_of (results_of (unless o s moment m.request_header (with_written s moment m, statuses_given s moment m)).1))
+    ≡ unless_refused o (stored_items s.memory_limit s.nodes (items_of m.nodes_to_write))
 good-unless None s moment m = good-stored s.memory_limit s.nodes (items_of m.nodes_to_write)
 good-unless (Some code) s moment m = good_nothing (items_of m.nodes_to_write)
 
-good-by : (r : Result Request RequestFault) (s : State) (moment : DateTime) → good_items (items_written r) (items_of (results_of (answered_by r s moment).1)) ≡ stored_as s r
+good-by : (r : Result Request RequestFault) (s : State) (moment : DateTime) → good_items (items_written r) (items_of (results_of (answered_by r s moment).1))
+    ≡ stored_as s r
 good-by (Ok (Write m)) s moment = good-unless (first_reason (write_reasons s m)) s moment m
 good-by (Ok (GetEndpoints m)) s moment = refl
 good-by (Ok (CreateSession m)) s moment = refl
@@ -72,7 +77,8 @@ good-by (Ok (CloseSession m)) s moment = refl
 good-by (Ok (Read m)) s moment = refl
 good-by (Err fault) s moment = refl
 
-read-unless : (o : Option ℕ) (s : State) (moment : DateTime) (m : ReadRequest) → results_of (unless o s moment m.request_header (s, values_given s moment m)).1 ≡ None
+read-unless : (o : Option ℕ) (s : State) (moment : DateTime) (m : ReadRequest) → results_of (unless o s moment m.request_header (s, values_given s moment m)).1
+    ≡ None
 read-unless None s moment m = refl
 read-unless (Some code) s moment m = refl
 
@@ -93,7 +99,8 @@ kept-by true done rest item = append_assoc done (item ∷ []) rest
 kept-by false done rest item = ap (λ (d : List WriteValue). d ++ rest) (append-nil done)
 
 -- one item more
-pub kept-on : (done now rest : List WriteValue) (item : WriteValue) (codes behind : List StatusCode) (b : Bool) → now ≡ done ++ cond b (item ∷ []) [] → b ≡ begins_good codes → behind ≡ behind_code codes
+pub kept-on : (done now rest : List WriteValue) (item : WriteValue) (codes behind : List StatusCode) (b : Bool) → now ≡ done ++ cond b (item ∷ []) []
+    → b ≡ begins_good codes → behind ≡ behind_code codes
     → now ++ good_items rest behind ≡ done ++ good_items (item ∷ rest) codes
 kept-on done now rest item codes behind b is good left =
     ap (λ (n : List WriteValue). n ++ good_items rest behind) is
@@ -111,7 +118,8 @@ sent-stores channel number moment s (GaveUp id) octets sent = absurd sent
 sent-stores channel number moment s Closed octets sent = absurd sent
 
 -- where a connection ended nothing is stored
-pub stores-ended : (piece : List ℕ) (end : Option Ending) (n : ℕ) (out : List ℕ) (written : List WriteValue) (new : ServerChannel) (octets : List ℕ) (told : List Told) (before : State)
+pub stores-ended : (piece : List ℕ) (end : Option Ending) (n : ℕ) (out : List ℕ) (written : List WriteValue) (new : ServerChannel) (octets : List ℕ)
+    (told : List Told) (before : State)
     → (end ≡ None → ⊥) → written ≡ [] → StoresBy piece end n out written new octets told before
 stores-ended piece None n out written new octets told before some none = absurd (some refl)
 stores-ended piece (Some end) n out written new octets told before some none = none
@@ -125,24 +133,29 @@ module _ (channel number : ℕ) (moment : DateTime) (piece : List ℕ) (n : ℕ)
       subst (λ (k : ℕ). StoresBy piece s.end k s.out.items written mid octets told before) (sym taken)
       (subst (λ (e : Option Ending). StoresBy piece e n s.out.items written mid octets told before) (sym is) (by s.out.items out written none))
 
-  pub saying-stores : (s t : Step) (written : List WriteValue) (new : ServerChannel) → s ≡ t → StoresBy piece t.end t.taken t.out.items written new octets told before
+  pub saying-stores : (s t : Step) (written : List WriteValue) (new : ServerChannel) → s ≡ t
+      → StoresBy piece t.end t.taken t.out.items written new octets told before
       → StoresBy piece s.end s.taken s.out.items written new octets told before
   saying-stores s t written new is a = subst (λ (x : Step). StoresBy piece x.end x.taken x.out.items written new octets told before) (sym is) a
 
   -- nothing came
-  pub stores-quiet : AnswersBehind channel number moment piece n (Ok event.NeedMore) mid octets told → (out : List ℕ) → out ≡ [] → (written : List WriteValue) → written ≡ []
+  pub stores-quiet : AnswersBehind channel number moment piece n (Ok event.NeedMore) mid octets told → (out : List ℕ) → out ≡ [] → (written : List WriteValue)
+      → written ≡ []
       → StoresBy piece None n out written mid octets told before
   stores-quiet b out none written nothing = (stands-quiet channel number moment piece n mid octets told b out none, nothing)
 
   -- an ACK or an OPN response
-  pub stores-sent : (sent : Vec ℕ Global) (b : AnswersBehind channel number moment piece n (Ok (event.Send sent)) mid octets told) (written : List WriteValue) → written ≡ []
+  pub stores-sent : (sent : Vec ℕ Global) (b : AnswersBehind channel number moment piece n (Ok (event.Send sent)) mid octets told) (written : List WriteValue)
+      → written ≡ []
       → StoresBy piece None n sent.items written mid octets told before
   stores-sent sent b written nothing =
       let s = b.answers.1 in
       (stands-sent channel number moment piece n mid octets told sent b, nothing ∙ sent-stores channel number moment before s.said sent.items s.are_sent)
 
   -- a message, and its reply
-  pub stores-replied : (id : ℕ) (message : List (List ℕ)) (new : ServerChannel) (out : List ℕ) (b : AnswersBehind channel number moment piece n (Ok (event.Asked id message)) mid octets told) (written : List WriteValue)
-      → GoesTelling new (octets ++ take n piece) (told ++ given_up b.quiet) (Asked id b.answers.1.0.token (concat message)) → written ≡ stored_of before (concat message)
+  pub stores-replied : (id : ℕ) (message : List (List ℕ)) (new : ServerChannel) (out : List ℕ)
+      (b : AnswersBehind channel number moment piece n (Ok (event.Asked id message)) mid octets told) (written : List WriteValue)
+      → GoesTelling new (octets ++ take n piece) (told ++ given_up b.quiet) (Asked id b.answers.1.0.token (concat message))
+      → written ≡ stored_of before (concat message)
       → StoresBy piece None n out written new octets told before
   stores-replied id message new out b written goes is = (stands-replied channel number moment piece n mid octets told id message new out b goes, is)

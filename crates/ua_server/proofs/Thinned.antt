@@ -51,8 +51,10 @@ kind_of-kept takes m = refl
 
 -- what is kept of items is answered as they are, and leaves what they leave
 pub record ChangesNothing (nodes : Nodes) : Type 0 where
-  pub answers : (most : Option ℕ) (items : List WriteValue) → limited_answers most nodes (map (thinned (nodes_take nodes)) items) ≡ limited_answers most nodes items
-  pub left : (most : Option ℕ) (items : List WriteValue) (moment : DateTime) → after_limited most (map (thinned (nodes_take nodes)) items) moment nodes ≡ after_limited most items moment nodes
+  pub answers : (most : Option ℕ) (items : List WriteValue) → limited_answers most nodes (map (thinned (nodes_take nodes)) items)
+      ≡ limited_answers most nodes items
+  pub left : (most : Option ℕ) (items : List WriteValue) (moment : DateTime) → after_limited most (map (thinned (nodes_take nodes)) items) moment nodes
+      ≡ after_limited most items moment nodes
 
 -- why a Write with so many items is refused, by whether its session is its own, and is activated
 abbrev reasons : Bool → Bool → ℕ → List (ℕ × Bool)
@@ -66,7 +68,8 @@ refused_alike false m n s moment asking one other = refl
 -- what is answered to so many items, whose nodes are left so, and whose answers are these
 abbrev answer_with : State → DateTime → RequestHeader → Bool → ℕ → Nodes → List StatusCode → State × Response
 answer_with s moment asking active count nodes codes =
-    unless (first_reason (reasons (is_own asking.authentication_token s.session) active count)) s moment asking (with_nodes s nodes, WriteAnswer (statuses_of (good_header moment asking) codes))
+    unless (first_reason (reasons (is_own asking.authentication_token s.session) active count)) s moment asking
+    (with_nodes s nodes, WriteAnswer (statuses_of (good_header moment asking) codes))
 
 answered_alike : (s : State) (moment : DateTime) (m : WriteRequest) (active : Bool) → ChangesNothing s.nodes → is_activated s.session ≡ active
     → write_items s moment (thinned_request (λ id t. active && nodes_take s.nodes id t) m) ≡ write_items s moment m
@@ -76,21 +79,30 @@ answered_alike s moment m true same is =
     let f = thinned (nodes_take s.nodes) in
     let kept = items_of (option_map (map f) m.nodes_to_write) in
     let each : kept ≡ map f items = items_kept f m.nodes_to_write in
-    ap (λ (n : ℕ). answer_with s moment m.request_header (is_activated s.session) n (after_limited most kept moment s.nodes) (limited_answers most s.nodes kept)) (count_kept f m.nodes_to_write)
-    ∙ ap (λ (k : List WriteValue). answer_with s moment m.request_header (is_activated s.session) (length items) (after_limited most k moment s.nodes) (limited_answers most s.nodes k)) each
-    ∙ ap (λ (nodes : Nodes). answer_with s moment m.request_header (is_activated s.session) (length items) nodes (limited_answers most s.nodes (map f items))) (same.left most items moment)
-    ∙ ap (λ (codes : List StatusCode). answer_with s moment m.request_header (is_activated s.session) (length items) (after_limited most items moment s.nodes) codes) (same.answers most items)
+    ap (λ (n : ℕ). answer_with s moment m.request_header (is_activated s.session) n (after_limited most kept moment s.nodes)
+    (limited_answers most s.nodes kept)) (count_kept f m.nodes_to_write)
+    ∙ ap (λ (k : List WriteValue). answer_with s moment m.request_header (is_activated s.session) (length items) (after_limited most k moment s.nodes)
+    (limited_answers most s.nodes k)) each
+    ∙ ap (λ (nodes : Nodes). answer_with s moment m.request_header (is_activated s.session) (length items) nodes (limited_answers most s.nodes (map f items)))
+    (same.left most items moment)
+    ∙ ap (λ (codes : List StatusCode). answer_with s moment m.request_header (is_activated s.session) (length items) (after_limited most items moment s.nodes)
+    codes) (same.answers most items)
 answered_alike s moment m false same is =
     let items = items_of m.nodes_to_write in
     let most = s.memory_limit in
     let kept = items_of (option_map (map (thinned (λ (id : NodeId) (t : ValueType). false))) m.nodes_to_write) in
-    ap (λ (active : Bool). answer_with s moment m.request_header active (length kept) (after_limited most kept moment s.nodes) (limited_answers most s.nodes kept)) is
+    ap (λ (active : Bool). answer_with s moment m.request_header active (length kept) (after_limited most kept moment s.nodes)
+    (limited_answers most s.nodes kept)) is
     ∙ refused_alike (is_own m.request_header.authentication_token s.session) (length kept) (length items) s moment m.request_header
-    (with_nodes s (after_limited most kept moment s.nodes), WriteAnswer (statuses_of (good_header moment m.request_header) (limited_answers most s.nodes kept)))
-    (with_nodes s (after_limited most items moment s.nodes), WriteAnswer (statuses_of (good_header moment m.request_header) (limited_answers most s.nodes items)))
-    ∙ sym (ap (λ (active : Bool). answer_with s moment m.request_header active (length items) (after_limited most items moment s.nodes) (limited_answers most s.nodes items)) is)
+    (with_nodes s (after_limited most kept moment s.nodes), WriteAnswer (statuses_of (good_header moment m.request_header) (limited_answers most s.nodes kept))) (
+      with_nodes s (after_limited most items moment s.nodes),
+      WriteAnswer (statuses_of (good_header moment m.request_header) (limited_answers most s.nodes items)),
+    )
+    ∙ sym (ap (λ (active : Bool). answer_with s moment m.request_header active (length items) (after_limited most items moment s.nodes)
+    (limited_answers most s.nodes items)) is)
 
-write_kept : (s : State) (moment : DateTime) (m : WriteRequest) → ChangesNothing s.nodes → write_items s moment (thinned_request (takes_now s) m) ≡ write_items s moment m
+write_kept : (s : State) (moment : DateTime) (m : WriteRequest) → ChangesNothing s.nodes → write_items s moment (thinned_request (takes_now s) m)
+    ≡ write_items s moment m
 write_kept s moment m same = answered_alike s moment m (is_activated s.session) same refl
 
 pub answer-kept : (s : State) (moment : DateTime) (m : Request) → ChangesNothing s.nodes → answer s moment (thin_request (takes_now s) m) ≡ answer s moment m
@@ -124,14 +136,16 @@ answer_is s read (Ok kept) same (inl h) = λ moment.
 answer_is s read (Ok kept) same (inr h) = absurd cc
 answer_is s read (Err fault) same h = tt
 
-pub kind_is : (takes : NodeId → ValueType → Bool) (read r : Result Request RequestFault) → Reads r (thin_read takes read) → IfOk r (λ kept. kind_asked read ≡ Some (kind_of kept))
+pub kind_is : (takes : NodeId → ValueType → Bool) (read r : Result Request RequestFault) → Reads r (thin_read takes read)
+    → IfOk r (λ kept. kind_asked read ≡ Some (kind_of kept))
 kind_is takes read (Ok kept) (inl h) =
     let of = kept_ok takes kept read h in
     ap kind_asked of.read_is ∙ ap Some (sym (ap kind_of of.kept_is ∙ kind_of-kept takes of.whole))
 kind_is takes read (Ok kept) (inr h) = absurd cc
 kind_is takes read (Err fault) h = tt
 
-pub items_are : (takes : NodeId → ValueType → Bool) (read r : Result Request RequestFault) → Reads r (thin_read takes read) → IfOk r (λ kept. count_asked read ≡ items_asked kept)
+pub items_are : (takes : NodeId → ValueType → Bool) (read r : Result Request RequestFault) → Reads r (thin_read takes read)
+    → IfOk r (λ kept. count_asked read ≡ items_asked kept)
 items_are takes read (Ok kept) (inl h) =
     let of = kept_ok takes kept read h in
     ap count_asked of.read_is ∙ sym (ap items_asked of.kept_is ∙ items_asked-kept takes of.whole)
@@ -142,7 +156,8 @@ fault_is : (takes : NodeId → ValueType → Bool) (read : Result Request Reques
 fault_is takes (Ok m) fault e = absurd cc
 fault_is takes (Err other) fault e = sym e
 
-pub refused_is : (takes : NodeId → ValueType → Bool) (read r : Result Request RequestFault) → Reads r (thin_read takes read) → IfErr r (λ fault. (read ≡ Err fault) ⊎ (fault ≡ OutOfMemory))
+pub refused_is : (takes : NodeId → ValueType → Bool) (read r : Result Request RequestFault) → Reads r (thin_read takes read)
+    → IfErr r (λ fault. (read ≡ Err fault) ⊎ (fault ≡ OutOfMemory))
 refused_is takes read (Ok kept) h = tt
 refused_is takes read (Err fault) (inl h) = inl (fault_is takes read fault h)
 refused_is takes read (Err fault) (inr h) = inr cc

@@ -75,12 +75,16 @@ KeepsApart b s now = (Two s.session b s.made → Two now.session b now.made) × 
 same-apart : (b : Option Session) (s now : State) → now.session ≡ s.session → now.made ≡ s.made → KeepsApart b s now
 same-apart b s now e f = (λ h. subst (λ (o : Option Session). Two o b now.made) (sym e) (subst (λ (n : ℕ). Two s.session b n) (sym f) h), omega (arith, f))
 
-unless-apart : (b : Option Session) (o : Option ℕ) (s : State) (moment : DateTime) (h : RequestHeader) (given : State × Response) → KeepsApart b s given.0 → KeepsApart b s (unless o s moment h given).0
+unless-apart : (b : Option Session) (o : Option ℕ) (s : State) (moment : DateTime) (h : RequestHeader) (given : State × Response) → KeepsApart b s given.0
+    → KeepsApart b s (unless o s moment h given).0
 unless-apart b None s moment h given e = e
 unless-apart b (Some code) s moment h given e = same-apart b s s refl refl
 
 next-apart : (b : Option Session) (s : State) → KeepsApart b s (with_next_session s)
-next-apart b s = (λ h. record { mine = omega arith; theirs = made-more b s.made (s.made + 1) (omega arith) h.theirs; two = next-two b s.made h.theirs }, omega arith)
+next-apart b s = (
+  λ h. record { mine = omega arith; theirs = made-more b s.made (s.made + 1) (omega arith) h.theirs; two = next-two b s.made h.theirs },
+  omega arith,
+)
 
 active-apart : (b : Option Session) (s : State) → KeepsApart b s (with_activated s)
 active-apart b s = (λ h. record { mine = active-made s.session s.made h.mine; theirs = h.theirs; two = active-two s.session b h.two }, omega arith)
@@ -90,11 +94,16 @@ begun-apart b s = (λ h. record { mine = tt; theirs = h.theirs; two = tt }, omeg
 
 answer-apart : (b : Option Session) (s : State) (moment : DateTime) (m : Request) → KeepsApart b s (answer s moment m).0
 answer-apart b s moment (GetEndpoints m) = same-apart b s s refl refl
-answer-apart b s moment (CreateSession m) = unless-apart b (first_reason (create_reasons s)) s moment m.request_header (with_next_session s, session_given s moment m) (next-apart b s)
-answer-apart b s moment (ActivateSession m) = unless-apart b (first_reason (activate_reasons s m)) s moment m.request_header (with_activated s, activation_given moment m) (active-apart b s)
-answer-apart b s moment (CloseSession m) = unless-apart b (first_reason (close_reasons s m)) s moment m.request_header (begun s, close_given moment m) (begun-apart b s)
-answer-apart b s moment (Read m) = unless-apart b (first_reason (read_reasons s m)) s moment m.request_header (s, values_given s moment m) (same-apart b s s refl refl)
-answer-apart b s moment (Write m) = unless-apart b (first_reason (write_reasons s m)) s moment m.request_header (with_written s moment m, statuses_given s moment m) (same-apart b s (with_written s moment m) refl refl)
+answer-apart b s moment (CreateSession m) = unless-apart b (first_reason (create_reasons s)) s moment m.request_header
+    (with_next_session s, session_given s moment m) (next-apart b s)
+answer-apart b s moment (ActivateSession m) = unless-apart b (first_reason (activate_reasons s m)) s moment m.request_header
+    (with_activated s, activation_given moment m) (active-apart b s)
+answer-apart b s moment (CloseSession m) = unless-apart b (first_reason (close_reasons s m)) s moment m.request_header (begun s, close_given moment m)
+    (begun-apart b s)
+answer-apart b s moment (Read m) = unless-apart b (first_reason (read_reasons s m)) s moment m.request_header (s, values_given s moment m)
+    (same-apart b s s refl refl)
+answer-apart b s moment (Write m) = unless-apart b (first_reason (write_reasons s m)) s moment m.request_header
+    (with_written s moment m, statuses_given s moment m) (same-apart b s (with_written s moment m) refl refl)
 
 answered-apart : (b : Option Session) (s : State) (moment : DateTime) (octets : List ℕ) → KeepsApart b s (answered s moment octets).0
 answered-apart b s moment octets = by (request_read octets)
@@ -103,7 +112,8 @@ answered-apart b s moment octets = by (request_read octets)
     by (Ok m) = answer-apart b s moment m
     by (Err f) = same-apart b s s refl refl
 
-told-apart : (channels : ℕ → ℕ) (p : SharedState) (i : ℕ) (t : Told) (moment : DateTime) (b : Option Session) → KeepsApart b (course_at p i).state (answer_at channels p i t moment).1.state
+told-apart : (channels : ℕ → ℕ) (p : SharedState) (i : ℕ) (t : Told) (moment : DateTime) (b : Option Session)
+    → KeepsApart b (course_at p i).state (answer_at channels p i t moment).1.state
 told-apart channels p i (Agreed agreement) moment b = same-apart b (course_at p i).state (course_at p i).state refl refl
 told-apart channels p i (Opened id handle token lifetime) moment b = same-apart b (course_at p i).state (course_at p i).state refl refl
 told-apart channels p i (Asked id token octets) moment b = answered-apart b (course_at p i).state moment octets
@@ -121,7 +131,12 @@ event-apart channels j k p (Changed nodes) differ h = h
 event-apart channels j k p (At i t moment) differ h = by (nat_eq j i) (nat_eq k i) refl refl
   where
     own-now : ℕ → Bool → Own
-    own-now n x = cond x (record { session = (answer_at channels p i t moment).1.state.session; number = (answer_at channels p i t moment).1.number; agreement = (answer_at channels p i t moment).1.agreement }) (p.own n)
+    own-now n x =
+        cond x (record {
+          session = (answer_at channels p i t moment).1.state.session;
+          number = (answer_at channels p i t moment).1.number;
+          agreement = (answer_at channels p i t moment).1.agreement;
+        }) (p.own n)
 
     made : ℕ
     made = (answer_at channels p i t moment).1.state.made
@@ -134,14 +149,19 @@ event-apart channels j k p (At i t moment) differ h = by (nat_eq j i) (nat_eq k 
         (subst (λ (y : Bool). Two (own-now j true).session (own-now k y).session made) (sym f)
         ((told-apart channels p i t moment (p.own k).session).0 here))
     by false true e f =
-        let here = subst (λ (n : ℕ). Two (p.own n).session (p.own j).session p.state.made) (number-is k i f) (turn (p.own j).session (p.own k).session p.state.made h) in
+        let here = subst (λ (n : ℕ). Two (p.own n).session (p.own j).session p.state.made) (number-is k i f)
+        (turn (p.own j).session (p.own k).session p.state.made h) in
         subst (λ (x : Bool). Two (own-now j x).session (own-now k (nat_eq k i)).session made) (sym e)
         (subst (λ (y : Bool). Two (own-now j false).session (own-now k y).session made) (sym f)
         (turn (answer_at channels p i t moment).1.state.session (p.own j).session made ((told-apart channels p i t moment (p.own j).session).0 here)))
     by false false e f =
         subst (λ (x : Bool). Two (own-now j x).session (own-now k (nat_eq k i)).session made) (sym e)
         (subst (λ (y : Bool). Two (own-now j false).session (own-now k y).session made) (sym f)
-        (let more = (told-apart channels p i t moment None).1 in record { mine = made-more (p.own j).session p.state.made made more h.mine; theirs = made-more (p.own k).session p.state.made made more h.theirs; two = h.two }))
+        (let more = (told-apart channels p i t moment None).1 in record {
+          mine = made-more (p.own j).session p.state.made made more h.mine;
+          theirs = made-more (p.own k).session p.state.made made more h.theirs;
+          two = h.two;
+        }))
 
 events-apart : (channels : ℕ → ℕ) (j k : ℕ) (p : SharedState) (es : List SharedEvent) → (j ≡ k → ⊥) → Apart j k p → Apart j k (shared_over channels p es)
 events-apart channels j k p [] differ h = h
@@ -156,8 +176,10 @@ not-own (Some mine) (Some t) theirs two e =
     let same : t ≡ theirs = cc in
     other-number theirs.number mine.number (λ e. two (sym e ∙ ap (λ (x : Session). x.number) (sym same)))
 
-refused : (s : State) (moment : DateTime) (asking : RequestHeader) (rest : List (ℕ × Bool)) (given : State × Response) → is_own asking.authentication_token s.session ≡ false
-    → unless (first_reason ((bad_session_id_invalid, not (is_own asking.authentication_token s.session)) ∷ rest)) s moment asking given ≡ (s, fault_of asking.request_handle bad_session_id_invalid moment)
+refused : (s : State) (moment : DateTime) (asking : RequestHeader) (rest : List (ℕ × Bool)) (given : State × Response)
+    → is_own asking.authentication_token s.session ≡ false
+    → unless (first_reason ((bad_session_id_invalid, not (is_own asking.authentication_token s.session)) ∷ rest)) s moment asking given
+    ≡ (s, fault_of asking.request_handle bad_session_id_invalid moment)
 refused s moment asking rest given e = ap (λ (b : Bool). unless (first_reason ((bad_session_id_invalid, not b) ∷ rest)) s moment asking given) e
 
 abbrev rest_of : List (ℕ × Bool) → List (ℕ × Bool)
@@ -167,32 +189,46 @@ rest_of (r ∷ rs) = rs
 header-is : (a b : RequestHeader) → ◌≡◌ {A = Option RequestHeader} (Some a) (Some b) → a ≡ b
 header-is a b e = cc
 
-refuses : (s : State) (moment : DateTime) (m : Request) (asking : RequestHeader) → session_header m ≡ Some asking → is_own asking.authentication_token s.session ≡ false
+refuses : (s : State) (moment : DateTime) (m : Request) (asking : RequestHeader) → session_header m ≡ Some asking
+    → is_own asking.authentication_token s.session ≡ false
     → answer s moment m ≡ (s, fault_of asking.request_handle bad_session_id_invalid moment)
 refuses s moment (GetEndpoints m) asking e h = absurd cc
 refuses s moment (CreateSession m) asking e h = absurd cc
 refuses s moment (ActivateSession m) asking e h =
-    subst (λ (x : RequestHeader). answer s moment (ActivateSession m) ≡ (s, fault_of x.request_handle bad_session_id_invalid moment)) (header-is m.request_header asking e)
-    (refused s moment m.request_header (rest_of (activate_reasons s m)) (with_activated s, activation_given moment m) (ap (λ (x : RequestHeader). is_own x.authentication_token s.session) (header-is m.request_header asking e) ∙ h))
+    subst (λ (x : RequestHeader). answer s moment (ActivateSession m) ≡ (s, fault_of x.request_handle bad_session_id_invalid moment))
+    (header-is m.request_header asking e)
+    (refused s moment m.request_header (rest_of (activate_reasons s m)) (with_activated s, activation_given moment m)
+    (ap (λ (x : RequestHeader). is_own x.authentication_token s.session) (header-is m.request_header asking e) ∙ h))
 refuses s moment (CloseSession m) asking e h =
-    subst (λ (x : RequestHeader). answer s moment (CloseSession m) ≡ (s, fault_of x.request_handle bad_session_id_invalid moment)) (header-is m.request_header asking e)
-    (refused s moment m.request_header (rest_of (close_reasons s m)) (begun s, close_given moment m) (ap (λ (x : RequestHeader). is_own x.authentication_token s.session) (header-is m.request_header asking e) ∙ h))
+    subst (λ (x : RequestHeader). answer s moment (CloseSession m) ≡ (s, fault_of x.request_handle bad_session_id_invalid moment))
+    (header-is m.request_header asking e)
+    (refused s moment m.request_header (rest_of (close_reasons s m)) (begun s, close_given moment m)
+    (ap (λ (x : RequestHeader). is_own x.authentication_token s.session) (header-is m.request_header asking e) ∙ h))
 refuses s moment (Read m) asking e h =
     subst (λ (x : RequestHeader). answer s moment (Read m) ≡ (s, fault_of x.request_handle bad_session_id_invalid moment)) (header-is m.request_header asking e)
-    (refused s moment m.request_header (rest_of (read_reasons s m)) (s, values_given s moment m) (ap (λ (x : RequestHeader). is_own x.authentication_token s.session) (header-is m.request_header asking e) ∙ h))
+    (refused s moment m.request_header (rest_of (read_reasons s m)) (s, values_given s moment m)
+    (ap (λ (x : RequestHeader). is_own x.authentication_token s.session) (header-is m.request_header asking e) ∙ h))
 refuses s moment (Write m) asking e h =
-    subst (λ (x : RequestHeader). answer s moment (Write m) ≡ (s, fault_of x.request_handle bad_session_id_invalid moment)) (header-is m.request_header asking e)
-    (refused s moment m.request_header (rest_of (write_reasons s m)) (with_written s moment m, statuses_given s moment m) (ap (λ (x : RequestHeader). is_own x.authentication_token s.session) (header-is m.request_header asking e) ∙ h))
+    subst (λ (x : RequestHeader). answer s moment (Write m) ≡ (s, fault_of x.request_handle bad_session_id_invalid moment))
+    (header-is m.request_header asking e)
+    (refused s moment m.request_header (rest_of (write_reasons s m)) (with_written s moment m, statuses_given s moment m)
+    (ap (λ (x : RequestHeader). is_own x.authentication_token s.session) (header-is m.request_header asking e) ∙ h))
 
 -- ---- a session of any time
 
 -- the session of a connection is not this one, and stays another
-since-event : (channels : ℕ → ℕ) (k : ℕ) (b : Option Session) (p : SharedState) (e : SharedEvent) → Two (p.own k).session b p.state.made → Two ((shared_by channels p e).own k).session b (shared_by channels p e).state.made
+since-event : (channels : ℕ → ℕ) (k : ℕ) (b : Option Session) (p : SharedState) (e : SharedEvent) → Two (p.own k).session b p.state.made
+    → Two ((shared_by channels p e).own k).session b (shared_by channels p e).state.made
 since-event channels k b p (Changed nodes) h = h
 since-event channels k b p (At i t moment) h = by (nat_eq k i) refl
   where
     own-now : Bool → Own
-    own-now x = cond x (record { session = (answer_at channels p i t moment).1.state.session; number = (answer_at channels p i t moment).1.number; agreement = (answer_at channels p i t moment).1.agreement }) (p.own k)
+    own-now x =
+        cond x (record {
+          session = (answer_at channels p i t moment).1.state.session;
+          number = (answer_at channels p i t moment).1.number;
+          agreement = (answer_at channels p i t moment).1.agreement;
+        }) (p.own k)
 
     made : ℕ
     made = (answer_at channels p i t moment).1.state.made
@@ -203,17 +239,24 @@ since-event channels k b p (At i t moment) h = by (nat_eq k i) refl
         ((told-apart channels p i t moment b).0 (subst (λ (n : ℕ). Two (p.own n).session b p.state.made) (number-is k i e) h))
     by false e =
         subst (λ (x : Bool). Two (own-now x).session b made) (sym e)
-        (let more = (told-apart channels p i t moment None).1 in record { mine = made-more (p.own k).session p.state.made made more h.mine; theirs = made-more b p.state.made made more h.theirs; two = h.two })
+        (let more = (told-apart channels p i t moment None).1 in record {
+          mine = made-more (p.own k).session p.state.made made more h.mine;
+          theirs = made-more b p.state.made made more h.theirs;
+          two = h.two;
+        })
 
-since-events : (channels : ℕ → ℕ) (k : ℕ) (b : Option Session) (p : SharedState) (es : List SharedEvent) → Two (p.own k).session b p.state.made → Two ((shared_over channels p es).own k).session b (shared_over channels p es).state.made
+since-events : (channels : ℕ → ℕ) (k : ℕ) (b : Option Session) (p : SharedState) (es : List SharedEvent) → Two (p.own k).session b p.state.made
+    → Two ((shared_over channels p es).own k).session b (shared_over channels p es).state.made
 since-events channels k b p [] h = h
 since-events channels k b p (e ∷ es) h = since-events channels k b (shared_by channels p e) es (since-event channels k b p e h)
 
-two-sessions : (channels : ℕ → ℕ) (j k : ℕ) (first : State) (before es : List SharedEvent) (theirs : Session) → (k ≡ j → ⊥) → ((shared_over channels (opened first) before).own j).session ≡ Some theirs
+two-sessions : (channels : ℕ → ℕ) (j k : ℕ) (first : State) (before es : List SharedEvent) (theirs : Session) → (k ≡ j → ⊥)
+    → ((shared_over channels (opened first) before).own j).session ≡ Some theirs
     → AreTwo ((shared_over channels (opened first) (before ++ es)).own k).session (Some theirs)
 two-sessions channels j k first before es theirs differ is =
     let p = shared_over channels (opened first) before in
-    let then : Two (p.own k).session (p.own j).session p.state.made = events-apart channels k j (opened first) before differ (record { mine = tt; theirs = tt; two = tt }) in
+    let then : Two (p.own k).session (p.own j).session p.state.made = events-apart channels k j (opened first) before differ
+    (record { mine = tt; theirs = tt; two = tt }) in
     let after : Two ((shared_over channels p es).own k).session (Some theirs) (shared_over channels p es).state.made =
     since-events channels k (Some theirs) p es (subst (λ (o : Option Session). Two (p.own k).session o p.state.made) is then) in
     subst (λ (q : SharedState). AreTwo (q.own k).session (Some theirs)) (sym (shared-append channels (opened first) before es)) after.two
@@ -221,12 +264,15 @@ two-sessions channels j k first before es theirs differ is =
 read-as : (s : State) (moment : DateTime) (octets : List ℕ) (m : Request) → request_read octets ≡ Ok m → answered s moment octets ≡ answer s moment m
 read-as s moment octets m e = ap (λ (r : Result Request RequestFault). answered_by r s moment) e
 
-pub other_token : (channels : ℕ → ℕ) (j k : ℕ) (first : State) (before es : List SharedEvent) (theirs : Session) (octets : List ℕ) (m : Request) (asking : RequestHeader) (moment : DateTime) → (k ≡ j → ⊥)
-    → ((shared_over channels (opened first) before).own j).session ≡ Some theirs → request_read octets ≡ Ok m → session_header m ≡ Some asking → asking.authentication_token ≡ session_token theirs.number
+pub other_token : (channels : ℕ → ℕ) (j k : ℕ) (first : State) (before es : List SharedEvent) (theirs : Session) (octets : List ℕ) (m : Request)
+    (asking : RequestHeader) (moment : DateTime) → (k ≡ j → ⊥)
+    → ((shared_over channels (opened first) before).own j).session ≡ Some theirs → request_read octets ≡ Ok m → session_header m ≡ Some asking
+    → asking.authentication_token ≡ session_token theirs.number
     → answered (course_at (shared_over channels (opened first) (before ++ es)) k).state moment octets
     ≡ ((course_at (shared_over channels (opened first) (before ++ es)) k).state, fault_of asking.request_handle bad_session_id_invalid moment)
 other_token channels j k first before es theirs octets m asking moment differ is read header token =
     let p = shared_over channels (opened first) (before ++ es) in
     read-as (course_at p k).state moment octets m read
     ∙ refuses (course_at p k).state moment m asking header
-    (ap (λ (t : NodeId). is_own t (p.own k).session) token ∙ not-own (p.own k).session (Some theirs) theirs (two-sessions channels j k first before es theirs differ is) refl)
+    (ap (λ (t : NodeId). is_own t (p.own k).session) token
+    ∙ not-own (p.own k).session (Some theirs) theirs (two-sessions channels j k first before es theirs differ is) refl)

@@ -34,7 +34,8 @@ count-all : (n : ℕ) (written out : List ℕ) → n ≡ min (length written) gr
 count-all n written out e = counted-on n (length written) (length out) (length (written ++ out)) e (length-append written out)
 
 count-some : (n k : ℕ) (written out : List ℕ) → n ≡ min (length written) greatest → k ≤ length out → counted n k ≡ min (length (written ++ take k out)) greatest
-count-some n k written out e h = counted-on n (length written) k (length (written ++ take k out)) e (length-append written (take k out) ∙ ap (λ (i : ℕ). length written + i) (length-take-le k out h))
+count-some n k written out e h = counted-on n (length written) k (length (written ++ take k out)) e (length-append written (take k out)
+    ∙ ap (λ (i : ℕ). length written + i) (length-take-le k out h))
 
 module _ {A : Type 0} (changes : A → State → A → State → Type 0) (limits : Limits) (channel : ℕ) (first : State × A) where
   pub listed-one : (m : Option DateTime) → length (listed m) ≤ 1
@@ -42,7 +43,8 @@ module _ {A : Type 0} (changes : A → State → A → State → Type 0) (limits
   listed-one (Some m) = omega arith
 
   -- all is written
-  owes-written : (x : Serving) (read out written : List ℕ) (ticks : List Event) (now : State × A) → Owes changes x limits channel first read out written ticks now
+  owes-written : (x : Serving) (read out written : List ℕ) (ticks : List Event) (now : State × A)
+      → Owes changes x limits channel first read out written ticks now
       → Owes changes (record x { written = counted x.written (length out) }) limits channel first read [] (written ++ out) ticks now
   owes-written x read out written ticks now o = record {
     limits_is = o.limits_is;
@@ -61,7 +63,8 @@ module _ {A : Type 0} (changes : A → State → A → State → Type 0) (limits
     asked = λ some. absurd (no-words [] refl some);
   }
 
-  turned : (end : Option Ending) (x : Serving) (read out written : List ℕ) (ticks : List Event) (now : State × A) → AdvancesTo changes end x limits channel first read out written ticks now
+  turned : (end : Option Ending) (x : Serving) (read out written : List ℕ) (ticks : List Event) (now : State × A)
+      → AdvancesTo changes end x limits channel first read out written ticks now
       → TurnsTo changes end (record x { written = counted x.written (length out) }) limits channel first read (written ++ out) ticks now
   turned None x read out written ticks now o = owes-written x read out written ticks now o
   turned (Some end) x read out written ticks now e = record { history = e.history; acted = e.acted; acts_first = e.acts_first; ends = e.ends }
@@ -76,15 +79,18 @@ module _ {A : Type 0} (changes : A → State → A → State → Type 0) (limits
   above k n h = omega (arith, h)
 
   -- what a connection that ended leaves
-  ended-so : (end : Ending) (read written : List ℕ) (moments : List DateTime) (requested : List AnsweredRequest) (history : List ConnectionEvent) (now : State) → EndedOver end limits channel first.0 read written moments requested history now
-      → ((course_over channel (start first.0 []) history).state ≡ now) × AreMomentsFor history moments × (requested ≡ requests_over channel (start first.0 []) history)
+  ended-so : (end : Ending) (read written : List ℕ) (moments : List DateTime) (requested : List AnsweredRequest) (history : List ConnectionEvent) (now : State)
+      → EndedOver end limits channel first.0 read written moments requested history now
+      → ((course_over channel (start first.0 []) history).state ≡ now) × AreMomentsFor history moments
+      × (requested ≡ requests_over channel (start first.0 []) history)
   ended-so ending.Closed read written moments requested history now e = (e.to.state_is, e.to.moments_are, e.to.requests_are)
   ended-so (ending.Refused code) read written moments requested history now e = (e.to.state_is, e.to.moments_are, e.to.requests_are)
   ended-so ending.NoClose read written moments requested history now e = absurd e
   ended-so ending.Cut read written moments requested history now e = absurd e
 
   -- the first of it is written
-  unwritten : (end : Option Ending) (x : Serving) (read out written : List ℕ) (ticks : List Event) (now : State × A) (k : ℕ) → k < length out → AdvancesTo changes end x limits channel first read out written ticks now
+  unwritten : (end : Option Ending) (x : Serving) (read out written : List ℕ) (ticks : List Event) (now : State × A) (k : ℕ) → k < length out
+      → AdvancesTo changes end x limits channel first read out written ticks now
       → FailsTelling changes (fault.Write (counted x.written k)) limits channel first read (written ++ take k out) ticks now
   unwritten None x read out written ticks now k h o = record {
     history = o.history;
@@ -124,7 +130,8 @@ module _ {A : Type 0} (changes : A → State → A → State → Type 0) (limits
       }
 
   -- more octets are read
-  abbrev broken-more : (read more written : List ℕ) (moments : List DateTime) (history : List ConnectionEvent) (now : State) → BrokenOver limits channel first.0 read written moments history now → BrokenOver limits channel first.0 (read ++ more) written moments history now
+  abbrev broken-more : (read more written : List ℕ) (moments : List DateTime) (history : List ConnectionEvent) (now : State)
+      → BrokenOver limits channel first.0 read written moments history now → BrokenOver limits channel first.0 (read ++ more) written moments history now
   broken-more read more written moments history now b = record {
     unwritten = b.unwritten;
     last = record {
@@ -146,51 +153,72 @@ module _ {A : Type 0} (changes : A → State → A → State → Type 0) (limits
     moments_are = b.moments_are;
   }
 
-  failed-more : (f : ServeFault) (read more written : List ℕ) (moments : List DateTime) (requested : List AnsweredRequest) (history : List ConnectionEvent) (now : State)
-      → FailedOver f limits channel first.0 read written moments requested history now → FailedOver f limits channel first.0 (read ++ more) written moments requested history now
+  failed-more : (f : ServeFault) (read more written : List ℕ) (moments : List DateTime) (requested : List AnsweredRequest) (history : List ConnectionEvent)
+      (now : State)
+      → FailedOver f limits channel first.0 read written moments requested history now
+      → FailedOver f limits channel first.0 (read ++ more) written moments requested history now
   failed-more fault.Read read more written moments requested history now b = absurd b
   failed-more (fault.Write n) read more written moments requested history now b = (broken-more read more written moments history now b.0, b.1, b.2, b.3, b.4)
   failed-more fault.OutOfMemory read more written moments requested history now b = (broken-more read more written moments history now b.0, b.1)
   failed-more fault.TooLong read more written moments requested history now b = absurd b
 
-  pub fails-on : (f : ServeFault) (read more written : List ℕ) (ticks : List Event) (now : State × A) → FailsTelling changes f limits channel first read written ticks now → FailsTelling changes f limits channel first (read ++ more) written ticks now
-  fails-on f read more written ticks now t = record { history = t.history; acted = t.acted; acts_first = t.acts_first; fails = failed-more f read more written (moments_in ticks) (noted_in ticks) t.history now.0 t.fails }
+  pub fails-on : (f : ServeFault) (read more written : List ℕ) (ticks : List Event) (now : State × A)
+      → FailsTelling changes f limits channel first read written ticks now → FailsTelling changes f limits channel first (read ++ more) written ticks now
+  fails-on f read more written ticks now t =
+      record {
+        history = t.history;
+        acted = t.acted;
+        acts_first = t.acts_first;
+        fails = failed-more f read more written (moments_in ticks)
+            (noted_in ticks) t.history now.0 t.fails;
+      }
 
   front-back : (read piece : List ℕ) (n : ℕ) → (read ++ take n piece) ++ drop n piece ≡ read ++ piece
   front-back read piece n = append_assoc read (take n piece) (drop n piece) ∙ ap (λ (p : List ℕ). read ++ p) (take-append-drop n piece)
 
-  module _ {M : Type 0} (gives : M → Event → M → Type 0) (m0 m1 : M) (la lb : Option Traffic) (piece read written : List ℕ) (given : List Event) (now : State × A) where
-    pub turn-said : (step : Step) (y z : Serving) → OfEventsBetween gives m0 m1 (λ ts. Steps changes (Ok step) y limits channel first piece read written (given ++ ts) now)
+  module _ {M : Type 0} (gives : M → Event → M → Type 0) (m0 m1 : M) (la lb : Option Traffic) (piece read written : List ℕ) (given : List Event)
+      (now : State × A) where
+    pub turn-said : (step : Step) (y z : Serving)
+        → OfEventsBetween gives m0 m1 (λ ts. Steps changes (Ok step) y limits channel first piece read written (given ++ ts) now)
         → z ≡ record y { written = counted y.written (length step.out.items) } → IfTrafficKnown (MovesTraffic [] step.out.items) la lb
-        → Exchanged gives m0 m1 [] la lb (λ more ts. Turns changes (Ok (step.taken, step.end)) z limits channel first piece read (written ++ more) (given ++ ts) now)
+        → Exchanged gives m0 m1 [] la lb (λ more ts. Turns changes (Ok (step.taken, step.end)) z limits channel first piece read (written ++ more)
+        (given ++ ts) now)
     turn-said step y z a same moved = record {
       written = step.out.items;
       ticks = a.ticks;
       moved = moved;
       given = a.given;
-      holds = subst (λ (w : Serving). TurnsTo changes step.end w limits channel first (read ++ take step.taken piece) (written ++ step.out.items) (given ++ a.ticks) now) (sym same)
+      holds = subst (λ (w : Serving). TurnsTo changes step.end w limits channel first (read ++ take step.taken piece) (written ++ step.out.items)
+          (given ++ a.ticks) now) (sym same)
           (turned step.end y (read ++ take step.taken piece) step.out.items written (given ++ a.ticks) now a.holds);
     }
 
-    pub turn-unsaid : (step : Step) (y z : Serving) (f : ServeFault) → OfEventsBetween gives m0 m1 (λ ts. Steps changes (Ok step) y limits channel first piece read written (given ++ ts) now) → Says step.out.items (Err f) y z la lb
+    pub turn-unsaid : (step : Step) (y z : Serving) (f : ServeFault)
+        → OfEventsBetween gives m0 m1 (λ ts. Steps changes (Ok step) y limits channel first piece read written (given ++ ts) now)
+        → Says step.out.items (Err f) y z la lb
         → Exchanged gives m0 m1 [] la lb (λ more ts. Turns changes (Err f) z limits channel first piece read (written ++ more) (given ++ ts) now)
     turn-unsaid step y z f a s = record {
       written = take s.0 step.out.items;
       ticks = a.ticks;
       moved = s.3;
       given = a.given;
-      holds = subst (λ (r : List ℕ). FailsTelling changes f limits channel first r (written ++ take s.0 step.out.items) (given ++ a.ticks) now) (front-back read piece step.taken)
+      holds = subst (λ (r : List ℕ). FailsTelling changes f limits channel first r (written ++ take s.0 step.out.items) (given ++ a.ticks) now)
+          (front-back read piece step.taken)
           (fails-on f (read ++ take step.taken piece) (drop step.taken piece) (written ++ take s.0 step.out.items) (given ++ a.ticks) now
-          (subst (λ (g : ServeFault). FailsTelling changes g limits channel first (read ++ take step.taken piece) (written ++ take s.0 step.out.items) (given ++ a.ticks) now) (sym s.1)
+          (subst (λ (g : ServeFault). FailsTelling changes g limits channel first (read ++ take step.taken piece) (written ++ take s.0 step.out.items)
+          (given ++ a.ticks) now) (sym s.1)
           (unwritten step.end y (read ++ take step.taken piece) step.out.items written (given ++ a.ticks) now s.0 s.2 a.holds)));
     }
 
-    pub turn-broken : (g : StepFault) (y : Serving) → OfEventsBetween gives m0 m1 (λ ts. Steps changes (Err g) y limits channel first piece read written (given ++ ts) now)
-        → Exchanged gives m0 m1 [] la la (λ more ts. Turns changes (Err fault.OutOfMemory) y limits channel first piece read (written ++ more) (given ++ ts) now)
+    pub turn-broken : (g : StepFault) (y : Serving)
+        → OfEventsBetween gives m0 m1 (λ ts. Steps changes (Err g) y limits channel first piece read written (given ++ ts) now)
+        → Exchanged gives m0 m1 [] la la (λ more ts. Turns changes (Err fault.OutOfMemory) y limits channel first piece read (written ++ more)
+        (given ++ ts) now)
     turn-broken g y a = record {
       written = [];
       ticks = a.ticks;
       moved = told-nothing la;
       given = a.given;
-      holds = subst (λ (w : List ℕ). FailsTelling changes fault.OutOfMemory limits channel first (read ++ piece) w (given ++ a.ticks) now) (sym (append-nil written)) a.holds;
+      holds = subst (λ (w : List ℕ). FailsTelling changes fault.OutOfMemory limits channel first (read ++ piece) w (given ++ a.ticks) now)
+          (sym (append-nil written)) a.holds;
     }

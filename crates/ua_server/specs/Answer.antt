@@ -15,7 +15,8 @@ use Rattle.ua_structures.specs.declared.session.ActivateSessionRequest.{Activate
 use Rattle.ua_structures.specs.declared.session.CloseSessionRequest.{CloseSessionRequest}
 use Rattle.ua_structures.specs.declared.session.CreateSessionRequest.{CreateSessionRequest}
 use Rattle.ua_server.specs.Attributes.{read_reasons, values_given, write_reasons, with_written, statuses_given}
-use Rattle.ua_server.specs.Sessions.{endpoints_given, create_reasons, session_given, activate_reasons, with_activated, activation_given, close_reasons, close_given}
+use Rattle.ua_server.specs.Sessions.{endpoints_given, create_reasons, session_given, activate_reasons}
+use Rattle.ua_server.specs.Sessions.{with_activated, activation_given, close_reasons, close_given}
 use Rattle.ua_server.specs.State.{State, begun, with_next_session}
 
 -- the ServiceFault of this code under this RequestHandle

@@ -61,7 +61,14 @@ stamps_or (Some stamps) = stamps
 
 -- the DataValue of the code that is for the data
 abbrev pub data_value_with : Option VariantData → DataFields → DataValue
-data_value_with v f = record { value = v; status = f.status; source_timestamp = f.source_timestamp; source_picoseconds = f.source_picoseconds; server_timestamp = f.server_timestamp; server_picoseconds = f.server_picoseconds }
+data_value_with v f = record {
+  value = v;
+  status = f.status;
+  source_timestamp = f.source_timestamp;
+  source_picoseconds = f.source_picoseconds;
+  server_timestamp = f.server_timestamp;
+  server_picoseconds = f.server_picoseconds;
+}
 
 abbrev pub value_from : DataValueData → DataValue
 value_from (bare f) = data_value_with None f
@@ -72,7 +79,9 @@ abbrev pub read_answers : Nodes → List ReadValueId → Stamps → DateTime →
 read_answers nodes items stamps moment = map (λ item. value_from (read_answer (node_at nodes item.node_id) item stamps moment)) items
 
 abbrev pub values_given : State → DateTime → ReadRequest → Response
-values_given s moment m = Read (values_of (good_header moment m.request_header) (read_answers s.nodes (items_of m.nodes_to_read) (stamps_or (stamps_numbered m.timestamps_to_return)) moment))
+values_given s moment m =
+    Read (values_of (good_header moment m.request_header)
+    (read_answers s.nodes (items_of m.nodes_to_read) (stamps_or (stamps_numbered m.timestamps_to_return)) moment))
 
 -- the node that the NodeId names could take a value of the type now: none could before a session is
 -- activated

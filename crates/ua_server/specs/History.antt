@@ -93,7 +93,9 @@ pub record StandsOver (x : ServerChannel) (octets : List ℕ) (hs : List Connect
 -- that were aborted
 abbrev pub IsHandled : Limits → ℕ → List ℕ → List ℕ → List Told → List Told → Type 0
 IsHandled limits channel piece octets told more =
-    (more ≡ []) ⊎ ((message : List ℕ) × (ends : EndsMessage limits channel piece octets told message) × (more ≡ given_up ends.quiet ++ Asked ends.id ends.token message ∷ []))
+    (more ≡ [])
+    ⊎ ((message : List ℕ) × (ends : EndsMessage limits channel piece octets told message)
+    × (more ≡ given_up ends.quiet ++ Asked ends.id ends.token message ∷ []))
 
 -- how a connection ended after these bytes, which told this: at a CLO, or rejected with this code
 abbrev pub EndedAt : End ℕ → ServerChannel → List ℕ → List Told → Type 0
@@ -105,7 +107,8 @@ EndedAt (Stopped code) x octets told = RefusedAt x octets told code
 -- rejection, is what was sent before and this
 abbrev pub EndsOver : End ℕ → ServerChannel → ℕ → List ℕ → List ℕ → List ConnectionEvent → List ConnectionEvent → State → State → State → Type 0
 EndsOver end new channel octets out hs more first before now =
-    EndedAt end new octets (told_in (hs ++ more)) × (now ≡ before) × (output_over channel (start first []) (hs ++ more) ++ last_words end ≡ output_over channel (start first []) hs ++ out)
+    EndedAt end new octets (told_in (hs ++ more)) × (now ≡ before)
+    × (output_over channel (start first []) (hs ++ more) ++ last_words end ≡ output_over channel (start first []) hs ++ out)
 
 -- by how the connection ended, if it did; otherwise its state is that after all events, and what is
 -- sent over them is what was sent before and this
@@ -113,20 +116,25 @@ abbrev pub OverBy : Option Ending → ServerChannel → ℕ → List ℕ → Lis
 OverBy None new channel octets out hs more first before now =
     StandsOver new octets (hs ++ more) first now × (output_over channel (start first []) (hs ++ more) ≡ output_over channel (start first []) hs ++ out)
 OverBy (Some ending.Closed) new channel octets out hs more first before now = EndsOver Over new channel octets out hs more first before now
-OverBy (Some (ending.Refused code)) new channel octets out hs more first before now = EndsOver (Stopped code.code) new channel octets out hs more first before now
+OverBy (Some (ending.Refused code)) new channel octets out hs more first before now =
+    EndsOver (Stopped code.code) new channel octets out hs more first before now
 OverBy (Some ending.NoClose) new channel octets out hs more first before now = ⊥
 OverBy (Some ending.Cut) new channel octets out hs more first before now = ⊥
 
 -- the outcome for a fragment; if an allocation failed the connection ended, and no more than its
 -- first whole message was handled
-abbrev pub ResultOver : Limits → ℕ → List ℕ → Result Step StepFault → ServerChannel → List ℕ → List ConnectionEvent → List ConnectionEvent → List Told → State → State → State → Type 0
-ResultOver limits channel piece (Ok step) new octets hs more told first before now = OverBy step.end new channel (octets ++ take step.taken piece) step.out.items hs more first before now
-ResultOver limits channel piece (Err step_fault.OutOfMemory) new octets hs more told first before now = IsDone new × IsHandled limits channel piece octets (told_in hs) told
+abbrev pub ResultOver : Limits → ℕ → List ℕ → Result Step StepFault → ServerChannel → List ℕ → List ConnectionEvent → List ConnectionEvent → List Told → State
+    → State → State → Type 0
+ResultOver limits channel piece (Ok step) new octets hs more told first before now =
+    OverBy step.end new channel (octets ++ take step.taken piece) step.out.items hs more first before now
+ResultOver limits channel piece (Err step_fault.OutOfMemory) new octets hs more told first before now = IsDone new
+    × IsHandled limits channel piece octets (told_in hs) told
 ResultOver limits channel piece (Err step_fault.Closed) new octets hs more told first before now = ⊥
 
 -- what a step at a time adds to the events of a connection: what its frames tell at this time, and
 -- nothing else; the state that all events leave is the one that it leaves
-pub record StepOver (limits : Limits) (channel : ℕ) (moment : DateTime) (piece : List ℕ) (result : Result Step StepFault) (new : ServerChannel) (octets : List ℕ) (hs : List ConnectionEvent) (first before now : State) : Type 0 where
+pub record StepOver (limits : Limits) (channel : ℕ) (moment : DateTime) (piece : List ℕ) (result : Result Step StepFault) (new : ServerChannel)
+    (octets : List ℕ) (hs : List ConnectionEvent) (first before now : State) : Type 0 where
   pub told : List Told
   pub left_is : (course_over channel (start first []) (hs ++ heard_at moment told)).state ≡ now
   pub comes_to : ResultOver limits channel piece result new octets hs (heard_at moment told) told first before now

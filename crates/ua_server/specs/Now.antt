@@ -32,7 +32,8 @@ standing now number agreement more moment = record { state = now; number = numbe
 -- the connection goes on: what was taken told that messages were aborted, and then at most one
 -- thing more, which is answered; what is sent for it, the state that is left and the number of the
 -- chunk that is sent next are those from the current state
-pub record NowGoes (channel number : ℕ) (moment : DateTime) (piece : List ℕ) (n : ℕ) (out : List ℕ) (new : ServerChannel) (octets : List ℕ) (told : List Told) (before now : State) : Type 0 where
+pub record NowGoes (channel number : ℕ) (moment : DateTime) (piece : List ℕ) (n : ℕ) (out : List ℕ) (new : ServerChannel) (octets : List ℕ) (told : List Told)
+    (before now : State) : Type 0 where
   pub quiet : List ℕ
   pub more : List Told
   pub stops : Stops new octets piece n out (told ++ given_up quiet) more
@@ -46,38 +47,47 @@ pub record NowGoes (channel number : ℕ) (moment : DateTime) (piece : List ℕ)
 abbrev pub NowBy : ℕ → ℕ → DateTime → List ℕ → Option Ending → ℕ → List ℕ → ServerChannel → List ℕ → List Told → State → State → Type 0
 NowBy channel number moment piece None n out new octets told before now = NowGoes channel number moment piece n out new octets told before now
 NowBy channel number moment piece (Some ending.Closed) n out new octets told before now = ClosesAt piece n new octets told × (out ≡ []) × (now ≡ before)
-NowBy channel number moment piece (Some (ending.Refused code)) n out new octets told before now = RefusesAt code.code piece n new octets told × (out ≡ last_words (Stopped code.code)) × (now ≡ before)
+NowBy channel number moment piece (Some (ending.Refused code)) n out new octets told before now = RefusesAt code.code piece n new octets told
+    × (out ≡ last_words (Stopped code.code)) × (now ≡ before)
 NowBy channel number moment piece (Some ending.NoClose) n out new octets told before now = ⊥
 NowBy channel number moment piece (Some ending.Cut) n out new octets told before now = ⊥
 
 -- the outcome of a step for a fragment at a time, in terms of the current state after bytes that
 -- told this
 abbrev pub StepNow : Limits → ℕ → ℕ → DateTime → List ℕ → Result Step StepFault → ServerChannel → List ℕ → List Told → State → State → Type 0
-StepNow limits channel number moment piece (Ok step) new octets told before now = NowBy channel number moment piece step.end step.taken step.out.items new octets told before now
-StepNow limits channel number moment piece (Err step_fault.OutOfMemory) new octets told before now = StepBreaks limits channel moment piece new octets told before now
+StepNow limits channel number moment piece (Ok step) new octets told before now =
+    NowBy channel number moment piece step.end step.taken step.out.items new octets told before now
+StepNow limits channel number moment piece (Err step_fault.OutOfMemory) new octets told before now =
+    StepBreaks limits channel moment piece new octets told before now
 StepNow limits channel number moment piece (Err step_fault.Closed) new octets told before now = ⊥
 
 -- ---- inside
 
 -- the channel answered this to a prefix of the fragment, after messages that were aborted
-pub record NowBehind (old : ServerChannel) (moment : DateTime) (piece : List ℕ) (n : ℕ) (answer : Result ServerEvent ChannelFault) (mid : ServerChannel) (octets : List ℕ) (told : List Told) : Type 0 where
+pub record NowBehind (old : ServerChannel) (moment : DateTime) (piece : List ℕ) (n : ℕ) (answer : Result ServerEvent ChannelFault) (mid : ServerChannel)
+    (octets : List ℕ) (told : List Told) : Type 0 where
   pub limits : limits_of mid ≡ limits_of old
   pub channel : channel_of mid ≡ channel_of old
   pub quiet : List ℕ
   pub answers : AnswersAt (channel_of old) (next_of old) moment piece n answer mid octets (told ++ given_up quiet)
 
 -- what is answered is told separately, and which request it is, if it is one
-pub record NowTells (answered : Bool) (request : Option AnsweredRequest) (channel number : ℕ) (moment : DateTime) (piece : List ℕ) (n : ℕ) (out : List ℕ) (new : ServerChannel) (octets : List ℕ) (told : List Told) (before now : State) : Type 0 where
+pub record NowTells (answered : Bool) (request : Option AnsweredRequest) (channel number : ℕ) (moment : DateTime) (piece : List ℕ) (n : ℕ) (out : List ℕ)
+    (new : ServerChannel) (octets : List ℕ) (told : List Told) (before now : State) : Type 0 where
   pub goes : NowGoes channel number moment piece n out new octets told before now
   pub answered_is : answered ≡ has_some goes.more
   pub requests_are : listed request ≡ requests_of channel (standing before number (agreed_by told) goes.more moment) goes.more
 
 -- the same by how the connection ended, with whether something was answered, and which request
-abbrev pub AdvanceNowBy : Bool → Option AnsweredRequest → ℕ → ℕ → DateTime → List ℕ → Option Ending → ℕ → List ℕ → ServerChannel → List ℕ → List Told → State → State → Type 0
-AdvanceNowBy answered request channel number moment piece None n out new octets told before now = NowTells answered request channel number moment piece n out new octets told before now
-AdvanceNowBy answered request channel number moment piece (Some end) n out new octets told before now = NowBy channel number moment piece (Some end) n out new octets told before now × (answered ≡ false)
+abbrev pub AdvanceNowBy : Bool → Option AnsweredRequest → ℕ → ℕ → DateTime → List ℕ → Option Ending → ℕ → List ℕ → ServerChannel → List ℕ → List Told → State
+    → State → Type 0
+AdvanceNowBy answered request channel number moment piece None n out new octets told before now =
+    NowTells answered request channel number moment piece n out new octets told before now
+AdvanceNowBy answered request channel number moment piece (Some end) n out new octets told before now =
+    NowBy channel number moment piece (Some end) n out new octets told before now × (answered ≡ false)
 
 -- the outcome of a step, with whether something was answered, and which request
 abbrev pub AdvanceNow : Limits → ℕ → ℕ → DateTime → List ℕ → Result Advanced StepFault → ServerChannel → List ℕ → List Told → State → State → Type 0
-AdvanceNow limits channel number moment piece (Ok found) new octets told before now = AdvanceNowBy found.answered found.request channel number moment piece found.step.end found.step.taken found.step.out.items new octets told before now
+AdvanceNow limits channel number moment piece (Ok found) new octets told before now =
+    AdvanceNowBy found.answered found.request channel number moment piece found.step.end found.step.taken found.step.out.items new octets told before now
 AdvanceNow limits channel number moment piece (Err f) new octets told before now = StepNow limits channel number moment piece (Err f) new octets told before now

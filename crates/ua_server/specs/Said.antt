@@ -66,9 +66,12 @@ with_more c more = record { state = c.state; number = c.number; moments = c.mome
 -- what is sent for one thing, and the course after it: the ACK, the OPN response, the reply to a
 -- whole message; nothing for the rest
 abbrev pub say : ℕ → Course → Told → List ℕ × Course
-say channel c (Agreed agreement) = (frame_octets (ack_frame agreement.ack), record { state = c.state; number = c.number; moments = c.moments; agreement = Some agreement })
-say channel c (Opened id handle token lifetime) =
-    (frame_octets (opened_frame channel c.number id handle token lifetime (first_of c.moments)), record { state = c.state; number = next_number c.number; moments = behind_first c.moments; agreement = c.agreement })
+say channel c (Agreed agreement) =
+    (frame_octets (ack_frame agreement.ack), record { state = c.state; number = c.number; moments = c.moments; agreement = Some agreement })
+say channel c (Opened id handle token lifetime) = (
+  frame_octets (opened_frame channel c.number id handle token lifetime (first_of c.moments)),
+  record { state = c.state; number = next_number c.number; moments = behind_first c.moments; agreement = c.agreement },
+)
 say channel c (Asked id token octets) = reply_with channel token id c (answered c.state (first_of c.moments) octets)
 say channel c (GaveUp id) = ([], c)
 say channel c Closed = ([], c)

@@ -58,7 +58,8 @@ AreUsed told moments = (used_in told ≤ length moments) × (length moments ≤ 
 
 -- these are the frames of what was read; what was written is the response to it, and the state is
 -- the one that it leaves
-pub record AnsweredTo (limits : Limits) (channel : ℕ) (first : State) (read written : List ℕ) (moments : List DateTime) (now : State) (frames : List Frame) (rest : List ℕ) (end : End ℕ) : Type 0 where
+pub record AnsweredTo (limits : Limits) (channel : ℕ) (first : State) (read written : List ℕ) (moments : List DateTime) (now : State) (frames : List Frame)
+    (rest : List ℕ) (end : End ℕ) : Type 0 where
   pub run : Run (server_rules limits channel) read frames rest end
   pub written_is : written ≡ output_of channel first (events (server_rules limits channel) frames) end moments
   pub state_is : (state_after channel first (events (server_rules limits channel) frames) moments).state ≡ now
@@ -76,7 +77,8 @@ IsClean frames rest = (rest ≡ []) × (open_ids (received frames).messages ≡ 
 
 -- the input ended: no bytes are to come, and this holds of the frames of what was read and of its
 -- rest
-pub record RanOut (limits : Limits) (channel : ℕ) (first : State) (read written : List ℕ) (moments : List DateTime) (now : State) (coming : List ℕ) (P : List Frame → List ℕ → Type 0) : Type 0 where
+pub record RanOut (limits : Limits) (channel : ℕ) (first : State) (read written : List ℕ) (moments : List DateTime) (now : State) (coming : List ℕ)
+    (P : List Frame → List ℕ → Type 0) : Type 0 where
   pub frames : List Frame
   pub rest : List ℕ
   pub to : AnsweredTo limits channel first read written moments now frames rest Going
@@ -165,21 +167,26 @@ EndsBy ending.Cut limits channel first read written moments now = ⊥
 -- that answer; if an allocation fails the last answer is written whole or not at all
 abbrev pub FailsBy : ServeFault → Limits → ℕ → State → List ℕ → List ℕ → List DateTime → State → Type 0
 FailsBy fault.Read limits channel first read written moments now = ⊥
-FailsBy (fault.Write n) limits channel first read written moments now = (broken : BrokenOff limits channel first read written moments now) × (0 < length broken.unwritten) × (n ≡ min (length written) greatest) × AreAsked limits channel broken.front (broken.before ++ told_at broken.word) moments
-FailsBy fault.OutOfMemory limits channel first read written moments now = (broken : BrokenOff limits channel first read written moments now) × ((broken.part ≡ []) ⊎ (broken.unwritten ≡ []))
+FailsBy (fault.Write n) limits channel first read written moments now = (broken : BrokenOff limits channel first read written moments now)
+    × (0 < length broken.unwritten) × (n ≡ min (length written) greatest) × AreAsked limits channel broken.front (broken.before ++ told_at broken.word) moments
+FailsBy fault.OutOfMemory limits channel first read written moments now = (broken : BrokenOff limits channel first read written moments now)
+    × ((broken.part ≡ []) ⊎ (broken.unwritten ≡ []))
 FailsBy fault.TooLong limits channel first read written moments now = ⊥
 
 -- the outcome of serving, if these bytes were read and written at these times, and these are to
 -- come
 abbrev pub ServesBy : Result Ending ServeFault → Limits → ℕ → State → List ℕ → List ℕ → List DateTime → State → List ℕ → Type 0
 ServesBy (Ok ending.Closed) limits channel first read written moments now coming = EndsBy ending.Closed limits channel first read written moments now
-ServesBy (Ok (ending.Refused code)) limits channel first read written moments now coming = EndsBy (ending.Refused code) limits channel first read written moments now
+ServesBy (Ok (ending.Refused code)) limits channel first read written moments now coming =
+    EndsBy (ending.Refused code) limits channel first read written moments now
 ServesBy (Ok ending.NoClose) limits channel first read written moments now coming = RanOut limits channel first read written moments now coming IsClean
-ServesBy (Ok ending.Cut) limits channel first read written moments now coming = RanOut limits channel first read written moments now coming (λ frames rest. IsClean frames rest → ⊥)
+ServesBy (Ok ending.Cut) limits channel first read written moments now coming = RanOut limits channel first read written moments now coming
+    (λ frames rest. IsClean frames rest → ⊥)
 ServesBy (Err fault.Read) limits channel first read written moments now coming = Answered limits channel first read written moments now Going
 ServesBy (Err (fault.Write n)) limits channel first read written moments now coming = FailsBy (fault.Write n) limits channel first read written moments now
 ServesBy (Err fault.OutOfMemory) limits channel first read written moments now coming = FailsBy fault.OutOfMemory limits channel first read written moments now
-ServesBy (Err fault.TooLong) limits channel first read written moments now coming = Answered limits channel first read written moments now Going × (greatest ≤ length read)
+ServesBy (Err fault.TooLong) limits channel first read written moments now coming = Answered limits channel first read written moments now Going
+    × (greatest ≤ length read)
 
 -- ---- the requests that are told of
 
@@ -188,7 +195,8 @@ abbrev pub TellsAll : (limits : Limits) (channel : ℕ) (first : State) (moments
 TellsAll limits channel first moments frames told = told ≡ requests channel first (events (server_rules limits channel) frames) moments
 
 -- how a connection ended that its own bytes ended
-abbrev pub EndTells : (end : Ending) (limits : Limits) (channel : ℕ) (first : State) (read written : List ℕ) (moments : List DateTime) (now : State) → EndsBy end limits channel first read written moments now → List AnsweredRequest → Type 0
+abbrev pub EndTells : (end : Ending) (limits : Limits) (channel : ℕ) (first : State) (read written : List ℕ) (moments : List DateTime) (now : State)
+    → EndsBy end limits channel first read written moments now → List AnsweredRequest → Type 0
 EndTells ending.Closed limits channel first read written moments now a told = TellsAll limits channel first moments a.frames told
 EndTells (ending.Refused code) limits channel first read written moments now a told = TellsAll limits channel first moments a.frames told
 EndTells ending.NoClose limits channel first read written moments now a told = ⊥
@@ -196,23 +204,28 @@ EndTells ending.Cut limits channel first read written moments now a told = ⊥
 
 -- how an answer failed: at a failed write the request of the last answer is told; if an allocation
 -- fails it is told if that answer is written whole, and not if none of it is
-abbrev pub FailTells : (f : ServeFault) (limits : Limits) (channel : ℕ) (first : State) (read written : List ℕ) (moments : List DateTime) (now : State) → FailsBy f limits channel first read written moments now → List AnsweredRequest → Type 0
+abbrev pub FailTells : (f : ServeFault) (limits : Limits) (channel : ℕ) (first : State) (read written : List ℕ) (moments : List DateTime) (now : State)
+    → FailsBy f limits channel first read written moments now → List AnsweredRequest → Type 0
 FailTells fault.Read limits channel first read written moments now b told = ⊥
 FailTells (fault.Write n) limits channel first read written moments now b told = told ≡ requests channel first (b.0.before ++ told_at b.0.word) moments
 FailTells fault.OutOfMemory limits channel first read written moments now b told =
-    ((b.0.part ≡ []) × (told ≡ requests channel first b.0.before moments)) ⊎ ((b.0.unwritten ≡ []) × (told ≡ requests channel first (b.0.before ++ told_at b.0.word) moments))
+    ((b.0.part ≡ []) × (told ≡ requests channel first b.0.before moments))
+    ⊎ ((b.0.unwritten ≡ []) × (told ≡ requests channel first (b.0.before ++ told_at b.0.word) moments))
 FailTells fault.TooLong limits channel first read written moments now b told = ⊥
 
 -- which requests are told, by the outcome of serving: those that are answered of all that was read,
 -- or if it broke off of the prefix that is answered
-abbrev pub TellsBy : (result : Result Ending ServeFault) (limits : Limits) (channel : ℕ) (first : State) (read written : List ℕ) (moments : List DateTime) (now : State) (coming : List ℕ) → ServesBy result limits channel first read written moments now coming → List AnsweredRequest → Type 0
+abbrev pub TellsBy : (result : Result Ending ServeFault) (limits : Limits) (channel : ℕ) (first : State) (read written : List ℕ) (moments : List DateTime)
+    (now : State) (coming : List ℕ) → ServesBy result limits channel first read written moments now coming → List AnsweredRequest → Type 0
 TellsBy (Ok ending.Closed) limits channel first read written moments now coming a told = TellsAll limits channel first moments a.frames told
 TellsBy (Ok (ending.Refused code)) limits channel first read written moments now coming a told = TellsAll limits channel first moments a.frames told
 TellsBy (Ok ending.NoClose) limits channel first read written moments now coming a told = TellsAll limits channel first moments a.frames told
 TellsBy (Ok ending.Cut) limits channel first read written moments now coming a told = TellsAll limits channel first moments a.frames told
 TellsBy (Err fault.Read) limits channel first read written moments now coming a told = TellsAll limits channel first moments a.frames told
-TellsBy (Err (fault.Write n)) limits channel first read written moments now coming b told = FailTells (fault.Write n) limits channel first read written moments now b told
-TellsBy (Err fault.OutOfMemory) limits channel first read written moments now coming b told = FailTells fault.OutOfMemory limits channel first read written moments now b told
+TellsBy (Err (fault.Write n)) limits channel first read written moments now coming b told =
+    FailTells (fault.Write n) limits channel first read written moments now b told
+TellsBy (Err fault.OutOfMemory) limits channel first read written moments now coming b told =
+    FailTells fault.OutOfMemory limits channel first read written moments now b told
 TellsBy (Err fault.TooLong) limits channel first read written moments now coming a told = TellsAll limits channel first moments a.0.frames told
 
 -- ---- by the transport
@@ -224,7 +237,8 @@ coming_now (Some traffic) = traffic.coming []
 
 -- a transport was served from this state on: bytes were read and written, exactly these if it tells
 -- its bytes, and timestamps were given in turn
-pub record Serves {M : Type 0} (limits : Limits) (channel : ℕ) (gives : M → ℤ → M → Type 0) (first : State) (moments : M) (result : Result Ending ServeFault) (now : State) (later : M) (before after : Option Traffic) : Type 0 where
+pub record Serves {M : Type 0} (limits : Limits) (channel : ℕ) (gives : M → ℤ → M → Type 0) (first : State) (moments : M) (result : Result Ending ServeFault)
+    (now : State) (later : M) (before after : Option Traffic) : Type 0 where
   pub read : List ℕ
   pub written : List ℕ
   pub ticks : List ℤ
@@ -233,7 +247,8 @@ pub record Serves {M : Type 0} (limits : Limits) (channel : ℕ) (gives : M → 
   pub comes_to : ServesBy result limits channel first read written (map moment_of ticks) now (coming_now after)
 
 -- the same with a watcher of requests: timestamps were given and requests told in turn
-pub record ServesTelling {M W : Type 0} (limits : Limits) (channel : ℕ) (gives : M → ℤ → M → Type 0) (notes : W → AnsweredRequest → W → Type 0) (first : State) (beside : M × W) (result : Result Ending ServeFault) (now : State) (later : M × W) (before after : Option Traffic) : Type 0 where
+pub record ServesTelling {M W : Type 0} (limits : Limits) (channel : ℕ) (gives : M → ℤ → M → Type 0) (notes : W → AnsweredRequest → W → Type 0) (first : State)
+    (beside : M × W) (result : Result Ending ServeFault) (now : State) (later : M × W) (before after : Option Traffic) : Type 0 where
   pub read : List ℕ
   pub written : List ℕ
   pub happened : List Event

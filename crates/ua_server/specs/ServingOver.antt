@@ -26,7 +26,8 @@ abbrev pub Acts : {A : Type 0} → (A → State → A → State → Type 0) → 
 Acts changes channel c before [] after = before ≡ after
 Acts changes channel c before (Heard t moment ∷ hs) after = Acts changes channel (event_answer channel c (Heard t moment)).1 before hs after
 Acts {A = A} changes channel c before (Became nodes made ∷ hs) after =
-    (next : A) × changes before c.state next (with_nodes c.state nodes) × (made ≡ c.state.made) × Acts changes channel (event_answer channel c (Became nodes made)).1 next hs after
+    (next : A) × changes before c.state next (with_nodes c.state nodes) × (made ≡ c.state.made)
+    × Acts changes channel (event_answer channel c (Became nodes made)).1 next hs after
 
 -- whether it acted since the last answer, after these events
 abbrev pub has_acted : Bool → List ConnectionEvent → Bool
@@ -45,7 +46,8 @@ ActsFirst acted (Became nodes made ∷ hs) = ActsFirst true hs
 -- the requests that are answered at these events, in order
 abbrev pub requests_over : ℕ → Course → List ConnectionEvent → List AnsweredRequest
 requests_over channel c [] = []
-requests_over channel c (Heard t moment ∷ hs) = with_first (request_at channel (answered_at c t moment) t) (requests_over channel (event_answer channel c (Heard t moment)).1 hs)
+requests_over channel c (Heard t moment ∷ hs) = with_first (request_at channel (answered_at c t moment) t)
+    (requests_over channel (event_answer channel c (Heard t moment)).1 hs)
 requests_over channel c (Became nodes made ∷ hs) = requests_over channel (event_answer channel c (Became nodes made)).1 hs
 
 -- nothing is answered at these events
@@ -63,7 +65,8 @@ AreMomentsFor history moments = (kept : List DateTime) × (moments ≡ moments_o
 
 -- these are the frames of what was read, and what they told was handled; what was written and the
 -- requests that were told are the output for the events, and the state is the one that they leave
-pub record FramesAnswered (limits : Limits) (channel : ℕ) (first : State) (read written : List ℕ) (moments : List DateTime) (requested : List AnsweredRequest) (history : List ConnectionEvent) (now : State) (frames : List Frame) (rest : List ℕ) (end : End ℕ) : Type 0 where
+pub record FramesAnswered (limits : Limits) (channel : ℕ) (first : State) (read written : List ℕ) (moments : List DateTime) (requested : List AnsweredRequest)
+    (history : List ConnectionEvent) (now : State) (frames : List Frame) (rest : List ℕ) (end : End ℕ) : Type 0 where
   pub run : Run (server_rules limits channel) read frames rest end
   pub told_is : events (server_rules limits channel) frames ≡ told_in history
   pub written_is : written ≡ output_over channel (start first []) history ++ last_words end
@@ -73,14 +76,16 @@ pub record FramesAnswered (limits : Limits) (channel : ℕ) (first : State) (rea
   pub asked : AreAsked limits channel read (told_in history) moments
 
 -- the same for some frames, after which the connection is in this state
-pub record AllAnswered (limits : Limits) (channel : ℕ) (first : State) (read written : List ℕ) (moments : List DateTime) (requested : List AnsweredRequest) (history : List ConnectionEvent) (now : State) (end : End ℕ) : Type 0 where
+pub record AllAnswered (limits : Limits) (channel : ℕ) (first : State) (read written : List ℕ) (moments : List DateTime) (requested : List AnsweredRequest)
+    (history : List ConnectionEvent) (now : State) (end : End ℕ) : Type 0 where
   pub frames : List Frame
   pub rest : List ℕ
   pub to : FramesAnswered limits channel first read written moments requested history now frames rest end
 
 -- the input ended: no bytes are to come, and this holds of the frames of what was read and of its
 -- rest
-pub record RanOutOver (limits : Limits) (channel : ℕ) (first : State) (read written : List ℕ) (moments : List DateTime) (requested : List AnsweredRequest) (history : List ConnectionEvent) (now : State) (coming : List ℕ) (P : List Frame → List ℕ → Type 0) : Type 0 where
+pub record RanOutOver (limits : Limits) (channel : ℕ) (first : State) (read written : List ℕ) (moments : List DateTime) (requested : List AnsweredRequest)
+    (history : List ConnectionEvent) (now : State) (coming : List ℕ) (P : List Frame → List ℕ → Type 0) : Type 0 where
   pub frames : List Frame
   pub rest : List ℕ
   pub to : FramesAnswered limits channel first read written moments requested history now frames rest Going
@@ -108,7 +113,8 @@ pub record LastSaid (limits : Limits) (channel : ℕ) (first : State) (read unwr
   pub said_is : output_over channel (start first []) (before ++ heard_at moment (told_at word)) ++ last_words (end_at word) ≡ written ++ unwritten
 
 -- serving broke off at its last answer, and the state is the one that the events leave
-pub record BrokenOver (limits : Limits) (channel : ℕ) (first : State) (read written : List ℕ) (moments : List DateTime) (history : List ConnectionEvent) (now : State) : Type 0 where
+pub record BrokenOver (limits : Limits) (channel : ℕ) (first : State) (read written : List ℕ) (moments : List DateTime) (history : List ConnectionEvent)
+    (now : State) : Type 0 where
   pub unwritten : List ℕ
   pub last : LastSaid limits channel first read unwritten written history
   pub state_is : (course_over channel (start first []) history).state ≡ now
@@ -118,8 +124,10 @@ pub record BrokenOver (limits : Limits) (channel : ℕ) (first : State) (read wr
 
 -- how a connection ended that its own bytes ended
 abbrev pub EndedOver : Ending → Limits → ℕ → State → List ℕ → List ℕ → List DateTime → List AnsweredRequest → List ConnectionEvent → State → Type 0
-EndedOver ending.Closed limits channel first read written moments requested history now = AllAnswered limits channel first read written moments requested history now Over
-EndedOver (ending.Refused code) limits channel first read written moments requested history now = AllAnswered limits channel first read written moments requested history now (Stopped code.code)
+EndedOver ending.Closed limits channel first read written moments requested history now =
+    AllAnswered limits channel first read written moments requested history now Over
+EndedOver (ending.Refused code) limits channel first read written moments requested history now =
+    AllAnswered limits channel first read written moments requested history now (Stopped code.code)
 EndedOver ending.NoClose limits channel first read written moments requested history now = ⊥
 EndedOver ending.Cut limits channel first read written moments requested history now = ⊥
 
@@ -131,23 +139,34 @@ abbrev pub FailedOver : ServeFault → Limits → ℕ → State → List ℕ →
 FailedOver fault.Read limits channel first read written moments requested history now = ⊥
 FailedOver (fault.Write n) limits channel first read written moments requested history now =
     (broken : BrokenOver limits channel first read written moments history now) × (0 < length broken.unwritten) × (n ≡ min (length written) greatest)
-    × AreAsked limits channel broken.last.front (told_in broken.last.before ++ told_at broken.last.word) moments × (requested ≡ requests_over channel (start first []) history)
+    × AreAsked limits channel broken.last.front (told_in broken.last.before ++ told_at broken.last.word) moments
+    × (requested ≡ requests_over channel (start first []) history)
 FailedOver fault.OutOfMemory limits channel first read written moments requested history now =
     (broken : BrokenOver limits channel first read written moments history now)
-    × (((broken.last.part ≡ []) × (requested ≡ requests_over channel (start first []) broken.last.before)) ⊎ ((broken.unwritten ≡ []) × (requested ≡ requests_over channel (start first []) history)))
+    × (((broken.last.part ≡ []) × (requested ≡ requests_over channel (start first []) broken.last.before))
+    ⊎ ((broken.unwritten ≡ []) × (requested ≡ requests_over channel (start first []) history)))
 FailedOver fault.TooLong limits channel first read written moments requested history now = ⊥
 
 -- the outcome of serving, if these bytes were read and written at these times, these requests were
 -- told, and these bytes are to come
-abbrev pub ServesOver : Result Ending ServeFault → Limits → ℕ → State → List ℕ → List ℕ → List DateTime → List AnsweredRequest → List ConnectionEvent → State → List ℕ → Type 0
-ServesOver (Ok ending.Closed) limits channel first read written moments requested history now coming = EndedOver ending.Closed limits channel first read written moments requested history now
-ServesOver (Ok (ending.Refused code)) limits channel first read written moments requested history now coming = EndedOver (ending.Refused code) limits channel first read written moments requested history now
-ServesOver (Ok ending.NoClose) limits channel first read written moments requested history now coming = RanOutOver limits channel first read written moments requested history now coming IsClean
-ServesOver (Ok ending.Cut) limits channel first read written moments requested history now coming = RanOutOver limits channel first read written moments requested history now coming (λ frames rest. IsClean frames rest → ⊥)
-ServesOver (Err fault.Read) limits channel first read written moments requested history now coming = AllAnswered limits channel first read written moments requested history now Going
-ServesOver (Err (fault.Write n)) limits channel first read written moments requested history now coming = FailedOver (fault.Write n) limits channel first read written moments requested history now
-ServesOver (Err fault.OutOfMemory) limits channel first read written moments requested history now coming = FailedOver fault.OutOfMemory limits channel first read written moments requested history now
-ServesOver (Err fault.TooLong) limits channel first read written moments requested history now coming = AllAnswered limits channel first read written moments requested history now Going × (greatest ≤ length read)
+abbrev pub ServesOver : Result Ending ServeFault → Limits → ℕ → State → List ℕ → List ℕ → List DateTime → List AnsweredRequest → List ConnectionEvent → State
+    → List ℕ → Type 0
+ServesOver (Ok ending.Closed) limits channel first read written moments requested history now coming =
+    EndedOver ending.Closed limits channel first read written moments requested history now
+ServesOver (Ok (ending.Refused code)) limits channel first read written moments requested history now coming =
+    EndedOver (ending.Refused code) limits channel first read written moments requested history now
+ServesOver (Ok ending.NoClose) limits channel first read written moments requested history now coming =
+    RanOutOver limits channel first read written moments requested history now coming IsClean
+ServesOver (Ok ending.Cut) limits channel first read written moments requested history now coming =
+    RanOutOver limits channel first read written moments requested history now coming (λ frames rest. IsClean frames rest → ⊥)
+ServesOver (Err fault.Read) limits channel first read written moments requested history now coming =
+    AllAnswered limits channel first read written moments requested history now Going
+ServesOver (Err (fault.Write n)) limits channel first read written moments requested history now coming =
+    FailedOver (fault.Write n) limits channel first read written moments requested history now
+ServesOver (Err fault.OutOfMemory) limits channel first read written moments requested history now coming =
+    FailedOver fault.OutOfMemory limits channel first read written moments requested history now
+ServesOver (Err fault.TooLong) limits channel first read written moments requested history now coming =
+    AllAnswered limits channel first read written moments requested history now Going × (greatest ≤ length read)
 
 -- ---- by the transport
 
@@ -155,7 +174,9 @@ ServesOver (Err fault.TooLong) limits channel first read written moments request
 -- exactly these if the transport tells its bytes, timestamps were given and requests told in turn,
 -- and the application acted before each answer; what was written, told and left is that of the
 -- events
-pub record ServesApplication {M W A : Type 0} (limits : Limits) (channel : ℕ) (gives : M → ℤ → M → Type 0) (notes : W → AnsweredRequest → W → Type 0) (changes : A → State → A → State → Type 0) (first : State × A) (beside : M × W) (result : Result Ending ServeFault) (now : State × A) (later : M × W) (before after : Option Traffic) : Type 0 where
+pub record ServesApplication {M W A : Type 0} (limits : Limits) (channel : ℕ) (gives : M → ℤ → M → Type 0) (notes : W → AnsweredRequest → W → Type 0)
+    (changes : A → State → A → State → Type 0) (first : State × A) (beside : M × W) (result : Result Ending ServeFault) (now : State × A) (later : M × W)
+    (before after : Option Traffic) : Type 0 where
   pub read : List ℕ
   pub written : List ℕ
   pub happened : List Event

@@ -48,8 +48,10 @@ counted n more = min (n + more) greatest
 
 -- bytes were written and counted, all of them, or not the last
 abbrev pub Says : List ℕ → Result (Unit {0}) ServeFault → Serving → Serving → Option Traffic → Option Traffic → Type 0
-Says octets (Ok u) old new before after = (new ≡ record old { written = counted old.written (length octets) }) × IfTrafficKnown (MovesTraffic [] octets) before after
-Says octets (Err f) old new before after = (n : ℕ) × (f ≡ fault.Write (counted old.written n)) × (n < length octets) × IfTrafficKnown (MovesTraffic [] (take n octets)) before after
+Says octets (Ok u) old new before after = (new ≡ record old { written = counted old.written (length octets) })
+    × IfTrafficKnown (MovesTraffic [] octets) before after
+Says octets (Err f) old new before after = (n : ℕ) × (f ≡ fault.Write (counted old.written n)) × (n < length octets)
+    × IfTrafficKnown (MovesTraffic [] (take n octets)) before after
 
 -- an answer was made: the first one is the ACK, and those after it use the timestamp that is kept
 abbrev pub noted : Serving → Serving
@@ -83,7 +85,8 @@ pub record Begins (x : Serving) (limits : Limits) (channel : ℕ) : Type 0 where
 -- a connection that is served goes on, beside an application: of the output for the events these
 -- bytes are written and these are not yet; and of the timestamps given all are used, except the one
 -- that is kept, if there is one
-pub record Owes {A : Type 0} (changes : A → State → A → State → Type 0) (x : Serving) (limits : Limits) (channel : ℕ) (first : State × A) (read out written : List ℕ) (ticks : List Event) (now : State × A) : Type 0 where
+pub record Owes {A : Type 0} (changes : A → State → A → State → Type 0) (x : Serving) (limits : Limits) (channel : ℕ) (first : State × A)
+    (read out written : List ℕ) (ticks : List Event) (now : State × A) : Type 0 where
   pub limits_is : limits_of (channel_in x.server) ≡ limits
   pub channel_is : channel_of (channel_in x.server) ≡ channel
   pub history : List ConnectionEvent
@@ -104,7 +107,8 @@ abbrev pub Keeps : {A : Type 0} → (A → State → A → State → Type 0) →
 Keeps changes x limits channel first read written ticks now = Owes changes x limits channel first read [] written ticks now
 
 -- the connection ended, and of the output these bytes are not written yet
-pub record Ends {A : Type 0} (changes : A → State → A → State → Type 0) (x : Serving) (end : Ending) (limits : Limits) (channel : ℕ) (first : State × A) (read out written : List ℕ) (ticks : List Event) (now : State × A) : Type 0 where
+pub record Ends {A : Type 0} (changes : A → State → A → State → Type 0) (x : Serving) (end : Ending) (limits : Limits) (channel : ℕ) (first : State × A)
+    (read out written : List ℕ) (ticks : List Event) (now : State × A) : Type 0 where
   pub count_is : x.written ≡ min (length written) greatest
   pub history : List ConnectionEvent
   pub acted : Acts changes channel (start first.0 []) first.1 history now.1
@@ -114,14 +118,16 @@ pub record Ends {A : Type 0} (changes : A → State → A → State → Type 0) 
   pub asked : AreAskedBy out limits channel last.front (told_in last.before ++ told_at last.word) (moments_in ticks)
 
 -- how a connection ended
-pub record EndsTelling {A : Type 0} (changes : A → State → A → State → Type 0) (end : Ending) (limits : Limits) (channel : ℕ) (first : State × A) (read written : List ℕ) (ticks : List Event) (now : State × A) : Type 0 where
+pub record EndsTelling {A : Type 0} (changes : A → State → A → State → Type 0) (end : Ending) (limits : Limits) (channel : ℕ) (first : State × A)
+    (read written : List ℕ) (ticks : List Event) (now : State × A) : Type 0 where
   pub history : List ConnectionEvent
   pub acted : Acts changes channel (start first.0 []) first.1 history now.1
   pub acts_first : ActsFirst false history
   pub ends : EndedOver end limits channel first.0 read written (moments_in ticks) (noted_in ticks) history now.0
 
 -- how an answer failed
-pub record FailsTelling {A : Type 0} (changes : A → State → A → State → Type 0) (f : ServeFault) (limits : Limits) (channel : ℕ) (first : State × A) (read written : List ℕ) (ticks : List Event) (now : State × A) : Type 0 where
+pub record FailsTelling {A : Type 0} (changes : A → State → A → State → Type 0) (f : ServeFault) (limits : Limits) (channel : ℕ) (first : State × A)
+    (read written : List ℕ) (ticks : List Event) (now : State × A) : Type 0 where
   pub history : List ConnectionEvent
   pub acted : Acts changes channel (start first.0 []) first.1 history now.1
   pub acts_first : ActsFirst false history
@@ -129,34 +135,43 @@ pub record FailsTelling {A : Type 0} (changes : A → State → A → State → 
 
 -- the outcome for a prefix of a fragment, by how the connection ended, if it did, before its
 -- response is written
-abbrev pub AdvancesTo : {A : Type 0} → (A → State → A → State → Type 0) → Option Ending → Serving → Limits → ℕ → State × A → List ℕ → List ℕ → List ℕ → List Event → State × A → Type 0
+abbrev pub AdvancesTo : {A : Type 0} → (A → State → A → State → Type 0) → Option Ending → Serving → Limits → ℕ → State × A → List ℕ → List ℕ → List ℕ
+    → List Event → State × A → Type 0
 AdvancesTo changes None x limits channel first read out written ticks now = Owes changes x limits channel first read out written ticks now
 AdvancesTo changes (Some end) x limits channel first read out written ticks now = Ends changes x end limits channel first read out written ticks now
 
 -- a step, whose answer is not written yet
-abbrev pub Steps : {A : Type 0} → (A → State → A → State → Type 0) → Result Step StepFault → Serving → Limits → ℕ → State × A → List ℕ → List ℕ → List ℕ → List Event → State × A → Type 0
-Steps changes (Ok step) x limits channel first piece read written ticks now = AdvancesTo changes step.end x limits channel first (read ++ take step.taken piece) step.out.items written ticks now
-Steps changes (Err f) x limits channel first piece read written ticks now = FailsTelling changes fault.OutOfMemory limits channel first (read ++ piece) written ticks now
+abbrev pub Steps : {A : Type 0} → (A → State → A → State → Type 0) → Result Step StepFault → Serving → Limits → ℕ → State × A → List ℕ → List ℕ → List ℕ
+    → List Event → State × A → Type 0
+Steps changes (Ok step) x limits channel first piece read written ticks now = AdvancesTo changes step.end x limits channel first (read ++ take step.taken piece)
+    step.out.items written ticks now
+Steps changes (Err f) x limits channel first piece read written ticks now = FailsTelling changes fault.OutOfMemory limits channel first
+    (read ++ piece) written ticks now
 
 -- the same by how the connection ended, once the answer is written
-abbrev pub TurnsTo : {A : Type 0} → (A → State → A → State → Type 0) → Option Ending → Serving → Limits → ℕ → State × A → List ℕ → List ℕ → List Event → State × A → Type 0
+abbrev pub TurnsTo : {A : Type 0} → (A → State → A → State → Type 0) → Option Ending → Serving → Limits → ℕ → State × A → List ℕ → List ℕ → List Event
+    → State × A → Type 0
 TurnsTo changes None x limits channel first read written ticks now = Keeps changes x limits channel first read written ticks now
 TurnsTo changes (Some end) x limits channel first read written ticks now = EndsTelling changes end limits channel first read written ticks now
 
 -- a step and its response
-abbrev pub Turns : {A : Type 0} → (A → State → A → State → Type 0) → Result (ℕ × Option Ending) ServeFault → Serving → Limits → ℕ → State × A → List ℕ → List ℕ → List ℕ → List Event → State × A → Type 0
-Turns changes (Ok turn) x limits channel first piece read written ticks now = TurnsTo changes turn.1 x limits channel first (read ++ take turn.0 piece) written ticks now
+abbrev pub Turns : {A : Type 0} → (A → State → A → State → Type 0) → Result (ℕ × Option Ending) ServeFault → Serving → Limits → ℕ → State × A → List ℕ → List ℕ
+    → List ℕ → List Event → State × A → Type 0
+Turns changes (Ok turn) x limits channel first piece read written ticks now = TurnsTo changes turn.1 x limits channel first (read ++ take turn.0 piece) written
+    ticks now
 Turns changes (Err f) x limits channel first piece read written ticks now = FailsTelling changes f limits channel first (read ++ piece) written ticks now
 
 -- a whole fragment, or the bytes of it up to the end of the connection
-abbrev pub Handles : {A : Type 0} → (A → State → A → State → Type 0) → Result (Option Ending) ServeFault → Serving → Limits → ℕ → State × A → List ℕ → List ℕ → List Event → State × A → Type 0
+abbrev pub Handles : {A : Type 0} → (A → State → A → State → Type 0) → Result (Option Ending) ServeFault → Serving → Limits → ℕ → State × A → List ℕ → List ℕ
+    → List Event → State × A → Type 0
 Handles changes (Ok end) x limits channel first read written ticks now = TurnsTo changes end x limits channel first read written ticks now
 Handles changes (Err f) x limits channel first read written ticks now = FailsTelling changes f limits channel first read written ticks now
 
 -- ---- what is exchanged
 
 -- in between bytes were read and written, timestamps given and requests told, with this property
-pub record Exchanged {M : Type 0} (gives : M → Event → M → Type 0) (moments later : M) (read : List ℕ) (before after : Option Traffic) (P : List ℕ → List Event → Type 0) : Type 0 where
+pub record Exchanged {M : Type 0} (gives : M → Event → M → Type 0) (moments later : M) (read : List ℕ) (before after : Option Traffic) (P : List ℕ → List Event
+    → Type 0) : Type 0 where
   pub written : List ℕ
   pub ticks : List Event
   pub moved : IfTrafficKnown (MovesTraffic read written) before after
@@ -176,7 +191,8 @@ pub record OfEventsBetween {M : Type 0} (step : M → Event → M → Type 0) (b
   pub holds : P ticks
 
 -- a transport is read up to its end: this many reads returned this, and it is answered
-pub record Reads {M : Type 0} (gives : M → Event → M → Type 0) (moments later : M) (before after : Option Traffic) (reads : ℕ) (P : List ℕ → List ℕ → List Event → Type 0) : Type 0 where
+pub record Reads {M : Type 0} (gives : M → Event → M → Type 0) (moments later : M) (before after : Option Traffic) (reads : ℕ) (P : List ℕ → List ℕ → List Event
+    → Type 0) : Type 0 where
   pub read : List ℕ
   pub enough : reads ≤ length read
   pub exchanged : Exchanged gives moments later read before after (λ written ticks. P read written ticks)

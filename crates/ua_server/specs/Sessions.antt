@@ -63,7 +63,8 @@ create_reasons s = (bad_too_many_sessions, not (is_none s.session) || nat_eq s.m
 -- the next session, with the requested timeout, the one endpoint, and the most bytes of a request
 abbrev pub session_given : State → DateTime → CreateSessionRequest → Response
 session_given s moment m =
-    CreateSession (session_of (good_header moment m.request_header) (session_id (s.made + 1)) (session_token (s.made + 1)) m.requested_session_timeout (Some (description_of s.endpoint ∷ [])) s.endpoint.message_limit)
+    CreateSession (session_of (good_header moment m.request_header) (session_id (s.made + 1)) (session_token (s.made + 1)) m.requested_session_timeout
+    (Some (description_of s.endpoint ∷ [])) s.endpoint.message_limit)
 
 -- ---- ActivateSession (OPC 10000-4, 5.7.3)
 

@@ -87,7 +87,8 @@ sent_to channels k p (e ∷ es) = sent_at channels k p e ++ sent_to channels k (
 -- an event as a connection sees it: what its own frame tells; otherwise the nodes and the number of
 -- sessions made that the event leaves
 abbrev pub seen_as : (ℕ → ℕ) → ℕ → SharedState → SharedEvent → ConnectionEvent
-seen_as channels k p (At j t moment) = cond (nat_eq k j) (Heard t moment) (Became (answer_at channels p j t moment).1.state.nodes (answer_at channels p j t moment).1.state.made)
+seen_as channels k p (At j t moment) =
+    cond (nat_eq k j) (Heard t moment) (Became (answer_at channels p j t moment).1.state.nodes (answer_at channels p j t moment).1.state.made)
 seen_as channels k p (Changed nodes) = Became nodes p.state.made
 
 -- these events as a connection sees them
@@ -110,7 +111,8 @@ at_moment k moment told = map (λ t. At k t moment) told
 -- the state of a connection is that after these bytes of its client and these events of all: the
 -- services were in the first state before any connection began and are in this one now, this is its
 -- session, if there is one, and the chunk that is sent to it next has the number that is due
-pub record StandsAmong (channels : ℕ → ℕ) (k : ℕ) (x : ServerChannel) (session : Option Session) (octets : List ℕ) (es : List SharedEvent) (first now : State) : Type 0 where
+pub record StandsAmong (channels : ℕ → ℕ) (k : ℕ) (x : ServerChannel) (session : Option Session) (octets : List ℕ) (es : List SharedEvent)
+    (first now : State) : Type 0 where
   pub channel_is : channel_of x ≡ channels k
   pub goes : Goes x octets (told_by k es)
   pub state_is : (shared_over channels (opened first) es).state ≡ now
@@ -121,23 +123,30 @@ pub record StandsAmong (channels : ℕ → ℕ) (k : ℕ) (x : ServerChannel) (s
 -- of a rejection, is what was sent to it before and this
 abbrev pub EndsAmong : End ℕ → (ℕ → ℕ) → ℕ → ServerChannel → List ℕ → List ℕ → List SharedEvent → List SharedEvent → State → State → State → Type 0
 EndsAmong end channels k new octets out es more first before now =
-    EndedAt end new octets (told_by k (es ++ more)) × (now ≡ before) × (sent_to channels k (opened first) (es ++ more) ++ last_words end ≡ sent_to channels k (opened first) es ++ out)
+    EndedAt end new octets (told_by k (es ++ more)) × (now ≡ before)
+    × (sent_to channels k (opened first) (es ++ more) ++ last_words end ≡ sent_to channels k (opened first) es ++ out)
 
 -- by how the connection ended, if it did; otherwise its state is that after all events, and what is
 -- sent to it over them is what was sent to it before and this
-abbrev pub AmongBy : Option Ending → (ℕ → ℕ) → ℕ → ServerChannel → Option Session → List ℕ → List ℕ → List SharedEvent → List SharedEvent → State → State → State → Type 0
+abbrev pub AmongBy : Option Ending → (ℕ → ℕ) → ℕ → ServerChannel → Option Session → List ℕ → List ℕ → List SharedEvent → List SharedEvent → State → State
+    → State → Type 0
 AmongBy None channels k new session octets out es more first before now =
-    StandsAmong channels k new session octets (es ++ more) first now × (sent_to channels k (opened first) (es ++ more) ≡ sent_to channels k (opened first) es ++ out)
+    StandsAmong channels k new session octets (es ++ more) first now
+    × (sent_to channels k (opened first) (es ++ more) ≡ sent_to channels k (opened first) es ++ out)
 AmongBy (Some ending.Closed) channels k new session octets out es more first before now = EndsAmong Over channels k new octets out es more first before now
-AmongBy (Some (ending.Refused code)) channels k new session octets out es more first before now = EndsAmong (Stopped code.code) channels k new octets out es more first before now
+AmongBy (Some (ending.Refused code)) channels k new session octets out es more first before now =
+    EndsAmong (Stopped code.code) channels k new octets out es more first before now
 AmongBy (Some ending.NoClose) channels k new session octets out es more first before now = ⊥
 AmongBy (Some ending.Cut) channels k new session octets out es more first before now = ⊥
 
 -- the outcome for a fragment of the connection's bytes; if an allocation failed the connection
 -- ended, and no more than its first whole message was handled, whose reply is not sent
-abbrev pub ResultAmong : Limits → (ℕ → ℕ) → ℕ → List ℕ → Result Step StepFault → ServerChannel → Option Session → List ℕ → List SharedEvent → List SharedEvent → List Told → State → State → State → Type 0
-ResultAmong limits channels k piece (Ok step) new session octets es more told first before now = AmongBy step.end channels k new session (octets ++ take step.taken piece) step.out.items es more first before now
-ResultAmong limits channels k piece (Err step_fault.OutOfMemory) new session octets es more told first before now = IsDone new × IsHandled limits (channels k) piece octets (told_by k es) told
+abbrev pub ResultAmong : Limits → (ℕ → ℕ) → ℕ → List ℕ → Result Step StepFault → ServerChannel → Option Session → List ℕ → List SharedEvent → List SharedEvent
+    → List Told → State → State → State → Type 0
+ResultAmong limits channels k piece (Ok step) new session octets es more told first before now =
+    AmongBy step.end channels k new session (octets ++ take step.taken piece) step.out.items es more first before now
+ResultAmong limits channels k piece (Err step_fault.OutOfMemory) new session octets es more told first before now = IsDone new
+    × IsHandled limits (channels k) piece octets (told_by k es) told
 ResultAmong limits channels k piece (Err step_fault.Closed) new session octets es more told first before now = ⊥
 
 -- the events tell and send nothing to any other connection, also none to one that ended or that has
@@ -145,11 +154,13 @@ ResultAmong limits channels k piece (Err step_fault.Closed) new session octets e
 abbrev pub OthersStand : (ℕ → ℕ) → ℕ → List SharedEvent → List SharedEvent → State → State → State → Type 0
 OthersStand channels k es more first before now =
     (j : ℕ) → (j ≡ k → ⊥) → (told_by j (es ++ more) ≡ told_by j es) × (sent_to channels j (opened first) (es ++ more) ≡ sent_to channels j (opened first) es)
-    × ((x : ServerChannel) (session : Option Session) (octets : List ℕ) → StandsAmong channels j x session octets es first before → StandsAmong channels j x session octets (es ++ more) first now)
+    × ((x : ServerChannel) (session : Option Session) (octets : List ℕ) → StandsAmong channels j x session octets es first before
+    → StandsAmong channels j x session octets (es ++ more) first now)
 
 -- what a step of one connection at a time adds to the events of all: what its frames tell at this
 -- time, and nothing else; the state that all events leave is the one that it leaves
-pub record StepAmong (limits : Limits) (channels : ℕ → ℕ) (k : ℕ) (moment : DateTime) (piece : List ℕ) (result : Result Step StepFault) (new : ServerChannel) (session : Option Session) (octets : List ℕ) (es : List SharedEvent) (first before now : State) : Type 0 where
+pub record StepAmong (limits : Limits) (channels : ℕ → ℕ) (k : ℕ) (moment : DateTime) (piece : List ℕ) (result : Result Step StepFault) (new : ServerChannel)
+    (session : Option Session) (octets : List ℕ) (es : List SharedEvent) (first before now : State) : Type 0 where
   pub told : List Told
   pub left_is : (shared_over channels (opened first) (es ++ at_moment k moment told)).state ≡ now
   pub comes_to : ResultAmong limits channels k piece result new session octets es (at_moment k moment told) told first before now

@@ -28,7 +28,13 @@ begun s = record { nodes = s.nodes; endpoint = s.endpoint; memory_limit = s.memo
 
 -- the state with one more session, which is not activated yet
 abbrev pub with_next_session : State → State
-with_next_session s = record { nodes = s.nodes; endpoint = s.endpoint; memory_limit = s.memory_limit; made = s.made + 1; session = Some (record { number = s.made + 1; activated = false }) }
+with_next_session s = record {
+  nodes = s.nodes;
+  endpoint = s.endpoint;
+  memory_limit = s.memory_limit;
+  made = s.made + 1;
+  session = Some (record { number = s.made + 1; activated = false });
+}
 
 -- the state with these nodes
 abbrev pub with_nodes : State → Nodes → State

@@ -1,5 +1,6 @@
 -- The state of a server after bytes, and the outcome of a step.
-use Rattle.std.specs.Prelude.{◌≡◌, ◌⊎◌, ℕ, ◌<◌, ◌≤◌, Bool, true, false, IsTrue, List, [], ◌∷◌, ◌++◌, map, replicate, take, length, Option, None, Some, Result, Ok, Err}
+use Rattle.std.specs.Prelude.{◌≡◌, ◌⊎◌, ℕ, ◌<◌, ◌≤◌, Bool, true, false, IsTrue, List, [], ◌∷◌, ◌++◌}
+use Rattle.std.specs.Prelude.{map, replicate, take, length, Option, None, Some, Result, Ok, Err}
 use Rattle.ua_builtin.specs.declared.date_time.DateTime.{DateTime}
 use Rattle.ua_frame.specs.Run.{Going, Run, Stopped, Over, events}
 use Rattle.ua_frame.specs.declared.frame.Frame.{Frame}
@@ -56,15 +57,18 @@ Stops new octets piece n out before (t ∷ (u ∷ more)) = ⊥
 
 -- the connection goes on: what was taken told that messages were aborted, and then at most one
 -- thing more, which is answered; what is sent for it is what the server sends
-pub record StepGoes (channel : ℕ) (moment : DateTime) (piece : List ℕ) (n : ℕ) (out : List ℕ) (new : ServerChannel) (octets : List ℕ) (told : List Told) (first : State) (moments : List DateTime) (now : State) : Type 0 where
+pub record StepGoes (channel : ℕ) (moment : DateTime) (piece : List ℕ) (n : ℕ) (out : List ℕ) (new : ServerChannel) (octets : List ℕ) (told : List Told)
+    (first : State) (moments : List DateTime) (now : State) : Type 0 where
   pub quiet : List ℕ
   pub more : List Told
   pub stops : Stops new octets piece n out (told ++ given_up quiet) more
   pub stands : ServerStands new (octets ++ take n piece) ((told ++ given_up quiet) ++ more) first (moments ++ times_of_answers more moment) now
-  pub out_is : output_of channel first ((told ++ given_up quiet) ++ more) Going (moments ++ times_of_answers more moment) ≡ output_of channel first told Going moments ++ out
+  pub out_is : output_of channel first ((told ++ given_up quiet) ++ more) Going (moments ++ times_of_answers more moment)
+      ≡ output_of channel first told Going moments ++ out
 
 -- the connection ended at the last byte of a CLO, and nothing is sent
-pub record StepCloses (channel : ℕ) (piece : List ℕ) (n : ℕ) (out : List ℕ) (new : ServerChannel) (octets : List ℕ) (told : List Told) (first : State) (moments : List DateTime) (before now : State) : Type 0 where
+pub record StepCloses (channel : ℕ) (piece : List ℕ) (n : ℕ) (out : List ℕ) (new : ServerChannel) (octets : List ℕ) (told : List Told) (first : State)
+    (moments : List DateTime) (before now : State) : Type 0 where
   pub quiet : List ℕ
   pub some : (0 < n) × (n ≤ length piece)
   pub closed : ClosedAt new (octets ++ take n piece) ((told ++ given_up quiet) ++ Closed ∷ [])
@@ -74,7 +78,8 @@ pub record StepCloses (channel : ℕ) (piece : List ℕ) (n : ℕ) (out : List �
   pub out_is : output_of channel first ((told ++ given_up quiet) ++ Closed ∷ []) Over moments ≡ output_of channel first told Going moments ++ out
 
 -- the server rejected what follows, and the last bytes that it sends are the ERR frame
-pub record StepRefuses (channel : ℕ) (code : ℕ) (piece : List ℕ) (n : ℕ) (out : List ℕ) (new : ServerChannel) (octets : List ℕ) (told : List Told) (first : State) (moments : List DateTime) (before now : State) : Type 0 where
+pub record StepRefuses (channel : ℕ) (code : ℕ) (piece : List ℕ) (n : ℕ) (out : List ℕ) (new : ServerChannel) (octets : List ℕ) (told : List Told)
+    (first : State) (moments : List DateTime) (before now : State) : Type 0 where
   pub quiet : List ℕ
   pub within : n ≤ length piece
   pub refused : RefusedAt new (octets ++ take n piece) (told ++ given_up quiet) code
@@ -97,7 +102,8 @@ pub record EndsMessage (limits : Limits) (channel : ℕ) (piece : List ℕ) (oct
   pub tells : (server_rules limits channel).tells frames frame ≡ Asked id token message ∷ []
 
 -- the state that the first whole message of the fragment leaves
-pub record LeftByMessage (limits : Limits) (channel : ℕ) (moment : DateTime) (piece : List ℕ) (octets : List ℕ) (told : List Told) (before now : State) : Type 0 where
+pub record LeftByMessage (limits : Limits) (channel : ℕ) (moment : DateTime) (piece : List ℕ) (octets : List ℕ) (told : List Told) (before now : State) : Type
+    0 where
   pub message : List ℕ
   pub ends : EndsMessage limits channel piece octets told message
   pub now_is : now ≡ (answered before moment message).0
@@ -105,20 +111,26 @@ pub record LeftByMessage (limits : Limits) (channel : ℕ) (moment : DateTime) (
 -- an allocation failed: the state is unchanged, or the one that the first whole message of the
 -- fragment leaves
 abbrev pub StepBreaks : Limits → ℕ → DateTime → List ℕ → ServerChannel → List ℕ → List Told → State → State → Type 0
-StepBreaks limits channel moment piece new octets told before now = IsDone new × ((now ≡ before) ⊎ LeftByMessage limits channel moment piece octets told before now)
+StepBreaks limits channel moment piece new octets told before now = IsDone new
+    × ((now ≡ before) ⊎ LeftByMessage limits channel moment piece octets told before now)
 
 -- by how the connection ended, if it did
 abbrev pub StepBy : ℕ → DateTime → List ℕ → Option Ending → ℕ → List ℕ → ServerChannel → List ℕ → List Told → State → List DateTime → State → State → Type 0
 StepBy channel moment piece None n out new octets told first moments before now = StepGoes channel moment piece n out new octets told first moments now
-StepBy channel moment piece (Some ending.Closed) n out new octets told first moments before now = StepCloses channel piece n out new octets told first moments before now
-StepBy channel moment piece (Some (ending.Refused code)) n out new octets told first moments before now = StepRefuses channel code.code piece n out new octets told first moments before now
+StepBy channel moment piece (Some ending.Closed) n out new octets told first moments before now =
+    StepCloses channel piece n out new octets told first moments before now
+StepBy channel moment piece (Some (ending.Refused code)) n out new octets told first moments before now =
+    StepRefuses channel code.code piece n out new octets told first moments before now
 StepBy channel moment piece (Some ending.NoClose) n out new octets told first moments before now = ⊥
 StepBy channel moment piece (Some ending.Cut) n out new octets told first moments before now = ⊥
 
 -- the outcome of a step for a fragment at a time, from the state of the server after bytes
-abbrev pub StepAnswers : Limits → ℕ → DateTime → List ℕ → Result Step StepFault → ServerChannel → List ℕ → List Told → State → List DateTime → State → State → Type 0
-StepAnswers limits channel moment piece (Ok step) new octets told first moments before now = StepBy channel moment piece step.end step.taken step.out.items new octets told first moments before now
-StepAnswers limits channel moment piece (Err step_fault.OutOfMemory) new octets told first moments before now = StepBreaks limits channel moment piece new octets told before now
+abbrev pub StepAnswers : Limits → ℕ → DateTime → List ℕ → Result Step StepFault → ServerChannel → List ℕ → List Told → State → List DateTime → State → State
+    → Type 0
+StepAnswers limits channel moment piece (Ok step) new octets told first moments before now =
+    StepBy channel moment piece step.end step.taken step.out.items new octets told first moments before now
+StepAnswers limits channel moment piece (Err step_fault.OutOfMemory) new octets told first moments before now =
+    StepBreaks limits channel moment piece new octets told before now
 StepAnswers limits channel moment piece (Err step_fault.Closed) new octets told first moments before now = ⊥
 
 -- ---- where a step leaves a server, whatever the state of its services
@@ -174,25 +186,34 @@ is_given_up (Ok event.Closed) = false
 is_given_up (Err f) = false
 
 -- what is answered after messages that were aborted
-pub record AnswersBehind (channel number : ℕ) (moment : DateTime) (piece : List ℕ) (n : ℕ) (answer : Result ServerEvent ChannelFault) (new : ServerChannel) (octets : List ℕ) (before : List Told) : Type 0 where
+pub record AnswersBehind (channel number : ℕ) (moment : DateTime) (piece : List ℕ) (n : ℕ) (answer : Result ServerEvent ChannelFault) (new : ServerChannel)
+    (octets : List ℕ) (before : List Told) : Type 0 where
   pub quiet : List ℕ
   pub answers : AnswersAt channel number moment piece n answer new octets (before ++ given_up quiet)
 
 -- what is answered is told separately, and which request it is, if it is one
-pub record Tells (answered : Bool) (request : Option AnsweredRequest) (channel : ℕ) (moment : DateTime) (piece : List ℕ) (n : ℕ) (out : List ℕ) (new : ServerChannel) (octets : List ℕ) (told : List Told) (first : State) (moments : List DateTime) (now : State) : Type 0 where
+pub record Tells (answered : Bool) (request : Option AnsweredRequest) (channel : ℕ) (moment : DateTime) (piece : List ℕ) (n : ℕ) (out : List ℕ)
+    (new : ServerChannel) (octets : List ℕ) (told : List Told) (first : State) (moments : List DateTime) (now : State) : Type 0 where
   pub goes : StepGoes channel moment piece n out new octets told first moments now
   pub answered_is : answered ≡ has_some goes.more
-  pub requests_are : requests channel first ((told ++ given_up goes.quiet) ++ goes.more) (moments ++ times_of_answers goes.more moment) ≡ requests channel first told moments ++ listed request
+  pub requests_are : requests channel first ((told ++ given_up goes.quiet) ++ goes.more) (moments ++ times_of_answers goes.more moment)
+      ≡ requests channel first told moments ++ listed request
 
 -- the same by how the connection ended, with whether something was answered, and which request
-abbrev pub AdvanceBy : Bool → Option AnsweredRequest → ℕ → DateTime → List ℕ → Option Ending → ℕ → List ℕ → ServerChannel → List ℕ → List Told → State → List DateTime → State → State → Type 0
-AdvanceBy answered request channel moment piece None n out new octets told first moments before now = Tells answered request channel moment piece n out new octets told first moments now
-AdvanceBy answered request channel moment piece (Some end) n out new octets told first moments before now = StepBy channel moment piece (Some end) n out new octets told first moments before now × (answered ≡ false)
+abbrev pub AdvanceBy : Bool → Option AnsweredRequest → ℕ → DateTime → List ℕ → Option Ending → ℕ → List ℕ → ServerChannel → List ℕ → List Told → State
+    → List DateTime → State → State → Type 0
+AdvanceBy answered request channel moment piece None n out new octets told first moments before now =
+    Tells answered request channel moment piece n out new octets told first moments now
+AdvanceBy answered request channel moment piece (Some end) n out new octets told first moments before now =
+    StepBy channel moment piece (Some end) n out new octets told first moments before now × (answered ≡ false)
 
 -- the outcome of a step, with whether something was answered, and which request
-abbrev pub Advances : Limits → ℕ → DateTime → List ℕ → Result Advanced StepFault → ServerChannel → List ℕ → List Told → State → List DateTime → State → State → Type 0
-Advances limits channel moment piece (Ok found) new octets told first moments before now = AdvanceBy found.answered found.request channel moment piece found.step.end found.step.taken found.step.out.items new octets told first moments before now
-Advances limits channel moment piece (Err f) new octets told first moments before now = StepAnswers limits channel moment piece (Err f) new octets told first moments before now
+abbrev pub Advances : Limits → ℕ → DateTime → List ℕ → Result Advanced StepFault → ServerChannel → List ℕ → List Told → State → List DateTime → State → State
+    → Type 0
+Advances limits channel moment piece (Ok found) new octets told first moments before now =
+    AdvanceBy found.answered found.request channel moment piece found.step.end found.step.taken found.step.out.items new octets told first moments before now
+Advances limits channel moment piece (Err f) new octets told first moments before now =
+    StepAnswers limits channel moment piece (Err f) new octets told first moments before now
 
 -- the state in which it leaves a server, with whether something was answered
 abbrev pub AdvanceStands : List ℕ → Result Advanced StepFault → ServerChannel → List ℕ → List Told → Type 0

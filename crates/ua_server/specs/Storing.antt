@@ -48,5 +48,6 @@ StepStores piece (Err f) written new octets told before = Unit {0}
 
 -- the same for a step that tells which request it answered
 abbrev pub AdvanceStores : List ℕ → Result Advanced StepFault → List WriteValue → ServerChannel → List ℕ → List Told → State → Type 0
-AdvanceStores piece (Ok found) written new octets told before = StoresBy piece found.step.end found.step.taken found.step.out.items written new octets told before
+AdvanceStores piece (Ok found) written new octets told before = StoresBy piece found.step.end found.step.taken found.step.out.items written new octets told
+    before
 AdvanceStores piece (Err f) written new octets told before = Unit {0}

@@ -1,6 +1,7 @@
 //! The services Read and Write.
 
-ghost use Rattle.std.specs.Prelude.{◌≡◌, ◌+◌, ◌<◌, ◌≤◌, ◌++◌, IsTrue, IfOk, OnOk, OnErr, None, option_map, length, vec_len, vec_capacity};
+ghost use Rattle.std.specs.Prelude.{◌≡◌, ◌+◌, ◌<◌, ◌≤◌, ◌++◌, IsTrue, IfOk, OnOk, OnErr};
+ghost use Rattle.std.specs.Prelude.{None, option_map, length, vec_len, vec_capacity};
 ghost use Rattle.std.specs.List.{list_all};
 ghost use Rattle.ua_builtin.specs.Format.{Extends};
 ghost use Rattle.ua_builtin.specs.NodeId.{node_id};
@@ -16,7 +17,8 @@ ghost use Rattle.ua_variant.specs.Formats.{data_value_format};
 ghost use Rattle.ua_server.specs.State.{with_nodes};
 ghost use Rattle.ua_server.specs.Answer.{read_items, write_items};
 ghost use Rattle.ua_server.specs.Reply.{IsBodyWithin};
-ghost use Rattle.ua_server.specs.Attributes.{items_of, most_items, value_from, count_reasons, items_reasons, read_reasons, read_answers, values_given};
+ghost use Rattle.ua_server.specs.Attributes.{items_of, most_items, value_from, count_reasons};
+ghost use Rattle.ua_server.specs.Attributes.{items_reasons, read_reasons, read_answers, values_given};
 
 use crate::reply::body_of;
 use crate::services::Services;
@@ -96,7 +98,8 @@ impl ReadResults for ReadAnswers<'_> {
 
     ghost writable = { λ a. IsSound a.nodes.now × (length a.items.now ≤ most_items) };
 
-    ghost adds = { λ a old new. IsWithin a.most (answer_octets a.nodes.now a.stamps a.moment) a.items.now (old ++ number_octets 4 (length a.items.now)) new };
+    ghost adds = { λ a old new. IsWithin a.most (answer_octets a.nodes.now a.stamps a.moment) a.items.now
+        (old ++ number_octets 4 (length a.items.now)) new };
 
     fn append_results(&self, out: &mut Vec<u8>) -> Result<(), AllocError> {
         (self.items.len() as u32).append(out)?;
@@ -149,7 +152,8 @@ impl Services {
         stamps: Stamps,
         moment: DateTime,
     ) -> Result<DataValue, AllocError>
-        ensures value { IfOk result (λ d. d ≡ value_from (read_answer (node_at self.now.nodes item.now.node_id) item.now stamps moment)) }
+        ensures value { IfOk result
+            (λ d. d ≡ value_from (read_answer (node_at self.now.nodes item.now.node_id) item.now stamps moment)) }
         ensures encodable { IfOk result (λ d. IsTrue (data_value_format.encodable d)) }
     {
         self.nodes.read_item(alloc, item, stamps, moment)
@@ -206,7 +210,8 @@ impl Services {
         most: Option<usize>,
     ) -> Result<Vec<u8>, AllocError>
         requires few { length (items_of request.now.nodes_to_read) ≤ most_items }
-        ensures body { IfOk result (λ body. IsBodyWithin most (response.canonical (values_given self.now moment request.now)) body.items) }
+        ensures body { IfOk result
+            (λ body. IsBodyWithin most (response.canonical (values_given self.now moment request.now)) body.items) }
         ensures some { IfOk result (λ body. 0 < length body.items) }
     {
         let stamps = Stamps::of_number(request.timestamps_to_return).unwrap_or(Stamps::Neither);
@@ -235,9 +240,11 @@ impl Services {
         moment: DateTime,
         most: Option<usize>,
     ) -> Result<(Vec<u8>, StatusCode), AllocError>
-        ensures body { IfOk result (λ told. IsBodyWithin most (response.canonical (read_items self.now moment request.now).1) told.0.items) }
+        ensures body { IfOk result
+            (λ told. IsBodyWithin most (response.canonical (read_items self.now moment request.now).1) told.0.items) }
         ensures some { IfOk result (λ told. 0 < length told.0.items) }
-        ensures code { IfOk result (λ told. told.1 ≡ (header_of (read_items self.now moment request.now).1).service_result) }
+        ensures code { IfOk result
+            (λ told. told.1 ≡ (header_of (read_items self.now moment request.now).1).service_result) }
     {
         if let Some(code) = self.read_refusal(request) {
             let handle = request.request_header.request_handle;
@@ -269,8 +276,10 @@ impl Services {
         statuses: &mut Vec<StatusCode>,
     )
         requires { vec_len statuses.old + vec_len items ≤ vec_capacity statuses.old }
-        ensures answers { statuses.new.items ≡ statuses.old.items ++ limited_answers self.old.memory_limit self.old.nodes items.items }
-        ensures state { self.new ≡ with_nodes self.old (after_limited self.old.memory_limit items.items moment self.old.nodes) }
+        ensures answers { statuses.new.items ≡ statuses.old.items ++ limited_answers self.old.memory_limit
+            self.old.nodes items.items }
+        ensures state { self.new ≡ with_nodes self.old
+            (after_limited self.old.memory_limit items.items moment self.old.nodes) }
     {
         match self.memory_limit {
             None => self.nodes.write_items(items, moment, statuses),
@@ -286,8 +295,11 @@ impl Services {
         items: UaArray<WriteValue>,
         moment: DateTime,
     ) -> Result<Vec<StatusCode>, AllocError>
-        ensures answers { IfOk result (λ v. v.items ≡ limited_answers self.old.memory_limit self.old.nodes (items_of items)) }
-        ensures state { IfOk result (λ v. self.new ≡ with_nodes self.old (after_limited self.old.memory_limit (items_of items) moment self.old.nodes)) }
+        ensures answers { IfOk result (λ v. v.items ≡ limited_answers self.old.memory_limit self.old.nodes
+            (items_of items)) }
+        ensures state { IfOk result
+            (λ v. self.new ≡ with_nodes self.old
+            (after_limited self.old.memory_limit (items_of items) moment self.old.nodes)) }
         ensures kept { OnErr result (self.new ≡ self.old) }
         ensures count { IfOk result (λ v. length v.items ≡ length (items_of items)) }
         ensures encodable { IfOk result (λ v. IsTrue (list_all status_code.encodable v.items)) }

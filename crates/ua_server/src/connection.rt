@@ -3,7 +3,8 @@
 ghost use Rattle.std.specs.Prelude.{◌≡◌, ◌≤◌, ◌↔◌, [], ℕ, List, Err, None, IfOk, OnErr, IsErrOf, IsTrue};
 ghost use Rattle.std.specs.Map.{keys_of};
 ghost use Rattle.ua_channel.specs.Received.{received};
-ghost use Rattle.ua_channel.specs.ServerStands.{limits_of, channel_of, next_of, bound_of, bound_after, held_after, Goes, IsDone, ChannelStands as Holds};
+ghost use Rattle.ua_channel.specs.ServerStands.{limits_of, channel_of, next_of, bound_of, bound_after};
+ghost use Rattle.ua_channel.specs.ServerStands.{held_after, Goes, IsDone, ChannelStands as Holds};
 ghost use Rattle.ua_channel.specs.ServerTold.{Told};
 ghost use Rattle.ua_frame.specs.declared.frame.Frame.{Frame};
 ghost use Rattle.ua_server.specs.History.{ConnectionEvent, StandsOver, StepOver};
@@ -39,7 +40,8 @@ impl Connection {
     /// A connection that waits for a client's HEL, with these limits. Its channel will have this
     /// SecureChannelId, which no other open channel of the server has (OPC 10000-6, 6.7.2).
     pub fn new(alloc: Global, limits: Limits, channel_id: u32) -> Connection
-        ensures among { (channels : ℕ → ℕ) (k : ℕ) (es : List SharedEvent) (first now : State) → channels k ≡ channel_id → told_by k es ≡ [] → (shared_over channels (opened first) es).state ≡ now
+        ensures among { (channels : ℕ → ℕ) (k : ℕ) (es : List SharedEvent) (first now : State) → channels k ≡ channel_id
+            → told_by k es ≡ [] → (shared_over channels (opened first) es).state ≡ now
             → StandsAmong channels k (channel_at result) (session_at result) [] es first now }
         ensures history { (first : State) → StandsOver (channel_at result) [] [] first first }
         ensures holds { Holds (channel_at result) [] [] [] }
@@ -56,9 +58,11 @@ impl Connection {
     /// How many bytes are held, as [`Server::held`]: never more than [`bound`](Connection::bound),
     /// whatever the client sends and other connections do.
     pub fn held(&self) -> usize
-        ensures held { (octets : List ℕ) (frames : List Frame) (rest : List ℕ) → Holds (channel_at self.now) octets frames rest
+        ensures held { (octets : List ℕ) (frames : List Frame) (rest : List ℕ)
+            → Holds (channel_at self.now) octets frames rest
             → result ≡ held_after (received frames) rest }
-        ensures bound { (octets : List ℕ) (frames : List Frame) (rest : List ℕ) → Holds (channel_at self.now) octets frames rest
+        ensures bound { (octets : List ℕ) (frames : List Frame) (rest : List ℕ)
+            → Holds (channel_at self.now) octets frames rest
             → result ≤ bound_after (limits_of (channel_at self.now)) (received frames) }
         ensures done { IsDone (channel_at self.now) → result ≡ 0 }
     {
@@ -67,7 +71,8 @@ impl Connection {
 
     /// The most bytes that may be held, as [`Server::bound`].
     pub fn bound(&self) -> usize
-        ensures stands { (octets : List ℕ) (frames : List Frame) (rest : List ℕ) → Holds (channel_at self.now) octets frames rest
+        ensures stands { (octets : List ℕ) (frames : List Frame) (rest : List ℕ)
+            → Holds (channel_at self.now) octets frames rest
             → result ≡ bound_after (limits_of (channel_at self.now)) (received frames) }
         ensures is { result ≡ bound_of (channel_at self.now) }
     {
@@ -76,7 +81,8 @@ impl Connection {
 
     /// Whether the client's bytes may end here: no frame and no message is unfinished.
     pub fn is_clean(&self) -> bool
-        ensures { (octets : List ℕ) (frames : List Frame) (rest : List ℕ) → Holds (channel_at self.now) octets frames rest
+        ensures { (octets : List ℕ) (frames : List Frame) (rest : List ℕ)
+            → Holds (channel_at self.now) octets frames rest
             → IsTrue result ↔ IsClean frames rest }
     {
         self.server.is_clean()
@@ -92,16 +98,24 @@ impl Connection {
     ) -> Result<Step, StepFault>
         // Among all connections over these services: what is sent to this one, and the state of
         // each other one.
-        ensures among { (channels : ℕ → ℕ) (k : ℕ) (octets : List ℕ) (es : List SharedEvent) (first : State) → StandsAmong channels k (channel_at self.old) (session_at self.old) octets es first services.old
-            → StepAmong (limits_of (channel_at self.old)) channels k moment piece.now result (channel_at self.new) (session_at self.new) octets es first services.old services.new }
+        ensures among { (channels : ℕ → ℕ) (k : ℕ) (octets : List ℕ) (es : List SharedEvent) (first : State)
+            → StandsAmong channels k (channel_at self.old) (session_at self.old) octets es first services.old
+            → StepAmong (limits_of (channel_at self.old)) channels k moment piece.now result (channel_at self.new)
+            (session_at self.new) octets es first services.old services.new }
         // As a function of the current state alone, however it arose.
         ensures now { (octets : List ℕ) (told : List Told) → Goes (channel_at self.old) octets told
-            → StepNow (limits_of (channel_at self.old)) (channel_of (channel_at self.old)) (next_of (channel_at self.old)) moment piece.now result (channel_at self.new) octets told (with_own_session self.old services.old) (with_own_session self.new services.new) }
+            → StepNow (limits_of (channel_at self.old)) (channel_of (channel_at self.old))
+            (next_of (channel_at self.old)) moment piece.now result (channel_at self.new) octets told
+            (with_own_session self.old services.old) (with_own_session self.new services.new) }
         // The same over the events of this connection, whatever changed the services before.
-        ensures history { (octets : List ℕ) (hs : List ConnectionEvent) (first : State) → StandsOver (channel_at self.old) octets hs first (with_own_session self.old services.old)
-            → StepOver (limits_of (channel_at self.old)) (channel_of (channel_at self.old)) moment piece.now result (channel_at self.new) octets hs first (with_own_session self.old services.old) (with_own_session self.new services.new) }
+        ensures history { (octets : List ℕ) (hs : List ConnectionEvent) (first : State)
+            → StandsOver (channel_at self.old) octets hs first (with_own_session self.old services.old)
+            → StepOver (limits_of (channel_at self.old)) (channel_of (channel_at self.old)) moment piece.now result
+            (channel_at self.new) octets hs first (with_own_session self.old services.old)
+            (with_own_session self.new services.new) }
         // The state of the channel afterwards is the same whatever the services are.
-        ensures stands { (octets : List ℕ) (told : List Told) → Goes (channel_at self.old) octets told → StepStands piece.now result (channel_at self.new) octets told }
+        ensures stands { (octets : List ℕ) (told : List Told) → Goes (channel_at self.old) octets told
+            → StepStands piece.now result (channel_at self.new) octets told }
         ensures apart { services.new.session ≡ services.old.session }
         ensures endpoint { services.new.endpoint ≡ services.old.endpoint }
         ensures memory_limit { services.new.memory_limit ≡ services.old.memory_limit }
@@ -111,7 +125,8 @@ impl Connection {
         // After a failed allocation, the bound is what it was before the call.
         ensures starved { (octets : List ℕ) (told : List Told) → Goes (channel_at self.old) octets told
             → IsErrOf result step_fault.OutOfMemory → bound_of (channel_at self.new) ≡ bound_of (channel_at self.old) }
-        ensures closed { IsDone (channel_at self.old) → (result ≡ Err step_fault.Closed) × (self.new ≡ self.old) × (services.new ≡ services.old) }
+        ensures closed { IsDone (channel_at self.old) → (result ≡ Err step_fault.Closed) × (self.new ≡ self.old)
+            × (services.new ≡ services.old) }
         ensures limits { limits_of (channel_at self.new) ≡ limits_of (channel_at self.old) }
         ensures channel { channel_of (channel_at self.new) ≡ channel_of (channel_at self.old) }
     {
@@ -130,20 +145,29 @@ impl Connection {
     ) -> Result<Step, StepFault>
         // Among all connections over these services: what is sent to this one, and the state of
         // each other one.
-        ensures among { (channels : ℕ → ℕ) (k : ℕ) (octets : List ℕ) (es : List SharedEvent) (first : State) → StandsAmong channels k (channel_at self.old) (session_at self.old) octets es first services.old
-            → StepAmong (limits_of (channel_at self.old)) channels k moment piece.now result (channel_at self.new) (session_at self.new) octets es first services.old services.new }
+        ensures among { (channels : ℕ → ℕ) (k : ℕ) (octets : List ℕ) (es : List SharedEvent) (first : State)
+            → StandsAmong channels k (channel_at self.old) (session_at self.old) octets es first services.old
+            → StepAmong (limits_of (channel_at self.old)) channels k moment piece.now result (channel_at self.new)
+            (session_at self.new) octets es first services.old services.new }
         // As a function of the current state alone, however it arose.
         ensures now { (octets : List ℕ) (told : List Told) → Goes (channel_at self.old) octets told
-            → StepNow (limits_of (channel_at self.old)) (channel_of (channel_at self.old)) (next_of (channel_at self.old)) moment piece.now result (channel_at self.new) octets told (with_own_session self.old services.old) (with_own_session self.new services.new) }
+            → StepNow (limits_of (channel_at self.old)) (channel_of (channel_at self.old))
+            (next_of (channel_at self.old)) moment piece.now result (channel_at self.new) octets told
+            (with_own_session self.old services.old) (with_own_session self.new services.new) }
         // The same over the events of this connection, whatever changed the services before.
-        ensures history { (octets : List ℕ) (hs : List ConnectionEvent) (first : State) → StandsOver (channel_at self.old) octets hs first (with_own_session self.old services.old)
-            → StepOver (limits_of (channel_at self.old)) (channel_of (channel_at self.old)) moment piece.now result (channel_at self.new) octets hs first (with_own_session self.old services.old) (with_own_session self.new services.new) }
+        ensures history { (octets : List ℕ) (hs : List ConnectionEvent) (first : State)
+            → StandsOver (channel_at self.old) octets hs first (with_own_session self.old services.old)
+            → StepOver (limits_of (channel_at self.old)) (channel_of (channel_at self.old)) moment piece.now result
+            (channel_at self.new) octets hs first (with_own_session self.old services.old)
+            (with_own_session self.new services.new) }
         // The state of the channel afterwards is the same whatever the services are.
-        ensures stands { (octets : List ℕ) (told : List Told) → Goes (channel_at self.old) octets told → StepStands piece.now result (channel_at self.new) octets told }
+        ensures stands { (octets : List ℕ) (told : List Told) → Goes (channel_at self.old) octets told
+            → StepStands piece.now result (channel_at self.new) octets told }
         // `written` has just the items that were stored by the Write that this step answered, in
         // order, and nothing of another step.
         ensures stores { (octets : List ℕ) (told : List Told) → Goes (channel_at self.old) octets told
-            → StepStores piece.now result written.new (channel_at self.new) octets told (with_own_session self.old services.old) }
+            → StepStores piece.now result written.new (channel_at self.new) octets told
+            (with_own_session self.old services.old) }
         ensures failed { OnErr result (written.new ≡ []) }
         ensures apart { services.new.session ≡ services.old.session }
         ensures endpoint { services.new.endpoint ≡ services.old.endpoint }
@@ -154,7 +178,8 @@ impl Connection {
         // After a failed allocation, the bound is what it was before the call.
         ensures starved { (octets : List ℕ) (told : List Told) → Goes (channel_at self.old) octets told
             → IsErrOf result step_fault.OutOfMemory → bound_of (channel_at self.new) ≡ bound_of (channel_at self.old) }
-        ensures closed { IsDone (channel_at self.old) → (result ≡ Err step_fault.Closed) × (self.new ≡ self.old) × (services.new ≡ services.old) }
+        ensures closed { IsDone (channel_at self.old) → (result ≡ Err step_fault.Closed) × (self.new ≡ self.old)
+            × (services.new ≡ services.old) }
         ensures limits { limits_of (channel_at self.new) ≡ limits_of (channel_at self.old) }
         ensures channel { channel_of (channel_at self.new) ≡ channel_of (channel_at self.old) }
     {

@@ -3,7 +3,8 @@
 ghost use Rattle.std.specs.Prelude.{◌≡◌, ◌∷◌, [], Some, IfOk};
 ghost use Rattle.std.specs.List.{list_any};
 ghost use Rattle.ua_server.specs.Sessions.{endpoints_for};
-ghost use Rattle.ua_server.specs.Endpoint.{anonymous, description_of, is_served, are_served, none_policy, transport_profile};
+ghost use Rattle.ua_server.specs.Endpoint.{anonymous, description_of, is_served};
+ghost use Rattle.ua_server.specs.Endpoint.{are_served, none_policy, transport_profile};
 
 use std::alloc::{AllocError, Global};
 use ua_builtin::{UaBytes, UaString};
@@ -63,7 +64,11 @@ impl Endpoint {
         server: ApplicationDescription,
         user_identity_tokens: UaArray<UserTokenPolicy>,
     ) -> Result<EndpointDescription, AllocError>
-        ensures { IfOk result (λ e. e ≡ record (description_of self.now) { server = server; user_identity_tokens = user_identity_tokens }) }
+        ensures { IfOk result
+            (λ e. e ≡ record (description_of self.now) {
+              server = server;
+              user_identity_tokens = user_identity_tokens;
+            }) }
     {
         match self.texts(alloc) {
             Ok((endpoint_url, security_policy_uri, transport_profile_uri)) => {
@@ -88,7 +93,8 @@ impl Endpoint {
 
     /// The address, the security policy and the transport profile.
     fn texts(&self, alloc: Global) -> Result<(UaString, UaString, UaString), AllocError>
-        ensures { IfOk result (λ t. (t.0 ≡ self.now.url) × ((t.1 ≡ Some none_policy) × (t.2 ≡ Some transport_profile))) }
+        ensures { IfOk result
+            (λ t. (t.0 ≡ self.now.url) × ((t.1 ≡ Some none_policy) × (t.2 ≡ Some transport_profile))) }
     {
         let url = self.url.try_clone()?;
         let policy = UaString::from_str(alloc, NONE_POLICY)?;

@@ -3,7 +3,8 @@
 ghost use Rattle.std.specs.Prelude.{◌≡◌, ◌≤◌, ◌++◌, ◌∷◌, [], ℕ, List, length, IsTrue, Option, Some, Result, Ok};
 ghost use Rattle.ua_builtin.specs.DateTime.{date_time};
 ghost use Rattle.ua_builtin.specs.declared.date_time.DateTime.{DateTime};
-ghost use Rattle.ua_channel.specs.ServerStands.{limits_of, channel_of, next_of, ClosedAt, RefusedAt, ChannelStands as Holds};
+ghost use Rattle.ua_channel.specs.ServerStands.{limits_of, channel_of, next_of, ClosedAt};
+ghost use Rattle.ua_channel.specs.ServerStands.{RefusedAt, ChannelStands as Holds};
 ghost use Rattle.ua_channel_laws.specs.ServerReads.{AtServer, ServerCloses, ServerReads};
 ghost use Rattle.ua_channel.specs.Stops.{StopsAt};
 ghost use Rattle.ua_channel.specs.declared.server.ServerChannel.{ServerChannel};
@@ -15,13 +16,16 @@ ghost use Rattle.ua_builtin.specs.declared.node_id.NodeId.{NodeId};
 ghost use Rattle.ua_nodes.specs.Table.{Nodes, node_at};
 ghost use Rattle.ua_nodes.specs.Limit.{after_limited};
 ghost use Rattle.ua_nodes.specs.Write.{after_write};
-ghost use Rattle.ua_server.specs.History.{ConnectionEvent, Became, IsUndisturbed, StandsOver, StepOver, course_over, with_changes, moments_of, output_over, told_in};
+ghost use Rattle.ua_server.specs.History.{ConnectionEvent, Became, IsUndisturbed, StandsOver, StepOver};
+ghost use Rattle.ua_server.specs.History.{course_over, with_changes, moments_of, output_over, told_in};
 ghost use Rattle.ua_server.specs.Now.{StepNow};
 ghost use Rattle.ua_server.specs.Stepping.{ServerStands, StepAnswers};
 ghost use Rattle.ua_server.specs.declared.step.Step.{Step};
 ghost use Rattle.ua_server.specs.declared.step.StepFault.{StepFault};
-ghost use Rattle.ua_server.specs.Said.{Course, start, with_more, said_of, course_after, last_words, output_of, state_after, used_in};
-ghost use Rattle.ua_server.specs.Sharing.{SharedEvent, SharedState, Changed, EndsAmong, StandsAmong, at_moment, course_at, opened, seen_by, sent_to, shared_over, told_by};
+ghost use Rattle.ua_server.specs.Said.{Course, start, with_more, said_of, course_after};
+ghost use Rattle.ua_server.specs.Said.{last_words, output_of, state_after, used_in};
+ghost use Rattle.ua_server.specs.Sharing.{SharedEvent, SharedState, Changed, EndsAmong, StandsAmong, at_moment};
+ghost use Rattle.ua_server.specs.Sharing.{course_at, opened, seen_by, sent_to, shared_over, told_by};
 ghost use Rattle.ua_services.specs.declared.request.Request.{Request};
 ghost use Rattle.ua_opening.specs.declared.header.RequestHeader.{RequestHeader};
 ghost use Rattle.ua_services.specs.Request.{kind_of, request, request_read};
@@ -54,32 +58,41 @@ pub fn services_are_sound(services: &Services)
 /// Sound services answer each request that can be encoded by a response that can be encoded, and
 /// stay sound.
 pub fn each_request_has_its_answer()
-    ensures kind { (s : State) (moment : DateTime) (m : Request) → Answers (answer_kind (answer s moment m).1) (kind_of m) }
-    ensures encodable { (s : State) (moment : DateTime) (m : Request) → IsSoundState s → IsTrue (date_time.encodable moment) → IsTrue (request.encodable m) → IsTrue (response.encodable (answer s moment m).1) }
-    ensures sound { (s : State) (moment : DateTime) (m : Request) → IsSoundState s → IsTrue (date_time.encodable moment) → IsSoundState (answer s moment m).0 }
+    ensures kind { (s : State) (moment : DateTime) (m : Request)
+        → Answers (answer_kind (answer s moment m).1) (kind_of m) }
+    ensures encodable { (s : State) (moment : DateTime) (m : Request) → IsSoundState s
+        → IsTrue (date_time.encodable moment) → IsTrue (request.encodable m)
+        → IsTrue (response.encodable (answer s moment m).1) }
+    ensures sound { (s : State) (moment : DateTime) (m : Request) → IsSoundState s → IsTrue (date_time.encodable moment)
+        → IsSoundState (answer s moment m).0 }
 {}
 
 /// Events of a channel in two parts are answered as the first part, and then as the second from the
 /// state that the first leaves.
 pub fn what_is_told_in_parts_is_answered_in_parts()
-    ensures left { (channel : ℕ) (s : State) (a b : List Told) (moments : List DateTime) → state_after channel s (a ++ b) moments ≡ course_after channel (state_after channel s a moments) b }
+    ensures left { (channel : ℕ) (s : State) (a b : List Told) (moments : List DateTime)
+        → state_after channel s (a ++ b) moments ≡ course_after channel (state_after channel s a moments) b }
     ensures said { (channel : ℕ) (s : State) (a b : List Told) (end : End ℕ) (moments : List DateTime)
-        → output_of channel s (a ++ b) end moments ≡ output_of channel s a Going moments ++ (said_of channel (state_after channel s a moments) b ++ last_words end) }
+        → output_of channel s (a ++ b) end moments ≡ output_of channel s a Going moments
+        ++ (said_of channel (state_after channel s a moments) b ++ last_words end) }
 {}
 
 /// Where there are as many timestamps as the events use, further ones after them change nothing of
 /// what is sent, and are left over.
 pub fn later_moments_change_nothing_before()
-    ensures left { (channel : ℕ) (s : State) (told : List Told) (moments more : List DateTime) → used_in told ≤ length moments
+    ensures left { (channel : ℕ) (s : State) (told : List Told) (moments more : List DateTime)
+        → used_in told ≤ length moments
         → state_after channel s told (moments ++ more) ≡ with_more (state_after channel s told moments) more }
-    ensures said { (channel : ℕ) (s : State) (told : List Told) (end : End ℕ) (moments more : List DateTime) → used_in told ≤ length moments
+    ensures said { (channel : ℕ) (s : State) (told : List Told) (end : End ℕ) (moments more : List DateTime)
+        → used_in told ≤ length moments
         → output_of channel s told end (moments ++ more) ≡ output_of channel s told end moments }
 {}
 
 /// A step defined by the current state alone answers as one defined by all events before it,
 /// wherever these lead to the current state.
 pub fn what_stands_answers_as_all_that_was_told()
-    ensures { (old new : ServerChannel) (moment : DateTime) (piece octets : List ℕ) (told : List Told) (first : State) (moments : List DateTime) (before now : State) (result : Result Step StepFault)
+    ensures { (old new : ServerChannel) (moment : DateTime) (piece octets : List ℕ) (told : List Told) (first : State)
+        (moments : List DateTime) (before now : State) (result : Result Step StepFault)
         → ServerStands old octets told first moments before → channel_of new ≡ channel_of old
         → StepNow (limits_of old) (channel_of old) (next_of old) moment piece result new octets told before now
         → StepAnswers (limits_of old) (channel_of old) moment piece result new octets told first moments before now }
@@ -89,11 +102,16 @@ pub fn what_stands_answers_as_all_that_was_told()
 /// by another connection, and by each step. Where nothing was changed from outside, what is sent
 /// and the state that is left are those of the channel's events alone.
 pub fn a_history_goes_on_by_changes_and_steps()
-    ensures became { (x : ServerChannel) (octets : List ℕ) (hs : List ConnectionEvent) (first now : State) (nodes : Nodes) (made : ℕ)
-        → StandsOver x octets hs first now → StandsOver x octets (hs ++ Became nodes made ∷ []) first (with_changes now nodes made) }
-    ensures beside { (x : ServerChannel) (octets : List ℕ) (hs : List ConnectionEvent) (first s s' : State) (mine : Option Session) → s'.endpoint ≡ s.endpoint → s'.memory_limit ≡ s.memory_limit
-        → StandsOver x octets hs first (with_session s mine) → StandsOver x octets (hs ++ Became s'.nodes s'.made ∷ []) first (with_session s' mine) }
-    ensures steps { (old new : ServerChannel) (moment : DateTime) (piece octets : List ℕ) (hs : List ConnectionEvent) (first before now : State) (result : Result Step StepFault)
+    ensures became { (x : ServerChannel) (octets : List ℕ) (hs : List ConnectionEvent) (first now : State)
+        (nodes : Nodes) (made : ℕ)
+        → StandsOver x octets hs first now → StandsOver x octets (hs ++ Became nodes made ∷ []) first
+        (with_changes now nodes made) }
+    ensures beside { (x : ServerChannel) (octets : List ℕ) (hs : List ConnectionEvent) (first s s' : State)
+        (mine : Option Session) → s'.endpoint ≡ s.endpoint → s'.memory_limit ≡ s.memory_limit
+        → StandsOver x octets hs first (with_session s mine)
+        → StandsOver x octets (hs ++ Became s'.nodes s'.made ∷ []) first (with_session s' mine) }
+    ensures steps { (old new : ServerChannel) (moment : DateTime) (piece octets : List ℕ) (hs : List ConnectionEvent)
+        (first before now : State) (result : Result Step StepFault)
         → StandsOver old octets hs first before → channel_of new ≡ channel_of old
         → StepNow (limits_of old) (channel_of old) (next_of old) moment piece result new octets (told_in hs) before now
         → StepOver (limits_of old) (channel_of old) moment piece result new octets hs first before now }
@@ -101,7 +119,8 @@ pub fn a_history_goes_on_by_changes_and_steps()
         → output_over channel (start s []) hs ≡ said_of channel (start s (moments_of hs)) (told_in hs) }
     ensures left { (channel : ℕ) (s : State) (hs : List ConnectionEvent) → IsUndisturbed hs
         → course_over channel (start s []) hs ≡ course_after channel (start s (moments_of hs)) (told_in hs) }
-    ensures stands { (x : ServerChannel) (octets : List ℕ) (hs : List ConnectionEvent) (first now : State) → StandsOver x octets hs first now → IsUndisturbed hs
+    ensures stands { (x : ServerChannel) (octets : List ℕ) (hs : List ConnectionEvent) (first now : State)
+        → StandsOver x octets hs first now → IsUndisturbed hs
         → ServerStands x octets (told_in hs) first (moments_of hs) now }
 {}
 
@@ -109,13 +128,19 @@ pub fn a_history_goes_on_by_changes_and_steps()
 /// the first leaves. An event of one connection is none of another, and nothing is sent to another
 /// for it.
 pub fn events_are_answered_in_parts()
-    ensures shared { (channels : ℕ → ℕ) (p : SharedState) (a b : List SharedEvent) → shared_over channels p (a ++ b) ≡ shared_over channels (shared_over channels p a) b }
-    ensures sent { (channels : ℕ → ℕ) (k : ℕ) (p : SharedState) (a b : List SharedEvent) → sent_to channels k p (a ++ b) ≡ sent_to channels k p a ++ sent_to channels k (shared_over channels p a) b }
+    ensures shared { (channels : ℕ → ℕ) (p : SharedState) (a b : List SharedEvent)
+        → shared_over channels p (a ++ b) ≡ shared_over channels (shared_over channels p a) b }
+    ensures sent { (channels : ℕ → ℕ) (k : ℕ) (p : SharedState) (a b : List SharedEvent)
+        → sent_to channels k p (a ++ b) ≡ sent_to channels k p a ++ sent_to channels k (shared_over channels p a) b }
     ensures told { (k : ℕ) (a b : List SharedEvent) → told_by k (a ++ b) ≡ told_by k a ++ told_by k b }
-    ensures others_told { (j k : ℕ) (moment : DateTime) (told : List Told) → (j ≡ k → ⊥) → told_by j (at_moment k moment told) ≡ [] }
-    ensures others_sent { (channels : ℕ → ℕ) (j k : ℕ) (p : SharedState) (moment : DateTime) (told : List Told) → (j ≡ k → ⊥) → sent_to channels j p (at_moment k moment told) ≡ [] }
-    ensures output { (channel : ℕ) (c : Course) (a b : List ConnectionEvent) → output_over channel c (a ++ b) ≡ output_over channel c a ++ output_over channel (course_over channel c a) b }
-    ensures course { (channel : ℕ) (c : Course) (a b : List ConnectionEvent) → course_over channel c (a ++ b) ≡ course_over channel (course_over channel c a) b }
+    ensures others_told { (j k : ℕ) (moment : DateTime) (told : List Told) → (j ≡ k → ⊥)
+        → told_by j (at_moment k moment told) ≡ [] }
+    ensures others_sent { (channels : ℕ → ℕ) (j k : ℕ) (p : SharedState) (moment : DateTime) (told : List Told)
+        → (j ≡ k → ⊥) → sent_to channels j p (at_moment k moment told) ≡ [] }
+    ensures output { (channel : ℕ) (c : Course) (a b : List ConnectionEvent)
+        → output_over channel c (a ++ b) ≡ output_over channel c a ++ output_over channel (course_over channel c a) b }
+    ensures course { (channel : ℕ) (c : Course) (a b : List ConnectionEvent)
+        → course_over channel c (a ++ b) ≡ course_over channel (course_over channel c a) b }
 {}
 
 /// Let one server handle every message in the order of completion, `shared_over`. What it sends to
@@ -125,9 +150,11 @@ pub fn events_are_answered_in_parts()
 /// [`Connection::step`](crate::Connection::step) says that running connections are this one server.
 pub fn each_connection_is_answered_as_by_one_server()
     ensures sent { (channels : ℕ → ℕ) (k : ℕ) (first : State) (es : List SharedEvent)
-        → sent_to channels k (opened first) es ≡ output_over (channels k) (start (begun first) []) (seen_by channels k (opened first) es) }
+        → sent_to channels k (opened first) es ≡ output_over (channels k) (start (begun first) [])
+        (seen_by channels k (opened first) es) }
     ensures left { (channels : ℕ → ℕ) (k : ℕ) (first : State) (es : List SharedEvent)
-        → course_at (shared_over channels (opened first) es) k ≡ course_over (channels k) (start (begun first) []) (seen_by channels k (opened first) es) }
+        → course_at (shared_over channels (opened first) es) k ≡ course_over (channels k) (start (begun first) [])
+        (seen_by channels k (opened first) es) }
     ensures told { (channels : ℕ → ℕ) (k : ℕ) (first : State) (es : List SharedEvent)
         → told_in (seen_by channels k (opened first) es) ≡ told_by k es }
 {}
@@ -135,13 +162,16 @@ pub fn each_connection_is_answered_as_by_one_server()
 /// What holds of a connection among others holds of it by itself, over the events as it sees them.
 /// It also holds after a change of the nodes by the application, for which nothing is sent to it.
 pub fn one_of_several_connections_stands_by_itself()
-    ensures alone { (channels : ℕ → ℕ) (k : ℕ) (x : ServerChannel) (session : Option Session) (octets : List ℕ) (es : List SharedEvent) (first now : State)
+    ensures alone { (channels : ℕ → ℕ) (k : ℕ) (x : ServerChannel) (session : Option Session) (octets : List ℕ)
+        (es : List SharedEvent) (first now : State)
         → StandsAmong channels k x session octets es first now
         → StandsOver x octets (seen_by channels k (opened first) es) (begun first) (with_session now session) }
-    ensures changed { (channels : ℕ → ℕ) (k : ℕ) (x : ServerChannel) (session : Option Session) (octets : List ℕ) (es : List SharedEvent) (first now : State) (nodes : Nodes)
+    ensures changed { (channels : ℕ → ℕ) (k : ℕ) (x : ServerChannel) (session : Option Session) (octets : List ℕ)
+        (es : List SharedEvent) (first now : State) (nodes : Nodes)
         → StandsAmong channels k x session octets es first now
         → StandsAmong channels k x session octets (es ++ Changed nodes ∷ []) first (with_nodes now nodes) }
-    ensures silent { (channels : ℕ → ℕ) (k : ℕ) (p : SharedState) (nodes : Nodes) → (sent_to channels k p (Changed nodes ∷ []) ≡ []) × (told_by k (Changed nodes ∷ []) ≡ []) }
+    ensures silent { (channels : ℕ → ℕ) (k : ℕ) (p : SharedState) (nodes : Nodes)
+        → (sent_to channels k p (Changed nodes ∷ []) ≡ []) × (told_by k (Changed nodes ∷ []) ≡ []) }
 {}
 
 /// Each of several connections follows its client as a server on its own does, token renewals among
@@ -149,16 +179,27 @@ pub fn one_of_several_connections_stands_by_itself()
 /// conversation its events are a prefix of that conversation's events, and after all bytes they are
 /// just those; it refuses none of it, and nothing but a CLO closes it.
 pub fn each_connection_follows_its_client()
-    ensures begins { (channels : ℕ → ℕ) (k : ℕ) (x : ServerChannel) (session : Option Session) (octets more : List ℕ) (es : List SharedEvent) (first now : State) (all : List Told) (at : AtServer)
-        → StandsAmong channels k x session octets es first now → ServerReads (limits_of x) (channel_of x) (octets ++ more) all at → (later : List Told) × (all ≡ told_by k es ++ later) }
-    ensures all { (channels : ℕ → ℕ) (k : ℕ) (x : ServerChannel) (session : Option Session) (octets : List ℕ) (es : List SharedEvent) (first now : State) (all : List Told) (at : AtServer)
-        → StandsAmong channels k x session octets es first now → ServerReads (limits_of x) (channel_of x) octets all at → told_by k es ≡ all }
-    ensures not_refused { (channels : ℕ → ℕ) (k : ℕ) (x : ServerChannel) (octets out more : List ℕ) (es new : List SharedEvent) (first before now : State) (code : ℕ) (all : List Told) (at : AtServer)
-        → EndsAmong (Stopped code) channels k x octets out es new first before now → ServerReads (limits_of x) (channel_of x) (octets ++ more) all at → ⊥ }
-    ensures not_closed { (channels : ℕ → ℕ) (k : ℕ) (x : ServerChannel) (octets out more : List ℕ) (es new : List SharedEvent) (first before now : State) (all : List Told) (at : AtServer)
-        → EndsAmong Over channels k x octets out es new first before now → ServerReads (limits_of x) (channel_of x) (octets ++ more) all at → ⊥ }
-    ensures closed { (channels : ℕ → ℕ) (k : ℕ) (x : ServerChannel) (octets out more : List ℕ) (es new : List SharedEvent) (first before now : State) (all : List Told)
-        → EndsAmong Over channels k x octets out es new first before now → ServerCloses (limits_of x) (channel_of x) (octets ++ more) all → told_by k (es ++ new) ≡ all }
+    ensures begins { (channels : ℕ → ℕ) (k : ℕ) (x : ServerChannel) (session : Option Session) (octets more : List ℕ)
+        (es : List SharedEvent) (first now : State) (all : List Told) (at : AtServer)
+        → StandsAmong channels k x session octets es first now
+        → ServerReads (limits_of x) (channel_of x) (octets ++ more) all at → (later : List Told)
+        × (all ≡ told_by k es ++ later) }
+    ensures all { (channels : ℕ → ℕ) (k : ℕ) (x : ServerChannel) (session : Option Session) (octets : List ℕ)
+        (es : List SharedEvent) (first now : State) (all : List Told) (at : AtServer)
+        → StandsAmong channels k x session octets es first now → ServerReads (limits_of x) (channel_of x) octets all at
+        → told_by k es ≡ all }
+    ensures not_refused { (channels : ℕ → ℕ) (k : ℕ) (x : ServerChannel) (octets out more : List ℕ)
+        (es new : List SharedEvent) (first before now : State) (code : ℕ) (all : List Told) (at : AtServer)
+        → EndsAmong (Stopped code) channels k x octets out es new first before now
+        → ServerReads (limits_of x) (channel_of x) (octets ++ more) all at → ⊥ }
+    ensures not_closed { (channels : ℕ → ℕ) (k : ℕ) (x : ServerChannel) (octets out more : List ℕ)
+        (es new : List SharedEvent) (first before now : State) (all : List Told) (at : AtServer)
+        → EndsAmong Over channels k x octets out es new first before now
+        → ServerReads (limits_of x) (channel_of x) (octets ++ more) all at → ⊥ }
+    ensures closed { (channels : ℕ → ℕ) (k : ℕ) (x : ServerChannel) (octets out more : List ℕ)
+        (es new : List SharedEvent) (first before now : State) (all : List Told)
+        → EndsAmong Over channels k x octets out es new first before now
+        → ServerCloses (limits_of x) (channel_of x) (octets ++ more) all → told_by k (es ++ new) ≡ all }
 {}
 
 /// A hostile client ends its own connection, and no other. That connection ends at the first wrong
@@ -166,22 +207,32 @@ pub fn each_connection_follows_its_client()
 /// held for a connection's unfinished frame and messages are bounded by its own bytes alone, as
 /// [`Connection::held`](crate::Connection::held) says.
 pub fn a_hostile_client_ends_its_own_connection()
-    ensures refused { (channels : ℕ → ℕ) (k : ℕ) (x : ServerChannel) (octets out : List ℕ) (es new : List SharedEvent) (first before now : State) (code : ℕ)
+    ensures refused { (channels : ℕ → ℕ) (k : ℕ) (x : ServerChannel) (octets out : List ℕ) (es new : List SharedEvent)
+        (first before now : State) (code : ℕ)
         → EndsAmong (Stopped code) channels k x octets out es new first before now
-        → (frames : List Frame) × (rest : List ℕ) × Run (server_rules (limits_of x) (channel_of x)) octets frames rest (Stopped code) × StopsAt (server_rules (limits_of x) (channel_of x)) frames rest code × (events (server_rules (limits_of x) (channel_of x)) frames ≡ told_by k (es ++ new)) × (now ≡ before) }
-    ensures holds { (channels : ℕ → ℕ) (k : ℕ) (x : ServerChannel) (session : Option Session) (octets : List ℕ) (es : List SharedEvent) (first now : State)
-        → StandsAmong channels k x session octets es first now → (frames : List Frame) × (rest : List ℕ) × Holds x octets frames rest }
+        → (frames : List Frame) × (rest : List ℕ) × Run (server_rules (limits_of x) (channel_of x)) octets frames rest
+        (Stopped code) × StopsAt (server_rules (limits_of x) (channel_of x)) frames rest code
+        × (events (server_rules (limits_of x) (channel_of x)) frames ≡ told_by k (es ++ new)) × (now ≡ before) }
+    ensures holds { (channels : ℕ → ℕ) (k : ℕ) (x : ServerChannel) (session : Option Session) (octets : List ℕ)
+        (es : List SharedEvent) (first now : State)
+        → StandsAmong channels k x session octets es first now → (frames : List Frame) × (rest : List ℕ)
+        × Holds x octets frames rest }
 {}
 
 /// A request under the AuthenticationToken of a session that another connection has, or had, is
 /// answered with Bad_SessionIdInvalid, and changes nothing: a session is valid on its own
 /// connection only.
 pub fn a_token_of_another_connection_is_no_token()
-    ensures refused { (channels : ℕ → ℕ) (j k : ℕ) (first : State) (before es : List SharedEvent) (theirs : Session) (octets : List ℕ) (m : Request) (asking : RequestHeader) (moment : DateTime)
+    ensures refused { (channels : ℕ → ℕ) (j k : ℕ) (first : State) (before es : List SharedEvent) (theirs : Session)
+        (octets : List ℕ) (m : Request) (asking : RequestHeader) (moment : DateTime)
         → (k ≡ j → ⊥) → ((shared_over channels (opened first) before).own j).session ≡ Some theirs
-        → request_read octets ≡ Ok m → session_header m ≡ Some asking → asking.authentication_token ≡ session_token theirs.number
+        → request_read octets ≡ Ok m → session_header m ≡ Some asking
+        → asking.authentication_token ≡ session_token theirs.number
         → answered (course_at (shared_over channels (opened first) (before ++ es)) k).state moment octets
-        ≡ ((course_at (shared_over channels (opened first) (before ++ es)) k).state, fault_of asking.request_handle bad_session_id_invalid moment) }
+        ≡ (
+          (course_at (shared_over channels (opened first) (before ++ es)) k).state,
+          fault_of asking.request_handle bad_session_id_invalid moment,
+        ) }
     ensures activate { (m : ActivateSessionRequest) → session_header (kinds.ActivateSession m) ≡ Some m.request_header }
     ensures close { (m : CloseSessionRequest) → session_header (kinds.CloseSession m) ≡ Some m.request_header }
     ensures read { (m : ReadRequest) → session_header (kinds.Read m) ≡ Some m.request_header }
@@ -191,5 +242,7 @@ pub fn a_token_of_another_connection_is_no_token()
 /// The stored items of a Write are all that it changes: each node is left as by these items alone
 /// (OPC 10000-4, 5.11.4).
 pub fn what_a_write_stores_is_what_it_changes()
-    ensures { (most : Option ℕ) (items : List WriteValue) (moment : DateTime) (nodes : Nodes) (id : NodeId) → node_at (after_write (stored_items most nodes items) moment nodes) id ≡ node_at (after_limited most items moment nodes) id }
+    ensures { (most : Option ℕ) (items : List WriteValue) (moment : DateTime) (nodes : Nodes) (id : NodeId)
+        → node_at (after_write (stored_items most nodes items) moment nodes) id
+        ≡ node_at (after_limited most items moment nodes) id }
 {}

@@ -31,10 +31,12 @@ impl Services {
         src: &mut S,
         moment: DateTime,
     ) -> Result<Vec<u8>, AllocError>
-        ensures body { IfOk result (λ body. body.items ≡ response.canonical (answered self.old moment (S.octets src.old)).1) }
+        ensures body { IfOk result
+            (λ body. body.items ≡ response.canonical (answered self.old moment (S.octets src.old)).1) }
         ensures some { IfOk result (λ body. 0 < length body.items) }
         ensures state { IfOk result (λ body. self.new ≡ (answered self.old moment (S.octets src.old)).0) }
-        ensures refused { OnErr result ((self.new ≡ self.old) ⊎ (self.new ≡ (answered self.old moment (S.octets src.old)).0)) }
+        ensures refused { OnErr result
+            ((self.new ≡ self.old) ⊎ (self.new ≡ (answered self.old moment (S.octets src.old)).0)) }
     {
         match self.reply_telling(alloc, src, moment, None) {
             Ok((body, _request, results)) => {
@@ -56,12 +58,15 @@ impl Services {
         moment: DateTime,
         most: Option<usize>,
     ) -> Result<(Vec<u8>, AnsweredRequest, UaArray<StatusCode>), AllocError>
-        ensures body { IfOk result (λ told. IsBodyWithin most (response.canonical (answered self.old moment (S.octets src.old)).1) told.0.items) }
+        ensures body { IfOk result
+            (λ told. IsBodyWithin most (response.canonical (answered self.old moment (S.octets src.old)).1)
+            told.0.items) }
         ensures some { IfOk result (λ told. 0 < length told.0.items) }
         ensures request { IfOk result (λ told. told.1 ≡ request_answered None self.old moment (S.octets src.old)) }
         ensures results { IfOk result (λ told. told.2 ≡ results_of (answered self.old moment (S.octets src.old)).1) }
         ensures state { IfOk result (λ told. self.new ≡ (answered self.old moment (S.octets src.old)).0) }
-        ensures refused { OnErr result ((self.new ≡ self.old) ⊎ (self.new ≡ (answered self.old moment (S.octets src.old)).0)) }
+        ensures refused { OnErr result
+            ((self.new ≡ self.old) ⊎ (self.new ≡ (answered self.old moment (S.octets src.old)).0)) }
     {
         let mut head = src.fork();
         match self.read_kept(alloc, src) {
@@ -81,10 +86,12 @@ impl Services {
     /// Reads the request that a message with this body is, without the values of a Write that its
     /// nodes could not take now: what is kept is answered as the request itself is.
     fn read_kept<S: Source>(&self, alloc: Global, src: &mut S) -> Result<Request, RequestFault>
-        ensures answer { IfOk result (λ kept. (moment : DateTime) → answer self.now moment kept ≡ answered self.now moment (S.octets src.old)) }
+        ensures answer { IfOk result (λ kept. (moment : DateTime)
+            → answer self.now moment kept ≡ answered self.now moment (S.octets src.old)) }
         ensures kind { IfOk result (λ kept. kind_asked (request_read (S.octets src.old)) ≡ Some (kind_of kept)) }
         ensures items { IfOk result (λ kept. count_asked (request_read (S.octets src.old)) ≡ items_asked kept) }
-        ensures refused { IfErr result (λ fault. (request_read (S.octets src.old) ≡ Err fault) ⊎ (fault ≡ RequestFault.OutOfMemory)) }
+        ensures refused { IfErr result (λ fault. (request_read (S.octets src.old) ≡ Err fault)
+            ⊎ (fault ≡ RequestFault.OutOfMemory)) }
     {
         values_that_their_nodes_cannot_take_change_no_write(&self.nodes);
         read_request_for(alloc, src, self)
@@ -99,9 +106,16 @@ impl Services {
         moment: DateTime,
         most: Option<usize>,
     ) -> Result<(Vec<u8>, AnsweredRequest, UaArray<StatusCode>), AllocError>
-        ensures body { IfOk result (λ told. IsBodyWithin most (response.canonical (answer self.old moment request).1) told.0.items) }
+        ensures body { IfOk result
+            (λ told. IsBodyWithin most (response.canonical (answer self.old moment request).1) told.0.items) }
         ensures some { IfOk result (λ told. 0 < length told.0.items) }
-        ensures request { IfOk result (λ told. told.1 ≡ record { kind = Some (kind_of request); encoding = None; items = items_asked request; code = (header_of (answer self.old moment request).1).service_result }) }
+        ensures request { IfOk result
+            (λ told. told.1 ≡ record {
+              kind = Some (kind_of request);
+              encoding = None;
+              items = items_asked request;
+              code = (header_of (answer self.old moment request).1).service_result;
+            }) }
         ensures results { IfOk result (λ told. told.2 ≡ results_of (answer self.old moment request).1) }
         ensures state { IfOk result (λ told. self.new ≡ (answer self.old moment request).0) }
         ensures refused { OnErr result ((self.new ≡ self.old) ⊎ (self.new ≡ (answer self.old moment request).0)) }
@@ -143,7 +157,13 @@ impl Services {
     ) -> Result<(Vec<u8>, AnsweredRequest, UaArray<StatusCode>), AllocError>
         ensures body { IfOk result (λ told. told.0.items ≡ response.canonical (fault_of handle code.code moment)) }
         ensures some { IfOk result (λ told. 0 < length told.0.items) }
-        ensures request { IfOk result (λ told. told.1 ≡ record { kind = None; encoding = encoding_number (S.octets head.old); items = 0; code = code }) }
+        ensures request { IfOk result
+            (λ told. told.1 ≡ record {
+              kind = None;
+              encoding = encoding_number (S.octets head.old);
+              items = 0;
+              code = code;
+            }) }
         ensures results { IfOk result (λ told. told.2 ≡ None) }
     {
         let encoding = encoding_ahead(alloc, head)?;

@@ -1,6 +1,7 @@
 //! A server on one connection.
 
-ghost use Rattle.std.specs.Prelude.{◌≡◌, ◌⊎◌, false, ◌++◌, ◌∷◌, [], ℕ, List, length, Ok, Err, None, IfOk, OnErr, IsErrOf};
+ghost use Rattle.std.specs.Prelude.{◌≡◌, ◌⊎◌, false, ◌++◌, ◌∷◌, [], ℕ, List};
+ghost use Rattle.std.specs.Prelude.{length, Ok, Err, None, IfOk, OnErr, IsErrOf};
 ghost use Rattle.std.specs.List.{concat};
 ghost use Rattle.ua_builtin.specs.declared.date_time.DateTime.{DateTime};
 ghost use Rattle.ua_services.specs.Response.{response};
@@ -47,7 +48,8 @@ fn next_answered(
     moment: DateTime,
 ) -> (usize, Result<ServerEvent, ChannelFault>)
     ensures answers { (octets : List ℕ) (told : List Told) → Goes channel.old octets told
-        → AnswersBehind (channel_of channel.old) (next_of channel.old) moment piece.now result.0 result.1 channel.new octets told }
+        → AnswersBehind (channel_of channel.old) (next_of channel.old) moment piece.now result.0 result.1 channel.new
+        octets told }
     ensures progress { Progress piece.now result.0 result.1 }
     ensures some { is_given_up result.1 ≡ false }
     ensures closed { IsDone channel.old → (result.1 ≡ Err channel_fault.Closed) × (channel.new ≡ channel.old) }
@@ -85,17 +87,24 @@ fn reply_to(
     written: &mut Written,
 ) -> Result<(Vec<u8>, AnsweredRequest), StepFault>
     requires { written.old ≡ [] }
-    ensures sent { (octets : List ℕ) (before : List Told) (token : ℕ) → GoesTelling channel.old octets before (Asked id token (concat message))
+    ensures sent { (octets : List ℕ) (before : List Told) (token : ℕ)
+        → GoesTelling channel.old octets before (Asked id token (concat message))
         → IfOk result (λ told. GoesTelling channel.new octets before (Asked id token (concat message))
-        × IsReplyAt (channel_of channel.old) token (agreed_by before) (response.canonical (answered services.old moment (concat message)).1) (next_of channel.old) id told.0.items (next_of channel.new)) }
-    ensures noted { (octets : List ℕ) (before : List Told) (token : ℕ) → GoesTelling channel.old octets before (Asked id token (concat message))
-        → IfOk result (λ told. told.1 ≡ request_answered (lane_at (channel_of channel.old) token (agreed_by before)) services.old moment (concat message)) }
+        × IsReplyAt (channel_of channel.old) token (agreed_by before)
+        (response.canonical (answered services.old moment (concat message)).1) (next_of channel.old) id told.0.items
+        (next_of channel.new)) }
+    ensures noted { (octets : List ℕ) (before : List Told) (token : ℕ)
+        → GoesTelling channel.old octets before (Asked id token (concat message))
+        → IfOk result (λ told. told.1 ≡ request_answered (lane_at (channel_of channel.old) token (agreed_by before))
+        services.old moment (concat message)) }
     ensures stored { IfOk result (λ told. written.new ≡ stored_of services.old (concat message)) }
     ensures forgotten { OnErr result (written.new ≡ []) }
     ensures state { IfOk result (λ told. services.new ≡ (answered services.old moment (concat message)).0) }
-    ensures failed { (octets : List ℕ) (before : List Told) (token : ℕ) → GoesTelling channel.old octets before (Asked id token (concat message))
+    ensures failed { (octets : List ℕ) (before : List Told) (token : ℕ)
+        → GoesTelling channel.old octets before (Asked id token (concat message))
         → OnErr result ((result ≡ Err step_fault.OutOfMemory) × IsDone channel.new) }
-    ensures broken { OnErr result ((services.new ≡ services.old) ⊎ (services.new ≡ (answered services.old moment (concat message)).0)) }
+    ensures broken { OnErr result ((services.new ≡ services.old)
+        ⊎ (services.new ≡ (answered services.old moment (concat message)).0)) }
     ensures bound { bound_of channel.new ≡ bound_of channel.old }
     ensures limits { limits_of channel.new ≡ limits_of channel.old }
     ensures channel { channel_of channel.new ≡ channel_of channel.old }
@@ -131,8 +140,10 @@ fn reply_to(
 /// reason for the refusal.
 fn refusal(alloc: Global, taken: usize, fault: ChannelFault) -> Result<Step, StepFault>
     ensures stands { (old mid : ServerChannel) (moment : DateTime) (piece octets : List ℕ) (told : List Told)
-        → AnswersBehind (channel_of old) (next_of old) moment piece taken (Err fault) mid octets told → StepStands piece result mid octets told }
-    ensures now { (old mid : ServerChannel) (moment : DateTime) (piece octets : List ℕ) (told : List Told) (before : State)
+        → AnswersBehind (channel_of old) (next_of old) moment piece taken (Err fault) mid octets told
+        → StepStands piece result mid octets told }
+    ensures now { (old mid : ServerChannel) (moment : DateTime) (piece octets : List ℕ) (told : List Told)
+        (before : State)
         → NowBehind old moment piece taken (Err fault) mid octets told
         → StepNow (limits_of old) (channel_of old) (next_of old) moment piece result mid octets told before before }
     ensures taken { IfOk result (λ step. (step.taken ≡ taken) × (step.end ≡ None → ⊥)) }
@@ -166,11 +177,13 @@ pub struct Server {
 }
 
 impl Server {
-    ghost use Rattle.std.specs.Prelude.{◌≡◌, ◌≤◌, ◌↔◌, ◌++◌, [], ℕ, List, length, take, None, false, Ok, Err, IfOk, OnErr, IsErrOf, IsTrue};
+    ghost use Rattle.std.specs.Prelude.{◌≡◌, ◌≤◌, ◌↔◌, ◌++◌, [], ℕ, List, length, take};
+    ghost use Rattle.std.specs.Prelude.{None, false, Ok, Err, IfOk, OnErr, IsErrOf, IsTrue};
     ghost use Rattle.std.specs.Map.{keys_of};
     ghost use Rattle.ua_builtin.specs.declared.date_time.DateTime.{DateTime};
     ghost use Rattle.ua_channel.specs.Received.{received};
-    ghost use Rattle.ua_channel.specs.ServerStands.{limits_of, channel_of, next_of, bound_of, Goes, IsDone, bound_after, held_after, ChannelStands as Holds};
+    ghost use Rattle.ua_channel.specs.ServerStands.{limits_of, channel_of, next_of, bound_of, Goes, IsDone};
+    ghost use Rattle.ua_channel.specs.ServerStands.{bound_after, held_after, ChannelStands as Holds};
     ghost use Rattle.ua_channel.specs.ServerTold.{Told};
     ghost use Rattle.ua_channel.specs.declared.server.ServerChannel.{ServerChannel};
     ghost use Rattle.ua_frame.specs.declared.frame.Frame.{Frame};
@@ -179,7 +192,8 @@ impl Server {
     ghost use Rattle.ua_server.specs.Served.{channel_in};
     ghost use Rattle.ua_server.specs.Serving.{IsClean};
     ghost use Rattle.ua_server.specs.State.{State};
-    ghost use Rattle.ua_server.specs.Stepping.{AnswersBehind, Advances, AdvanceStands, ServerStands, StepAnswers, StepStands, StepTakes, is_given_up};
+    ghost use Rattle.ua_server.specs.Stepping.{AnswersBehind, Advances, AdvanceStands, ServerStands};
+    ghost use Rattle.ua_server.specs.Stepping.{StepAnswers, StepStands, StepTakes, is_given_up};
     ghost use Rattle.ua_server.specs.Storing.{AdvanceStores, StepStores};
     ghost use Rattle.ua_server.specs.declared.step.StepFault.TheVariants as step_fault;
 
@@ -201,9 +215,11 @@ impl Server {
     /// How many bytes are held: those of an unfinished frame, and those of unfinished messages.
     /// They are never more than [`bound`](Server::bound).
     pub fn held(&self) -> usize
-        ensures held { (octets : List ℕ) (frames : List Frame) (rest : List ℕ) → Holds (channel_in self.now) octets frames rest
+        ensures held { (octets : List ℕ) (frames : List Frame) (rest : List ℕ)
+            → Holds (channel_in self.now) octets frames rest
             → result ≡ held_after (received frames) rest }
-        ensures bound { (octets : List ℕ) (frames : List Frame) (rest : List ℕ) → Holds (channel_in self.now) octets frames rest
+        ensures bound { (octets : List ℕ) (frames : List Frame) (rest : List ℕ)
+            → Holds (channel_in self.now) octets frames rest
             → result ≤ bound_after (limits_of (channel_in self.now)) (received frames) }
         ensures done { IsDone (channel_in self.now) → result ≡ 0 }
     {
@@ -213,7 +229,8 @@ impl Server {
     /// The most bytes that may be held: 8192 before the ACK, then those of a frame of the agreed
     /// size and of 4 messages of the greatest size.
     pub fn bound(&self) -> usize
-        ensures stands { (octets : List ℕ) (frames : List Frame) (rest : List ℕ) → Holds (channel_in self.now) octets frames rest
+        ensures stands { (octets : List ℕ) (frames : List Frame) (rest : List ℕ)
+            → Holds (channel_in self.now) octets frames rest
             → result ≡ bound_after (limits_of (channel_in self.now)) (received frames) }
         ensures is { result ≡ bound_of (channel_in self.now) }
     {
@@ -230,16 +247,23 @@ impl Server {
         piece: &[u8],
         moment: DateTime,
     ) -> Result<Step, StepFault>
-        ensures answers { (octets : List ℕ) (told : List Told) (first : State) (moments : List DateTime) → ServerStands (channel_in self.old) octets told first moments services.old
-            → StepAnswers (limits_of (channel_in self.old)) (channel_of (channel_in self.old)) moment piece.now result (channel_in self.new) octets told first moments services.old services.new }
+        ensures answers { (octets : List ℕ) (told : List Told) (first : State) (moments : List DateTime)
+            → ServerStands (channel_in self.old) octets told first moments services.old
+            → StepAnswers (limits_of (channel_in self.old)) (channel_of (channel_in self.old)) moment piece.now result
+            (channel_in self.new) octets told first moments services.old services.new }
         // As a function of the current state alone, however it arose.
         ensures now { (octets : List ℕ) (told : List Told) → Goes (channel_in self.old) octets told
-            → StepNow (limits_of (channel_in self.old)) (channel_of (channel_in self.old)) (next_of (channel_in self.old)) moment piece.now result (channel_in self.new) octets told services.old services.new }
+            → StepNow (limits_of (channel_in self.old)) (channel_of (channel_in self.old))
+            (next_of (channel_in self.old)) moment piece.now result (channel_in self.new) octets told services.old
+            services.new }
         // The same over the events of the connection, whatever changed its services before.
-        ensures history { (octets : List ℕ) (hs : List ConnectionEvent) (first : State) → StandsOver (channel_in self.old) octets hs first services.old
-            → StepOver (limits_of (channel_in self.old)) (channel_of (channel_in self.old)) moment piece.now result (channel_in self.new) octets hs first services.old services.new }
+        ensures history { (octets : List ℕ) (hs : List ConnectionEvent) (first : State)
+            → StandsOver (channel_in self.old) octets hs first services.old
+            → StepOver (limits_of (channel_in self.old)) (channel_of (channel_in self.old)) moment piece.now result
+            (channel_in self.new) octets hs first services.old services.new }
         // The state of the channel afterwards is the same whatever the services are.
-        ensures stands { (octets : List ℕ) (told : List Told) → Goes (channel_in self.old) octets told → StepStands piece.now result (channel_in self.new) octets told }
+        ensures stands { (octets : List ℕ) (told : List Told) → Goes (channel_in self.old) octets told
+            → StepStands piece.now result (channel_in self.new) octets told }
         ensures endpoint { services.new.endpoint ≡ services.old.endpoint }
         ensures memory_limit { services.new.memory_limit ≡ services.old.memory_limit }
         // No node comes, goes or moves.
@@ -248,7 +272,8 @@ impl Server {
         // After a failed allocation, the bound is what it was before the call.
         ensures starved { (octets : List ℕ) (told : List Told) → Goes (channel_in self.old) octets told
             → IsErrOf result step_fault.OutOfMemory → bound_of (channel_in self.new) ≡ bound_of (channel_in self.old) }
-        ensures closed { IsDone (channel_in self.old) → (result ≡ Err step_fault.Closed) × (self.new ≡ self.old) × (services.new ≡ services.old) }
+        ensures closed { IsDone (channel_in self.old) → (result ≡ Err step_fault.Closed) × (self.new ≡ self.old)
+            × (services.new ≡ services.old) }
         ensures limits { limits_of (channel_in self.new) ≡ limits_of (channel_in self.old) }
         ensures channel { channel_of (channel_in self.new) ≡ channel_of (channel_in self.old) }
     {
@@ -266,19 +291,27 @@ impl Server {
         moment: DateTime,
         written: &mut Written,
     ) -> Result<Step, StepFault>
-        ensures answers { (octets : List ℕ) (told : List Told) (first : State) (moments : List DateTime) → ServerStands (channel_in self.old) octets told first moments services.old
-            → StepAnswers (limits_of (channel_in self.old)) (channel_of (channel_in self.old)) moment piece.now result (channel_in self.new) octets told first moments services.old services.new }
+        ensures answers { (octets : List ℕ) (told : List Told) (first : State) (moments : List DateTime)
+            → ServerStands (channel_in self.old) octets told first moments services.old
+            → StepAnswers (limits_of (channel_in self.old)) (channel_of (channel_in self.old)) moment piece.now result
+            (channel_in self.new) octets told first moments services.old services.new }
         // As a function of the current state alone, however it arose.
         ensures now { (octets : List ℕ) (told : List Told) → Goes (channel_in self.old) octets told
-            → StepNow (limits_of (channel_in self.old)) (channel_of (channel_in self.old)) (next_of (channel_in self.old)) moment piece.now result (channel_in self.new) octets told services.old services.new }
+            → StepNow (limits_of (channel_in self.old)) (channel_of (channel_in self.old))
+            (next_of (channel_in self.old)) moment piece.now result (channel_in self.new) octets told services.old
+            services.new }
         // The same over the events of the connection, whatever changed its services before.
-        ensures history { (octets : List ℕ) (hs : List ConnectionEvent) (first : State) → StandsOver (channel_in self.old) octets hs first services.old
-            → StepOver (limits_of (channel_in self.old)) (channel_of (channel_in self.old)) moment piece.now result (channel_in self.new) octets hs first services.old services.new }
+        ensures history { (octets : List ℕ) (hs : List ConnectionEvent) (first : State)
+            → StandsOver (channel_in self.old) octets hs first services.old
+            → StepOver (limits_of (channel_in self.old)) (channel_of (channel_in self.old)) moment piece.now result
+            (channel_in self.new) octets hs first services.old services.new }
         // The state of the channel afterwards is the same whatever the services are.
-        ensures stands { (octets : List ℕ) (told : List Told) → Goes (channel_in self.old) octets told → StepStands piece.now result (channel_in self.new) octets told }
+        ensures stands { (octets : List ℕ) (told : List Told) → Goes (channel_in self.old) octets told
+            → StepStands piece.now result (channel_in self.new) octets told }
         // `written` has just the items that were stored by the Write that this step answered, in
         // order, and nothing of another step.
-        ensures stores { (octets : List ℕ) (told : List Told) → Goes (channel_in self.old) octets told → StepStores piece.now result written.new (channel_in self.new) octets told services.old }
+        ensures stores { (octets : List ℕ) (told : List Told) → Goes (channel_in self.old) octets told
+            → StepStores piece.now result written.new (channel_in self.new) octets told services.old }
         ensures failed { OnErr result (written.new ≡ []) }
         ensures endpoint { services.new.endpoint ≡ services.old.endpoint }
         ensures memory_limit { services.new.memory_limit ≡ services.old.memory_limit }
@@ -288,7 +321,8 @@ impl Server {
         // After a failed allocation, the bound is what it was before the call.
         ensures starved { (octets : List ℕ) (told : List Told) → Goes (channel_in self.old) octets told
             → IsErrOf result step_fault.OutOfMemory → bound_of (channel_in self.new) ≡ bound_of (channel_in self.old) }
-        ensures closed { IsDone (channel_in self.old) → (result ≡ Err step_fault.Closed) × (self.new ≡ self.old) × (services.new ≡ services.old) }
+        ensures closed { IsDone (channel_in self.old) → (result ≡ Err step_fault.Closed) × (self.new ≡ self.old)
+            × (services.new ≡ services.old) }
         ensures limits { limits_of (channel_in self.new) ≡ limits_of (channel_in self.old) }
         ensures channel { channel_of (channel_in self.new) ≡ channel_of (channel_in self.old) }
     {
@@ -300,7 +334,8 @@ impl Server {
 
     /// Whether no frame and no message is unfinished.
     pub(crate) fn is_clean(&self) -> bool
-        ensures { (octets : List ℕ) (frames : List Frame) (rest : List ℕ) → Holds (channel_in self.now) octets frames rest
+        ensures { (octets : List ℕ) (frames : List Frame) (rest : List ℕ)
+            → Holds (channel_in self.now) octets frames rest
             → IsTrue result ↔ IsClean frames rest }
     {
         self.channel.open_count() == 0 && self.channel.held() == 0
@@ -314,12 +349,18 @@ impl Server {
         moment: DateTime,
         written: &mut Written,
     ) -> Result<Advanced, StepFault>
-        ensures answers { (octets : List ℕ) (told : List Told) (first : State) (moments : List DateTime) → ServerStands (channel_in self.old) octets told first moments services.old
-            → Advances (limits_of (channel_in self.old)) (channel_of (channel_in self.old)) moment piece.now result (channel_in self.new) octets told first moments services.old services.new }
+        ensures answers { (octets : List ℕ) (told : List Told) (first : State) (moments : List DateTime)
+            → ServerStands (channel_in self.old) octets told first moments services.old
+            → Advances (limits_of (channel_in self.old)) (channel_of (channel_in self.old)) moment piece.now result
+            (channel_in self.new) octets told first moments services.old services.new }
         ensures now { (octets : List ℕ) (told : List Told) → Goes (channel_in self.old) octets told
-            → AdvanceNow (limits_of (channel_in self.old)) (channel_of (channel_in self.old)) (next_of (channel_in self.old)) moment piece.now result (channel_in self.new) octets told services.old services.new }
-        ensures stands { (octets : List ℕ) (told : List Told) → Goes (channel_in self.old) octets told → AdvanceStands piece.now result (channel_in self.new) octets told }
-        ensures stores { (octets : List ℕ) (told : List Told) → Goes (channel_in self.old) octets told → AdvanceStores piece.now result written.new (channel_in self.new) octets told services.old }
+            → AdvanceNow (limits_of (channel_in self.old)) (channel_of (channel_in self.old))
+            (next_of (channel_in self.old)) moment piece.now result (channel_in self.new) octets told services.old
+            services.new }
+        ensures stands { (octets : List ℕ) (told : List Told) → Goes (channel_in self.old) octets told
+            → AdvanceStands piece.now result (channel_in self.new) octets told }
+        ensures stores { (octets : List ℕ) (told : List Told) → Goes (channel_in self.old) octets told
+            → AdvanceStores piece.now result written.new (channel_in self.new) octets told services.old }
         ensures failed { OnErr result (written.new ≡ []) }
         ensures endpoint { services.new.endpoint ≡ services.old.endpoint }
         ensures memory_limit { services.new.memory_limit ≡ services.old.memory_limit }
@@ -328,7 +369,8 @@ impl Server {
         ensures progress { IfOk result (λ found. StepTakes piece.now found.step) }
         ensures starved { (octets : List ℕ) (told : List Told) → Goes (channel_in self.old) octets told
             → IsErrOf result step_fault.OutOfMemory → bound_of (channel_in self.new) ≡ bound_of (channel_in self.old) }
-        ensures closed { IsDone (channel_in self.old) → (result ≡ Err step_fault.Closed) × (self.new ≡ self.old) × (services.new ≡ services.old) }
+        ensures closed { IsDone (channel_in self.old) → (result ≡ Err step_fault.Closed) × (self.new ≡ self.old)
+            × (services.new ≡ services.old) }
         ensures limits { limits_of (channel_in self.new) ≡ limits_of (channel_in self.old) }
         ensures channel { channel_of (channel_in self.new) ≡ channel_of (channel_in self.old) }
     {
@@ -361,19 +403,24 @@ impl Server {
         requires empty { written.old ≡ [] }
         ensures now { (old : ServerChannel) (piece octets : List ℕ) (told : List Told)
             → NowBehind old moment piece taken (Ok event) (channel_in self.old) octets told
-            → AdvanceNow (limits_of old) (channel_of old) (next_of old) moment piece result (channel_in self.new) octets told services.old services.new }
+            → AdvanceNow (limits_of old) (channel_of old) (next_of old) moment piece result (channel_in self.new) octets
+            told services.old services.new }
         ensures stands { (old : ServerChannel) (piece octets : List ℕ) (told : List Told)
-            → AnswersBehind (channel_of old) (next_of old) moment piece taken (Ok event) (channel_in self.old) octets told → AdvanceStands piece result (channel_in self.new) octets told }
+            → AnswersBehind (channel_of old) (next_of old) moment piece taken (Ok event) (channel_in self.old) octets
+            told → AdvanceStands piece result (channel_in self.new) octets told }
         ensures stores { (old : ServerChannel) (piece octets : List ℕ) (told : List Told)
-            → AnswersBehind (channel_of old) (next_of old) moment piece taken (Ok event) (channel_in self.old) octets told → AdvanceStores piece result written.new (channel_in self.new) octets told services.old }
+            → AnswersBehind (channel_of old) (next_of old) moment piece taken (Ok event) (channel_in self.old) octets
+            told → AdvanceStores piece result written.new (channel_in self.new) octets told services.old }
         ensures failed { OnErr result (written.new ≡ []) }
         ensures endpoint { services.new.endpoint ≡ services.old.endpoint }
         ensures memory_limit { services.new.memory_limit ≡ services.old.memory_limit }
         // No node comes, goes or moves.
         ensures ids { keys_of services.new.nodes ≡ keys_of services.old.nodes }
         ensures taken { IfOk result (λ found. found.step.taken ≡ taken) }
-        ensures starved { (old : ServerChannel) (piece octets : List ℕ) (told : List Told) → Goes old octets told → limits_of (channel_in self.old) ≡ limits_of old
-            → AnswersBehind (channel_of old) (next_of old) moment piece taken (Ok event) (channel_in self.old) octets told
+        ensures starved { (old : ServerChannel) (piece octets : List ℕ) (told : List Told) → Goes old octets told
+            → limits_of (channel_in self.old) ≡ limits_of old
+            → AnswersBehind (channel_of old) (next_of old) moment piece taken (Ok event) (channel_in self.old) octets
+            told
             → IsErrOf result step_fault.OutOfMemory → bound_of (channel_in self.new) ≡ bound_of old }
         ensures limits { limits_of (channel_in self.new) ≡ limits_of (channel_in self.old) }
         ensures channel { channel_of (channel_in self.new) ≡ channel_of (channel_in self.old) }

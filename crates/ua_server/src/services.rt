@@ -1,6 +1,7 @@
 //! The services of a server.
 
-ghost use Rattle.std.specs.Prelude.{◌≡◌, ◌++◌, ◌∷◌, ◌↔◌, [], IsTrue, IsSome, IfOk, OnOk, OnErr, IsErrOf, MatchResult, None, Some};
+ghost use Rattle.std.specs.Prelude.{◌≡◌, ◌++◌, ◌∷◌, ◌↔◌, [], IsTrue, IsSome, IfOk};
+ghost use Rattle.std.specs.Prelude.{OnOk, OnErr, IsErrOf, MatchResult, None, Some};
 ghost use Rattle.ua_nodes.specs.Set.{after_set, after_set_at, set_refusal, set_refusal_at};
 ghost use Rattle.ua_nodes.specs.Table.{id_at, node_at, variable_of};
 ghost use Rattle.ua_nodes.specs.Sound.{IsSound, is_sound_node};
@@ -44,7 +45,13 @@ impl Model for Services {
 
     ghost coded = { Prim.hlevel (codes, value.the_row.coded) };
 
-    ghost view = { λ s. record { nodes = s.nodes; endpoint = s.endpoint; memory_limit = s.memory_limit; made = s.made; session = s.session } };
+    ghost view = { λ s. record {
+      nodes = s.nodes;
+      endpoint = s.endpoint;
+      memory_limit = s.memory_limit;
+      made = s.made;
+      session = s.session;
+    } };
 
     ghost invariant = { λ s. IsSound s.nodes × Fits s.endpoint };
 }
@@ -107,7 +114,8 @@ impl Services {
     /// Sets what the node of a NodeId holds, as [`NodeTable::set`]. Allocates nothing.
     pub fn set(&mut self, id: &NodeId, reading: Reading) -> Result<(), SetFault>
         ensures state { self.new ≡ with_nodes self.old (after_set id.now reading self.old.nodes) }
-        ensures answer { MatchResult result (λ _. set_refusal (node_at self.old.nodes id.now) reading ≡ None) (λ fault. set_refusal (node_at self.old.nodes id.now) reading ≡ Some fault) }
+        ensures answer { MatchResult result (λ _. set_refusal (node_at self.old.nodes id.now) reading ≡ None)
+            (λ fault. set_refusal (node_at self.old.nodes id.now) reading ≡ Some fault) }
         ensures kept { OnErr result (self.new ≡ self.old) }
     {
         self.nodes.set(id, reading)
@@ -115,8 +123,10 @@ impl Services {
 
     /// Sets what the node at a position holds, as [`NodeTable::set_at`]. Allocates nothing.
     pub fn set_at(&mut self, index: usize, reading: Reading) -> Result<(), SetFault>
-        ensures state { self.new ≡ with_nodes self.old (after_set_at (id_at self.old.nodes index) reading self.old.nodes) }
-        ensures answer { MatchResult result (λ _. set_refusal_at (id_at self.old.nodes index) reading self.old.nodes ≡ None) (λ fault. set_refusal_at (id_at self.old.nodes index) reading self.old.nodes ≡ Some fault) }
+        ensures state { self.new ≡ with_nodes self.old
+            (after_set_at (id_at self.old.nodes index) reading self.old.nodes) }
+        ensures answer { MatchResult result (λ _. set_refusal_at (id_at self.old.nodes index) reading self.old.nodes
+            ≡ None) (λ fault. set_refusal_at (id_at self.old.nodes index) reading self.old.nodes ≡ Some fault) }
         ensures kept { OnErr result (self.new ≡ self.old) }
     {
         self.nodes.set_at(index, reading)
@@ -126,7 +136,8 @@ impl Services {
     /// precondition.
     pub fn insert(&mut self, node: Node) -> Result<(), InsertFault>
         requires sound { IsTrue (is_sound_node node.id (variable_of node)) }
-        ensures state { OnOk result (self.new ≡ with_nodes self.old (self.old.nodes ++ (node.id, variable_of node) ∷ [])) }
+        ensures state { OnOk result
+            (self.new ≡ with_nodes self.old (self.old.nodes ++ (node.id, variable_of node) ∷ [])) }
         ensures duplicate { IsErrOf result insert_fault.Duplicate ↔ IsSome (node_at self.old.nodes node.id) }
         ensures kept { OnErr result (self.new ≡ self.old) }
     {

@@ -36,7 +36,8 @@ pub fn serve<L: Line, M: Moments>(
     channel_id: u32,
     moments: &mut M,
 ) -> Result<End, ServeFault>
-    ensures serves { Serves limits channel_id M.gives (begun services.old) moments.old result services.new moments.new (L.traffic line.old) (L.traffic line.new) }
+    ensures serves { Serves limits channel_id M.gives (begun services.old) moments.old result services.new moments.new
+        (L.traffic line.old) (L.traffic line.new) }
     ensures failed { LineFailed (L.failures line.old) result (L.failures line.new) }
 {
     serve_watched(
@@ -62,7 +63,8 @@ pub fn serve_watched<L: Line, M: Moments, W: Watch>(
     moments: &mut M,
     watch: &mut W,
 ) -> Result<End, ServeFault>
-    ensures serves { ServesTelling limits channel_id M.gives W.notes (begun services.old) (moments.old, watch.old) result services.new (moments.new, watch.new) (L.traffic line.old) (L.traffic line.new) }
+    ensures serves { ServesTelling limits channel_id M.gives W.notes (begun services.old) (moments.old, watch.old)
+        result services.new (moments.new, watch.new) (L.traffic line.old) (L.traffic line.new) }
     ensures told { WasTold W.notes watch.old watch.new }
     ensures failed { LineFailed (L.failures line.old) result (L.failures line.new) }
 {
@@ -91,7 +93,9 @@ pub fn serve_application<L: Line, M: Moments, W: Watch, A: Application>(
     watch: &mut W,
     application: &mut A,
 ) -> Result<End, ServeFault>
-    ensures serves { ServesApplication limits channel_id M.gives W.notes A.changes (begun services.old, application.old) (moments.old, watch.old) result (services.new, application.new) (moments.new, watch.new) (L.traffic line.old) (L.traffic line.new) }
+    ensures serves { ServesApplication limits channel_id M.gives W.notes A.changes (begun services.old, application.old)
+        (moments.old, watch.old) result (services.new, application.new) (moments.new, watch.new) (L.traffic line.old)
+        (L.traffic line.new) }
     ensures told { WasTold W.notes watch.old watch.new }
     ensures failed { LineFailed (L.failures line.old) result (L.failures line.new) }
 {
@@ -125,7 +129,8 @@ pub struct Serving {
 }
 
 impl Serving {
-    ghost use Rattle.std.specs.Prelude.{◌≡◌, ◌<◌, ◌≤◌, ◌++◌, ◌∷◌, ℕ, ℤ, List, [], map, IfOk, length, Bool, cond, None, Some};
+    ghost use Rattle.std.specs.Prelude.{◌≡◌, ◌<◌, ◌≤◌, ◌++◌, ◌∷◌, ℕ, ℤ, List, []};
+    ghost use Rattle.std.specs.Prelude.{map, IfOk, length, Bool, cond, None, Some};
     ghost use Rattle.ua_builtin.specs.declared.date_time.DateTime.{DateTime};
     ghost use Rattle.ua_channel.specs.Line.{IfTrafficKnown};
     ghost use Rattle.ua_channel.specs.Received.{listed};
@@ -136,7 +141,8 @@ impl Serving {
     ghost use Rattle.ua_server.specs.Happening.{Event, Happens, WasTold};
     ghost use Rattle.ua_server.specs.Serving.{moment_of, MovesTraffic, LineFailed};
     ghost use Rattle.ua_server.specs.ServingOver.{ServesApplication};
-    ghost use Rattle.ua_server.specs.ServingParts.{Asked, Begins, Exchanged, Finishes, Handles, Keeps, OfEventsBetween, Says, Steps, Turns, noted};
+    ghost use Rattle.ua_server.specs.ServingParts.{Asked, Begins, Exchanged, Finishes, Handles};
+    ghost use Rattle.ua_server.specs.ServingParts.{Keeps, OfEventsBetween, Says, Steps, Turns, noted};
     ghost use Rattle.ua_server.specs.Stepping.{StepTakes};
     ghost use Rattle.ua_server.specs.State.{State};
 
@@ -154,7 +160,8 @@ impl Serving {
 
     /// How a connection ends whose input ends.
     fn finish(&self) -> End
-        ensures { (octets : List ℕ) (frames : List Frame) (rest : List ℕ) → Holds (channel_in self.now.server) octets frames rest
+        ensures { (octets : List ℕ) (frames : List Frame) (rest : List ℕ)
+            → Holds (channel_in self.now.server) octets frames rest
             → Finishes result frames rest }
     {
         if self.server.is_clean() {
@@ -166,7 +173,8 @@ impl Serving {
 
     /// The timestamp that is kept, or else the next one, which is kept then.
     fn moment<M: Moments>(&mut self, moments: &mut M) -> DateTime
-        ensures asked { Asked M.gives moments.old moments.new (λ ticks. listed self.old.moment ++ map moment_of ticks ≡ result ∷ []) }
+        ensures asked { Asked M.gives moments.old moments.new (λ ticks. listed self.old.moment ++ map moment_of ticks
+            ≡ result ∷ []) }
         ensures kept { self.new ≡ record self.old { moment = Some result } }
     {
         match self.moment {
@@ -192,8 +200,11 @@ impl Serving {
         piece: &[u8],
     ) -> Result<Step, StepFault>
         requires { 0 < length piece.now }
-        ensures steps { (limits : Limits) (channel : ℕ) (first : State × A) (read written : List ℕ) (given : List Event) → Keeps A.changes self.old limits channel first read written given (services.old, application.old)
-            → OfEventsBetween (Happens M.gives W.notes) (moments.old, watch.old) (moments.new, watch.new) (λ events. Steps A.changes result self.new limits channel first piece.now read written (given ++ events) (services.new, application.new)) }
+        ensures steps { (limits : Limits) (channel : ℕ) (first : State × A) (read written : List ℕ) (given : List Event)
+            → Keeps A.changes self.old limits channel first read written given (services.old, application.old)
+            → OfEventsBetween (Happens M.gives W.notes) (moments.old, watch.old) (moments.new, watch.new)
+            (λ events. Steps A.changes result self.new limits channel first piece.now read written (given ++ events)
+            (services.new, application.new)) }
         ensures told { WasTold W.notes watch.old watch.new }
         ensures progress { IfOk result (λ step. StepTakes piece.now step) }
     {
@@ -253,11 +264,15 @@ impl Serving {
         piece: &[u8],
     ) -> Result<(usize, Option<End>), ServeFault>
         requires { 0 < length piece.now }
-        ensures turns { (limits : Limits) (channel : ℕ) (first : State × A) (read written : List ℕ) (given : List Event) → Keeps A.changes self.old limits channel first read written given (services.old, application.old)
-            → Exchanged (Happens M.gives W.notes) (moments.old, watch.old) (moments.new, watch.new) [] (L.traffic line.old) (L.traffic line.new)
-            (λ more events. Turns A.changes result self.new limits channel first piece.now read (written ++ more) (given ++ events) (services.new, application.new)) }
+        ensures turns { (limits : Limits) (channel : ℕ) (first : State × A) (read written : List ℕ) (given : List Event)
+            → Keeps A.changes self.old limits channel first read written given (services.old, application.old)
+            → Exchanged (Happens M.gives W.notes) (moments.old, watch.old) (moments.new, watch.new) []
+            (L.traffic line.old) (L.traffic line.new)
+            (λ more events. Turns A.changes result self.new limits channel first piece.now read (written ++ more)
+            (given ++ events) (services.new, application.new)) }
         ensures told { WasTold W.notes watch.old watch.new }
-        ensures progress { IfOk result (λ turn. (turn.0 ≤ length piece.now) × (turn.1 ≡ None → 0 < length piece.now → 0 < turn.0)) }
+        ensures progress { IfOk result (λ turn. (turn.0 ≤ length piece.now)
+            × (turn.1 ≡ None → 0 < length piece.now → 0 < turn.0)) }
         ensures failed { LineFailed (L.failures line.old) result (L.failures line.new) }
     {
         let step = match self.step(services, moments, watch, application, piece) {
@@ -280,9 +295,13 @@ impl Serving {
         application: &mut A,
         piece: &[u8],
     ) -> Result<Option<End>, ServeFault>
-        ensures handles { (limits : Limits) (channel : ℕ) (first : State × A) (read written : List ℕ) (given : List Event) → Keeps A.changes self.old limits channel first read written given (services.old, application.old)
-            → Exchanged (Happens M.gives W.notes) (moments.old, watch.old) (moments.new, watch.new) [] (L.traffic line.old) (L.traffic line.new)
-            (λ more events. Handles A.changes result self.new limits channel first (read ++ piece.now) (written ++ more) (given ++ events) (services.new, application.new)) }
+        ensures handles { (limits : Limits) (channel : ℕ) (first : State × A) (read written : List ℕ)
+            (given : List Event) → Keeps A.changes self.old limits channel first read written given
+            (services.old, application.old)
+            → Exchanged (Happens M.gives W.notes) (moments.old, watch.old) (moments.new, watch.new) []
+            (L.traffic line.old) (L.traffic line.new)
+            (λ more events. Handles A.changes result self.new limits channel first (read ++ piece.now) (written ++ more)
+            (given ++ events) (services.new, application.new)) }
         ensures told { WasTold W.notes watch.old watch.new }
         ensures failed { LineFailed (L.failures line.old) result (L.failures line.new) }
     {
@@ -318,8 +337,10 @@ impl Serving {
         buffer: &mut [u8],
     ) -> Result<End, ServeFault>
         requires { 0 < length buffer.old }
-        ensures serves { (limits : Limits) (channel : ℕ) (first : State × A) → Keeps A.changes self.old limits channel first [] [] [] (services.old, application.old)
-            → ServesApplication limits channel M.gives W.notes A.changes first (moments.old, watch.old) result (services.new, application.new) (moments.new, watch.new) (L.traffic line.old) (L.traffic line.new) }
+        ensures serves { (limits : Limits) (channel : ℕ) (first : State × A)
+            → Keeps A.changes self.old limits channel first [] [] [] (services.old, application.old)
+            → ServesApplication limits channel M.gives W.notes A.changes first (moments.old, watch.old) result
+            (services.new, application.new) (moments.new, watch.new) (L.traffic line.old) (L.traffic line.new) }
         ensures told { WasTold W.notes watch.old watch.new }
         ensures failed { LineFailed (L.failures line.old) result (L.failures line.new) }
     {

@@ -8,7 +8,9 @@ ghost use Rattle.ua_builtin.specs.Status.{of_code};
 ghost use Rattle.ua_opening.specs.Header.{response_header};
 ghost use Rattle.ua_opening.specs.Plain.{response_header_of};
 ghost use Rattle.ua_server.specs.Answer.{activate_session, close_session, create_session};
-ghost use Rattle.ua_server.specs.Sessions.{endpoints_given, session_reasons, create_reasons, session_given, is_anonymous, activate_reasons, with_activated, activation_given, close_reasons, close_given};
+ghost use Rattle.ua_server.specs.Sessions.{endpoints_given, session_reasons, create_reasons};
+ghost use Rattle.ua_server.specs.Sessions.{session_given, is_anonymous, activate_reasons};
+ghost use Rattle.ua_server.specs.Sessions.{with_activated, activation_given, close_reasons, close_given};
 ghost use Rattle.ua_server.specs.State.{begun, with_next_session, is_own, is_activated};
 
 use crate::endpoint::serves;

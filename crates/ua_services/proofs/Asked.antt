@@ -13,7 +13,9 @@ use Rattle.ua_services.proofs.Words.{and_false, both_are, first_false, too_long}
 use Rattle.ua_wire.specs.Boolean.{boolean}
 use Rattle.ua_services.proofs.ByKind.{request-encodable}
 use Rattle.ua_services.specs.Request.{request}
-use Rattle.ua_services.specs.declared.request.Request.TheVariants.{GetEndpoints as GetEndpointsMessage, CreateSession as CreateSessionMessage, ActivateSession as ActivateSessionMessage, CloseSession as CloseSessionMessage, Read as ReadMessage, Write as WriteMessage}
+use Rattle.ua_services.specs.declared.request.Request.TheVariants.{GetEndpoints as GetEndpointsMessage, CreateSession as CreateSessionMessage}
+use Rattle.ua_services.specs.declared.request.Request.TheVariants.{ActivateSession as ActivateSessionMessage, CloseSession as CloseSessionMessage}
+use Rattle.ua_services.specs.declared.request.Request.TheVariants.{Read as ReadMessage, Write as WriteMessage}
 use Rattle.ua_services.specs.declared.request.RequestKind.TheVariants.{GetEndpoints, CreateSession, ActivateSession, CloseSession, Read, Write}
 use Rattle.ua_opening.specs.Array.{array}
 use Rattle.ua_structures.specs.Attribute.{read_request, read_value_id, write_request}
@@ -52,28 +54,36 @@ write_fits m h = request-encodable Write m ∙ h
 
 -- ---- what requests are made of
 
-pub closing_fits : (header : RequestHeader) → IsTrue (request_header.encodable header) → IsTrue (request.encodable (CloseSessionMessage (record { request_header = header; delete_subscriptions = false })))
+pub closing_fits : (header : RequestHeader) → IsTrue (request_header.encodable header)
+    → IsTrue (request.encodable (CloseSessionMessage (record { request_header = header; delete_subscriptions = false })))
 unfolding close_session_request boolean
-closing_fits header h = close_session_fits (record { request_header = header; delete_subscriptions = false }) (both_are (request_header.encodable header) _ h refl)
+closing_fits header h = close_session_fits (record { request_header = header; delete_subscriptions = false })
+    (both_are (request_header.encodable header) _ h refl)
 
 no_name_fits : IsTrue (qualified_name.encodable (record { namespace = 0; name = None }))
 unfolding qualified_name text counted
 no_name_fits = refl
 
-pub attribute_fits : (node : NodeId) (attribute : ℕ) (range : Option (List ℕ)) → attribute < 2 ^ 32 → IsTrue (node_id.encodable node) → IsTrue (string.encodable range)
+pub attribute_fits : (node : NodeId) (attribute : ℕ) (range : Option (List ℕ)) → attribute < 2 ^ 32 → IsTrue (node_id.encodable node)
+    → IsTrue (string.encodable range)
     → IsTrue (read_value_id.encodable (attribute_of_node node attribute range))
 unfolding read_value_id
 attribute_fits node attribute range small h r =
-    both_are (node_id.encodable node) _ h (both_are (uint32.encodable attribute) _ (lt-ltb attribute (2 ^ 32) small) (both_are (string.encodable range) _ r no_name_fits))
+    both_are (node_id.encodable node) _ h
+    (both_are (uint32.encodable attribute) _ (lt-ltb attribute (2 ^ 32) small) (both_are (string.encodable range) _ r no_name_fits))
 
 -- without an identity that can be written there is no request that can
-unidentified : (header : RequestHeader) (identity : ExtensionObject) → IsFalse (extension_object.encodable identity) → IsFalse (request.encodable (ActivateSessionMessage (activate_session_of header identity)))
+unidentified : (header : RequestHeader) (identity : ExtensionObject) → IsFalse (extension_object.encodable identity)
+    → IsFalse (request.encodable (ActivateSessionMessage (activate_session_of header identity)))
 unfolding activate_session_request
 unidentified header identity unfit =
     request-encodable ActivateSession (activate_session_of header identity)
-    ∙ and_false (request_header.encodable header) _ (and_false (signature_data.encodable null_signature) _ (and_false ((array signed_software_certificate).encodable None) _
+    ∙ and_false (request_header.encodable header) _
+    (and_false (signature_data.encodable null_signature) _ (and_false ((array signed_software_certificate).encodable None) _
     (and_false ((array string).encodable None) _ (first_false (extension_object.encodable identity) _ unfit))))
 
-pub unnamed : (policy_id : Option (List ℕ)) (token : NodeId) (moment : DateTime) (handle : ℕ) → IsTrue (is_text policy_id) → IsFalse (string.encodable policy_id)
+pub unnamed : (policy_id : Option (List ℕ)) (token : NodeId) (moment : DateTime) (handle : ℕ) → IsTrue (is_text policy_id)
+    → IsFalse (string.encodable policy_id)
     → IsFalse (request.encodable (activate_session_as policy_id token moment handle))
-unnamed policy_id token moment handle utf8 unfit = unidentified (request_header_of token moment handle) (anonymous_identity policy_id) (too_long policy_id utf8 unfit)
+unnamed policy_id token moment handle utf8 unfit = unidentified (request_header_of token moment handle) (anonymous_identity policy_id)
+    (too_long policy_id utf8 unfit)

@@ -18,7 +18,8 @@ unfolding request node_id
 request-encodable Read m = refl
 request-encodable k m = refl
 
-pub request-canonical : (k : RequestKind) (m : Structure k) → request.canonical (requests.make k m) ≡ node_id.canonical (standard (requests.number k)) ++ (requests.format k).canonical m
+pub request-canonical : (k : RequestKind) (m : Structure k) → request.canonical (requests.make k m) ≡ node_id.canonical (standard (requests.number k))
+    ++ (requests.format k).canonical m
 unfolding request
 request-canonical = canonical-made requests are_requests
 
@@ -27,6 +28,7 @@ unfolding response node_id
 response-encodable WasRead m = refl
 response-encodable k m = refl
 
-pub response-canonical : (k : ResponseKind) (m : Held k) → response.canonical (responses.make k m) ≡ node_id.canonical (standard (responses.number k)) ++ (responses.format k).canonical m
+pub response-canonical : (k : ResponseKind) (m : Held k) → response.canonical (responses.make k m) ≡ node_id.canonical (standard (responses.number k))
+    ++ (responses.format k).canonical m
 unfolding response
 response-canonical = canonical-made responses are_responses

@@ -29,7 +29,8 @@ pub record Holds {K V : Type 0} (kinds : Kinds K V) (v : V) : Type 0 where
   pub octets : List ℕ
   pub within : Within (kinds.format (kinds.parts v).0).encodes (kinds.format (kinds.parts v).0).depth most_levels (kinds.parts v).1 octets
 
-kind_holds : {K V : Type 0} (kinds : Kinds K V) → AreKinds kinds → (o : Option K) (v : V) (b : List ℕ) → OfKind kinds o v b → message_depth kinds v ≤ most_levels → Holds kinds v
+kind_holds : {K V : Type 0} (kinds : Kinds K V) → AreKinds kinds → (o : Option K) (v : V) (b : List ℕ) → OfKind kinds o v b
+    → message_depth kinds v ≤ most_levels → Holds kinds v
 kind_holds kinds are None v b h deep = absurd h
 kind_holds kinds are (Some k) v b h deep =
     let same = ap kinds.parts h.is ∙ (are.each k).forth h.of in

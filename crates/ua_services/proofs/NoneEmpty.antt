@@ -13,7 +13,12 @@ use Rattle.ua_services.specs.declared.response.Response.{Response}
 id_first : (id : NodeId) (b : List ℕ) → 0 < length (node_id.canonical id ++ b)
 unfolding node_id
 id_first id b =
-    omega (arith, length-append (node_id.canonical id) b, length-append (number_octets 1 (form_of id)) ((in_form (form_of id)).canonical id), length-number_octets 1 (form_of id))
+    omega (
+      arith,
+      length-append (node_id.canonical id) b,
+      length-append (number_octets 1 (form_of id)) ((in_form (form_of id)).canonical id),
+      length-number_octets 1 (form_of id),
+    )
 
 -- a body begins with the NodeId of its encoding
 pub response_takes_some : (r : Response) → 0 < length (response.canonical r)

@@ -30,13 +30,15 @@ IsUnread octets e fault = (fault ≡ unread_with (handle_behind octets) e) ⊎ (
 unread_is : (head old : List ℕ) (e : ReadFault) (fault : RequestFault) → head ≡ old → IsUnread head e fault → IsUnread old e fault
 unread_is head old e fault same is = subst (λ (t : List ℕ). IsUnread t e fault) same is
 
-fails_by : (k : RequestKind) (old new : List ℕ) (e : ReadFault) (fault : RequestFault) → Gives (kind_at requests most_levels (Some k)) old new (Err e) → IsUnread old e fault → Reads (Err fault) (kind_read k old)
+fails_by : (k : RequestKind) (old new : List ℕ) (e : ReadFault) (fault : RequestFault) → Gives (kind_at requests most_levels (Some k)) old new (Err e)
+    → IsUnread old e fault → Reads (Err fault) (kind_read k old)
 fails_by k old new NoValue fault h (inl is) = inl (ap Err is ∙ sym (ap (λ o. found_or (o >>= λ x. if_last x.0 x.1) (Unreadable (handle_behind old))) h))
 fails_by k old new NoValue fault h (inr is) = inr (ap Err is)
 fails_by k old new NoMemory fault h (inl is) = inr (ap Err is)
 fails_by k old new NoMemory fault h (inr is) = inr (ap Err is)
 
-pub kind_fails : (k : RequestKind) (head old new : List ℕ) (e : ReadFault) (fault : RequestFault) → head ≡ old → Gives (kind_at requests most_levels (Some k)) old new (Err e) → IsUnread head e fault
+pub kind_fails : (k : RequestKind) (head old new : List ℕ) (e : ReadFault) (fault : RequestFault) → head ≡ old
+    → Gives (kind_at requests most_levels (Some k)) old new (Err e) → IsUnread head e fault
     → Reads (Err fault) (kind_read k old)
 kind_fails k head old new e fault same h is = fails_by k old new e fault h (unread_is head old e fault same is)
 
@@ -44,11 +46,14 @@ kind_gives : (k : RequestKind) (old new : List ℕ) (m : Request) → kind_at re
     → kind_read k old ≡ found_or (if_last m new) (Unreadable (handle_behind old))
 kind_gives k old new m e = ap (λ o. found_or (o >>= λ x. if_last x.0 x.1) (Unreadable (handle_behind old))) e
 
-left_by : (k : RequestKind) (old new : List ℕ) (m : Request) (fault : RequestFault) → kind_at requests most_levels (Some k) old ≡ Some (m, new) → 0 < length new → IsUnread old NoValue fault → Reads (Err fault) (kind_read k old)
-left_by k old new m fault e more (inl is) = inl (ap Err is ∙ sym (kind_gives k old new m e ∙ ap (λ o. found_or o (Unreadable (handle_behind old))) (some_left m new more)))
+left_by : (k : RequestKind) (old new : List ℕ) (m : Request) (fault : RequestFault) → kind_at requests most_levels (Some k) old ≡ Some (m, new) → 0 < length new
+    → IsUnread old NoValue fault → Reads (Err fault) (kind_read k old)
+left_by k old new m fault e more (inl is) =
+    inl (ap Err is ∙ sym (kind_gives k old new m e ∙ ap (λ o. found_or o (Unreadable (handle_behind old))) (some_left m new more)))
 left_by k old new m fault e more (inr is) = inr (ap Err is)
 
-pub kind_left : (k : RequestKind) (head old new : List ℕ) (m : Request) (fault : RequestFault) → head ≡ old → kind_at requests most_levels (Some k) old ≡ Some (m, new) → 0 < length new → IsUnread head NoValue fault
+pub kind_left : (k : RequestKind) (head old new : List ℕ) (m : Request) (fault : RequestFault) → head ≡ old
+    → kind_at requests most_levels (Some k) old ≡ Some (m, new) → 0 < length new → IsUnread head NoValue fault
     → Reads (Err fault) (kind_read k old)
 kind_left k head old new m fault same e more is = left_by k old new m fault e more (unread_is head old NoValue fault same is)
 
@@ -60,7 +65,8 @@ kind_whole k old new m e none = inl (sym (kind_gives k old new m e ∙ ap (λ o.
 
 -- what a body is read as, by the NodeId that was found
 abbrev read_by : Option (NodeId × List ℕ) → Result Request RequestFault
-read_by o = found_or ((o >>= λ x. kind_at requests most_levels (request_kind x.0) x.1) >>= λ x. if_last x.0 x.1) (misread_id (id_handle o) (o >>= λ x. Some x.0))
+read_by o = found_or ((o >>= λ x. kind_at requests most_levels (request_kind x.0) x.1) >>= λ x. if_last x.0 x.1)
+    (misread_id (id_handle o) (o >>= λ x. Some x.0))
 
 read-by : (old : List ℕ) → request_read old ≡ read_by (node_id.decode old)
 unfolding request request_read
@@ -70,7 +76,8 @@ read-by old = refl
 abbrev read_kind : List ℕ → Option RequestKind → Result Request RequestFault
 read_kind rest o = found_or (kind_at requests most_levels o rest >>= λ x. if_last x.0 x.1) (misread_kind (handle_behind rest) o)
 
-pub read-kind : (old rest : List ℕ) (id : NodeId) (o : Option RequestKind) → node_id.decode old ≡ Some (id, rest) → request_kind id ≡ o → request_read old ≡ read_kind rest o
+pub read-kind : (old rest : List ℕ) (id : NodeId) (o : Option RequestKind) → node_id.decode old ≡ Some (id, rest) → request_kind id ≡ o
+    → request_read old ≡ read_kind rest o
 read-kind old rest id o found is = read-by old ∙ ap read_by found ∙ ap (read_kind rest) is
 
 pub id_fails : (old new : List ℕ) (e : ReadFault) → Gives node_id.decode old new (Err e)
@@ -78,7 +85,8 @@ pub id_fails : (old new : List ℕ) (e : ReadFault) → Gives node_id.decode old
 id_fails old new NoValue h = inl (sym (read-by old ∙ ap read_by h))
 id_fails old new NoMemory h = inr refl
 
-pub not_supported : (old rest : List ℕ) (id : NodeId) (e : RequestFault) → node_id.decode old ≡ Some (id, rest) → request_kind id ≡ None → (e ≡ Unsupported (handle_behind rest)) ⊎ (e ≡ OutOfMemory)
+pub not_supported : (old rest : List ℕ) (id : NodeId) (e : RequestFault) → node_id.decode old ≡ Some (id, rest) → request_kind id ≡ None
+    → (e ≡ Unsupported (handle_behind rest)) ⊎ (e ≡ OutOfMemory)
     → Reads (Err e) (request_read old)
 not_supported old rest id e found is (inl h) = inl (ap Err h ∙ sym (read-kind old rest id None found is))
 not_supported old rest id e found is (inr h) = inr (ap Err h)
@@ -110,13 +118,16 @@ no_such_id octets e a =
     let both : None ≡ Some a.0 = sym e ∙ a.1 in
     absurd cc
 
-pub request_found : (octets : List ℕ) (r : Result Request RequestFault) → (r ≡ request_read octets) ⊎ (r ≡ Err OutOfMemory) → IfOk r (λ m. IsBody request m octets)
+pub request_found : (octets : List ℕ) (r : Result Request RequestFault) → (r ≡ request_read octets) ⊎ (r ≡ Err OutOfMemory)
+    → IfOk r (λ m. IsBody request m octets)
 unfolding request_read
-request_found octets (Ok m) (inl h) = body_is request lawful_request octets m (found_ok (body_of request octets) (misread_id (handle_of octets) (id_of octets)) m h)
+request_found octets (Ok m) (inl h) =
+    body_is request lawful_request octets m (found_ok (body_of request octets) (misread_id (handle_of octets) (id_of octets)) m h)
 request_found octets (Ok m) (inr h) = absurd cc
 request_found octets (Err e) h = tt
 
-misread_by : (octets : List ℕ) (id : NodeId) (o : Option RequestKind) → id_of octets ≡ Some id → request_kind id ≡ o → IsNoBody request octets → Misread octets (misread_kind (handle_of octets) o)
+misread_by : (octets : List ℕ) (id : NodeId) (o : Option RequestKind) → id_of octets ≡ Some id → request_kind id ≡ o → IsNoBody request octets
+    → Misread octets (misread_kind (handle_of octets) o)
 misread_by octets id None e is none = ((id, e, is), none, refl)
 misread_by octets id (Some k) e is none = (λ (a : AnnouncesNone octets). no_such_kind octets id k e is a, none, refl)
 
@@ -124,7 +135,8 @@ misread_is : (octets : List ℕ) (o : Option NodeId) → id_of octets ≡ o → 
 misread_is octets None e none = (λ (a : AnnouncesNone octets). no_such_id octets e a, none, refl)
 misread_is octets (Some id) e none = misread_by octets id (request_kind id) e refl none
 
-pub request_refused : (octets : List ℕ) (r : Result Request RequestFault) → (r ≡ request_read octets) ⊎ (r ≡ Err OutOfMemory) → IfErr r (λ fault. Misread octets fault)
+pub request_refused : (octets : List ℕ) (r : Result Request RequestFault) → (r ≡ request_read octets) ⊎ (r ≡ Err OutOfMemory)
+    → IfErr r (λ fault. Misread octets fault)
 unfolding request_read
 request_refused octets (Ok m) h = tt
 request_refused octets (Err e) (inl h) =
@@ -132,7 +144,8 @@ request_refused octets (Err e) (inl h) =
     subst (Misread octets) (sym w.1) (misread_is octets (id_of octets) refl (no_body request lawful_request octets w.0))
 request_refused octets (Err e) (inr h) = subst (Misread octets) (sym (err_is e OutOfMemory h)) tt
 
-pub request_counted : (octets : List ℕ) (r : Result Request RequestFault) → (r ≡ request_read octets) ⊎ (r ≡ Err OutOfMemory) → IfOk r (λ m. request.count m ≤ length octets)
+pub request_counted : (octets : List ℕ) (r : Result Request RequestFault) → (r ≡ request_read octets) ⊎ (r ≡ Err OutOfMemory)
+    → IfOk r (λ m. request.count m ≤ length octets)
 request_counted octets (Ok m) h = lawful_request.counted m octets (request_found octets (Ok m) h).0
 request_counted octets (Err e) h = tt
 
@@ -158,4 +171,5 @@ id_memory handle (Some id) e = kind_memory handle (request_kind id) e
 
 pub request_read-memory : (octets : List ℕ) → request_read octets ≡ Err OutOfMemory → ⊥
 unfolding request_read
-request_read-memory octets e = id_memory (handle_of octets) (id_of octets) (sym (found_err (body_of request octets) (misread_id (handle_of octets) (id_of octets)) OutOfMemory (sym e)).1)
+request_read-memory octets e =
+    id_memory (handle_of octets) (id_of octets) (sym (found_err (body_of request octets) (misread_id (handle_of octets) (id_of octets)) OutOfMemory (sym e)).1)

@@ -25,7 +25,8 @@ skips r expected (inr h) = inr (ap kind_alone h)
 
 -- ---- what stands behind an image
 
-pub made_of : {A B : Type 0} (f : A → B) (found : Option (A × List ℕ)) (y : B) (new : List ℕ) → ◌>>=◌ {B = B × List ℕ} found (λ x. Some (f x.0, x.1)) ≡ Some (y, new) → (x : A) × (found ≡ Some (x, new)) × (f x ≡ y)
+pub made_of : {A B : Type 0} (f : A → B) (found : Option (A × List ℕ)) (y : B) (new : List ℕ) → ◌>>=◌ {B = B × List ℕ} found (λ x. Some (f x.0, x.1))
+    ≡ Some (y, new) → (x : A) × (found ≡ Some (x, new)) × (f x ≡ y)
 made_of {A = A} {B = B} f None y new e = absurd cc
 made_of {A = A} {B = B} f (Some x) y new e =
     let same = some_is (f x.0, x.1) (y, new) e in
@@ -36,7 +37,8 @@ none_of f None e = refl
 none_of f (Some x) e = absurd cc
 
 -- what an image fails by is what its values fail by
-pub image_err : {A B : Type 0} (f : A → B) (r : List ℕ → Option (A × List ℕ)) (old new : List ℕ) (e : ReadFault) → Gives (image_read f r) old new (Err e) → Gives r old new (Err e)
+pub image_err : {A B : Type 0} (f : A → B) (r : List ℕ → Option (A × List ℕ)) (old new : List ℕ) (e : ReadFault) → Gives (image_read f r) old new (Err e)
+    → Gives r old new (Err e)
 image_err f r old new NoValue h = none_of f (r old) h
 image_err f r old new NoMemory h = tt
 
@@ -44,11 +46,13 @@ image_err f r old new NoMemory h = tt
 
 -- the reader of a kind that is passed over is that of its structure
 same_skip : {A : Type 0} (f : A → Request) (o : Option (A × List ℕ))
-    → ◌>>=◌ {B = (Unit {0}) × List ℕ} (◌>>=◌ {B = Request × List ℕ} o (λ x. Some (f x.0, x.1))) (λ x. Some (tt, x.1)) ≡ ◌>>=◌ {B = (Unit {0}) × List ℕ} o (λ x. Some (tt, x.1))
+    → ◌>>=◌ {B = (Unit {0}) × List ℕ} (◌>>=◌ {B = Request × List ℕ} o (λ x. Some (f x.0, x.1))) (λ x. Some (tt, x.1)) ≡ ◌>>=◌ {B = (Unit {0}) × List ℕ} o
+    (λ x. Some (tt, x.1))
 same_skip f None = refl
 same_skip f (Some x) = refl
 
-pub skips_made : {A : Type 0} (f : A → Request) (r : List ℕ → Option (A × List ℕ)) (old new : List ℕ) (result : Result (Unit {0}) ReadFault) → Gives (skipped r) old new result → Gives (skipped (image_read f r)) old new result
+pub skips_made : {A : Type 0} (f : A → Request) (r : List ℕ → Option (A × List ℕ)) (old new : List ℕ) (result : Result (Unit {0}) ReadFault)
+    → Gives (skipped r) old new result → Gives (skipped (image_read f r)) old new result
 skips_made f r old new (Ok done) h = same_skip f (r old) ∙ h
 skips_made f r old new (Err NoValue) h = same_skip f (r old) ∙ h
 skips_made f r old new (Err NoMemory) h = tt
@@ -58,21 +62,26 @@ kind_made k old new m e =
     let s = made_of (requests.make k) ((requests.format k).decode most_levels old) m new e in
     sym (ap kind_of s.2) ∙ ap (λ (p : (j : RequestKind) × Structure j). p.0) ((is_request k).forth s.0)
 
-pub skip_fails : (k : RequestKind) (head old new : List ℕ) (e : ReadFault) (fault : RequestFault) → head ≡ old → Gives (skipped (kind_at requests most_levels (Some k))) old new (Err e) → IsUnread head e fault
+pub skip_fails : (k : RequestKind) (head old new : List ℕ) (e : ReadFault) (fault : RequestFault) → head ≡ old
+    → Gives (skipped (kind_at requests most_levels (Some k))) old new (Err e) → IsUnread head e fault
     → Skips (Err fault) (kind_read k old)
 skip_fails k head old new e fault same h is =
-    skips (Err fault) (kind_read k old) (kind_fails k head old new e fault same (image_err (λ (m : Request). tt) (kind_at requests most_levels (Some k)) old new e h) is)
+    skips (Err fault) (kind_read k old)
+    (kind_fails k head old new e fault same (image_err (λ (m : Request). tt) (kind_at requests most_levels (Some k)) old new e h) is)
 
-pub skip_left : (k : RequestKind) (head old new : List ℕ) (fault : RequestFault) → head ≡ old → skipped (kind_at requests most_levels (Some k)) old ≡ Some (tt, new) → 0 < length new → IsUnread head NoValue fault
+pub skip_left : (k : RequestKind) (head old new : List ℕ) (fault : RequestFault) → head ≡ old → skipped (kind_at requests most_levels (Some k)) old
+    ≡ Some (tt, new) → 0 < length new → IsUnread head NoValue fault
     → Skips (Err fault) (kind_read k old)
 skip_left k head old new fault same h more is =
     let w = made_of (λ (m : Request). tt) (kind_at requests most_levels (Some k) old) tt new h in
     skips (Err fault) (kind_read k old) (kind_left k head old new w.0 fault same w.1 more is)
 
-pub skip_whole : (k : RequestKind) (old new : List ℕ) → skipped (kind_at requests most_levels (Some k)) old ≡ Some (tt, new) → length new ≤ 0 → Skips (Ok k) (kind_read k old)
+pub skip_whole : (k : RequestKind) (old new : List ℕ) → skipped (kind_at requests most_levels (Some k)) old ≡ Some (tt, new) → length new ≤ 0
+    → Skips (Ok k) (kind_read k old)
 skip_whole k old new h none =
     let w = made_of (λ (m : Request). tt) (kind_at requests most_levels (Some k) old) tt new h in
-    subst (λ (j : RequestKind). Skips (Ok j) (kind_read k old)) (kind_made k old new w.0 w.1) (skips (Ok w.0) (kind_read k old) (kind_whole k old new w.0 w.1 none))
+    subst (λ (j : RequestKind). Skips (Ok j) (kind_read k old)) (kind_made k old new w.0 w.1)
+    (skips (Ok w.0) (kind_read k old) (kind_whole k old new w.0 w.1 none))
 
 -- ---- the whole body
 

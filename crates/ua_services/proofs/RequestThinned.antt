@@ -28,11 +28,13 @@ Takes = NodeId → ValueType → Bool
 
 -- ---- requests that are kept whole
 
-last_whole : (takes : Takes) (m : Request) (rest : List ℕ) (fault : RequestFault) → thin_request takes m ≡ m → thin_read takes (found_or (if_last m rest) fault) ≡ found_or (if_last m rest) fault
+last_whole : (takes : Takes) (m : Request) (rest : List ℕ) (fault : RequestFault) → thin_request takes m ≡ m → thin_read takes (found_or (if_last m rest) fault)
+    ≡ found_or (if_last m rest) fault
 last_whole takes m [] fault same = ap Ok same
 last_whole takes m (x ∷ rest) fault same = refl
 
-found_whole : {A : Type 0} (make : A → Request) (takes : Takes) → ((m : A) → thin_request takes (make m) ≡ make m) → (found : Option (A × List ℕ)) (fault : RequestFault)
+found_whole : {A : Type 0} (make : A → Request) (takes : Takes) → ((m : A) → thin_request takes (make m) ≡ make m)
+    → (found : Option (A × List ℕ)) (fault : RequestFault)
     → thin_read takes (found_or (◌>>=◌ {B = Request × List ℕ} found (λ x. Some (make x.0, x.1)) >>= λ x. if_last x.0 x.1) fault)
     ≡ found_or (◌>>=◌ {B = Request × List ℕ} found (λ x. Some (make x.0, x.1)) >>= λ x. if_last x.0 x.1) fault
 found_whole make takes same None fault = refl
@@ -41,7 +43,8 @@ found_whole make takes same (Some x) fault = last_whole takes (make x.0) x.1 fau
 -- a request of another kind than Write
 pub kept_whole : (takes : Takes) (k : RequestKind) (octets : List ℕ) → (k ≡ Write → ⊥) → thin_read takes (kind_read k octets) ≡ kind_read k octets
 kept_whole takes Write octets other = absurd (other refl)
-kept_whole takes k octets other = found_whole (requests.make k) takes (λ m. refl) ((requests.format k).decode most_levels octets) (Unreadable (handle_behind octets))
+kept_whole takes k octets other = found_whole (requests.make k) takes (λ m. refl) ((requests.format k).decode most_levels octets)
+    (Unreadable (handle_behind octets))
 
 -- ---- a Write behind its NodeId
 
@@ -50,35 +53,45 @@ pub thin_fault : (takes : Takes) (fault : RequestFault) (r : Result Request Requ
 thin_fault takes fault r (inl h) = inl (ap (thin_read takes) h)
 thin_fault takes fault r (inr h) = inr h
 
-pub write_fails : (takes : Takes) (head old new : List ℕ) (e : ReadFault) (fault : RequestFault) → head ≡ old → Gives (image_read (thinned_request takes) (write_request.decode most_levels)) old new (Err e) → IsUnread head e fault
+pub write_fails : (takes : Takes) (head old new : List ℕ) (e : ReadFault) (fault : RequestFault) → head ≡ old
+    → Gives (image_read (thinned_request takes) (write_request.decode most_levels)) old new (Err e) → IsUnread head e fault
     → Reads (Err fault) (thin_read takes (kind_read Write old))
 write_fails takes head old new e fault same h is =
     thin_fault takes fault (kind_read Write old) (kind_fails Write head old new e fault same
-    (image_fails WriteMessage (write_request.decode most_levels) old new e (image_err (thinned_request takes) (write_request.decode most_levels) old new e h)) is)
+    (image_fails WriteMessage (write_request.decode most_levels) old new e (image_err (thinned_request takes) (write_request.decode most_levels) old new e h))
+    is)
 
-pub write_left : (takes : Takes) (head old new : List ℕ) (kept : WriteRequest) (fault : RequestFault) → head ≡ old → image_read (thinned_request takes) (write_request.decode most_levels) old ≡ Some (kept, new)
+pub write_left : (takes : Takes) (head old new : List ℕ) (kept : WriteRequest) (fault : RequestFault) → head ≡ old
+    → image_read (thinned_request takes) (write_request.decode most_levels) old ≡ Some (kept, new)
     → 0 < length new → IsUnread head NoValue fault → Reads (Err fault) (thin_read takes (kind_read Write old))
 write_left takes head old new kept fault same h more is =
     let whole = made_of (thinned_request takes) (write_request.decode most_levels old) kept new h in
     thin_fault takes fault (kind_read Write old)
-    (kind_left Write head old new (WriteMessage whole.0) fault same (image_found WriteMessage (write_request.decode most_levels) old new whole.0 whole.1) more is)
+    (kind_left Write head old new (WriteMessage whole.0) fault same (image_found WriteMessage (write_request.decode most_levels) old new whole.0 whole.1) more
+    is)
 
-thin_ok : (takes : Takes) (m kept : WriteRequest) (r : Result Request RequestFault) → thinned_request takes m ≡ kept → Reads (Ok (WriteMessage m)) r → Reads (Ok (WriteMessage kept)) (thin_read takes r)
+thin_ok : (takes : Takes) (m kept : WriteRequest) (r : Result Request RequestFault) → thinned_request takes m ≡ kept → Reads (Ok (WriteMessage m)) r
+    → Reads (Ok (WriteMessage kept)) (thin_read takes r)
 thin_ok takes m kept r is (inl h) = inl (ap (λ (w : WriteRequest). Ok (WriteMessage w)) (sym is) ∙ ap (thin_read takes) h)
 thin_ok takes m kept r is (inr h) = absurd cc
 
-pub write_whole : (takes : Takes) (old new : List ℕ) (kept : WriteRequest) → image_read (thinned_request takes) (write_request.decode most_levels) old ≡ Some (kept, new) → length new ≤ 0
+pub write_whole : (takes : Takes) (old new : List ℕ) (kept : WriteRequest) → image_read (thinned_request takes) (write_request.decode most_levels) old
+    ≡ Some (kept, new) → length new ≤ 0
     → Reads (Ok (WriteMessage kept)) (thin_read takes (kind_read Write old))
 write_whole takes old new kept h none =
     let whole = made_of (thinned_request takes) (write_request.decode most_levels old) kept new h in
-    thin_ok takes whole.0 kept (kind_read Write old) whole.2 (kind_whole Write old new (WriteMessage whole.0) (image_found WriteMessage (write_request.decode most_levels) old new whole.0 whole.1) none)
+    thin_ok takes whole.0 kept (kind_read Write old) whole.2
+    (kind_whole Write old new (WriteMessage whole.0) (image_found WriteMessage (write_request.decode most_levels) old new whole.0 whole.1) none)
 
 -- ---- the whole body
 
-pub whole_is : (takes : Takes) (k : RequestKind) (octets rest : List ℕ) (r : Result Request RequestFault) → request_read octets ≡ kind_read k rest → (k ≡ Write → ⊥) → Reads r (kind_read k rest)
+pub whole_is : (takes : Takes) (k : RequestKind) (octets rest : List ℕ) (r : Result Request RequestFault) → request_read octets ≡ kind_read k rest
+    → (k ≡ Write → ⊥) → Reads r (kind_read k rest)
     → Reads r (thin_read takes (request_read octets))
-whole_is takes k octets rest r is other h = read_behind r (thin_read takes (request_read octets)) (kind_read k rest) (ap (thin_read takes) is ∙ kept_whole takes k rest other) h
+whole_is takes k octets rest r is other h = read_behind r (thin_read takes (request_read octets)) (kind_read k rest) (ap (thin_read takes) is
+    ∙ kept_whole takes k rest other) h
 
-pub thin_is : (takes : Takes) (octets rest : List ℕ) (r : Result Request RequestFault) → request_read octets ≡ kind_read Write rest → Reads r (thin_read takes (kind_read Write rest))
+pub thin_is : (takes : Takes) (octets rest : List ℕ) (r : Result Request RequestFault) → request_read octets ≡ kind_read Write rest
+    → Reads r (thin_read takes (kind_read Write rest))
     → Reads r (thin_read takes (request_read octets))
 thin_is takes octets rest r is h = read_behind r (thin_read takes (request_read octets)) (thin_read takes (kind_read Write rest)) (ap (thin_read takes) is) h

@@ -9,7 +9,8 @@ use Rattle.ua_builtin.specs.declared.node_id.NodeId.{NodeId}
 use Rattle.ua_wire.specs.declared.fault.ReadFault.{ReadFault}
 use Rattle.ua_wire.specs.declared.fault.ReadFault.TheVariants.{NoValue, OutOfMemory as NoMemory}
 use Rattle.ua_opening.specs.Message.{IsBody, IsNoBody, kind_at, if_last, body_of, found_or, id_of}
-use Rattle.ua_services.specs.Response.{response, responses, response_kind, response_read, kind_read, unread_by, misread_id, misread_kind, AnnouncesNone, Misread}
+use Rattle.ua_services.specs.Response.{response, responses, response_kind, response_read, kind_read}
+use Rattle.ua_services.specs.Response.{unread_by, misread_id, misread_kind, AnnouncesNone, Misread}
 use Rattle.ua_services.specs.declared.response.Response.{Response}
 use Rattle.ua_services.specs.declared.response.ResponseKind.{ResponseKind}
 use Rattle.ua_services.specs.declared.fault.ResponseFault.{ResponseFault}
@@ -35,7 +36,8 @@ read-by old = refl
 abbrev read_kind : List ℕ → Option ResponseKind → Result Response ResponseFault
 read_kind rest o = found_or (kind_at responses most_levels o rest >>= λ x. if_last x.0 x.1) (misread_kind o)
 
-read-kind : (old rest : List ℕ) (id : NodeId) (o : Option ResponseKind) → node_id.decode old ≡ Some (id, rest) → response_kind id ≡ o → response_read old ≡ read_kind rest o
+read-kind : (old rest : List ℕ) (id : NodeId) (o : Option ResponseKind) → node_id.decode old ≡ Some (id, rest) → response_kind id ≡ o
+    → response_read old ≡ read_kind rest o
 read-kind old rest id o found is = read-by old ∙ ap read_by found ∙ ap (read_kind rest) is
 
 pub id_fails : (old new : List ℕ) (e : ReadFault) → Gives node_id.decode old new (Err e)
@@ -64,7 +66,8 @@ pub kind_whole : (k : ResponseKind) (rest new : List ℕ) (m : Response) → kin
     → Reads (Ok m) (kind_read k rest)
 kind_whole k rest new m e none = inl (sym (kind_gives k rest new m e ∙ ap (λ o. found_or o Unreadable) (nothing_left m new none)))
 
-pub kind_found : (k : ResponseKind) (old rest : List ℕ) (id : NodeId) (r : Result Response ResponseFault) → node_id.decode old ≡ Some (id, rest) → response_kind id ≡ Some k → Reads r (kind_read k rest)
+pub kind_found : (k : ResponseKind) (old rest : List ℕ) (id : NodeId) (r : Result Response ResponseFault) → node_id.decode old ≡ Some (id, rest)
+    → response_kind id ≡ Some k → Reads r (kind_read k rest)
     → Reads r (response_read old)
 kind_found k old rest id r found is (inl h) = inl (h ∙ sym (read-kind old rest id (Some k) found is))
 kind_found k old rest id r found is (inr h) = inr h
@@ -82,13 +85,15 @@ no_such_id octets e a =
     let both : None ≡ Some a.0 = sym e ∙ a.1 in
     absurd cc
 
-pub response_found : (octets : List ℕ) (r : Result Response ResponseFault) → (r ≡ response_read octets) ⊎ (r ≡ Err OutOfMemory) → IfOk r (λ m. IsBody response m octets)
+pub response_found : (octets : List ℕ) (r : Result Response ResponseFault) → (r ≡ response_read octets) ⊎ (r ≡ Err OutOfMemory)
+    → IfOk r (λ m. IsBody response m octets)
 unfolding response_read
 response_found octets (Ok m) (inl h) = body_is response lawful_response octets m (found_ok (body_of response octets) (misread_id (id_of octets)) m h)
 response_found octets (Ok m) (inr h) = absurd cc
 response_found octets (Err e) h = tt
 
-misread_by : (octets : List ℕ) (id : NodeId) (o : Option ResponseKind) → id_of octets ≡ Some id → response_kind id ≡ o → IsNoBody response octets → Misread octets (misread_kind o)
+misread_by : (octets : List ℕ) (id : NodeId) (o : Option ResponseKind) → id_of octets ≡ Some id → response_kind id ≡ o → IsNoBody response octets
+    → Misread octets (misread_kind o)
 misread_by octets id None e is none = ((id, e, is), none)
 misread_by octets id (Some k) e is none = (λ (a : AnnouncesNone octets). no_such_kind octets id k e is a, none)
 
@@ -96,7 +101,8 @@ misread_is : (octets : List ℕ) (o : Option NodeId) → id_of octets ≡ o → 
 misread_is octets None e none = (λ (a : AnnouncesNone octets). no_such_id octets e a, none)
 misread_is octets (Some id) e none = misread_by octets id (response_kind id) e refl none
 
-pub response_refused : (octets : List ℕ) (r : Result Response ResponseFault) → (r ≡ response_read octets) ⊎ (r ≡ Err OutOfMemory) → IfErr r (λ fault. Misread octets fault)
+pub response_refused : (octets : List ℕ) (r : Result Response ResponseFault) → (r ≡ response_read octets) ⊎ (r ≡ Err OutOfMemory)
+    → IfErr r (λ fault. Misread octets fault)
 unfolding response_read
 response_refused octets (Ok m) h = tt
 response_refused octets (Err e) (inl h) =
@@ -104,7 +110,8 @@ response_refused octets (Err e) (inl h) =
     subst (Misread octets) (sym w.1) (misread_is octets (id_of octets) refl (no_body response lawful_response octets w.0))
 response_refused octets (Err e) (inr h) = subst (Misread octets) (sym (err_is e OutOfMemory h)) tt
 
-pub response_counted : (octets : List ℕ) (r : Result Response ResponseFault) → (r ≡ response_read octets) ⊎ (r ≡ Err OutOfMemory) → IfOk r (λ m. response.count m ≤ length octets)
+pub response_counted : (octets : List ℕ) (r : Result Response ResponseFault) → (r ≡ response_read octets) ⊎ (r ≡ Err OutOfMemory)
+    → IfOk r (λ m. response.count m ≤ length octets)
 response_counted octets (Ok m) h = lawful_response.counted m octets (response_found octets (Ok m) h).0
 response_counted octets (Err e) h = tt
 

@@ -25,14 +25,17 @@ variant_some (one s) = omega arith
 variant_some (absent k ds) = omega arith
 variant_some (many k ss ds) = omega arith
 
-kept_by : (d : DataValue) (v : VariantData) (test : Bool) → d.value ≡ Some v → data_value_count (data_value_of (cond test d null_value)) ≤ data_value_count (data_value_of d)
+kept_by : (d : DataValue) (v : VariantData) (test : Bool) → d.value ≡ Some v → data_value_count (data_value_of (cond test d null_value))
+    ≤ data_value_count (data_value_of d)
 kept_by d v true is = omega arith
 kept_by d v false is =
-    let whole : data_value_count (data_value_of d) ≡ 1 + data_fields_count (data_fields_of d) + variant_count v = ap (λ (o : Option VariantData). data_value_count (value_within o (data_fields_of d))) is in
+    let whole : data_value_count (data_value_of d) ≡ 1 + data_fields_count (data_fields_of d) + variant_count v =
+    ap (λ (o : Option VariantData). data_value_count (value_within o (data_fields_of d))) is in
     let least : data_value_count (data_value_of null_value) ≡ 2 = refl in
     omega (arith, whole, least, variant_some v)
 
-kept_few : (takes : ValueType → Bool) (d : DataValue) (held : Option VariantData) → d.value ≡ held → data_value_count (data_value_of (kept_with takes held d)) ≤ data_value_count (data_value_of d)
+kept_few : (takes : ValueType → Bool) (d : DataValue) (held : Option VariantData) → d.value ≡ held → data_value_count (data_value_of (kept_with takes held d))
+    ≤ data_value_count (data_value_of d)
 kept_few takes d None is = omega arith
 kept_few takes d (Some v) is = kept_by d v (is_kept takes (type_of v)) is
 
@@ -40,11 +43,13 @@ item_few : (takes : NodeId → ValueType → Bool) (item : WriteValue) → write
 unfolding write_value data_value_format
 item_few takes item = omega (arith, kept_few (takes item.node_id) item.value item.value.value refl)
 
-items_few : (takes : NodeId → ValueType → Bool) (items : List WriteValue) → items_count write_value.count (map (thinned takes) items) ≤ items_count write_value.count items
+items_few : (takes : NodeId → ValueType → Bool) (items : List WriteValue) → items_count write_value.count (map (thinned takes) items)
+    ≤ items_count write_value.count items
 items_few takes [] = omega arith
 items_few takes (item ∷ items) = omega (arith, item_few takes item, items_few takes items)
 
-array_few : (takes : NodeId → ValueType → Bool) (items : Option (List WriteValue)) → array_count write_value.count (option_map (map (thinned takes)) items) ≤ array_count write_value.count items
+array_few : (takes : NodeId → ValueType → Bool) (items : Option (List WriteValue)) → array_count write_value.count (option_map (map (thinned takes)) items)
+    ≤ array_count write_value.count items
 array_few takes None = omega arith
 array_few takes (Some items) = items_few takes items
 
@@ -57,7 +62,8 @@ unfolding request
 thin_few takes (Write m) = write_few takes m
 thin_few takes m = omega arith
 
-pub thin_counted : (takes : NodeId → ValueType → Bool) (octets : List ℕ) (r : Result Request RequestFault) → Reads r (thin_read takes (request_read octets)) → IfOk r (λ m. request.count m ≤ length octets)
+pub thin_counted : (takes : NodeId → ValueType → Bool) (octets : List ℕ) (r : Result Request RequestFault) → Reads r (thin_read takes (request_read octets))
+    → IfOk r (λ m. request.count m ≤ length octets)
 thin_counted takes octets (Ok kept) (inl h) = by (request_read octets) refl h
   where
     ok_is : {x y : Request} → ◌≡◌ {A = Result Request RequestFault} (Ok x) (Ok y) → x ≡ y

@@ -1,5 +1,6 @@
 -- Words that the program sends can be written.
-use Rattle.std.specs.Prelude.{◌≡◌, ◌<◌, ◌≤◌, ◌^◌, ◌++◌, ℕ, zero, suc, nat_lt, length, List, [], ◌∷◌, Bool, true, false, ◌&&◌, IsErrOf, IsFalse, IsTrue, ◌↔◌, Option, Some, None, Result, Ok, Err, option_map, String, string_bytes, codes}
+use Rattle.std.specs.Prelude.{◌≡◌, ◌<◌, ◌≤◌, ◌^◌, ◌++◌, ℕ, zero, suc, nat_lt, length, List, [], ◌∷◌, Bool, true, false, ◌&&◌, IsErrOf}
+use Rattle.std.specs.Prelude.{IsFalse, IsTrue, ◌↔◌, Option, Some, None, Result, Ok, Err, option_map, String, string_bytes, codes}
 use Rattle.std.specs.Fmt.{decimal}
 use Rattle.std.specs.List.{list_all}
 use Rattle.std.specs.Str.{is_utf8, IsAscii, IsUtf8}
@@ -84,15 +85,19 @@ identity_fits = refl
 
 -- what refuses the token of a policy refuses its PolicyId
 pub refused_by : {A B : Type 0} (fault : WriteFault) (policy_id : Option (List ℕ)) (token : AnonymousIdentityToken) → token.policy_id ≡ policy_id
-    → IsErrOf {T = A} (Err fault) NotWritable ↔ IsFalse (anonymous_identity_token.encodable token) → IsErrOf {T = B} (Err fault) NotWritable ↔ IsFalse (string.encodable policy_id)
+    → IsErrOf {T = A} (Err fault) NotWritable ↔ IsFalse (anonymous_identity_token.encodable token)
+    → IsErrOf {T = B} (Err fault) NotWritable ↔ IsFalse (string.encodable policy_id)
 unfolding anonymous_identity_token
 refused_by NotWritable policy_id token e h = (λ same. subst (λ (p : Option (List ℕ)). IsFalse (string.encodable p)) e (h.0 refl), λ unfit. refl)
-refused_by OutOfMemory policy_id token e h = (λ same. absurd cc, λ unfit. let same = h.1 (subst (λ (p : Option (List ℕ)). IsFalse (string.encodable p)) (sym e) unfit) in absurd cc)
+refused_by OutOfMemory policy_id token e h =
+    (λ same. absurd cc, λ unfit. let same = h.1 (subst (λ (p : Option (List ℕ)). IsFalse (string.encodable p)) (sym e) unfit) in absurd cc)
 
 pub not_refused_by : {A B : Type 0} (x : A) (y : B) (policy_id : Option (List ℕ)) (token : AnonymousIdentityToken) → token.policy_id ≡ policy_id
-    → IsErrOf {E = WriteFault} (Ok x) NotWritable ↔ IsFalse (anonymous_identity_token.encodable token) → IsErrOf {E = WriteFault} (Ok y) NotWritable ↔ IsFalse (string.encodable policy_id)
+    → IsErrOf {E = WriteFault} (Ok x) NotWritable ↔ IsFalse (anonymous_identity_token.encodable token)
+    → IsErrOf {E = WriteFault} (Ok y) NotWritable ↔ IsFalse (string.encodable policy_id)
 unfolding anonymous_identity_token
-not_refused_by x y policy_id token e h = (λ same. absurd cc, λ unfit. let same = h.1 (subst (λ (p : Option (List ℕ)). IsFalse (string.encodable p)) (sym e) unfit) in absurd cc)
+not_refused_by x y policy_id token e h =
+    (λ same. absurd cc, λ unfit. let same = h.1 (subst (λ (p : Option (List ℕ)). IsFalse (string.encodable p)) (sym e) unfit) in absurd cc)
 
 -- where the PolicyId fits nothing is refused
 pub not_refused : {A : Type 0} (r : Result A WriteFault) (fault : WriteFault) (policy_id : Option (List ℕ)) → policy_id ≡ anonymous_id
@@ -101,7 +106,8 @@ not_refused r fault policy_id e h failed is_that =
     let never : false ≡ true = sym (h.0 (failed ∙ ap Err is_that)) ∙ (ap (λ (p : Option (List ℕ)). (string).encodable p) e ∙ anonymous_fits) in
     absurd cc
 
-pub identity_named : (policy_id : Option (List ℕ)) (token : AnonymousIdentityToken) → token.policy_id ≡ policy_id → identity_object (anonymous_identity_token.canonical token) ≡ anonymous_identity policy_id
+pub identity_named : (policy_id : Option (List ℕ)) (token : AnonymousIdentityToken) → token.policy_id ≡ policy_id
+    → identity_object (anonymous_identity_token.canonical token) ≡ anonymous_identity policy_id
 identity_named policy_id token e = ap (λ (p : Option (List ℕ)). anonymous_identity p) e
 
 -- octets that are too many for a count are so with the count before them
@@ -116,7 +122,9 @@ text_part true b holds unfit = unfit
 text_part false b holds unfit = absurd cc
 
 -- a text that no String holds is too long for the object that carries it, too
-pub too_long : (policy_id : Option (List ℕ)) → IsTrue (is_text policy_id) → IsFalse (string.encodable policy_id) → IsFalse (extension_object.encodable (anonymous_identity policy_id))
+pub too_long : (policy_id : Option (List ℕ)) → IsTrue (is_text policy_id) → IsFalse (string.encodable policy_id)
+    → IsFalse (extension_object.encodable (anonymous_identity policy_id))
 unfolding extension_object anonymous_identity_token text counted
 too_long None utf8 unfit = absurd cc
-too_long (Some v) utf8 unfit = and_false (node_id.encodable (standard 321)) _ (long_before v first_negative (text_part (is_utf8 v) (nat_lt (length v) first_negative) utf8 unfit))
+too_long (Some v) utf8 unfit =
+    and_false (node_id.encodable (standard 321)) _ (long_before v first_negative (text_part (is_utf8 v) (nat_lt (length v) first_negative) utf8 unfit))

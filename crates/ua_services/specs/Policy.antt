@@ -19,7 +19,8 @@ is_text_of octets (Some text) = bytes_eq text octets
 -- an endpoint without security: the SecurityPolicy None, and the MessageSecurityMode None, 1 (OPC
 -- 10000-4, 7.14 and 7.20)
 abbrev pub is_unsecured : EndpointDescription → Bool
-is_unsecured endpoint = int_eq endpoint.security_mode (pos 1) && is_text_of (codes "http://opcfoundation.org/UA/SecurityPolicy#None") endpoint.security_policy_uri
+is_unsecured endpoint = int_eq endpoint.security_mode (pos 1) && is_text_of (codes "http://opcfoundation.org/UA/SecurityPolicy#None")
+    endpoint.security_policy_uri
 
 -- an endpoint that is reached by UA TCP: its transport profile is that of UA TCP,
 -- UA-SecureConversation and UA Binary (OPC 10000-4, 7.14)

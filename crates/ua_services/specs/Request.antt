@@ -17,7 +17,8 @@ use Rattle.ua_opening.specs.declared.header.RequestHeader.{RequestHeader}
 use Rattle.ua_structures.specs.declared.thin.ValueType.{ValueType}
 use Rattle.ua_wire.specs.declared.fault.ReadFault.{ReadFault}
 use Rattle.ua_wire.specs.declared.fault.ReadFault.TheVariants.{NoValue}
-use Rattle.ua_opening.specs.Message.{Kind, Kinds, announced, kind_at, message_of, with_number, IsNoBody, body_of, if_last, id_of, handle_of, handle_behind, found_or}
+use Rattle.ua_opening.specs.Message.{Kind, Kinds, announced, kind_at, message_of, with_number, IsNoBody}
+use Rattle.ua_opening.specs.Message.{body_of, if_last, id_of, handle_of, handle_behind, found_or}
 use Rattle.ua_services.specs.declared.request.Request.{Request}
 use Rattle.ua_services.specs.declared.request.Request.TheVariants as message
 use Rattle.ua_services.specs.declared.request.RequestKind.{RequestKind}
@@ -29,10 +30,34 @@ use Rattle.ua_services.specs.declared.fault.RequestFault.TheVariants.{Unsupporte
 
 -- each kind of request (OPC 10000-6, A.3)
 abbrev pub request_row : RequestKind → Kind Request
-request_row kind.GetEndpoints = record { name = codes "GetEndpointsRequest"; number = 428; structure = GetEndpointsRequest; format = get_endpoints_request; make = message.GetEndpoints }
-request_row kind.CreateSession = record { name = codes "CreateSessionRequest"; number = 461; structure = CreateSessionRequest; format = create_session_request; make = message.CreateSession }
-request_row kind.ActivateSession = record { name = codes "ActivateSessionRequest"; number = 467; structure = ActivateSessionRequest; format = activate_session_request; make = message.ActivateSession }
-request_row kind.CloseSession = record { name = codes "CloseSessionRequest"; number = 473; structure = CloseSessionRequest; format = close_session_request; make = message.CloseSession }
+request_row kind.GetEndpoints = record {
+  name = codes "GetEndpointsRequest";
+  number = 428;
+  structure = GetEndpointsRequest;
+  format = get_endpoints_request;
+  make = message.GetEndpoints;
+}
+request_row kind.CreateSession = record {
+  name = codes "CreateSessionRequest";
+  number = 461;
+  structure = CreateSessionRequest;
+  format = create_session_request;
+  make = message.CreateSession;
+}
+request_row kind.ActivateSession = record {
+  name = codes "ActivateSessionRequest";
+  number = 467;
+  structure = ActivateSessionRequest;
+  format = activate_session_request;
+  make = message.ActivateSession;
+}
+request_row kind.CloseSession = record {
+  name = codes "CloseSessionRequest";
+  number = 473;
+  structure = CloseSessionRequest;
+  format = close_session_request;
+  make = message.CloseSession;
+}
 request_row kind.Read = record { name = codes "ReadRequest"; number = 631; structure = ReadRequest; format = read_request; make = message.Read }
 request_row kind.Write = record { name = codes "WriteRequest"; number = 673; structure = WriteRequest; format = write_request; make = message.Write }
 

@@ -28,13 +28,43 @@ use Rattle.ua_services.specs.declared.fault.ResponseFault.TheVariants.{Unknown, 
 
 -- each kind of response (OPC 10000-6, A.3)
 abbrev pub response_row : ResponseKind → Kind Response
-response_row kind.GetEndpoints = record { name = codes "GetEndpointsResponse"; number = 431; structure = GetEndpointsResponse; format = get_endpoints_response; make = message.GetEndpoints }
-response_row kind.CreateSession = record { name = codes "CreateSessionResponse"; number = 464; structure = CreateSessionResponse; format = create_session_response; make = message.CreateSession }
-response_row kind.ActivateSession = record { name = codes "ActivateSessionResponse"; number = 470; structure = ActivateSessionResponse; format = activate_session_response; make = message.ActivateSession }
-response_row kind.CloseSession = record { name = codes "CloseSessionResponse"; number = 476; structure = CloseSessionResponse; format = close_session_response; make = message.CloseSession }
+response_row kind.GetEndpoints = record {
+  name = codes "GetEndpointsResponse";
+  number = 431;
+  structure = GetEndpointsResponse;
+  format = get_endpoints_response;
+  make = message.GetEndpoints;
+}
+response_row kind.CreateSession = record {
+  name = codes "CreateSessionResponse";
+  number = 464;
+  structure = CreateSessionResponse;
+  format = create_session_response;
+  make = message.CreateSession;
+}
+response_row kind.ActivateSession = record {
+  name = codes "ActivateSessionResponse";
+  number = 470;
+  structure = ActivateSessionResponse;
+  format = activate_session_response;
+  make = message.ActivateSession;
+}
+response_row kind.CloseSession = record {
+  name = codes "CloseSessionResponse";
+  number = 476;
+  structure = CloseSessionResponse;
+  format = close_session_response;
+  make = message.CloseSession;
+}
 response_row kind.Read = record { name = codes "ReadResponse"; number = 634; structure = ReadResponse; format = read_response; make = message.Read }
 response_row kind.Write = record { name = codes "WriteResponse"; number = 676; structure = WriteResponse; format = write_response; make = message.Write }
-response_row kind.ServiceFault = record { name = codes "ServiceFault"; number = 397; structure = ServiceFault; format = service_fault; make = message.ServiceFault }
+response_row kind.ServiceFault = record {
+  name = codes "ServiceFault";
+  number = 397;
+  structure = ServiceFault;
+  format = service_fault;
+  make = message.ServiceFault;
+}
 
 -- the kinds of response
 abbrev pub response_kinds : List ResponseKind

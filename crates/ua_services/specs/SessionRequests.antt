@@ -32,7 +32,8 @@ session_timeout = record { bits = 0x40FD4C0000000000 }
 -- CreateSession under no token, of the client `ua`, for a session of that name
 abbrev pub create_session : Option (List ℕ) → DateTime → ℕ → Request
 create_session url moment handle =
-    CreateSession (create_session_of (request_header_of null_id moment handle) (application_of (pos 1) (Some (codes "urn:ua:client")) (Some (codes "ua")) None) url (Some (codes "ua")) session_timeout)
+    CreateSession (create_session_of (request_header_of null_id moment handle) (application_of (pos 1) (Some (codes "urn:ua:client")) (Some (codes "ua")) None)
+    url (Some (codes "ua")) session_timeout)
 
 -- the PolicyId of the token policy that the program uses if no other is given
 abbrev pub anonymous_id : Option (List ℕ)

@@ -5,7 +5,8 @@
 /// [`requests`](crate::requests) and [`responses`](crate::responses).
 #[macro_export]
 macro_rules! by_kind {
-    ($all:ident $kinds:ident [$($kind:ident($held:ident) = $of:literal,)+] $message:expr, $structure:ident, $number:ident => $answer:expr) => {
+    ($all:ident $kinds:ident [$($kind:ident($held:ident) = $of:literal,)+] $message:expr, $structure:ident,
+        $number:ident => $answer:expr) => {
         match $message {
             $($all::$kind($structure) => {
                 let $number = $of;

@@ -2,7 +2,8 @@
 
 ghost use Rattle.std.specs.Prelude.{◌≡◌, Some, option_map, is_some};
 ghost use Rattle.std.specs.List.{find};
-ghost use Rattle.ua_services.specs.Policy.{anonymous_id_in, chosen_id, is_anonymous, is_fit, is_tcp, is_text_of, is_unsecured};
+ghost use Rattle.ua_services.specs.Policy.{anonymous_id_in, chosen_id, is_anonymous};
+ghost use Rattle.ua_services.specs.Policy.{is_fit, is_tcp, is_text_of, is_unsecured};
 
 use ua_builtin::UaString;
 use ua_structures::{EndpointDescription, UserTokenPolicy};

@@ -1,11 +1,13 @@
 //! Requests.
 
-ghost use Rattle.std.specs.Prelude.{◌≡◌, ◌≤◌, ◌++◌, ◌⊎◌, ℕ, List, length, IfOk, IfErr, OnOk, OnErr, IsErrOf, IsFalse, ◌↔◌};
+ghost use Rattle.std.specs.Prelude.{◌≡◌, ◌≤◌, ◌++◌, ◌⊎◌, ℕ, List, length, IfOk};
+ghost use Rattle.std.specs.Prelude.{IfErr, OnOk, OnErr, IsErrOf, IsFalse, ◌↔◌};
 ghost use Rattle.ua_builtin.specs.Exact.{image_read, skipped};
 ghost use Rattle.ua_builtin.specs.Format.{most_levels, Gives, StaysBehind};
 ghost use Rattle.ua_wire.specs.declared.fault.WriteFault.TheVariants.{NotWritable};
 ghost use Rattle.ua_opening.specs.Message.{IsBody, handle_behind, kind_at};
-ghost use Rattle.ua_services.specs.Request.{request, requests, request_kind, request_of_kind, unread_with, kind_read, kind_alone, request_read, thin_read, Misread};
+ghost use Rattle.ua_services.specs.Request.{request, requests, request_kind, request_of_kind, unread_with};
+ghost use Rattle.ua_services.specs.Request.{kind_read, kind_alone, request_read, thin_read, Misread};
 
 use crate::fault::RequestFault;
 use crate::kinds::{kind_of, message_of_kind, name_of, numbered};
@@ -132,7 +134,8 @@ fn announced_kind(id: &NodeId) -> Option<RequestKind>
 #[inline]
 #[tactic(auto, unfolding(crate::specs::Request::request_of_kind))]
 fn lawful_kind(kind: RequestKind)
-    ensures { (levels : ℕ) (octets : List ℕ) → request_of_kind kind levels octets ≡ image_read (requests.make kind) ((requests.format kind).decode levels) octets }
+    ensures { (levels : ℕ) (octets : List ℕ) → request_of_kind kind levels octets ≡ image_read (requests.make kind)
+        ((requests.format kind).decode levels) octets }
 {}
 
 // Reads the structure of a request of that kind.
@@ -221,7 +224,8 @@ fn unreadable<S: Source>(alloc: Global, src: &mut S, fault: ReadFault) -> Reques
 
 // What a request means that is not supported, whose header at the start of the source.
 fn unsupported<S: Source>(alloc: Global, src: &mut S) -> RequestFault
-    ensures { (result ≡ RequestFault.Unsupported (handle_behind (S.octets src.old))) ⊎ (result ≡ RequestFault.OutOfMemory) }
+    ensures { (result ≡ RequestFault.Unsupported (handle_behind (S.octets src.old)))
+        ⊎ (result ≡ RequestFault.OutOfMemory) }
 {
     match handle_ahead(alloc, src) {
         Ok(handle) => RequestFault::Unsupported(handle),
@@ -272,7 +276,8 @@ fn read_other<S: Source>(
 #[inline(always)]
 fn body_kind<S: Source>(alloc: Global, src: &mut S) -> Result<RequestKind, RequestFault>
     ensures found { IfOk result (λ k. request_read (S.octets src.old) ≡ kind_read k (S.octets src.new)) }
-    ensures refused { IfErr result (λ fault. (request_read (S.octets src.old) ≡ Err fault) ⊎ (fault ≡ RequestFault.OutOfMemory)) }
+    ensures refused { IfErr result (λ fault. (request_read (S.octets src.old) ≡ Err fault)
+        ⊎ (fault ≡ RequestFault.OutOfMemory)) }
 {
     let id = match NodeId::read_value(alloc, src, MOST_LEVELS) {
         Ok(id) => id,
@@ -315,7 +320,8 @@ fn read_thinned<S: Source, T: TakesTypes>(
     src: &mut S,
     types: &T,
 ) -> Result<Request, RequestFault>
-    ensures { (result ≡ thin_read (T.takes types.now) (kind_read RequestKind.Write (S.octets src.old))) ⊎ (result ≡ Err RequestFault.OutOfMemory) }
+    ensures { (result ≡ thin_read (T.takes types.now) (kind_read RequestKind.Write (S.octets src.old)))
+        ⊎ (result ≡ Err RequestFault.OutOfMemory) }
 {
     let mut head = src.fork();
     let message = match WriteRequest::read_thinned(alloc, src, MOST_LEVELS, types) {
@@ -338,7 +344,8 @@ pub fn read_request_for<S: Source, T: TakesTypes>(
     src: &mut S,
     types: &T,
 ) -> Result<Request, RequestFault>
-    ensures read { (result ≡ thin_read (T.takes types.now) (request_read (S.octets src.old))) ⊎ (result ≡ Err RequestFault.OutOfMemory) }
+    ensures read { (result ≡ thin_read (T.takes types.now) (request_read (S.octets src.old)))
+        ⊎ (result ≡ Err RequestFault.OutOfMemory) }
     ensures counted { IfOk result (λ m. request.count m ≤ length (S.octets src.old)) }
 {
     let kind = body_kind(alloc, src)?;

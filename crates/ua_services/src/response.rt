@@ -1,11 +1,13 @@
 //! Responses.
 
-ghost use Rattle.std.specs.Prelude.{◌≡◌, ◌≤◌, ◌++◌, ◌⊎◌, ℕ, List, length, IfOk, IfErr, OnOk, OnErr, IsErrOf, IsFalse, ◌↔◌};
+ghost use Rattle.std.specs.Prelude.{◌≡◌, ◌≤◌, ◌++◌, ◌⊎◌, ℕ, List, length, IfOk};
+ghost use Rattle.std.specs.Prelude.{IfErr, OnOk, OnErr, IsErrOf, IsFalse, ◌↔◌};
 ghost use Rattle.ua_builtin.specs.Exact.{image_read};
 ghost use Rattle.ua_builtin.specs.Format.{most_levels, Gives, StaysBehind};
 ghost use Rattle.ua_wire.specs.declared.fault.WriteFault.TheVariants.{NotWritable};
 ghost use Rattle.ua_opening.specs.Message.{IsBody};
-ghost use Rattle.ua_services.specs.Response.{response, responses, response_kind, response_of_kind, unread_by, kind_read, own_answer, response_read, Misread};
+ghost use Rattle.ua_services.specs.Response.{response, responses, response_kind, response_of_kind};
+ghost use Rattle.ua_services.specs.Response.{unread_by, kind_read, own_answer, response_read, Misread};
 
 use crate::fault::ResponseFault;
 use crate::kinds::{kind_of, message_of_kind, name_of, numbered};
@@ -83,7 +85,8 @@ impl Response {
     ghost use Rattle.std.specs.Prelude.{◌≡◌, ◌≢◌, ◌↔◌, IsTrue, IfOk, IfErr};
     ghost use Rattle.ua_services.specs.Response.{kind_of, header_of, Answers};
     ghost use Rattle.ua_services.specs.declared.response.Response.TheVariants.{CreateSession, Read};
-    ghost use Rattle.ua_services.specs.declared.response.ResponseKind.TheVariants.{CreateSession as CreateSessionKind, Read as ReadKind};
+    ghost use Rattle.ua_services.specs.declared.response.ResponseKind.TheVariants.{CreateSession as CreateSessionKind};
+    ghost use Rattle.ua_services.specs.declared.response.ResponseKind.TheVariants.{Read as ReadKind};
 
     /// Returns the Read response by value, or, as an error, the response itself if it is another
     /// one.
@@ -162,7 +165,8 @@ fn announced_kind(id: &NodeId) -> Option<ResponseKind>
 #[inline]
 #[tactic(auto, unfolding(crate::specs::Response::response_of_kind))]
 fn lawful_kind(kind: ResponseKind)
-    ensures { (levels : ℕ) (octets : List ℕ) → response_of_kind kind levels octets ≡ image_read (responses.make kind) ((responses.format kind).decode levels) octets }
+    ensures { (levels : ℕ) (octets : List ℕ) → response_of_kind kind levels octets ≡ image_read (responses.make kind)
+        ((responses.format kind).decode levels) octets }
 {}
 
 // Reads the structure of a response of that kind.

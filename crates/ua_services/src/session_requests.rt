@@ -19,7 +19,9 @@ ghost use Rattle.ua_opening.specs.Plain.{request_header_of};
 ghost use Rattle.ua_structures.specs.Plain.{value_for_node};
 ghost use Rattle.ua_variant.specs.Formats.{data_value_format};
 ghost use Rattle.ua_variant.specs.View.{variant_of};
-ghost use Rattle.ua_services.specs.SessionRequests.{activate_session, activate_session_as, anonymous_identity, attribute_of_node, close_session, create_session, get_endpoints, local_url as url_of, part_of_node, read, value_alone, write};
+ghost use Rattle.ua_services.specs.SessionRequests.{activate_session, activate_session_as, anonymous_identity};
+ghost use Rattle.ua_services.specs.SessionRequests.{attribute_of_node, close_session, create_session, get_endpoints};
+ghost use Rattle.ua_services.specs.SessionRequests.{local_url as url_of, part_of_node, read, value_alone, write};
 
 use crate::identity::write_identity;
 use crate::request::Request;
@@ -105,9 +107,12 @@ pub fn activate_session_request_as(
     handle: u32,
 ) -> Result<Request, WriteFault>
     ensures value { IfOk result (λ r. r ≡ activate_session_as policy_id token moment handle) }
-    ensures encodable { IsTrue (node_id.encodable token) → IsTrue (extension_object.encodable (anonymous_identity policy_id)) → IfOk result (λ r. IsTrue (request.encodable r)) }
+    ensures encodable { IsTrue (node_id.encodable token)
+        → IsTrue (extension_object.encodable (anonymous_identity policy_id))
+        → IfOk result (λ r. IsTrue (request.encodable r)) }
     ensures refused { IsErrOf result NotWritable ↔ IsFalse (string.encodable policy_id) }
-    ensures unwritable { IsErrOf result NotWritable → IsFalse (request.encodable (activate_session_as policy_id token moment handle)) }
+    ensures unwritable { IsErrOf result NotWritable
+        → IsFalse (request.encodable (activate_session_as policy_id token moment handle)) }
 {
     let identity = match write_identity(alloc, &anonymous_token(policy_id)) {
         Ok(identity) => identity,
@@ -184,7 +189,8 @@ pub fn write_request(
 #[tactic(auto, using(crate::proofs::Asked::attribute_fits))]
 pub fn read_attribute_item(node: NodeId, attribute: u32, range: UaString) -> ReadValueId
     ensures value { result ≡ attribute_of_node node attribute range }
-    ensures encodable { IsTrue (node_id.encodable node) → IsTrue (string.encodable range) → IsTrue (read_value_id.encodable result) }
+    ensures encodable { IsTrue (node_id.encodable node) → IsTrue (string.encodable range)
+        → IsTrue (read_value_id.encodable result) }
 {
     let mut item = ReadValueId::of_value(node);
     item.attribute_id = attribute;
@@ -195,7 +201,8 @@ pub fn read_attribute_item(node: NodeId, attribute: u32, range: UaString) -> Rea
 /// A Read item for the Value of a node, or for the part of an array that an index range selects.
 pub fn read_item(node: NodeId, range: UaString) -> ReadValueId
     ensures value { result ≡ part_of_node node range }
-    ensures encodable { IsTrue (node_id.encodable node) → IsTrue (string.encodable range) → IsTrue (read_value_id.encodable result) }
+    ensures encodable { IsTrue (node_id.encodable node) → IsTrue (string.encodable range)
+        → IsTrue (read_value_id.encodable result) }
 {
     read_attribute_item(node, VALUE_ATTRIBUTE, range)
 }
@@ -203,7 +210,8 @@ pub fn read_item(node: NodeId, range: UaString) -> ReadValueId
 /// A Write item that sets the Value of a node, without status and timestamps.
 pub fn write_item(node: NodeId, value: Variant) -> WriteValue
     ensures value { result ≡ value_for_node node (value_alone (variant_of value)) }
-    ensures encodable { IsTrue (node_id.encodable node) → IsTrue (data_value_format.encodable (value_alone (variant_of value)))
+    ensures encodable { IsTrue (node_id.encodable node)
+        → IsTrue (data_value_format.encodable (value_alone (variant_of value)))
         → IsTrue (write_value.encodable result) }
 {
     let value = DataValue {

@@ -9,7 +9,8 @@ use Rattle.ua_session.specs.declared.fault.QuestionFault.{QuestionFault}
 use Rattle.ua_session.specs.declared.fault.QuestionFault.TheVariants.{Connection, NoMemory, NoPolicy, Output, Service}
 
 -- what is chosen among the endpoints of a reply is chosen by it
-pub chosen_by : (reply : Reply) (list : Option (List EndpointDescription)) (result : Result (Option (List ℕ)) QuestionFault) → endpoints_of reply ≡ Some list → ChoosesAmong (listed list) result → ChoosesBy (Ok reply) result
+pub chosen_by : (reply : Reply) (list : Option (List EndpointDescription)) (result : Result (Option (List ℕ)) QuestionFault) → endpoints_of reply ≡ Some list
+    → ChoosesAmong (listed list) result → ChoosesBy (Ok reply) result
 chosen_by reply list (Ok id) has chooses = (list, has, chooses)
 chosen_by reply list (Err NoPolicy) has chooses = (list, has, chooses)
 chosen_by reply list (Err NoMemory) has chooses = tt

@@ -88,14 +88,17 @@ Hands called result = (tells_line called ≡ false → tells_line result ≡ fal
 same_hands : (A : Type 0) {B : Type 0} (f : QuestionFault) (result : Result B QuestionFault) → result ≡ Err f → Hands {A = A} (Err f) result
 same_hands A {B} f result is = subst (λ (r : Result B QuestionFault). Hands {A = A} (Err f) r) (sym is) (λ h. h, λ h. h)
 
-none_handed : {A B : Type 0} {n m : ℕ} (called : Result A QuestionFault) (result : Result B QuestionFault) → Hands called result → NoneFails n m called → NoneFails n m result
+none_handed : {A B : Type 0} {n m : ℕ} (called : Result A QuestionFault) (result : Result B QuestionFault) → Hands called result → NoneFails n m called
+    → NoneFails n m result
 none_handed called result hands none = record { same = none.same; untold = hands.0 none.untold }
 
-fails_handed : {A B : Type 0} {e : Bool} {n m : ℕ} (called : Result A QuestionFault) (result : Result B QuestionFault) → Hands called result → Fails e n m called → Fails e n m result
+fails_handed : {A B : Type 0} {e : Bool} {n m : ℕ} (called : Result A QuestionFault) (result : Result B QuestionFault) → Hands called result
+    → Fails e n m called → Fails e n m result
 fails_handed called result hands (inl none) = inl (none_handed called result hands none)
 fails_handed called result hands (inr one) = inr (record { more = one.more; done = one.done; fault = hands.1 one.fault })
 
-handed : {A B : Type 0} {d e : Bool} {n m : ℕ} (called : Result A QuestionFault) (result : Result B QuestionFault) → Hands called result → Stage d e n m called → Stage d e n m result
+handed : {A B : Type 0} {d e : Bool} {n m : ℕ} (called : Result A QuestionFault) (result : Result B QuestionFault) → Hands called result → Stage d e n m called
+    → Stage d e n m result
 handed called result hands stage = record {
   ready = λ r. fails_handed called result hands (stage.ready r);
   done = λ d. ((stage.done d).0, none_handed called result hands (stage.done d).1);
@@ -105,7 +108,8 @@ handed called result hands stage = record {
 
 -- a result is made of two: it tells no fault of the line where neither does, and a fault where one of them does
 abbrev Joins : {A B C : Type 0} → Result A QuestionFault → Result B QuestionFault → Result C QuestionFault → Type 0
-Joins one two result = (tells_line one ≡ false → tells_line two ≡ false → tells_line result ≡ false) × (IsFault one → IsFault result) × (IsFault two → IsFault result)
+Joins one two result = (tells_line one ≡ false → tells_line two ≡ false → tells_line result ≡ false) × (IsFault one → IsFault result)
+    × (IsFault two → IsFault result)
 
 -- the second where the first found something
 found_joins : {A B : Type 0} (found : A) (result : Result B QuestionFault) → Joins (Ok found) result result
@@ -120,20 +124,25 @@ first_joins (Err f) (Ok done) = (λ g h. g, λ x. x, λ x. absurd x)
 first_joins (Err f) (Err NoMemory) = (λ g h. refl, λ x. tt, λ x. tt)
 first_joins (Err f) (Err other) = (λ g h. g, λ x. x, λ x. x)
 
-none_joined : {A B C : Type 0} {n m k : ℕ} (one : Result A QuestionFault) (two : Result B QuestionFault) (result : Result C QuestionFault) → Joins one two result → NoneFails n m one → NoneFails m k two → NoneFails n k result
+none_joined : {A B C : Type 0} {n m k : ℕ} (one : Result A QuestionFault) (two : Result B QuestionFault) (result : Result C QuestionFault)
+    → Joins one two result → NoneFails n m one → NoneFails m k two → NoneFails n k result
 none_joined one two result joins first second = record { same = second.same ∙ first.same; untold = joins.0 first.untold second.untold }
 
 -- behind a stage in which none failed
-behind_none : {A B C : Type 0} {c : Bool} {n m k : ℕ} (one : Result A QuestionFault) (two : Result B QuestionFault) (result : Result C QuestionFault) → Joins one two result → NoneFails n m one → Fails c m k two → Fails c n k result
+behind_none : {A B C : Type 0} {c : Bool} {n m k : ℕ} (one : Result A QuestionFault) (two : Result B QuestionFault) (result : Result C QuestionFault)
+    → Joins one two result → NoneFails n m one → Fails c m k two → Fails c n k result
 behind_none one two result joins first (inl second) = inl (none_joined one two result joins first second)
-behind_none one two result joins first (inr second) = inr (record { more = second.more ∙ ap one_more first.same; done = second.done; fault = joins.2 second.fault })
+behind_none one two result joins first (inr second) =
+    inr (record { more = second.more ∙ ap one_more first.same; done = second.done; fault = joins.2 second.fault })
 
 -- from a client that is done, or not, to one that is done or not
-next_none : {A B C : Type 0} (b c : Bool) {n m k : ℕ} (one : Result A QuestionFault) (two : Result B QuestionFault) (result : Result C QuestionFault) → Joins one two result → NoneFails n m one → Stage b c m k two → Fails c n k result
+next_none : {A B C : Type 0} (b c : Bool) {n m k : ℕ} (one : Result A QuestionFault) (two : Result B QuestionFault) (result : Result C QuestionFault)
+    → Joins one two result → NoneFails n m one → Stage b c m k two → Fails c n k result
 next_none false c one two result joins first second = behind_none one two result joins first (second.ready refl)
 next_none true c one two result joins first second = inl (none_joined one two result joins first (second.done refl).1)
 
-next_fails : {A B C : Type 0} (b c : Bool) {n m k : ℕ} (one : Result A QuestionFault) (two : Result B QuestionFault) (result : Result C QuestionFault) → Joins one two result → Fails b n m one → Stage b c m k two → Fails c n k result
+next_fails : {A B C : Type 0} (b c : Bool) {n m k : ℕ} (one : Result A QuestionFault) (two : Result B QuestionFault) (result : Result C QuestionFault)
+    → Joins one two result → Fails b n m one → Stage b c m k two → Fails c n k result
 next_fails b c one two result joins (inl first) second = next_none b c one two result joins first second
 next_fails b c one two result joins (inr first) second = inr (record {
   more = (second.done first.done).1.same ∙ first.more;
@@ -141,7 +150,8 @@ next_fails b c one two result joins (inr first) second = inr (record {
   fault = joins.1 first.fault;
 })
 
-joined : {A B C : Type 0} (a b c : Bool) {n m k : ℕ} (one : Result A QuestionFault) (two : Result B QuestionFault) (result : Result C QuestionFault) → Joins one two result → Stage a b n m one → Stage b c m k two → Stage a c n k result
+joined : {A B C : Type 0} (a b c : Bool) {n m k : ℕ} (one : Result A QuestionFault) (two : Result B QuestionFault) (result : Result C QuestionFault)
+    → Joins one two result → Stage a b n m one → Stage b c m k two → Stage a c n k result
 joined a b c one two result joins first second = record {
   ready = λ r. next_fails b c one two result joins (first.ready r) second;
   done = λ d. let it = first.done d in ((second.done it.0).0, none_joined one two result joins it.1 (second.done it.0).1);
@@ -149,24 +159,29 @@ joined a b c one two result joins first second = record {
 
 -- a stage in which nothing was done
 idle : {A : Type 0} {d e : Bool} {n m : ℕ} (result : Result A QuestionFault) → e ≡ d → m ≡ n → tells_line result ≡ false → Stage d e n m result
-idle result same none untold = record { ready = λ r. inl (record { same = none; untold = untold }); done = λ d. (same ∙ d, record { same = none; untold = untold }) }
+idle result same none untold =
+    record { ready = λ r. inl (record { same = none; untold = untold }); done = λ d. (same ∙ d, record { same = none; untold = untold }) }
 
 -- ---- a call of a client
 
-fault_fails : {A : Type 0} (f : ClientFault) (b e : Bool) {n m : ℕ} → is_line_fault f ≡ b → (is_line_fault f ≡ true → e ≡ true) → m ≡ cond b (one_more n) n → Fails {A = A} e n m (Err (of_client f))
+fault_fails : {A : Type 0} (f : ClientFault) (b e : Bool) {n m : ℕ} → is_line_fault f ≡ b → (is_line_fault f ≡ true → e ≡ true) → m ≡ cond b (one_more n) n
+    → Fails {A = A} e n m (Err (of_client f))
 fault_fails f false e is left count = inl (record { same = count; untold = told_line f ∙ is })
 fault_fails f true e is left count = inr (record { more = count; done = left is; fault = tt })
 
-answer_fails : {A : Type 0} (answer : Result A ClientFault) (e : Bool) {n m : ℕ} → ((f : ClientFault) → answer ≡ Err f → is_line_fault f ≡ true → e ≡ true) → m ≡ failures_behind n answer → Fails e n m (told answer)
+answer_fails : {A : Type 0} (answer : Result A ClientFault) (e : Bool) {n m : ℕ} → ((f : ClientFault) → answer ≡ Err f → is_line_fault f ≡ true → e ≡ true)
+    → m ≡ failures_behind n answer → Fails e n m (told answer)
 answer_fails (Ok found) e left count = inl (record { same = count; untold = refl })
 answer_fails (Err f) e left count = fault_fails f (is_line_fault f) e refl (left f refl) count
 
 -- a client that answered a fault of the line is done
-left_done : {A : Type 0} (answer : Result A ClientFault) (x : Client) → IsLeft answer x → (f : ClientFault) → answer ≡ Err f → is_line_fault f ≡ true → x.is_done ≡ true
+left_done : {A : Type 0} (answer : Result A ClientFault) (x : Client) → IsLeft answer x → (f : ClientFault) → answer ≡ Err f → is_line_fault f ≡ true
+    → x.is_done ≡ true
 left_done {A} answer x left f is line = subst (λ (r : Result A ClientFault). IsLeft r x) is left ∙ line_ends f line
 
 -- what was told of a client that was done
-closed_untold : {A : Type 0} (answer : Result A ClientFault) (result : Result A QuestionFault) → result ≡ told answer → answer ≡ Err client.Closed → tells_line result ≡ false
+closed_untold : {A : Type 0} (answer : Result A ClientFault) (result : Result A QuestionFault) → result ≡ told answer → answer ≡ Err client.Closed
+    → tells_line result ≡ false
 closed_untold answer result is closed = ap tells_line (is ∙ ap told closed)
 
 call_stage : {A : Type 0} {Does : Result A ClientFault → Type 0} {old new : Client} {before after : LineState} (result : Result A QuestionFault)
@@ -175,12 +190,17 @@ call_stage {A} {Does} {old} {new} {before} {after} result call = record {
   ready = λ r. subst (λ (q : Result A QuestionFault). Fails new.is_done before.failures after.failures q) (sym call.told_is)
       (answer_fails call.answer new.is_done (left_done call.answer new (call.does r).1) call.fails);
   done = λ d.
-      let stays = call.stays d in
-      (ap (λ (x : Client). x.is_done) stays.1 ∙ d, record { same = ap (λ (s : LineState). s.failures) stays.2; untold = closed_untold call.answer result call.told_is stays.0 });
+      let stays = call.stays d in (
+        ap (λ (x : Client). x.is_done) stays.1
+            ∙ d,
+        record { same = ap (λ (s : LineState). s.failures) stays.2; untold = closed_untold call.answer result call.told_is stays.0 },
+      );
 }
 
-asks_stage : {request : Request} {old new : Client} {before after : LineState} (result : Result Reply QuestionFault) → Asks request old new before after result → Stage old.is_done new.is_done before.failures after.failures result
-asks_stage result (inl nothing) = idle result (ap (λ (x : Client). x.is_done) nothing.1) (ap (λ (s : LineState). s.failures) nothing.2) (ap tells_line nothing.0)
+asks_stage : {request : Request} {old new : Client} {before after : LineState} (result : Result Reply QuestionFault) → Asks request old new before after result
+    → Stage old.is_done new.is_done before.failures after.failures result
+asks_stage result (inl nothing) = idle result (ap (λ (x : Client). x.is_done) nothing.1) (ap (λ (s : LineState). s.failures) nothing.2)
+    (ap tells_line nothing.0)
 asks_stage result (inr call) = call_stage result call
 
 -- ---- what is made of a reply
@@ -200,7 +220,8 @@ output_untold (Connection f) h = absurd h
 output_untold NoPolicy h = refl
 output_untold NoMemory h = refl
 
-unprinted_untold : {O : Type 0} (AreLines : List ℕ → Type 0) (P : Type 0) (reply : Reply) (had have : O) (f : QuestionFault) → IsUnprinted AreLines P reply had have f → is_of_line f ≡ false
+unprinted_untold : {O : Type 0} (AreLines : List ℕ → Type 0) (P : Type 0) (reply : Reply) (had have : O) (f : QuestionFault)
+    → IsUnprinted AreLines P reply had have f → is_of_line f ≡ false
 unprinted_untold AreLines P reply had have f (inl refused) = refused_untold P reply f refused.1
 unprinted_untold AreLines P reply had have f (inr written) = output_untold f written.0
 
@@ -213,12 +234,14 @@ expects_hands (Ok reply) (Err (Output e)) h = absurd h
 expects_hands (Ok reply) (Err NoMemory) h = absurd h
 expects_hands (Err f) result h = same_hands Reply f result h
 
-endpoints_hands : {O : Type 0} (contents : O → Option (List ℕ)) (style : EndpointStyle) (had have : O) (called : Result Reply QuestionFault) (result : Result (Unit {0}) QuestionFault) → PrintsEndpoints contents style had have called result → Hands called result
+endpoints_hands : {O : Type 0} (contents : O → Option (List ℕ)) (style : EndpointStyle) (had have : O) (called : Result Reply QuestionFault)
+    (result : Result (Unit {0}) QuestionFault) → PrintsEndpoints contents style had have called result → Hands called result
 endpoints_hands contents style had have (Ok reply) (Ok done) h = (λ u. refl, λ f. f)
 endpoints_hands contents style had have (Ok reply) (Err f) h = (λ u. unprinted_untold _ _ reply had have f h, λ f. tt)
 endpoints_hands contents style had have (Err f) result h = same_hands Reply f result h.1
 
-answers_hands : {O : Type 0} (contents : O → Option (List ℕ)) (style : AnswerStyle) (question : Question) (had have : O) (called : Result Reply QuestionFault) (result : Result Verdict QuestionFault) → PrintsAnswers contents style question had have called result → Hands called result
+answers_hands : {O : Type 0} (contents : O → Option (List ℕ)) (style : AnswerStyle) (question : Question) (had have : O) (called : Result Reply QuestionFault)
+    (result : Result Verdict QuestionFault) → PrintsAnswers contents style question had have called result → Hands called result
 answers_hands contents style question had have (Ok reply) (Ok verdict) h = (λ u. refl, λ f. f)
 answers_hands contents style question had have (Ok reply) (Err f) h = (λ u. unprinted_untold _ _ reply had have f h, λ f. tt)
 answers_hands contents style question had have (Err f) result h = same_hands Reply f result h.1
@@ -234,16 +257,21 @@ chooses_hands (Err f) result h = same_hands Reply f result h
 
 -- ---- a session
 
-under_stage : {M O : Type 0} {gives : M → ℤ → M → Type 0} {contents : O → Option (List ℕ)} {style : AnswerStyle} {question : Question} {token : NodeId} {handle : ℕ} {first last : M} {old new : Client} {before after : LineState} {had have : O} (result : Result Verdict QuestionFault)
-    → AsksUnder gives contents style question token handle first last old new before after had have result → Stage old.is_done new.is_done before.failures after.failures result
-under_stage {contents = contents} {style = style} {question = question} {old = old} {new = new} {before = before} {after = after} {had = had} {have = have} result under =
+under_stage : {M O : Type 0} {gives : M → ℤ → M → Type 0} {contents : O → Option (List ℕ)} {style : AnswerStyle} {question : Question} {token : NodeId}
+    {handle : ℕ} {first last : M} {old new : Client} {before after : LineState} {had have : O} (result : Result Verdict QuestionFault)
+    → AsksUnder gives contents style question token handle first last old new before after had have result
+    → Stage old.is_done new.is_done before.failures after.failures result
+under_stage {contents = contents} {style = style} {question = question} {old = old} {new = new} {before = before} {after = after} {had = had} {have = have}
+    result under =
     subst (λ (r : Result Verdict QuestionFault). Stage old.is_done new.is_done before.failures after.failures r) (sym under.result_is)
     (joined old.is_done under.asked.is_done new.is_done under.printed under.ended (first_of under.printed under.ended) (first_joins under.printed under.ended)
-    (handed under.called under.printed (answers_hands contents style question had have under.called under.printed under.prints) (asks_stage under.called under.asks))
+    (handed under.called under.printed (answers_hands contents style question had have under.called under.printed under.prints)
+    (asks_stage under.called under.asks))
     (handed under.ends.called under.ended (expects_hands under.ends.called under.ended under.ends.expects) (call_stage under.ends.called under.ends.calls)))
 
 -- what was done behind a stage, by what that found; behind a fault nothing was
-stage_behind : {A B : Type 0} (d e c : Bool) {n m k : ℕ} (one : Result A QuestionFault) (result : Result B QuestionFault) (P : A → Type 0) (Q : QuestionFault → Type 0) → MatchResult one P Q
+stage_behind : {A B : Type 0} (d e c : Bool) {n m k : ℕ} (one : Result A QuestionFault) (result : Result B QuestionFault) (P : A → Type 0) (Q : QuestionFault
+    → Type 0) → MatchResult one P Q
     → ((x : A) → P x → Stage e c m k result) → ((f : QuestionFault) → Q f → (result ≡ Err f) × (c ≡ e) × (k ≡ m)) → Stage d e n m one → Stage d c n k result
 stage_behind d e c (Ok x) result P Q h found fault stage = joined d e c (Ok x) result result (found_joins x result) stage (found x h)
 stage_behind {A} d e c (Err f) result P Q h found fault stage =
@@ -271,8 +299,10 @@ begins_stage {old = old} {new = new} {before = before} {after = after} result be
     })
 
 -- the end of a session that was not begun
-unbegun_stage : {M : Type 0} (gives : M → ℤ → M → Type 0) (token : Option NodeId) (handle : ℕ) (first last : M) (old new : Client) (before after : LineState) (d : Bool) (n : ℕ) (fault : QuestionFault)
-    → EndsUnbegun gives token handle first last old new before after → Stage {A = NodeId} d old.is_done n before.failures (Err fault) → Stage {A = Verdict} d new.is_done n after.failures (Err fault)
+unbegun_stage : {M : Type 0} (gives : M → ℤ → M → Type 0) (token : Option NodeId) (handle : ℕ) (first last : M) (old new : Client) (before after : LineState)
+    (d : Bool) (n : ℕ) (fault : QuestionFault)
+    → EndsUnbegun gives token handle first last old new before after → Stage {A = NodeId} d old.is_done n before.failures (Err fault)
+    → Stage {A = Verdict} d new.is_done n after.failures (Err fault)
 unbegun_stage gives None handle first last old new before after d n fault h stage =
     let done : new.is_done ≡ old.is_done = ap (λ (x : Client). x.is_done) h.1 in
     let count : after.failures ≡ before.failures = ap (λ (s : LineState). s.failures) h.2 in
@@ -282,47 +312,63 @@ unbegun_stage gives (Some token) handle first last old new before after d n faul
     joined {A = NodeId} d old.is_done new.is_done (Err fault) h.ended (Err fault) (λ g k. g, λ x. tt, λ x. tt) stage
     (handed h.ends.called h.ended (expects_hands h.ends.called h.ended h.ends.expects) (call_stage h.ends.called h.ends.calls))
 
-session_stage : {M O : Type 0} {gives : M → ℤ → M → Type 0} {contents : O → Option (List ℕ)} {style : AnswerStyle} {question : Question} {policy_id : Option (List ℕ)} {handle : ℕ} {first last : M} {old new : Client} {before after : LineState} {had have : O} (result : Result Verdict QuestionFault)
-    → AsksInSession gives contents style question policy_id handle first last old new before after had have result → Stage old.is_done new.is_done before.failures after.failures result
-session_stage {gives = gives} {contents = contents} {style = style} {question = question} {handle = handle} {last = last} {old = old} {new = new} {before = before} {after = after} {had = had} {have = have} result asks =
+session_stage : {M O : Type 0} {gives : M → ℤ → M → Type 0} {contents : O → Option (List ℕ)} {style : AnswerStyle} {question : Question}
+    {policy_id : Option (List ℕ)} {handle : ℕ} {first last : M} {old new : Client} {before after : LineState} {had have : O}
+    (result : Result Verdict QuestionFault)
+    → AsksInSession gives contents style question policy_id handle first last old new before after had have result
+    → Stage old.is_done new.is_done before.failures after.failures result
+session_stage {gives = gives} {contents = contents} {style = style} {question = question} {handle = handle} {last = last} {old = old} {new = new}
+    {before = before} {after = after} {had = had} {have = have} result asks =
     begun_stage asks.begun asks.further (begins_stage asks.begun asks.begins)
   where
     begun_stage : (begun : Result NodeId NotBegun)
         → MatchResult begun
         (λ token. AsksUnder gives contents style question token handle asks.behind last asks.client new asks.once_begun after had have result)
-        (λ refused. (result ≡ Err refused.fault) × (have ≡ had) × EndsUnbegun gives refused.token (handle_unbegun handle refused.fault) asks.behind last asks.client new asks.once_begun after)
-        → Stage old.is_done asks.client.is_done before.failures asks.once_begun.failures (alone begun) → Stage old.is_done new.is_done before.failures after.failures result
-    begun_stage (Ok token) under stage = joined old.is_done asks.client.is_done new.is_done (Ok token) result result (found_joins token result) stage (under_stage result under)
+        (λ refused. (result ≡ Err refused.fault) × (have ≡ had) × EndsUnbegun gives refused.token (handle_unbegun handle refused.fault) asks.behind last
+        asks.client new asks.once_begun after)
+        → Stage old.is_done asks.client.is_done before.failures asks.once_begun.failures (alone begun)
+        → Stage old.is_done new.is_done before.failures after.failures result
+    begun_stage (Ok token) under stage = joined old.is_done asks.client.is_done new.is_done (Ok token) result result (found_joins token result) stage
+        (under_stage result under)
     begun_stage (Err refused) h stage =
         subst (λ (r : Result Verdict QuestionFault). Stage old.is_done new.is_done before.failures after.failures r) (sym h.0)
-        (unbegun_stage gives refused.token (handle_unbegun handle refused.fault) asks.behind last asks.client new asks.once_begun after old.is_done before.failures refused.fault h.2 stage)
+        (unbegun_stage gives refused.token (handle_unbegun handle refused.fault) asks.behind last asks.client new asks.once_begun after old.is_done
+        before.failures refused.fault h.2 stage)
 
 -- ---- a conversation
 
-finds_stage : {M : Type 0} (gives : M → ℤ → M → Type 0) (url : Option (List ℕ)) (policy : TokenPolicy) (first last : M) (old new : Client) (before after : LineState) (found : Result (Option (List ℕ)) QuestionFault)
+finds_stage : {M : Type 0} (gives : M → ℤ → M → Type 0) (url : Option (List ℕ)) (policy : TokenPolicy) (first last : M) (old new : Client)
+    (before after : LineState) (found : Result (Option (List ℕ)) QuestionFault)
     → FindsPolicy gives url policy first last old new before after found → Stage old.is_done new.is_done before.failures after.failures found
-finds_stage gives url (Named id) first last old new before after found h = idle found (ap (λ (x : Client). x.is_done) h.2) (ap (λ (s : LineState). s.failures) h.3) (named_untold found h.0)
+finds_stage gives url (Named id) first last old new before after found h =
+    idle found (ap (λ (x : Client). x.is_done) h.2) (ap (λ (s : LineState). s.failures) h.3) (named_untold found h.0)
   where
     named_untold : (r : Result (Option (List ℕ)) QuestionFault) → (r ≡ Ok id) ⊎ (r ≡ Err NoMemory) → tells_line r ≡ false
     named_untold r (inl is) = ap tells_line is
     named_untold r (inr is) = ap tells_line is
-finds_stage gives url Auto first last old new before after found asks = handed asks.called found (chooses_hands asks.called found asks.chooses) (asks_stage asks.called asks.asks)
+finds_stage gives url Auto first last old new before after found asks = handed asks.called found (chooses_hands asks.called found asks.chooses)
+    (asks_stage asks.called asks.asks)
 
-policy_stage : {M O : Type 0} {gives : M → ℤ → M → Type 0} {contents : O → Option (List ℕ)} {url : Option (List ℕ)} {policy : TokenPolicy} {style : AnswerStyle} {question : Question} {first last : M} {old new : Client} {before after : LineState} {had have : O} (result : Result Verdict QuestionFault)
-    → AsksByPolicy gives contents url policy style question first last old new before after had have result → Stage old.is_done new.is_done before.failures after.failures result
+policy_stage : {M O : Type 0} {gives : M → ℤ → M → Type 0} {contents : O → Option (List ℕ)} {url : Option (List ℕ)} {policy : TokenPolicy} {style : AnswerStyle}
+    {question : Question} {first last : M} {old new : Client} {before after : LineState} {had have : O} (result : Result Verdict QuestionFault)
+    → AsksByPolicy gives contents url policy style question first last old new before after had have result
+    → Stage old.is_done new.is_done before.failures after.failures result
 policy_stage {gives = gives} {url = url} {policy = policy} {first = first} {old = old} {new = new} {before = before} result asks =
     stage_behind old.is_done asks.client.is_done new.is_done asks.found result _ _ asks.further
     (λ policy_id within. session_stage result within)
     (λ f h. (h.0, ap (λ (x : Client). x.is_done) h.2, ap (λ (s : LineState). s.failures) h.3))
     (finds_stage gives url policy first asks.behind old asks.client before asks.once_found asks.found asks.finds)
 
-endpoints_stage : {M O : Type 0} {gives : M → ℤ → M → Type 0} {contents : O → Option (List ℕ)} {url : Option (List ℕ)} {style : EndpointStyle} {first last : M} {old new : Client} {before after : LineState} {had have : O} (result : Result (Unit {0}) QuestionFault)
-    → AsksEndpoints gives contents url style first last old new before after had have result → Stage old.is_done new.is_done before.failures after.failures result
+endpoints_stage : {M O : Type 0} {gives : M → ℤ → M → Type 0} {contents : O → Option (List ℕ)} {url : Option (List ℕ)} {style : EndpointStyle} {first last : M}
+    {old new : Client} {before after : LineState} {had have : O} (result : Result (Unit {0}) QuestionFault)
+    → AsksEndpoints gives contents url style first last old new before after had have result
+    → Stage old.is_done new.is_done before.failures after.failures result
 endpoints_stage {contents = contents} {style = style} {had = had} {have = have} result asks =
     handed asks.called result (endpoints_hands contents style had have asks.called result asks.prints) (asks_stage asks.called asks.asks)
 
 -- behind it a client is done
-closes_stage : {moment : DateTime} {x : Client} {before after : LineState} (result : Result (Unit {0}) QuestionFault) → ClosesClient moment x before after result → Stage x.is_done true before.failures after.failures result
+closes_stage : {moment : DateTime} {x : Client} {before after : LineState} (result : Result (Unit {0}) QuestionFault)
+    → ClosesClient moment x before after result → Stage x.is_done true before.failures after.failures result
 closes_stage {x = x} {before = before} {after = after} result closes = record {
   ready = λ r. subst (λ (q : Result (Unit {0}) QuestionFault). Fails true before.failures after.failures q) (sym closes.told_is)
       (answer_fails closes.answer true (λ f is line. refl) closes.fails);
@@ -352,32 +398,46 @@ fails_failed (Err (Connection client.Write)) h = line_fails (Err (Connection cli
 fails_failed (Err other) h = other_fails (Err other) h
 
 -- a client was opened, did this, and was closed
-run_failed : {A : Type 0} (opened : Client) (e : Bool) {n m k : ℕ} (printed : Result A QuestionFault) (closed : Result (Unit {0}) QuestionFault) (result : Result A QuestionFault) → IsReady opened → result ≡ first_of printed closed
+run_failed : {A : Type 0} (opened : Client) (e : Bool) {n m k : ℕ} (printed : Result A QuestionFault) (closed : Result (Unit {0}) QuestionFault)
+    (result : Result A QuestionFault) → IsReady opened → result ≡ first_of printed closed
     → Stage opened.is_done e n m printed → Stage e true m k closed → LineFailed n result k
 run_failed {A} opened e {n} {m} {k} printed closed result ready is first second =
     subst (λ (r : Result A QuestionFault). LineFailed n r k) (sym is)
-    (fails_failed (first_of printed closed) ((joined opened.is_done e true printed closed (first_of printed closed) (first_joins printed closed) first second).ready ready))
+    (fails_failed (first_of printed closed)
+    ((joined opened.is_done e true printed closed (first_of printed closed) (first_joins printed closed) first second).ready ready))
 
 -- ---- the opening
 
-opens_fails : {limits : Limits} {url : Option (List ℕ)} {moment : DateTime} {before after : LineState} (result : Result Client QuestionFault) → OpensServer limits url moment before after result → Fails true before.failures after.failures result
+opens_fails : {limits : Limits} {url : Option (List ℕ)} {moment : DateTime} {before after : LineState} (result : Result Client QuestionFault)
+    → OpensServer limits url moment before after result → Fails true before.failures after.failures result
 opens_fails result (inl nothing) = inl (record { same = ap (λ (s : LineState). s.failures) nothing.1; untold = ap tells_line nothing.0 })
 opens_fails {before = before} {after = after} result (inr opens) =
-    subst (λ (r : Result Client QuestionFault). Fails true before.failures after.failures r) (sym opens.told_is) (answer_fails opens.answer true (λ f is line. refl) opens.fails)
+    subst (λ (r : Result Client QuestionFault). Fails true before.failures after.failures r) (sym opens.told_is)
+    (answer_fails opens.answer true (λ f is line. refl) opens.fails)
 
 -- ---- all of it
 
-pub endpoints_failed : {M O : Type 0} (gives : M → ℤ → M → Type 0) (contents : O → Option (List ℕ)) (limits : Limits) (url : Option (List ℕ)) (opened_at closed_at : DateTime) (style : EndpointStyle) (first last : M) (opened asked : Client) (before once answered after : LineState) (had have : O) (printed closed result : Result (Unit {0}) QuestionFault)
-    → OpensServer limits url opened_at before once (Ok opened) → IsReady opened → AsksEndpoints gives contents url style first last opened asked once answered had have printed → ClosesClient closed_at asked answered after closed → result ≡ first_of printed closed
+pub endpoints_failed : {M O : Type 0} (gives : M → ℤ → M → Type 0) (contents : O → Option (List ℕ)) (limits : Limits) (url : Option (List ℕ))
+    (opened_at closed_at : DateTime) (style : EndpointStyle) (first last : M) (opened asked : Client) (before once answered after : LineState) (had have : O)
+    (printed closed result : Result (Unit {0}) QuestionFault)
+    → OpensServer limits url opened_at before once (Ok opened) → IsReady opened
+    → AsksEndpoints gives contents url style first last opened asked once answered had have printed → ClosesClient closed_at asked answered after closed
+    → result ≡ first_of printed closed
     → LineFailed before.failures result after.failures
-endpoints_failed gives contents limits url opened_at closed_at style first last opened asked before once answered after had have printed closed result opens ready asks closes is =
+endpoints_failed gives contents limits url opened_at closed_at style first last opened asked before once answered after had have printed closed result opens
+    ready asks closes is =
     subst (λ (n : ℕ). LineFailed n result after.failures) (found_fails opened (opens_fails (Ok opened) opens))
     (run_failed opened asked.is_done printed closed result ready is (endpoints_stage printed asks) (closes_stage closed closes))
 
-pub question_failed : {M O : Type 0} (gives : M → ℤ → M → Type 0) (contents : O → Option (List ℕ)) (limits : Limits) (url : Option (List ℕ)) (opened_at closed_at : DateTime) (policy : TokenPolicy) (style : AnswerStyle) (question : Question) (first last : M) (opened asked : Client) (before once answered after : LineState) (had have : O)
+pub question_failed : {M O : Type 0} (gives : M → ℤ → M → Type 0) (contents : O → Option (List ℕ)) (limits : Limits) (url : Option (List ℕ))
+    (opened_at closed_at : DateTime) (policy : TokenPolicy) (style : AnswerStyle) (question : Question) (first last : M) (opened asked : Client)
+    (before once answered after : LineState) (had have : O)
     (printed : Result Verdict QuestionFault) (closed : Result (Unit {0}) QuestionFault) (result : Result Verdict QuestionFault)
-    → OpensServer limits url opened_at before once (Ok opened) → IsReady opened → AsksByPolicy gives contents url policy style question first last opened asked once answered had have printed → ClosesClient closed_at asked answered after closed → result ≡ first_of printed closed
+    → OpensServer limits url opened_at before once (Ok opened) → IsReady opened
+    → AsksByPolicy gives contents url policy style question first last opened asked once answered had have printed
+    → ClosesClient closed_at asked answered after closed → result ≡ first_of printed closed
     → LineFailed before.failures result after.failures
-question_failed gives contents limits url opened_at closed_at policy style question first last opened asked before once answered after had have printed closed result opens ready asks closes is =
+question_failed gives contents limits url opened_at closed_at policy style question first last opened asked before once answered after had have printed closed
+    result opens ready asks closes is =
     subst (λ (n : ℕ). LineFailed n result after.failures) (found_fails opened (opens_fails (Ok opened) opens))
     (run_failed opened asked.is_done printed closed result ready is (policy_stage printed asks) (closes_stage closed closes))

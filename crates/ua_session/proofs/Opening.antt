@@ -23,9 +23,11 @@ use Rattle.ua_exchange.specs.declared.turn.Turn.TheVariants.{Ask}
 use Rattle.ua_session.specs.Script.{creating, script_moment, token}
 
 pub creating-accepted : IsAccepted [] (Ask creating)
-unfolding array application_description boolean chars counted create_session_request date_time digits double_bits encode_utf8 extension_object is_utf8 local_url localized_text node_id number_octets pieces request request_header text
+unfolding array application_description boolean chars counted create_session_request date_time digits double_bits encode_utf8 extension_object is_utf8 local_url
+    localized_text node_id number_octets pieces request request_header text
 creating-accepted = refl
 
 pub activating-accepted : IsAccepted (Ask creating ∷ []) (Ask (activate_session token script_moment 3))
-unfolding activate_session_request anonymous_identity_token array boolean chars counted date_time encode_utf8 extension_object is_utf8 localized_text node_id number_octets pieces request request_header signature_data signed_software_certificate text
+unfolding activate_session_request anonymous_identity_token array boolean chars counted date_time encode_utf8 extension_object is_utf8 localized_text node_id
+    number_octets pieces request request_header signature_data signed_software_certificate text
 activating-accepted = refl

@@ -1,5 +1,6 @@
 -- Which line is blamed for a turn that is not accepted.
-use Rattle.std.proofs.Common.{◌≡◌, ℕ, suc, ◌+◌, ◌-◌, ◌<◌, ◌≤◌, Bool, true, false, List, [], ◌∷◌, ◌++◌, Some, None, length, get_or, take, drop, refl, sym, ◌∙◌, ap, subst, arith, append_assoc, append-nil, length-append, drop-cons, take-append-drop}
+use Rattle.std.proofs.Common.{◌≡◌, ℕ, suc, ◌+◌, ◌-◌, ◌<◌, ◌≤◌, Bool, true, false, List, [], ◌∷◌, ◌++◌, Some, None, length, get_or, take}
+use Rattle.std.proofs.Common.{drop, refl, sym, ◌∙◌, ap, subst, arith, append_assoc, append-nil, length-append, drop-cons, take-append-drop}
 use Rattle.std.proofs.lemmas.List.{length-take-le}
 use Rattle.std.specs.List.{AllByRecursion}
 use Rattle.ua_builtin.specs.Reasons.{first_reason}
@@ -18,7 +19,8 @@ use Rattle.ua_texts.specs.declared.script.ScriptLine.{ScriptLine}
 
 -- ---- the place that a fault names
 
-first_at : (n : ℕ) (rs : List (PairFault × Bool)) → AllByRecursion (λ r. place_in r.0 ≡ Some n) rs → (fault : PairFault) → first_reason rs ≡ Some fault → place_in fault ≡ Some n
+first_at : (n : ℕ) (rs : List (PairFault × Bool)) → AllByRecursion (λ r. place_in r.0 ≡ Some n) rs → (fault : PairFault) → first_reason rs ≡ Some fault
+    → place_in fault ≡ Some n
 first_at n [] all fault e = absurd cc
 first_at n ((f, true) ∷ rs) all fault e = let same : f ≡ fault = cc in ap place_in (sym same) ∙ all.0
 first_at n ((f, false) ∷ rs) all fault e = first_at n rs all.1 fault e
@@ -39,7 +41,8 @@ same_parts (b ∷ xs) (c ∷ zs) x z ys ws e n =
     let p = same_parts xs zs x z ys ws tail (omega arith) in (cc, p.1)
 
 parted_at : (xs : List ScriptLine) (k : ℕ) (x : ScriptLine) → k < length xs → x ≡ get_or xs k x → xs ≡ take k xs ++ x ∷ drop (suc k) xs
-parted_at xs k x less is = sym (take-append-drop k xs) ∙ ap (λ (ts : List ScriptLine). take k xs ++ ts) (drop-cons xs k x less ∙ ap (λ (y : ScriptLine). y ∷ drop (suc k) xs) (sym is))
+parted_at xs k x less is = sym (take-append-drop k xs)
+    ∙ ap (λ (ts : List ScriptLine). take k xs ++ ts) (drop-cons xs k x less ∙ ap (λ (y : ScriptLine). y ∷ drop (suc k) xs) (sym is))
 
 -- ---- the turns of lines that are parted
 
@@ -47,7 +50,8 @@ each_from-append : (start xs ys : List ScriptLine) → each_from own_turns start
 each_from-append start [] ys = ap (λ (t : List ScriptLine). each_from own_turns t ys) (sym (append-nil start))
 each_from-append start (x ∷ xs) ys =
     ap (λ (t : List Turn). line_turn start x ∷ t)
-    (each_from-append (start ++ x ∷ []) xs ys ∙ ap (λ (t : List ScriptLine). each_from own_turns (start ++ x ∷ []) xs ++ each_from own_turns t ys) (append_assoc start (x ∷ []) xs))
+    (each_from-append (start ++ x ∷ []) xs ys ∙ ap (λ (t : List ScriptLine). each_from own_turns (start ++ x ∷ []) xs ++ each_from own_turns t ys)
+    (append_assoc start (x ∷ []) xs))
 
 each_from-length : (start xs : List ScriptLine) → length (each_from own_turns start xs) ≡ length xs
 each_from-length start [] = refl
@@ -61,7 +65,8 @@ turns_to-length lines = omega (arith, each_from-length [] lines)
 abbrev later : List ScriptLine → ScriptLine → List ScriptLine → List Turn
 later front line back = each_from own_turns (front ++ line ∷ []) back ++ closing (front ++ line ∷ back) ∷ []
 
-script_turns-parts : (front : List ScriptLine) (line : ScriptLine) (back : List ScriptLine) → script_turns (front ++ line ∷ back) ≡ turns_to front ++ line_turn front line ∷ later front line back
+script_turns-parts : (front : List ScriptLine) (line : ScriptLine) (back : List ScriptLine) → script_turns (front ++ line ∷ back) ≡ turns_to front
+    ++ line_turn front line ∷ later front line back
 unfolding each_after
 script_turns-parts front line back =
     let end : List Turn = closing (front ++ line ∷ back) ∷ [] in
@@ -73,7 +78,8 @@ script_turns-parts front line back =
 -- ---- the first turn that is not accepted
 
 -- it is none of the two that stand first, where these are accepted
-two_before : (a b t : Turn) (before behind rest : List Turn) (fault : PairFault) → a ∷ (b ∷ rest) ≡ before ++ t ∷ behind → turn_refusal [] a ≡ None → turn_refusal (a ∷ []) b ≡ None → turn_refusal before t ≡ Some fault
+two_before : (a b t : Turn) (before behind rest : List Turn) (fault : PairFault) → a ∷ (b ∷ rest) ≡ before ++ t ∷ behind → turn_refusal [] a ≡ None
+    → turn_refusal (a ∷ []) b ≡ None → turn_refusal before t ≡ Some fault
     → 2 ≤ length before
 two_before a b t [] behind rest fault e one two refused =
     let same : a ≡ t = cc in
@@ -81,7 +87,8 @@ two_before a b t [] behind rest fault e one two refused =
 two_before a b t (c ∷ []) behind rest fault e one two refused =
     let first : a ≡ c = cc in
     let same : b ≡ t = cc in
-    let no : Some fault ≡ None = sym refused ∙ ap (λ (u : Turn). turn_refusal (c ∷ []) u) (sym same) ∙ ap (λ (u : Turn). turn_refusal (u ∷ []) b) (sym first) ∙ two in absurd cc
+    let no : Some fault ≡ None = sym refused ∙ ap (λ (u : Turn). turn_refusal (c ∷ []) u) (sym same) ∙ ap (λ (u : Turn). turn_refusal (u ∷ []) b) (sym first)
+    ∙ two in absurd cc
 two_before a b t (c ∷ (d ∷ before)) behind rest fault e one two refused = omega arith
 
 -- a fault that blames a turn is that of the first one
@@ -90,7 +97,8 @@ first_of turns (Request i f) index e refused = refused
 first_of turns (NotWritable i) index e refused = refused
 first_of turns OutOfMemory index e refused = absurd cc
 
-module _ (lines : List ScriptLine) (fault : PairFault) (refused : IsRefusedFor (script_turns lines) fault) (index : ℕ) (place : place_in fault ≡ Some index) where
+module _ (lines : List ScriptLine) (fault : PairFault) (refused : IsRefusedFor (script_turns lines) fault) (index : ℕ)
+    (place : place_in fault ≡ Some index) where
   first : FirstRefused (script_turns lines) fault
   first = first_of (script_turns lines) fault index place refused
 
@@ -106,8 +114,10 @@ module _ (lines : List ScriptLine) (fault : PairFault) (refused : IsRefusedFor (
         let at = parted_at lines k line less is in
         let front : List ScriptLine = take k lines in
         let back : List ScriptLine = drop (suc k) lines in
-        let parts : first.before ++ first.turn ∷ first.behind ≡ turns_to front ++ line_turn front line ∷ later front line back = sym first.parts ∙ ap script_turns at ∙ script_turns-parts front line back in
-        let long : length first.before ≡ length (turns_to front) = omega (arith, k_is, index_is, enough, turns_to-length front, length-take-le k lines (omega arith)) in
+        let parts : first.before ++ first.turn ∷ first.behind ≡ turns_to front ++ line_turn front line ∷ later front line back = sym first.parts
+        ∙ ap script_turns at ∙ script_turns-parts front line back in
+        let long : length first.before ≡ length (turns_to front) =
+        omega (arith, k_is, index_is, enough, turns_to-length front, length-take-le k lines (omega arith)) in
         let same = same_parts first.before (turns_to front) first.turn (line_turn front line) first.behind (later front line back) parts long in
         record {
           before = front;
@@ -124,7 +134,17 @@ module _ (lines : List ScriptLine) (fault : PairFault) (refused : IsRefusedFor (
     stops-behind past =
         let all : length (turns_to lines ++ closing lines ∷ []) ≡ length (first.before ++ first.turn ∷ first.behind) = ap length first.parts in
         let long : length first.before ≡ length (turns_to lines) =
-        omega (arith, k_is, index_is, enough, past, all, turns_to-length lines, length-append (turns_to lines) (closing lines ∷ []), length-append first.before (first.turn ∷ first.behind)) in
+        omega (
+          arith,
+          k_is,
+          index_is,
+          enough,
+          past,
+          all,
+          turns_to-length lines,
+          length-append (turns_to lines) (closing lines ∷ []),
+          length-append first.before (first.turn ∷ first.behind),
+        ) in
         let same = same_parts first.before (turns_to lines) first.turn (closing lines) first.behind [] (sym first.parts) long in
         record {
           accepted = subst AreAccepted same.0 first.accepted;

@@ -17,7 +17,8 @@ unfolding each_after
 turns_to-nil = refl
 
 pub turns_to-push : (lines : List ScriptLine) (line : ScriptLine) → turns_to (lines ++ line ∷ []) ≡ turns_to lines ++ line_turn lines line ∷ []
-turns_to-push lines line = ap (λ (ts : List Turn). opening ++ ts) (each_after-push own_turns lines line) ∙ sym (append_assoc opening (each_after own_turns lines) (line_turn lines line ∷ []))
+turns_to-push lines line = ap (λ (ts : List Turn). opening ++ ts) (each_after-push own_turns lines line)
+    ∙ sym (append_assoc opening (each_after own_turns lines) (line_turn lines line ∷ []))
 
 -- the turns up to the next line
 turns-more : (lines : List ScriptLine) (index : ℕ) (line : ScriptLine) → index < length lines → line ≡ get_or lines index line
@@ -28,7 +29,8 @@ turns-more lines index line less is =
     ∙ ap (λ (n : ℕ). turns_to (take index lines) ++ step_turn (min (n + 4) no_id) line.step ∷ []) (length-take-le index lines (omega arith))
 
 -- the turns up to the next line, where its turn was added to those before
-pub turns-added : (lines : List ScriptLine) (index handle : ℕ) (line : ScriptLine) (old new : List Turn) (t : Turn) → index < length lines → line ≡ get_or lines index line → handle ≡ min (index + 4) no_id
+pub turns-added : (lines : List ScriptLine) (index handle : ℕ) (line : ScriptLine) (old new : List Turn) (t : Turn) → index < length lines
+    → line ≡ get_or lines index line → handle ≡ min (index + 4) no_id
     → t ≡ step_turn handle line.step → old ≡ turns_to (take index lines) → new ≡ old ++ t ∷ [] → new ≡ turns_to (take (index + 1) lines)
 turns-added lines index handle line old new t less is h e o n =
     n

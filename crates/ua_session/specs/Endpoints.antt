@@ -17,7 +17,8 @@ abbrev pub CallsEndpoints : Option (List ℕ) → DateTime → Client → Client
 CallsEndpoints url moment old new before after called = Asks (get_endpoints url moment 2) old new before after called
 
 -- GetEndpoints was called at the next time, and the reply was printed
-pub record AsksEndpoints {M O : Type 0} (gives : M → ℤ → M → Type 0) (contents : O → Option (List ℕ)) (url : Option (List ℕ)) (style : EndpointStyle) (first last : M) (old new : Client) (before after : LineState) (had have : O) (result : Result (Unit {0}) QuestionFault) : Type 0 where
+pub record AsksEndpoints {M O : Type 0} (gives : M → ℤ → M → Type 0) (contents : O → Option (List ℕ)) (url : Option (List ℕ)) (style : EndpointStyle)
+    (first last : M) (old new : Client) (before after : LineState) (had have : O) (result : Result (Unit {0}) QuestionFault) : Type 0 where
   pub moment : DateTime
   pub given : gives first moment.ticks last
   pub called : Result Reply QuestionFault
@@ -25,6 +26,7 @@ pub record AsksEndpoints {M O : Type 0} (gives : M → ℤ → M → Type 0) (co
   pub prints : PrintsEndpoints contents style had have called result
 
 -- a client was opened, asked for the endpoints, and closed
-abbrev pub RunsEndpoints : {M O : Type 0} → (M → ℤ → M → Type 0) → (O → Option (List ℕ)) → Limits → Option (List ℕ) → EndpointStyle → M → M → LineState → LineState → O → O → Result (Unit {0}) QuestionFault → Type 0
+abbrev pub RunsEndpoints : {M O : Type 0} → (M → ℤ → M → Type 0) → (O → Option (List ℕ)) → Limits → Option (List ℕ) → EndpointStyle → M → M → LineState
+    → LineState → O → O → Result (Unit {0}) QuestionFault → Type 0
 RunsEndpoints gives contents limits url style first last before after had have result =
     Runs gives limits url first last before after had have (λ x y m n s t printed. AsksEndpoints gives contents url style m n x y s t had have printed) result

@@ -28,7 +28,8 @@ use Rattle.ua_session.specs.declared.verdict.Verdict.{Verdict}
 
 -- a session was begun by the token policy with this PolicyId; if none was begun that is told, and
 -- one that stays at the server nevertheless was ended
-pub record BeginsNamed {M : Type 0} (gives : M → ℤ → M → Type 0) (policy_id : Option (List ℕ)) (handle : ℕ) (first last : M) (old new : Client) (before after : LineState) (result : Result NodeId QuestionFault) : Type 0 where
+pub record BeginsNamed {M : Type 0} (gives : M → ℤ → M → Type 0) (policy_id : Option (List ℕ)) (handle : ℕ) (first last : M) (old new : Client)
+    (before after : LineState) (result : Result NodeId QuestionFault) : Type 0 where
   pub begun_at : DateTime
   pub behind : M
   pub given : gives first begun_at.ticks behind
@@ -41,7 +42,8 @@ pub record BeginsNamed {M : Type 0} (gives : M → ℤ → M → Type 0) (policy
       (λ refused. (result ≡ Err refused.fault) × EndsUnbegun gives refused.token (handle_unbegun handle refused.fault) behind last client new once_begun after)
 
 -- the PolicyId was found, and a session begun by it; if none was found that is told
-pub record BeginsByPolicy {M : Type 0} (gives : M → ℤ → M → Type 0) (url : Option (List ℕ)) (policy : TokenPolicy) (first last : M) (old new : Client) (before after : LineState) (result : Result NodeId QuestionFault) : Type 0 where
+pub record BeginsByPolicy {M : Type 0} (gives : M → ℤ → M → Type 0) (url : Option (List ℕ)) (policy : TokenPolicy) (first last : M) (old new : Client)
+    (before after : LineState) (result : Result NodeId QuestionFault) : Type 0 where
   pub found : Result (Option (List ℕ)) QuestionFault
   pub behind : M
   pub client : Client
@@ -52,7 +54,8 @@ pub record BeginsByPolicy {M : Type 0} (gives : M → ℤ → M → Type 0) (url
       (λ fault. (result ≡ Err fault) × (last ≡ behind) × (new ≡ client) × (after ≡ once_found))
 
 -- a client without a session was closed; the fault is told, or that an allocation failed
-pub record ClosesUnused {M : Type 0} (gives : M → ℤ → M → Type 0) (fault : QuestionFault) (client : Client) (first last : M) (before after : LineState) (result : Result ClientSession QuestionFault) : Type 0 where
+pub record ClosesUnused {M : Type 0} (gives : M → ℤ → M → Type 0) (fault : QuestionFault) (client : Client) (first last : M) (before after : LineState)
+    (result : Result ClientSession QuestionFault) : Type 0 where
   pub closed_at : DateTime
   pub given : gives first closed_at.ticks last
   pub closed : Result (Unit {0}) QuestionFault
@@ -65,7 +68,8 @@ IsSessionOf client url token (Ok s) = (s.client ≡ client) × (s.url ≡ url) �
 IsSessionOf client url token (Err fault) = ⊥
 
 -- an open client began a session by a token policy, or was closed
-pub record BeginsOver {M : Type 0} (gives : M → ℤ → M → Type 0) (url : Option (List ℕ)) (policy : TokenPolicy) (client : Client) (first last : M) (before after : LineState) (result : Result ClientSession QuestionFault) : Type 0 where
+pub record BeginsOver {M : Type 0} (gives : M → ℤ → M → Type 0) (url : Option (List ℕ)) (policy : TokenPolicy) (client : Client) (first last : M)
+    (before after : LineState) (result : Result ClientSession QuestionFault) : Type 0 where
   pub begun : Result NodeId QuestionFault
   pub behind : M
   pub new : Client
@@ -77,7 +81,8 @@ pub record BeginsOver {M : Type 0} (gives : M → ℤ → M → Type 0) (url : O
 
 -- a client was opened to a server, by this URL, and began a session by a token policy, each step at
 -- the next time; if it did not that is told, and a client that was opened was closed
-pub record BeginsSession {M : Type 0} (gives : M → ℤ → M → Type 0) (limits : Limits) (url : Option (List ℕ)) (policy : TokenPolicy) (first last : M) (before after : LineState) (result : Result ClientSession QuestionFault) : Type 0 where
+pub record BeginsSession {M : Type 0} (gives : M → ℤ → M → Type 0) (limits : Limits) (url : Option (List ℕ)) (policy : TokenPolicy) (first last : M)
+    (before after : LineState) (result : Result ClientSession QuestionFault) : Type 0 where
   pub opened_at : DateTime
   pub behind : M
   pub given : gives first opened_at.ticks behind
@@ -92,7 +97,8 @@ pub record BeginsSession {M : Type 0} (gives : M → ℤ → M → Type 0) (limi
 
 -- the RequestHandle of the next request is the RequestId of its call, unless all were used
 abbrev pub IsNextHandle : Client → ℕ → Type 0
-IsNextHandle client handle = IsReady client → (s : ClientPlace) → StandsAt (client_channel client) s → (usable_id (id_at s) ≡ Some handle) ⊎ (usable_id (id_at s) ≡ None)
+IsNextHandle client handle = IsReady client → (s : ClientPlace) → StandsAt (client_channel client) s → (usable_id (id_at s) ≡ Some handle)
+    ⊎ (usable_id (id_at s) ≡ None)
 
 -- the session stays the one of this token, at the server of this URL
 abbrev pub StaysSession : ClientSession → ClientSession → Type 0
@@ -101,7 +107,8 @@ StaysSession old new = (new.token ≡ old.token) × (new.url ≡ old.url)
 -- ---- steps
 
 -- a question was asked in the session at this time, and the reply printed
-pub record AsksQuestion {O : Type 0} (contents : O → Option (List ℕ)) (style : AnswerStyle) (question : Question) (moment : DateTime) (old new : ClientSession) (before after : LineState) (had have : O) (result : Result Verdict QuestionFault) : Type 0 where
+pub record AsksQuestion {O : Type 0} (contents : O → Option (List ℕ)) (style : AnswerStyle) (question : Question) (moment : DateTime) (old new : ClientSession)
+    (before after : LineState) (had have : O) (result : Result Verdict QuestionFault) : Type 0 where
   pub handle : ℕ
   pub next : IsNextHandle old.client handle
   pub called : Result Reply QuestionFault
@@ -110,7 +117,8 @@ pub record AsksQuestion {O : Type 0} (contents : O → Option (List ℕ)) (style
   pub stays : StaysSession old new
 
 -- the server was asked for its endpoints at this time, and the reply printed
-pub record AsksEndpointsIn {O : Type 0} (contents : O → Option (List ℕ)) (style : EndpointStyle) (moment : DateTime) (old new : ClientSession) (before after : LineState) (had have : O) (result : Result (Unit {0}) QuestionFault) : Type 0 where
+pub record AsksEndpointsIn {O : Type 0} (contents : O → Option (List ℕ)) (style : EndpointStyle) (moment : DateTime) (old new : ClientSession)
+    (before after : LineState) (had have : O) (result : Result (Unit {0}) QuestionFault) : Type 0 where
   pub handle : ℕ
   pub next : IsNextHandle old.client handle
   pub called : Result Reply QuestionFault
@@ -120,13 +128,15 @@ pub record AsksEndpointsIn {O : Type 0} (contents : O → Option (List ℕ)) (st
 
 -- the token of the SecureChannel was renewed at this time
 pub record RenewsToken (moment : DateTime) (old new : ClientSession) (before after : LineState) (result : Result (Unit {0}) QuestionFault) : Type 0 where
-  pub renews : CallsClient (λ answer. Renews moment (connection_of old.client) (connection_of new.client) before.traffic after.traffic answer) old.client new.client before after result
+  pub renews : CallsClient (λ answer. Renews moment (connection_of old.client) (connection_of new.client) before.traffic after.traffic answer) old.client
+      new.client before after result
   pub stays : StaysSession old new
 
 -- ---- the end
 
 -- the session was ended and the client closed, each at the next time, also after a fault
-pub record EndsAll {M : Type 0} (gives : M → ℤ → M → Type 0) (s : ClientSession) (first last : M) (before after : LineState) (result : Result (Unit {0}) QuestionFault) : Type 0 where
+pub record EndsAll {M : Type 0} (gives : M → ℤ → M → Type 0) (s : ClientSession) (first last : M) (before after : LineState)
+    (result : Result (Unit {0}) QuestionFault) : Type 0 where
   pub handle : ℕ
   pub next : IsNextHandle s.client handle
   pub ended_at : DateTime

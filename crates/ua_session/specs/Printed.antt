@@ -15,7 +15,8 @@ use Rattle.ua_variant.specs.declared.values.DataValue.{DataValue}
 
 -- the lines of answers in a style: of a Read of nodes, or of a Write to nodes
 pub data AreAnswerLines (style : AnswerStyle) : List ℕ → Type 0 where
-  OfRead : (nodes : List NodeId) (answers : List DataValue) (text : List ℕ) → length answers ≡ length nodes → AreReads style nodes answers text → AreAnswerLines style text
+  OfRead : (nodes : List NodeId) (answers : List DataValue) (text : List ℕ) → length answers ≡ length nodes → AreReads style nodes answers text
+      → AreAnswerLines style text
   OfWrite : (nodes : List NodeId) (answers : List StatusCode) → length answers ≡ length nodes → AreAnswerLines style (write_lines style.lines nodes answers)
 
 -- the lines of endpoints in a style

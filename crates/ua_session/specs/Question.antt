@@ -70,7 +70,10 @@ verdict_of (Responds m) = cond (is_bad_response m) SomeBad AllGood
 verdict_of (Aborted code) = AllGood
 
 -- the lines of the answers in a reply are written, in this style, or why not is told
-abbrev pub PrintsAnswers : {O : Type 0} → (O → Option (List ℕ)) → AnswerStyle → Question → O → O → Result Reply QuestionFault → Result Verdict QuestionFault → Type 0
-PrintsAnswers contents style question had have (Ok reply) (Ok verdict) = HasAdded (AnswersQuestion style question reply []) (contents had) (contents have) × (verdict ≡ verdict_of reply)
-PrintsAnswers contents style question had have (Ok reply) (Err fault) = IsUnprinted (AnswersQuestion style question reply []) (AnswersNothing question reply) reply had have fault
+abbrev pub PrintsAnswers : {O : Type 0} → (O → Option (List ℕ)) → AnswerStyle → Question → O → O → Result Reply QuestionFault → Result Verdict QuestionFault
+    → Type 0
+PrintsAnswers contents style question had have (Ok reply) (Ok verdict) = HasAdded (AnswersQuestion style question reply []) (contents had) (contents have)
+    × (verdict ≡ verdict_of reply)
+PrintsAnswers contents style question had have (Ok reply) (Err fault) = IsUnprinted (AnswersQuestion style question reply []) (AnswersNothing question reply)
+    reply had have fault
 PrintsAnswers contents style question had have (Err fault) result = (have ≡ had) × (result ≡ Err fault)

@@ -69,10 +69,13 @@ Expects (Err fault) result = result ≡ Err fault
 -- why a reply was not printed: nothing was written, and it is no answer, for this reason; or the
 -- writer failed at its lines, which have this property
 abbrev pub IsUnprinted : {O : Type 0} → (List ℕ → Type 0) → Type 0 → Reply → O → O → QuestionFault → Type 0
-IsUnprinted AreLines IsUnknown reply had have fault = ((have ≡ had) × IsRefusedBy IsUnknown reply fault) ⊎ (IsOutput fault × ((lines : List ℕ) × AreLines lines))
+IsUnprinted AreLines IsUnknown reply had have fault = ((have ≡ had) × IsRefusedBy IsUnknown reply fault)
+    ⊎ (IsOutput fault × ((lines : List ℕ) × AreLines lines))
 
 -- the lines of the endpoints in a reply are written, in this style, or why not is told
-abbrev pub PrintsEndpoints : {O : Type 0} → (O → Option (List ℕ)) → EndpointStyle → O → O → Result Reply QuestionFault → Result (Unit {0}) QuestionFault → Type 0
+abbrev pub PrintsEndpoints : {O : Type 0} → (O → Option (List ℕ)) → EndpointStyle → O → O → Result Reply QuestionFault → Result (Unit {0}) QuestionFault
+    → Type 0
 PrintsEndpoints contents style had have (Ok reply) (Ok done) = HasAdded (AreEndpoints style (endpoints_of reply) []) (contents had) (contents have)
-PrintsEndpoints contents style had have (Ok reply) (Err fault) = IsUnprinted (AreEndpoints style (endpoints_of reply) []) (endpoints_of reply ≡ None) reply had have fault
+PrintsEndpoints contents style had have (Ok reply) (Err fault) = IsUnprinted (AreEndpoints style (endpoints_of reply) []) (endpoints_of reply ≡ None) reply had
+    have fault
 PrintsEndpoints contents style had have (Err fault) result = (have ≡ had) × (result ≡ Err fault)

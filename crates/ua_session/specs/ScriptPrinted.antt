@@ -149,7 +149,8 @@ text_of names (Err fault ∷ rest) = []
 -- the same, with values in the human-readable form
 abbrev pub IsPlainTextOf : Bool → List (Result Told LoopFault) → List ℕ → Type 0
 IsPlainTextOf names [] shown = shown ≡ []
-IsPlainTextOf names (Ok told ∷ rest) shown = (first : List ℕ) × (others : List ℕ) × (shown ≡ first ++ others) × IsTold true names told first × IsPlainTextOf names rest others
+IsPlainTextOf names (Ok told ∷ rest) shown = (first : List ℕ) × (others : List ℕ) × (shown ≡ first ++ others) × IsTold true names told first
+    × IsPlainTextOf names rest others
 IsPlainTextOf names (Err fault ∷ rest) shown = shown ≡ []
 
 -- the one or the other
@@ -164,13 +165,15 @@ told_fault (Err fault ∷ rest) = Some fault
 
 -- the number of bytes each way, and how the connection ended
 abbrev pub script_totals : Bool → Nodes → List ScriptLine → List ℕ
-script_totals names nodes lines = totals_line names (length (up_octets script_moment (script_turns lines))) (length (down_octets nodes script_moment (script_turns lines))) Closed
+script_totals names nodes lines = totals_line names (length (up_octets script_moment (script_turns lines)))
+    (length (down_octets nodes script_moment (script_turns lines))) Closed
 
 -- what is told of a script that is run over these nodes: of the reply to each request in order, and
 -- after them the number of bytes each way
 abbrev pub script_told : Bool → Nodes → List ScriptLine → List (Result Told LoopFault)
 script_told names nodes lines =
-    replies_told names (asked_for lines) (turns_replies (begun_over nodes) script_moment (script_turns lines)) ++ Ok (said (script_totals names nodes lines)) ∷ []
+    replies_told names (asked_for lines) (turns_replies (begun_over nodes) script_moment (script_turns lines)) ++ Ok (said (script_totals names nodes lines))
+    ∷ []
 
 -- the text is what is printed of a script, with names or without, with values and times in the
 -- human-readable form or not

@@ -25,7 +25,8 @@ use Rattle.ua_session.specs.declared.verdict.Verdict.{Verdict}
 -- ---- the token policy
 
 -- GetEndpoints was called at the next time, and a PolicyId chosen by the reply
-pub record AsksPolicy {M : Type 0} (gives : M → ℤ → M → Type 0) (url : Option (List ℕ)) (first last : M) (old new : Client) (before after : LineState) (result : Result (Option (List ℕ)) QuestionFault) : Type 0 where
+pub record AsksPolicy {M : Type 0} (gives : M → ℤ → M → Type 0) (url : Option (List ℕ)) (first last : M) (old new : Client) (before after : LineState)
+    (result : Result (Option (List ℕ)) QuestionFault) : Type 0 where
   pub moment : DateTime
   pub given : gives first moment.ticks last
   pub called : Result Reply QuestionFault
@@ -34,8 +35,10 @@ pub record AsksPolicy {M : Type 0} (gives : M → ℤ → M → Type 0) (url : O
 
 -- the PolicyId by which a session is to be begun: the one that is named, unless an allocation
 -- failed, and nothing was done; or the server was asked for it
-abbrev pub FindsPolicy : {M : Type 0} → (M → ℤ → M → Type 0) → Option (List ℕ) → TokenPolicy → M → M → Client → Client → LineState → LineState → Result (Option (List ℕ)) QuestionFault → Type 0
-FindsPolicy gives url (Named id) first last old new before after result = ((result ≡ Ok id) ⊎ (result ≡ Err NoMemory)) × (last ≡ first) × (new ≡ old) × (after ≡ before)
+abbrev pub FindsPolicy : {M : Type 0} → (M → ℤ → M → Type 0) → Option (List ℕ) → TokenPolicy → M → M → Client → Client → LineState → LineState
+    → Result (Option (List ℕ)) QuestionFault → Type 0
+FindsPolicy gives url (Named id) first last old new before after result = ((result ≡ Ok id) ⊎ (result ≡ Err NoMemory)) × (last ≡ first) × (new ≡ old)
+    × (after ≡ before)
 FindsPolicy gives url Auto first last old new before after result = AsksPolicy gives url first last old new before after result
 
 -- ---- the session
@@ -52,7 +55,8 @@ handle_behind handle (Ok reply) = handle + 1
 handle_behind handle (Err fault) = handle
 
 -- the session of a token is ended, by a CloseSession with this RequestHandle
-pub record EndsSession (token : NodeId) (handle : ℕ) (moment : DateTime) (old new : Client) (before after : LineState) (result : Result (Unit {0}) QuestionFault) : Type 0 where
+pub record EndsSession (token : NodeId) (handle : ℕ) (moment : DateTime) (old new : Client) (before after : LineState)
+    (result : Result (Unit {0}) QuestionFault) : Type 0 where
   pub called : Result Reply QuestionFault
   pub calls : Calls (close_session token moment handle) old new before after called
   pub expects : Expects called result
@@ -64,7 +68,8 @@ handle_unbegun handle (Service code) = handle
 handle_unbegun handle other = handle - 1
 
 -- a session was not begun: one that stays at the server nevertheless is ended, whatever the outcome
-pub record ClosesUnbegun {M : Type 0} (gives : M → ℤ → M → Type 0) (token : NodeId) (handle : ℕ) (first last : M) (old new : Client) (before after : LineState) : Type 0 where
+pub record ClosesUnbegun {M : Type 0} (gives : M → ℤ → M → Type 0) (token : NodeId) (handle : ℕ) (first last : M) (old new : Client)
+    (before after : LineState) : Type 0 where
   pub moment : DateTime
   pub given : gives first moment.ticks last
   pub ended : Result (Unit {0}) QuestionFault
@@ -78,7 +83,8 @@ EndsUnbegun gives (Some token) handle first last old new before after = ClosesUn
 -- a question was asked under the token of a session, with this RequestHandle, the reply printed,
 -- and the session ended after that, also after a fault; each RequestHandle is the RequestId of its
 -- call
-pub record AsksUnder {M O : Type 0} (gives : M → ℤ → M → Type 0) (contents : O → Option (List ℕ)) (style : AnswerStyle) (question : Question) (token : NodeId) (handle : ℕ) (first last : M) (old new : Client) (before after : LineState) (had have : O) (result : Result Verdict QuestionFault) : Type 0 where
+pub record AsksUnder {M O : Type 0} (gives : M → ℤ → M → Type 0) (contents : O → Option (List ℕ)) (style : AnswerStyle) (question : Question) (token : NodeId)
+    (handle : ℕ) (first last : M) (old new : Client) (before after : LineState) (had have : O) (result : Result Verdict QuestionFault) : Type 0 where
   pub asked_at : DateTime
   pub behind : M
   pub asking_given : gives first asked_at.ticks behind
@@ -97,7 +103,9 @@ pub record AsksUnder {M O : Type 0} (gives : M → ℤ → M → Type 0) (conten
 -- a session was begun by the token policy with this PolicyId, a question asked in it, and the
 -- session ended; if none was begun that is told, and nothing was written, but one that stays at the
 -- server nevertheless was ended
-pub record AsksInSession {M O : Type 0} (gives : M → ℤ → M → Type 0) (contents : O → Option (List ℕ)) (style : AnswerStyle) (question : Question) (policy_id : Option (List ℕ)) (handle : ℕ) (first last : M) (old new : Client) (before after : LineState) (had have : O) (result : Result Verdict QuestionFault) : Type 0 where
+pub record AsksInSession {M O : Type 0} (gives : M → ℤ → M → Type 0) (contents : O → Option (List ℕ)) (style : AnswerStyle) (question : Question)
+    (policy_id : Option (List ℕ)) (handle : ℕ) (first last : M) (old new : Client) (before after : LineState) (had have : O)
+    (result : Result Verdict QuestionFault) : Type 0 where
   pub begun_at : DateTime
   pub behind : M
   pub given : gives first begun_at.ticks behind
@@ -107,11 +115,14 @@ pub record AsksInSession {M O : Type 0} (gives : M → ℤ → M → Type 0) (co
   pub begins : Begins policy_id begun_at old client before once_begun begun
   pub further : MatchResult begun
       (λ token. AsksUnder gives contents style question token handle behind last client new once_begun after had have result)
-      (λ refused. (result ≡ Err refused.fault) × (have ≡ had) × EndsUnbegun gives refused.token (handle_unbegun handle refused.fault) behind last client new once_begun after)
+      (λ refused. (result ≡ Err refused.fault) × (have ≡ had) × EndsUnbegun gives refused.token (handle_unbegun handle refused.fault) behind last client new
+      once_begun after)
 
 -- the PolicyId was found, and a question asked in a session that is begun by it; if none was found
 -- that is told, and nothing was written
-pub record AsksByPolicy {M O : Type 0} (gives : M → ℤ → M → Type 0) (contents : O → Option (List ℕ)) (url : Option (List ℕ)) (policy : TokenPolicy) (style : AnswerStyle) (question : Question) (first last : M) (old new : Client) (before after : LineState) (had have : O) (result : Result Verdict QuestionFault) : Type 0 where
+pub record AsksByPolicy {M O : Type 0} (gives : M → ℤ → M → Type 0) (contents : O → Option (List ℕ)) (url : Option (List ℕ)) (policy : TokenPolicy)
+    (style : AnswerStyle) (question : Question) (first last : M) (old new : Client) (before after : LineState) (had have : O)
+    (result : Result Verdict QuestionFault) : Type 0 where
   pub found : Result (Option (List ℕ)) QuestionFault
   pub behind : M
   pub client : Client
@@ -122,6 +133,8 @@ pub record AsksByPolicy {M O : Type 0} (gives : M → ℤ → M → Type 0) (con
       (λ fault. (result ≡ Err fault) × (last ≡ behind) × (new ≡ client) × (after ≡ once_found) × (have ≡ had))
 
 -- a client was opened, asked a question in a session that is begun by a token policy, and closed
-abbrev pub RunsQuestion : {M O : Type 0} → (M → ℤ → M → Type 0) → (O → Option (List ℕ)) → Limits → Option (List ℕ) → TokenPolicy → AnswerStyle → Question → M → M → LineState → LineState → O → O → Result Verdict QuestionFault → Type 0
+abbrev pub RunsQuestion : {M O : Type 0} → (M → ℤ → M → Type 0) → (O → Option (List ℕ)) → Limits → Option (List ℕ) → TokenPolicy → AnswerStyle → Question → M
+    → M → LineState → LineState → O → O → Result Verdict QuestionFault → Type 0
 RunsQuestion gives contents limits url policy style question first last before after had have result =
-    Runs gives limits url first last before after had have (λ x y m n s t printed. AsksByPolicy gives contents url policy style question m n x y s t had have printed) result
+    Runs gives limits url first last before after had have
+    (λ x y m n s t printed. AsksByPolicy gives contents url policy style question m n x y s t had have printed) result

@@ -39,7 +39,8 @@ first_of (Err fault) other = Err fault
 -- ---- opening
 
 -- an opening of a client to a server, by this URL, and its outcome
-pub record OpensAt (limits : Limits) (url : Option (List ℕ)) (moment : DateTime) (before after : LineState) (result : Result Client QuestionFault) : Type 0 where
+pub record OpensAt (limits : Limits) (url : Option (List ℕ)) (moment : DateTime) (before after : LineState) (result : Result Client QuestionFault) : Type
+    0 where
   pub answer : Result Client ClientFault
   pub opens : OpensNothing before.traffic after.traffic answer ⊎ OpensClient limits url moment before.traffic after.traffic answer
   pub fails : FailsBy answer before after
@@ -54,7 +55,8 @@ OpensServer limits url moment before after result = ((result ≡ Err NoMemory) �
 
 -- a call of a client: one that may be called does this, and may be called again except after a
 -- fault after which it is done; one that is done returns `Closed` and changes nothing
-pub record CallsClient {A : Type 0} (Does : Result A ClientFault → Type 0) (old new : Client) (before after : LineState) (result : Result A QuestionFault) : Type 0 where
+pub record CallsClient {A : Type 0} (Does : Result A ClientFault → Type 0) (old new : Client) (before after : LineState)
+    (result : Result A QuestionFault) : Type 0 where
   pub answer : Result A ClientFault
   pub does : IsReady old → Does answer × IsLeft answer new
   pub stays : IsDone old → (answer ≡ Err Closed) × (new ≡ old) × (after ≡ before)
@@ -69,7 +71,8 @@ told_session (Err refused) = Err (record { token = refused.token; fault = of_cli
 -- a request is called
 abbrev pub Calls : Request → Client → Client → LineState → LineState → Result Reply QuestionFault → Type 0
 Calls request old new before after result =
-    CallsClient (λ answer. CallsAll (λ reply. reply ∷ []) (request ∷ []) (connection_of old) (connection_of new) before.traffic after.traffic answer) old new before after result
+    CallsClient (λ answer. CallsAll (λ reply. reply ∷ []) (request ∷ []) (connection_of old) (connection_of new) before.traffic after.traffic answer) old new
+    before after result
 
 -- a request is called, or an allocation failed before it was made, and nothing was done
 abbrev pub Asks : Request → Client → Client → LineState → LineState → Result Reply QuestionFault → Type 0
@@ -78,9 +81,11 @@ Asks request old new before after result = ((result ≡ Err NoMemory) × (new �
 -- a session is begun by the token policy with this PolicyId, or not: a client that may be called
 -- does this, and may be called again except after a fault after which it is done; one that is done
 -- returns `Closed` and changes nothing
-pub record Begins (policy_id : Option (List ℕ)) (moment : DateTime) (old new : Client) (before after : LineState) (result : Result NodeId NotBegun) : Type 0 where
+pub record Begins (policy_id : Option (List ℕ)) (moment : DateTime) (old new : Client) (before after : LineState) (result : Result NodeId NotBegun) : Type
+    0 where
   pub answer : Result NodeId SessionFault
-  pub does : IsReady old → TriesSession policy_id moment (connection_of old) (connection_of new) before.traffic after.traffic answer × IsLeft (session_alone answer) new
+  pub does : IsReady old → TriesSession policy_id moment (connection_of old) (connection_of new) before.traffic after.traffic answer
+      × IsLeft (session_alone answer) new
   pub stays : IsDone old → (answer ≡ Err session_closed) × (new ≡ old) × (after ≡ before)
   pub fails : FailsBy (session_alone answer) before after
   pub told_is : result ≡ told_session answer
@@ -100,7 +105,8 @@ pub record ClosesClient (moment : DateTime) (client : Client) (before after : Li
 
 -- a client was used, with this property, and the client was closed after it, also after a fault;
 -- the first fault is told, or that an allocation failed
-pub record Uses {A M : Type 0} (gives : M → ℤ → M → Type 0) (last : M) (after : LineState) (Asked : Client → M → LineState → Result A QuestionFault → Type 0) (result : Result A QuestionFault) : Type 0 where
+pub record Uses {A M : Type 0} (gives : M → ℤ → M → Type 0) (last : M) (after : LineState) (Asked : Client → M → LineState → Result A QuestionFault → Type 0)
+    (result : Result A QuestionFault) : Type 0 where
   pub asked : Client
   pub behind : M
   pub answered : LineState
@@ -114,7 +120,8 @@ pub record Uses {A M : Type 0} (gives : M → ℤ → M → Type 0) (last : M) (
 
 -- a client was opened to a server, by this URL, used, with this property, and closed, each step at
 -- the next time; if none was opened that is told, and nothing was written
-pub record Runs {A M O : Type 0} (gives : M → ℤ → M → Type 0) (limits : Limits) (url : Option (List ℕ)) (first last : M) (before after : LineState) (had have : O)
+pub record Runs {A M O : Type 0} (gives : M → ℤ → M → Type 0) (limits : Limits) (url : Option (List ℕ)) (first last : M) (before after : LineState)
+    (had have : O)
     (Asked : Client → Client → M → M → LineState → LineState → Result A QuestionFault → Type 0) (result : Result A QuestionFault) : Type 0 where
   pub opened_at : DateTime
   pub behind : M

@@ -3,7 +3,8 @@
 ghost use Rattle.std.specs.Prelude.{◌≡◌, ◌<◌, IfErr, IsTrue, OnOk};
 ghost use Rattle.ua_wire.specs.Counted.{text};
 ghost use Rattle.ua_services.specs.SessionRequests.{get_endpoints};
-ghost use Rattle.ua_session.specs.InSession.{AsksEndpointsIn, AsksQuestion, BeginsByPolicy, BeginsNamed, BeginsSession, EndsAll, IsNextHandle, RenewsToken};
+ghost use Rattle.ua_session.specs.InSession.{AsksEndpointsIn, AsksQuestion, BeginsByPolicy, BeginsNamed};
+ghost use Rattle.ua_session.specs.InSession.{BeginsSession, EndsAll, IsNextHandle, RenewsToken};
 ghost use Rattle.ua_session.specs.Printed.{AreAnswerLines, AreEndpointLines, HasAdded, LeavesLines};
 ghost use Rattle.ua_session.specs.Steps.{Asks};
 
@@ -33,7 +34,9 @@ fn begin_named<L: Line, M: Moments>(
     moments: &mut M,
 ) -> Result<NodeId, QuestionFault>
     requires some { 0 < handle }
-    ensures { BeginsNamed M.gives policy_id handle moments.old moments.new client.old client.new (record { traffic = L.traffic line.old; failures = L.failures line.old }) (record { traffic = L.traffic line.new; failures = L.failures line.new }) result }
+    ensures { BeginsNamed M.gives policy_id handle moments.old moments.new client.old client.new
+        (record { traffic = L.traffic line.old; failures = L.failures line.old })
+        (record { traffic = L.traffic line.new; failures = L.failures line.new }) result }
 {
     let begun_at = next_moment(moments);
     match begin(line, client, policy_id, begun_at) {
@@ -50,7 +53,9 @@ fn begin_by_policy<L: Line, M: Moments>(
     policy: &TokenPolicy,
     moments: &mut M,
 ) -> Result<NodeId, QuestionFault>
-    ensures { BeginsByPolicy M.gives url.now policy.now moments.old moments.new client.old client.new (record { traffic = L.traffic line.old; failures = L.failures line.old }) (record { traffic = L.traffic line.new; failures = L.failures line.new }) result }
+    ensures { BeginsByPolicy M.gives url.now policy.now moments.old moments.new client.old client.new
+        (record { traffic = L.traffic line.old; failures = L.failures line.old })
+        (record { traffic = L.traffic line.new; failures = L.failures line.new }) result }
 {
     let found = find_policy(line, client, url, policy, moments);
     let handle = first_call(policy);
@@ -68,7 +73,9 @@ fn call_endpoints<L: Line>(
     handle: u32,
     moment: DateTime,
 ) -> Result<Reply, QuestionFault>
-    ensures { Asks (get_endpoints url.now moment handle) client.old client.new (record { traffic = L.traffic line.old; failures = L.failures line.old }) (record { traffic = L.traffic line.new; failures = L.failures line.new }) result }
+    ensures { Asks (get_endpoints url.now moment handle) client.old client.new
+        (record { traffic = L.traffic line.old; failures = L.failures line.old })
+        (record { traffic = L.traffic line.new; failures = L.failures line.new }) result }
 {
     let Ok(url) = url.try_clone() else {
         return Err(QuestionFault::NoMemory);
@@ -113,7 +120,9 @@ impl ClientSession {
         moments: &mut M,
     ) -> Result<ClientSession, QuestionFault>
         requires { IsTrue (text.encodable url) }
-        ensures { BeginsSession M.gives limits url policy.now moments.old moments.new (record { traffic = L.traffic line.old; failures = L.failures line.old }) (record { traffic = L.traffic line.new; failures = L.failures line.new }) result }
+        ensures { BeginsSession M.gives limits url policy.now moments.old moments.new
+            (record { traffic = L.traffic line.old; failures = L.failures line.old })
+            (record { traffic = L.traffic line.new; failures = L.failures line.new }) result }
     {
         let opened_at = next_moment(moments);
         let mut client = match open(alloc, line, limits, &url, opened_at) {
@@ -145,7 +154,9 @@ impl ClientSession {
         moment: DateTime,
         out: &mut O,
     ) -> Result<Verdict, QuestionFault>
-        ensures asks { AsksQuestion O.contents style question.now moment self.old self.new (record { traffic = L.traffic line.old; failures = L.failures line.old }) (record { traffic = L.traffic line.new; failures = L.failures line.new }) out.old out.new result }
+        ensures asks { AsksQuestion O.contents style question.now moment self.old self.new
+            (record { traffic = L.traffic line.old; failures = L.failures line.old })
+            (record { traffic = L.traffic line.new; failures = L.failures line.new }) out.old out.new result }
         ensures answered { OnOk result (HasAdded (AreAnswerLines style) (O.contents out.old) (O.contents out.new)) }
         ensures left { IfErr result (λ fault. LeavesLines O.contents (AreAnswerLines style) fault out.old out.new) }
     {
@@ -170,7 +181,9 @@ impl ClientSession {
         moment: DateTime,
         out: &mut O,
     ) -> Result<(), QuestionFault>
-        ensures asks { AsksEndpointsIn O.contents style moment self.old self.new (record { traffic = L.traffic line.old; failures = L.failures line.old }) (record { traffic = L.traffic line.new; failures = L.failures line.new }) out.old out.new result }
+        ensures asks { AsksEndpointsIn O.contents style moment self.old self.new
+            (record { traffic = L.traffic line.old; failures = L.failures line.old })
+            (record { traffic = L.traffic line.new; failures = L.failures line.new }) out.old out.new result }
         ensures answered { OnOk result (HasAdded (AreEndpointLines style) (O.contents out.old) (O.contents out.new)) }
         ensures left { IfErr result (λ fault. LeavesLines O.contents (AreEndpointLines style) fault out.old out.new) }
     {
@@ -181,7 +194,9 @@ impl ClientSession {
 
     /// Renews the token of the SecureChannel (OPC 10000-4, 5.6.2).
     pub fn renew<L: Line>(&mut self, line: &mut L, moment: DateTime) -> Result<(), QuestionFault>
-        ensures { RenewsToken moment self.old self.new (record { traffic = L.traffic line.old; failures = L.failures line.old }) (record { traffic = L.traffic line.new; failures = L.failures line.new }) result }
+        ensures { RenewsToken moment self.old self.new
+            (record { traffic = L.traffic line.old; failures = L.failures line.old })
+            (record { traffic = L.traffic line.new; failures = L.failures line.new }) result }
     {
         told(self.client.renew(line, moment))
     }
@@ -192,7 +207,9 @@ impl ClientSession {
         line: &mut L,
         moments: &mut M,
     ) -> Result<(), QuestionFault>
-        ensures { EndsAll M.gives self moments.old moments.new (record { traffic = L.traffic line.old; failures = L.failures line.old }) (record { traffic = L.traffic line.new; failures = L.failures line.new }) result }
+        ensures { EndsAll M.gives self moments.old moments.new
+            (record { traffic = L.traffic line.old; failures = L.failures line.old })
+            (record { traffic = L.traffic line.new; failures = L.failures line.new }) result }
     {
         let ClientSession {
             mut client,

@@ -28,7 +28,9 @@ pub fn call_endpoints<L: Line>(
     url: &UaString,
     moment: DateTime,
 ) -> Result<Reply, QuestionFault>
-    ensures { CallsEndpoints url.now moment client.old client.new (record { traffic = L.traffic line.old; failures = L.failures line.old }) (record { traffic = L.traffic line.new; failures = L.failures line.new }) result }
+    ensures { CallsEndpoints url.now moment client.old client.new
+        (record { traffic = L.traffic line.old; failures = L.failures line.old })
+        (record { traffic = L.traffic line.new; failures = L.failures line.new }) result }
 {
     let Ok(url) = url.try_clone() else {
         return Err(QuestionFault::NoMemory);
@@ -47,7 +49,9 @@ fn ask_endpoints<L: Line, M: Moments, O: Write>(
     moments: &mut M,
     out: &mut O,
 ) -> Result<(), QuestionFault>
-    ensures { AsksEndpoints M.gives O.contents url.now style moments.old moments.new client.old client.new (record { traffic = L.traffic line.old; failures = L.failures line.old }) (record { traffic = L.traffic line.new; failures = L.failures line.new }) out.old out.new result }
+    ensures { AsksEndpoints M.gives O.contents url.now style moments.old moments.new client.old client.new
+        (record { traffic = L.traffic line.old; failures = L.failures line.old })
+        (record { traffic = L.traffic line.new; failures = L.failures line.new }) out.old out.new result }
 {
     let moment = next_moment(moments);
     let called = call_endpoints(line, client, url, moment);
@@ -70,7 +74,9 @@ pub fn endpoints_over<L: Line, M: Moments, O: Write>(
     out: &mut O,
 ) -> Result<(), QuestionFault>
     requires { IsTrue (text.encodable url.now) }
-    ensures runs { RunsEndpoints M.gives O.contents limits url.now style moments.old moments.new (record { traffic = L.traffic line.old; failures = L.failures line.old }) (record { traffic = L.traffic line.new; failures = L.failures line.new }) out.old out.new result }
+    ensures runs { RunsEndpoints M.gives O.contents limits url.now style moments.old moments.new
+        (record { traffic = L.traffic line.old; failures = L.failures line.old })
+        (record { traffic = L.traffic line.new; failures = L.failures line.new }) out.old out.new result }
     ensures answered { OnOk result (HasAdded (AreEndpointLines style) (O.contents out.old) (O.contents out.new)) }
     ensures left { IfErr result (λ fault. LeavesLines O.contents (AreEndpointLines style) fault out.old out.new) }
     ensures failed { LineFailed (L.failures line.old) result (L.failures line.new) }

@@ -1,7 +1,8 @@
 //! The question that is asked in a session.
 
 ghost use Rattle.std.specs.Prelude.{◌≡◌, ◌∷◌, [], string_bytes, IfOk, IfErr, OnOk};
-ghost use Rattle.ua_session.specs.Question.{AnswersNothing, AnswersQuestion, PrintsAnswers, item_for, items_of, request_of, verdict_of};
+ghost use Rattle.ua_session.specs.Question.{AnswersNothing, AnswersQuestion, PrintsAnswers};
+ghost use Rattle.ua_session.specs.Question.{item_for, items_of, request_of, verdict_of};
 ghost use Rattle.ua_session.specs.Replies.{IsRefusedBy};
 ghost use Rattle.ua_session.specs.Told.{of_answer};
 ghost use Rattle.ua_client.specs.declared.reply.Reply.TheVariants.{Response as Responds};
@@ -104,8 +105,10 @@ impl Question {
         response: &Response,
         style: AnswerStyle,
     ) -> Result<(), AnswerFault>
-        ensures lines { OnOk result (AnswersQuestion style self.now (Responds response.now) (string_bytes out.old) (string_bytes out.new)) }
-        ensures faults { IfErr result (λ fault. IsRefusedBy (AnswersNothing self.now (Responds response.now)) (Responds response.now) (of_answer fault)) }
+        ensures lines { OnOk result (AnswersQuestion style self.now (Responds response.now) (string_bytes out.old)
+            (string_bytes out.new)) }
+        ensures faults { IfErr result (λ fault. IsRefusedBy (AnswersNothing self.now (Responds response.now))
+            (Responds response.now) (of_answer fault)) }
     {
         match self {
             Question::Read { nodes, .. } => {

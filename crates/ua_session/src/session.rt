@@ -5,7 +5,8 @@ ghost use Rattle.ua_wire.specs.Counted.{text};
 ghost use Rattle.ua_session.specs.Line.{LineFailed};
 ghost use Rattle.ua_session.specs.Printed.{AreAnswerLines, HasAdded, LeavesLines};
 ghost use Rattle.ua_session.specs.Question.{request_of};
-ghost use Rattle.ua_session.specs.Session.{AsksByPolicy, AsksInSession, AsksUnder, EndsSession, EndsUnbegun, FindsPolicy, RunsQuestion, first_call, handle_behind, handle_unbegun};
+ghost use Rattle.ua_session.specs.Session.{AsksByPolicy, AsksInSession, AsksUnder, EndsSession, EndsUnbegun};
+ghost use Rattle.ua_session.specs.Session.{FindsPolicy, RunsQuestion, first_call, handle_behind, handle_unbegun};
 ghost use Rattle.ua_session.specs.Steps.{Asks};
 
 use crate::answer::expect_done;
@@ -32,7 +33,9 @@ pub fn find_policy<L: Line, M: Moments>(
     policy: &TokenPolicy,
     moments: &mut M,
 ) -> Result<UaString, QuestionFault>
-    ensures { FindsPolicy M.gives url.now policy.now moments.old moments.new client.old client.new (record { traffic = L.traffic line.old; failures = L.failures line.old }) (record { traffic = L.traffic line.new; failures = L.failures line.new }) result }
+    ensures { FindsPolicy M.gives url.now policy.now moments.old moments.new client.old client.new
+        (record { traffic = L.traffic line.old; failures = L.failures line.old })
+        (record { traffic = L.traffic line.new; failures = L.failures line.new }) result }
 {
     match policy {
         TokenPolicy::Named(id) => match id.try_clone() {
@@ -70,7 +73,9 @@ pub fn call_question<L: Line>(
     handle: u32,
     moment: DateTime,
 ) -> Result<Reply, QuestionFault>
-    ensures { Asks (request_of question.now token.now moment handle) client.old client.new (record { traffic = L.traffic line.old; failures = L.failures line.old }) (record { traffic = L.traffic line.new; failures = L.failures line.new }) result }
+    ensures { Asks (request_of question.now token.now moment handle) client.old client.new
+        (record { traffic = L.traffic line.old; failures = L.failures line.old })
+        (record { traffic = L.traffic line.new; failures = L.failures line.new }) result }
 {
     let Ok(token) = token.try_clone() else {
         return Err(QuestionFault::NoMemory);
@@ -100,7 +105,9 @@ pub fn end_session<L: Line>(
     handle: u32,
     moment: DateTime,
 ) -> Result<(), QuestionFault>
-    ensures { EndsSession token handle moment client.old client.new (record { traffic = L.traffic line.old; failures = L.failures line.old }) (record { traffic = L.traffic line.new; failures = L.failures line.new }) result }
+    ensures { EndsSession token handle moment client.old client.new
+        (record { traffic = L.traffic line.old; failures = L.failures line.old })
+        (record { traffic = L.traffic line.new; failures = L.failures line.new }) result }
 {
     let request = close_session_request(token, moment, handle);
     let called = call(line, client, request, moment);
@@ -121,7 +128,9 @@ fn ask_under<L: Line, M: Moments, O: Write>(
     out: &mut O,
 ) -> Result<Verdict, QuestionFault>
     requires { handle < 2 ^ 31 }
-    ensures { AsksUnder M.gives O.contents style question.now token handle moments.old moments.new client.old client.new (record { traffic = L.traffic line.old; failures = L.failures line.old }) (record { traffic = L.traffic line.new; failures = L.failures line.new }) out.old out.new result }
+    ensures { AsksUnder M.gives O.contents style question.now token handle moments.old moments.new client.old client.new
+        (record { traffic = L.traffic line.old; failures = L.failures line.old })
+        (record { traffic = L.traffic line.new; failures = L.failures line.new }) out.old out.new result }
 {
     let asked_at = next_moment(moments);
     let called = call_question(alloc, line, client, question, &token, handle, asked_at);
@@ -155,7 +164,9 @@ pub fn end_unbegun<L: Line, M: Moments>(
 ) -> QuestionFault
     requires some { 0 < handle }
     ensures fault { result ≡ refused.fault }
-    ensures ends { EndsUnbegun M.gives refused.token (handle_unbegun handle refused.fault) moments.old moments.new client.old client.new (record { traffic = L.traffic line.old; failures = L.failures line.old }) (record { traffic = L.traffic line.new; failures = L.failures line.new }) }
+    ensures ends { EndsUnbegun M.gives refused.token (handle_unbegun handle refused.fault) moments.old moments.new
+        client.old client.new (record { traffic = L.traffic line.old; failures = L.failures line.old })
+        (record { traffic = L.traffic line.new; failures = L.failures line.new }) }
 {
     let NotBegun { token, fault } = refused;
     if let Some(token) = token {
@@ -180,7 +191,9 @@ fn ask_in_session<L: Line, M: Moments, O: Write>(
 ) -> Result<Verdict, QuestionFault>
     requires few { handle < 2 ^ 31 }
     requires some { 0 < handle }
-    ensures { AsksInSession M.gives O.contents style question.now policy_id handle moments.old moments.new client.old client.new (record { traffic = L.traffic line.old; failures = L.failures line.old }) (record { traffic = L.traffic line.new; failures = L.failures line.new }) out.old out.new result }
+    ensures { AsksInSession M.gives O.contents style question.now policy_id handle moments.old moments.new client.old
+        client.new (record { traffic = L.traffic line.old; failures = L.failures line.old })
+        (record { traffic = L.traffic line.new; failures = L.failures line.new }) out.old out.new result }
 {
     let begun_at = next_moment(moments);
     match begin(line, client, policy_id, begun_at) {
@@ -203,7 +216,9 @@ fn ask_by_policy<L: Line, M: Moments, O: Write>(
     moments: &mut M,
     out: &mut O,
 ) -> Result<Verdict, QuestionFault>
-    ensures { AsksByPolicy M.gives O.contents url.now policy.now style question.now moments.old moments.new client.old client.new (record { traffic = L.traffic line.old; failures = L.failures line.old }) (record { traffic = L.traffic line.new; failures = L.failures line.new }) out.old out.new result }
+    ensures { AsksByPolicy M.gives O.contents url.now policy.now style question.now moments.old moments.new client.old
+        client.new (record { traffic = L.traffic line.old; failures = L.failures line.old })
+        (record { traffic = L.traffic line.new; failures = L.failures line.new }) out.old out.new result }
 {
     let found = find_policy(line, client, url, policy, moments);
     let handle = first_call(policy);
@@ -237,7 +252,9 @@ pub fn ask_over<L: Line, M: Moments, O: Write>(
     out: &mut O,
 ) -> Result<Verdict, QuestionFault>
     requires { IsTrue (text.encodable url.now) }
-    ensures runs { RunsQuestion M.gives O.contents limits url.now policy.now style question.now moments.old moments.new (record { traffic = L.traffic line.old; failures = L.failures line.old }) (record { traffic = L.traffic line.new; failures = L.failures line.new }) out.old out.new result }
+    ensures runs { RunsQuestion M.gives O.contents limits url.now policy.now style question.now moments.old moments.new
+        (record { traffic = L.traffic line.old; failures = L.failures line.old })
+        (record { traffic = L.traffic line.new; failures = L.failures line.new }) out.old out.new result }
     ensures answered { OnOk result (HasAdded (AreAnswerLines style) (O.contents out.old) (O.contents out.new)) }
     ensures left { IfErr result (λ fault. LeavesLines O.contents (AreAnswerLines style) fault out.old out.new) }
     ensures failed { LineFailed (L.failures line.old) result (L.failures line.new) }

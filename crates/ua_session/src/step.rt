@@ -58,7 +58,9 @@ pub fn open<L: Line>(
     moment: DateTime,
 ) -> Result<Client, QuestionFault>
     requires { IsTrue (text.encodable url.now) }
-    ensures opens { OpensServer limits url.now moment (record { traffic = L.traffic line.old; failures = L.failures line.old }) (record { traffic = L.traffic line.new; failures = L.failures line.new }) result }
+    ensures opens { OpensServer limits url.now moment
+        (record { traffic = L.traffic line.old; failures = L.failures line.old })
+        (record { traffic = L.traffic line.new; failures = L.failures line.new }) result }
     ensures ready { IfOk result (λ client. IsReady client) }
 {
     let Ok(url) = url.try_clone() else {
@@ -74,7 +76,9 @@ pub fn begin<L: Line>(
     policy_id: UaString,
     moment: DateTime,
 ) -> Result<NodeId, NotBegun>
-    ensures { Begins policy_id moment client.old client.new (record { traffic = L.traffic line.old; failures = L.failures line.old }) (record { traffic = L.traffic line.new; failures = L.failures line.new }) result }
+    ensures { Begins policy_id moment client.old client.new
+        (record { traffic = L.traffic line.old; failures = L.failures line.old })
+        (record { traffic = L.traffic line.new; failures = L.failures line.new }) result }
 {
     match client.try_begin_session(line, policy_id, moment) {
         Ok(token) => Ok(token),
@@ -92,7 +96,9 @@ pub fn call<L: Line>(
     request: Request,
     moment: DateTime,
 ) -> Result<Reply, QuestionFault>
-    ensures { Calls request client.old client.new (record { traffic = L.traffic line.old; failures = L.failures line.old }) (record { traffic = L.traffic line.new; failures = L.failures line.new }) result }
+    ensures { Calls request client.old client.new
+        (record { traffic = L.traffic line.old; failures = L.failures line.old })
+        (record { traffic = L.traffic line.new; failures = L.failures line.new }) result }
 {
     let answer = client.call(line, &request, moment);
     drop(request);
@@ -105,7 +111,8 @@ pub fn close<L: Line>(
     mut client: Client,
     moment: DateTime,
 ) -> Result<(), QuestionFault>
-    ensures { ClosesClient moment client (record { traffic = L.traffic line.old; failures = L.failures line.old }) (record { traffic = L.traffic line.new; failures = L.failures line.new }) result }
+    ensures { ClosesClient moment client (record { traffic = L.traffic line.old; failures = L.failures line.old })
+        (record { traffic = L.traffic line.new; failures = L.failures line.new }) result }
 {
     told(client.close(line, moment))
 }

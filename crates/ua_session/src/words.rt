@@ -2,7 +2,8 @@
 
 ghost use Rattle.std.specs.Prelude.{IfOk, IfErr, option_map};
 ghost use Rattle.ua_texts.specs.PlainLines.{exact_typed as exact_typed_of};
-ghost use Rattle.ua_session.specs.Words.{AreNodes, GivesNode, GivesRange, GivesRead, GivesTyped, GivesWrite, NamesNoNodes};
+ghost use Rattle.ua_session.specs.Words.{AreNodes, GivesNode, GivesRange, GivesRead};
+ghost use Rattle.ua_session.specs.Words.{GivesTyped, GivesWrite, NamesNoNodes};
 
 use crate::fault::WordFault;
 use crate::question::Question;

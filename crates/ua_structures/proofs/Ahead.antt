@@ -63,11 +63,21 @@ announces (one s) b e =
 announces (absent k ds) b e =
     let f = e.2 in
     let j = e.3 in
-    record { tag = array_octet f k; rest = j.1; begins = behind_octet (array_octet f k) b j.0 j.1 j.2 j.3; announced = array_announced f k (read_kind_low k e.0) }
+    record {
+      tag = array_octet f k;
+      rest = j.1;
+      begins = behind_octet (array_octet f k) b j.0 j.1 j.2 j.3;
+      announced = array_announced f k (read_kind_low k e.0);
+    }
 announces (many k ss ds) b e =
     let f = e.1 in
     let j = e.2 in
-    record { tag = array_octet f k; rest = j.1; begins = behind_octet (array_octet f k) b j.0 j.1 j.2 j.3; announced = array_announced f k (read_kind_low k e.0) }
+    record {
+      tag = array_octet f k;
+      rest = j.1;
+      begins = behind_octet (array_octet f k) b j.0 j.1 j.2 j.3;
+      announced = array_announced f k (read_kind_low k e.0);
+    }
 
 -- ---- the first octets of a DataValue
 
@@ -75,10 +85,12 @@ bare_ahead : (takes : ValueType → Bool) (mask : ℕ) (octets : List ℕ) → h
 bare_ahead takes mask [] h = refl
 bare_ahead takes mask (tag ∷ octets) h = ap (λ (b : Bool). not b || is_kept takes (type_at tag)) h
 
-valued_ahead : (takes : ValueType → Bool) (mask tag : ℕ) (octets : List ℕ) → has mask 1 ≡ true → is_kept_at takes (mask ∷ (tag ∷ octets)) ≡ is_kept takes (type_at tag)
+valued_ahead : (takes : ValueType → Bool) (mask tag : ℕ) (octets : List ℕ) → has mask 1 ≡ true
+    → is_kept_at takes (mask ∷ (tag ∷ octets)) ≡ is_kept takes (type_at tag)
 valued_ahead takes mask tag octets h = ap (λ (b : Bool). not b || is_kept takes (type_at tag)) h
 
-ahead_is : (takes : ValueType → Bool) (held : Option VariantData) (fields : DataFields) (front rest : List ℕ) (d : DataValue) → EncodesDataValue (value_within held fields) front
+ahead_is : (takes : ValueType → Bool) (held : Option VariantData) (fields : DataFields) (front rest : List ℕ) (d : DataValue)
+    → EncodesDataValue (value_within held fields) front
     → kept_with takes held d ≡ cond (is_kept_at takes (front ++ rest)) d null_value
 ahead_is takes None fields front rest d e =
     let mask = e.0 in
@@ -103,7 +115,8 @@ unfolding data_value_format
 encoded_as d front h = h
 
 -- what is kept of a DataValue that was read
-pub kept_is : (takes : ValueType → Bool) (levels : ℕ) (octets : List ℕ) (d : DataValue) (rest : List ℕ) → data_value_format.decode levels octets ≡ Some (d, rest)
+pub kept_is : (takes : ValueType → Bool) (levels : ℕ) (octets : List ℕ) (d : DataValue) (rest : List ℕ)
+    → data_value_format.decode levels octets ≡ Some (d, rest)
     → kept_value takes d ≡ cond (is_kept_at takes octets) d null_value
 kept_is takes levels octets d rest e =
     let s = (lawful_data_value.exact levels).sound octets d rest e in

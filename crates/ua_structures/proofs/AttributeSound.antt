@@ -11,22 +11,29 @@ use Rattle.ua_diagnostic.proofs.DiagnosticsLawful.{lawful_diagnostic}
 use Rattle.ua_variant.proofs.VariantsLawful.{lawful_data_value}
 use Rattle.ua_opening.proofs.ArrayLawful.{lawful_array}
 use Rattle.ua_opening.proofs.FlatsBack.{back_node_id}
-use Rattle.ua_opening.proofs.FormatsBack.{WritesBackWhere, back_array, back_diagnostic, back_flat, back_string, back_uint32, where_array, where_as, where_pair, where_struct}
+use Rattle.ua_opening.proofs.FormatsBack.{WritesBackWhere, back_array, back_diagnostic, back_flat, back_string}
+use Rattle.ua_opening.proofs.FormatsBack.{back_uint32, where_array, where_as, where_pair, where_struct}
 use Rattle.ua_structures.proofs.VariantsBack.{where_data_value}
-use Rattle.ua_opening.proofs.Sound.{Sound, sound_array, sound_diagnostic, sound_double_bits, sound_int32, sound_node_id, sound_pair, sound_qualified_name, sound_status_code, sound_string, sound_struct, sound_uint32}
+use Rattle.ua_opening.proofs.Sound.{Sound, sound_array, sound_diagnostic, sound_double_bits, sound_int32, sound_node_id}
+use Rattle.ua_opening.proofs.Sound.{sound_pair, sound_qualified_name, sound_status_code, sound_string, sound_struct, sound_uint32}
 use Rattle.ua_opening.proofs.HeaderSound.{sound_request_header, sound_response_header}
 
 pub sound_read_value_id : Sound read_value_id
 unfolding read_value_id
-sound_read_value_id = sound_struct _ _ (λ v. refl) (λ p. refl) (sound_pair sound_node_id (sound_pair sound_uint32 (sound_pair sound_string sound_qualified_name)))
+sound_read_value_id =
+    sound_struct _ _ (λ v. refl) (λ p. refl) (sound_pair sound_node_id (sound_pair sound_uint32 (sound_pair sound_string sound_qualified_name)))
 
 pub sound_read_request : Sound read_request
 unfolding read_request
-sound_read_request = sound_struct _ _ (λ v. refl) (λ p. refl) (sound_pair sound_request_header (sound_pair sound_double_bits (sound_pair sound_int32 (sound_array sound_read_value_id))))
+sound_read_request =
+    sound_struct _ _ (λ v. refl) (λ p. refl)
+    (sound_pair sound_request_header (sound_pair sound_double_bits (sound_pair sound_int32 (sound_array sound_read_value_id))))
 
 pub lawful_read_response : IsLawful read_response
 unfolding read_response
-lawful_read_response = lawful_struct _ _ (λ v. refl) (λ p. refl) (lawful_pair sound_response_header.lawful (lawful_pair (lawful_array lawful_data_value) (lawful_array lawful_diagnostic)))
+lawful_read_response =
+    lawful_struct _ _ (λ v. refl) (λ p. refl)
+    (lawful_pair sound_response_header.lawful (lawful_pair (lawful_array lawful_data_value) (lawful_array lawful_diagnostic)))
 
 pub where_read_response : WritesBackWhere results_unreserved read_response
 unfolding read_response
@@ -52,4 +59,5 @@ where_write_request = where_struct _ _ (λ v. refl) (λ p. refl) (where_pair sou
 
 pub sound_write_response : Sound write_response
 unfolding write_response
-sound_write_response = sound_struct _ _ (λ v. refl) (λ p. refl) (sound_pair sound_response_header (sound_pair (sound_array sound_status_code) (sound_array sound_diagnostic)))
+sound_write_response =
+    sound_struct _ _ (λ v. refl) (λ p. refl) (sound_pair sound_response_header (sound_pair (sound_array sound_status_code) (sound_array sound_diagnostic)))

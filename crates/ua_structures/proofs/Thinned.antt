@@ -30,7 +30,8 @@ Read A = List ℕ → Option (A × List ℕ)
 
 -- ---- readers that are made of readers
 
-image_found : {A B : Type 0} (make : A → B) (read : Read A) (old new : List ℕ) (v : A) → read old ≡ Some (v, new) → image_read make read old ≡ Some (make v, new)
+image_found : {A B : Type 0} (make : A → B) (read : Read A) (old new : List ℕ) (v : A) → read old ≡ Some (v, new)
+    → image_read make read old ≡ Some (make v, new)
 image_found make read old new v e = ap (λ o. o >>= λ x. Some (make x.0, x.1)) e
 
 image_none : {A B : Type 0} (make : A → B) (read : Read A) (old : List ℕ) → read old ≡ None → image_read make read old ≡ None
@@ -44,12 +45,14 @@ none_imaged : {A B : Type 0} (make : A → B) (found : Option (A × List ℕ)) �
 none_imaged make None e = refl
 none_imaged make (Some x) e = absurd cc
 
-pair_found : {A B : Type 0} (first : Read A) (second : Read B) (old middle new : List ℕ) (a : A) (b : B) → first old ≡ Some (a, middle) → second middle ≡ Some (b, new)
+pair_found : {A B : Type 0} (first : Read A) (second : Read B) (old middle new : List ℕ) (a : A) (b : B) → first old ≡ Some (a, middle)
+    → second middle ≡ Some (b, new)
     → pair_read first second old ≡ Some ((a, b), new)
 pair_found first second old middle new a b e f =
     ap (λ o. o >>= λ x. second x.1 >>= λ y. Some ((x.0, y.0), y.1)) e ∙ ap (λ o. o >>= λ y. Some ((a, y.0), y.1)) f
 
-pair_none : {A B : Type 0} (first : Read A) (second : Read B) (old middle : List ℕ) (a : A) → first old ≡ Some (a, middle) → second middle ≡ None → pair_read first second old ≡ None
+pair_none : {A B : Type 0} (first : Read A) (second : Read B) (old middle : List ℕ) (a : A) → first old ≡ Some (a, middle) → second middle ≡ None
+    → pair_read first second old ≡ None
 pair_none first second old middle a e f =
     ap (λ o. o >>= λ x. second x.1 >>= λ y. Some ((x.0, y.0), y.1)) e ∙ ap (λ o. o >>= λ y. Some ((a, y.0), y.1)) f
 
@@ -61,13 +64,15 @@ kept_found takes levels old new d e =
     image_found (kept_value takes) (data_value_format.decode levels) old new d e ∙ ap (λ (k : DataValue). Some (k, new)) (kept_is takes levels old d new e)
 
 -- it is kept whole
-pub kept_whole : (takes : ValueType → Bool) (levels : ℕ) (old new : List ℕ) (r : Result DataValue ReadFault) → is_kept_at takes old ≡ true → Gives (data_value_format.decode levels) old new r
+pub kept_whole : (takes : ValueType → Bool) (levels : ℕ) (old new : List ℕ) (r : Result DataValue ReadFault) → is_kept_at takes old ≡ true
+    → Gives (data_value_format.decode levels) old new r
     → Gives (image_read (kept_value takes) (data_value_format.decode levels)) old new r
 kept_whole takes levels old new (Ok d) is e = kept_found takes levels old new d e ∙ ap (λ (b : Bool). Some (cond b d null_value, new)) is
 kept_whole takes levels old new (Err NoValue) is e = image_none (kept_value takes) (data_value_format.decode levels) old e
 kept_whole takes levels old new (Err OutOfMemory) is e = tt
 
-null_by : (takes : ValueType → Bool) (levels : ℕ) (old new : List ℕ) (found : Option (DataValue × List ℕ)) → data_value_format.decode levels old ≡ found → is_kept_at takes old ≡ false
+null_by : (takes : ValueType → Bool) (levels : ℕ) (old new : List ℕ) (found : Option (DataValue × List ℕ)) → data_value_format.decode levels old ≡ found
+    → is_kept_at takes old ≡ false
     → imaged {B = Unit {0}} (λ d. tt) found ≡ Some (tt, new) → image_read (kept_value takes) (data_value_format.decode levels) old ≡ Some (null_value, new)
 null_by takes levels old new None is not e = absurd cc
 null_by takes levels old new (Some x) is not e =
@@ -76,7 +81,8 @@ null_by takes levels old new (Some x) is not e =
     ∙ ap (λ (p : Unit {0} × List ℕ). Some (null_value, p.1)) (some_is (tt, x.1) (tt, new) e)
 
 -- it is passed over
-pub null_kept : (takes : ValueType → Bool) (levels : ℕ) (old new : List ℕ) → is_kept_at takes old ≡ false → skipped (data_value_format.decode levels) old ≡ Some (tt, new)
+pub null_kept : (takes : ValueType → Bool) (levels : ℕ) (old new : List ℕ) → is_kept_at takes old ≡ false
+    → skipped (data_value_format.decode levels) old ≡ Some (tt, new)
     → image_read (kept_value takes) (data_value_format.decode levels) old ≡ Some (null_value, new)
 null_kept takes levels old new not e = null_by takes levels old new (data_value_format.decode levels old) refl not e
 
@@ -95,7 +101,8 @@ one_more : {A B : Type 0} (f : A → B) (x : A) (found : Option (List A × List 
 one_more f x None = refl
 one_more f x (Some xs) = refl
 
-items_image : {A B : Type 0} (f : A → B) (read : Read A) (n : ℕ) (octets : List ℕ) → items_at (image_read f read) n octets ≡ image_read (map f) (items_at read n) octets
+items_image : {A B : Type 0} (f : A → B) (read : Read A) (n : ℕ) (octets : List ℕ)
+    → items_at (image_read f read) n octets ≡ image_read (map f) (items_at read n) octets
 unfolding items_at
 items_image f read zero octets = refl
 items_image {A = A} {B = B} f read (suc n) octets = by (read octets) (items_image f read n)
@@ -117,7 +124,8 @@ counted_image : {A B : Type 0} (f : A → B) (read : Read A) (count : ℕ) (octe
 counted_image f read count octets true = ap (imaged Some) (items_image f read count octets) ∙ there f (items_at read count octets)
 counted_image f read count octets false = refl
 
-pub array_image : {A B : Type 0} (f : A → B) (read : Read A) (octets : List ℕ) → array_at (image_read f read) octets ≡ image_read (option_map (map f)) (array_at read) octets
+pub array_image : {A B : Type 0} (f : A → B) (read : Read A) (octets : List ℕ)
+    → array_at (image_read f read) octets ≡ image_read (option_map (map f)) (array_at read) octets
 array_image f read octets = by (number_at 4 octets)
   where
     by : (found : Option (ℕ × List ℕ)) → (found >>= λ count. behind_count (image_read f read) count.0 count.1)
@@ -131,7 +139,8 @@ unfolding array
 array_as levels octets = refl
 
 -- more are claimed than octets are there
-pub claims_many : (takes : NodeId → ValueType → Bool) (levels count : ℕ) (octets rest : List ℕ) → number_at 4 octets ≡ Some (count, rest) → count < first_negative → length rest < count
+pub claims_many : (takes : NodeId → ValueType → Bool) (levels count : ℕ) (octets rest : List ℕ) → number_at 4 octets ≡ Some (count, rest)
+    → count < first_negative → length rest < count
     → array_at (image_read (thinned takes) (write_value.decode levels)) octets ≡ None
 claims_many takes levels count octets rest e small short =
     array_image (thinned takes) (write_value.decode levels) octets
@@ -147,7 +156,8 @@ write_of header items = record { request_header = header; nodes_to_write = items
 abbrev write_made : RequestHeader × Option (List WriteValue) → WriteRequest
 write_made (header, items) = write_of header items
 
-request_found : (levels : ℕ) (old behind new : List ℕ) (header : RequestHeader) (items : Option (List WriteValue)) → request_header.decode levels old ≡ Some (header, behind)
+request_found : (levels : ℕ) (old behind new : List ℕ) (header : RequestHeader) (items : Option (List WriteValue))
+    → request_header.decode levels old ≡ Some (header, behind)
     → array_at (write_value.decode levels) behind ≡ Some (items, new) → write_request.decode levels old ≡ Some (write_of header items, new)
 unfolding write_request
 request_found levels old behind new header items e f =
@@ -161,7 +171,8 @@ request_none levels old behind header e f =
     image_none write_made (pair_read (request_header.decode levels) ((array write_value).decode levels)) old
     (pair_none (request_header.decode levels) ((array write_value).decode levels) old behind header e (sym (array_as levels behind) ∙ f))
 
-request_by : (takes : NodeId → ValueType → Bool) (levels : ℕ) (old behind new : List ℕ) (header : RequestHeader) (kept : Option (List WriteValue)) (found : Option (Option (List WriteValue) × List ℕ))
+request_by : (takes : NodeId → ValueType → Bool) (levels : ℕ) (old behind new : List ℕ) (header : RequestHeader) (kept : Option (List WriteValue))
+    (found : Option (Option (List WriteValue) × List ℕ))
     → request_header.decode levels old ≡ Some (header, behind) → array_at (write_value.decode levels) behind ≡ found
     → imaged (option_map (map (thinned takes))) found ≡ Some (kept, new)
     → image_read (thinned_request takes) (write_request.decode levels) old ≡ Some (write_of header kept, new)

@@ -8,13 +8,19 @@ use Rattle.std.proofs.lemmas.Grind.{common_steps}
 use Rattle.std.proofs.lemmas.List.Folds.{list_all-append}
 use Rattle.ua_builtin.specs.Flags.{has}
 use Rattle.ua_diagnostic.specs.Dimensions.{product, IsSize, EncodesSizes, EncodesDims, is_count, is_size, are_sizes, dims_encodable}
-use Rattle.ua_variant.specs.Data.{LeafData, boolean, sbyte, byte, int16, uint16, int32, uint32, int64, uint64, float, double, string, date_time, guid, byte_string, xml_element, node_id, expanded_node_id, status_code, qualified_name, localized_text, extension_object, reserved, DataFields, VariantData, null, one, absent, many, ScalarData, leaf, data_value, variant, diagnostic, ScalarsData, no_scalars, scalar, DataValueData, bare, valued}
+use Rattle.ua_variant.specs.Data.{LeafData, boolean, sbyte, byte, int16, uint16, int32, uint32, int64, uint64, float, double, string}
+use Rattle.ua_variant.specs.Data.{date_time, guid, byte_string, xml_element, node_id, expanded_node_id, status_code, qualified_name}
+use Rattle.ua_variant.specs.Data.{localized_text, extension_object, reserved, DataFields, VariantData, null, one, absent, many, ScalarData}
+use Rattle.ua_variant.specs.Data.{leaf, data_value, variant, diagnostic, ScalarsData, no_scalars, scalar, DataValueData, bare, valued}
 use Rattle.ua_variant.specs.Leaf.{leaf_kind, is_reserved, EncodesLeaf, leaf_encodable}
 use Rattle.ua_variant.specs.Fields.{data_fields}
-use Rattle.ua_variant.specs.Encodable.{data_fields_encodable, kind_of, is_kind, is_read_kind, is_variant, row_length, variant_fits, scalar_fits, scalars_fit, data_value_fits}
+use Rattle.ua_variant.specs.Encodable.{data_fields_encodable, kind_of, is_kind, is_read_kind, is_variant}
+use Rattle.ua_variant.specs.Encodable.{row_length, variant_fits, scalar_fits, scalars_fit, data_value_fits}
 use Rattle.ua_variant.specs.Encoding.{EncodesVariant, EncodesScalar, EncodesRow, EncodesDataValue}
 use Rattle.ua_structures.specs.WrittenBack.{variant_ids, scalar_ids, scalars_ids, data_value_ids, none_reserved, variant_unreserved, data_value_unreserved}
-use Rattle.ua_opening.proofs.FlatsBack.{and_true, back_number, back_boolean, back_signed_8, back_signed_16, back_signed_32, back_signed_64, back_float_bits, back_double_bits, back_text, back_counted, back_date_time, back_guid, back_xml_element, back_node_id, back_expanded_node_id, back_status_code, back_qualified_name, back_localized_text, back_extension_object}
+use Rattle.ua_opening.proofs.FlatsBack.{and_true, back_number, back_boolean, back_signed_8, back_signed_16, back_signed_32, back_signed_64, back_float_bits}
+use Rattle.ua_opening.proofs.FlatsBack.{back_double_bits, back_text, back_counted, back_date_time, back_guid, back_xml_element, back_node_id}
+use Rattle.ua_opening.proofs.FlatsBack.{back_expanded_node_id, back_status_code, back_qualified_name, back_localized_text, back_extension_object}
 use Rattle.ua_opening.proofs.DiagnosticsBack.{optional_back, diagnostic_back}
 use Rattle.ua_opening.proofs.FormatsBack.{WritesBackWhere}
 use Rattle.ua_builtin.specs.Format.{most_levels}

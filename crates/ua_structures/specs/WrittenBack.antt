@@ -4,7 +4,8 @@
 -- type id is named.
 use Rattle.std.specs.Prelude.{ℕ, List, [], ◌∷◌, ◌++◌, Bool, not}
 use Rattle.std.specs.List.{list_all}
-use Rattle.ua_variant.specs.Data.{VariantData, null, one, absent, many, ScalarData, leaf, data_value, variant, diagnostic, ScalarsData, no_scalars, scalar, DataValueData, bare, valued}
+use Rattle.ua_variant.specs.Data.{VariantData, null, one, absent, many, ScalarData, leaf, data_value, variant}
+use Rattle.ua_variant.specs.Data.{diagnostic, ScalarsData, no_scalars, scalar, DataValueData, bare, valued}
 use Rattle.ua_variant.specs.Leaf.{leaf_kind, is_reserved}
 use Rattle.ua_variant.specs.View.{variant_of, data_value_of}
 use Rattle.ua_variant.specs.declared.values.Variant.{Variant}

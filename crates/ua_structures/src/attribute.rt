@@ -9,9 +9,11 @@ ghost use Rattle.ua_builtin.specs.Format.{Extends};
 ghost use Rattle.ua_opening.specs.Array.{array};
 ghost use Rattle.ua_variant.specs.Formats.{data_value_format, diagnostic_format};
 ghost use Rattle.ua_structures.specs.Results.{AddsResponse};
-ghost use Rattle.ua_structures.specs.Attribute.{read_value_id, read_request, read_response, write_value, write_request, write_response};
+ghost use Rattle.ua_structures.specs.Attribute.{read_value_id, read_request, read_response};
+ghost use Rattle.ua_structures.specs.Attribute.{write_value, write_request, write_response};
 ghost use Rattle.ua_opening.specs.Header.{request_header as header_format, response_header as answer_format};
-ghost use Rattle.ua_structures.specs.Plain.{empty_read, empty_read_response, value_of_node, value_for_node, read_of, write_of, values_of, statuses_of};
+ghost use Rattle.ua_structures.specs.Plain.{empty_read, empty_read_response, value_of_node};
+ghost use Rattle.ua_structures.specs.Plain.{value_for_node, read_of, write_of, values_of, statuses_of};
 
 use crate::data_values::read_data_values;
 use std::alloc::{AllocError, Global};
@@ -170,7 +172,8 @@ impl ReadRequest {
         depth: u32,
     ) -> Result<(), ReadFault>
         requires levels { depth ≤ most_levels }
-        ensures exact { GivesBy (λ _. self.new) (read_request.decode depth) (S.octets src.old) (S.octets src.new) result }
+        ensures exact { GivesBy (λ _. self.new) (read_request.decode depth) (S.octets src.old)
+            (S.octets src.new) result }
         ensures behind { StaysBehind (S.octets src.old) (S.octets src.new) }
     {
         self.request_header.read_into(alloc, src, depth)?;
@@ -270,7 +273,8 @@ impl ReadResponse {
         depth: u32,
     ) -> Result<(), ReadFault>
         requires levels { depth ≤ most_levels }
-        ensures exact { GivesBy (λ _. self.new) (read_response.decode depth) (S.octets src.old) (S.octets src.new) result }
+        ensures exact { GivesBy (λ _. self.new) (read_response.decode depth) (S.octets src.old)
+            (S.octets src.new) result }
         ensures behind { StaysBehind (S.octets src.old) (S.octets src.new) }
     {
         self.response_header.read_into(alloc, src, depth)?;
@@ -357,7 +361,8 @@ pub fn append_read_response<R: ReadResults>(
     requires header { IsTrue (answer_format.encodable response_header.now) }
     requires results { R.writable results.now }
     requires diagnostics { IsTrue ((array diagnostic_format).encodable diagnostic_infos.now) }
-    ensures ok { OnOk result (AddsResponse (R.adds results.now) response_header.now diagnostic_infos.now out.old.items out.new.items) }
+    ensures ok { OnOk result (AddsResponse (R.adds results.now) response_header.now diagnostic_infos.now out.old.items
+        out.new.items) }
     ensures err { OnErr result (Extends out.old.items out.new.items) }
 {
     response_header.append(out)?;
@@ -381,7 +386,8 @@ impl WriteValue {
     #[tactic(auto, using(crate::proofs::PlainFits::write_value_fits))]
     pub fn of_value(node_id: NodeId, value: DataValue) -> WriteValue
         ensures value { result ≡ value_for_node node_id value }
-        ensures encodable { IsTrue (node_format.encodable node_id) → IsTrue (data_value_format.encodable value) → IsTrue (write_value.encodable result) }
+        ensures encodable { IsTrue (node_format.encodable node_id) → IsTrue (data_value_format.encodable value)
+            → IsTrue (write_value.encodable result) }
     {
         WriteValue {
             node_id,

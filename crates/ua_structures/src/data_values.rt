@@ -20,7 +20,8 @@ fn read_each<S: Source>(
     count: u32,
 ) -> Result<Vec<DataValue>, ReadFault>
     requires levels { depth ≤ most_levels }
-    ensures exact { GivesBy (λ v. v.items) (items_at (data_value_format.decode depth) count) (S.octets src.old) (S.octets src.new) result }
+    ensures exact { GivesBy (λ v. v.items) (items_at (data_value_format.decode depth) count) (S.octets src.old)
+        (S.octets src.new) result }
     ensures behind { StaysBehind (S.octets src.old) (S.octets src.new) }
 {
     let mut items = Vec::new(alloc);

@@ -44,7 +44,8 @@ impl ApplicationDescription {
         discovery_urls: UaArray<UaString>,
     ) -> ApplicationDescription
         ensures value { result ≡ application_of (pos 0) application_uri name discovery_urls }
-        ensures encodable { IsTrue (string.encodable application_uri) → IsTrue (string.encodable name) → IsTrue ((array string).encodable discovery_urls)
+        ensures encodable { IsTrue (string.encodable application_uri) → IsTrue (string.encodable name)
+            → IsTrue ((array string).encodable discovery_urls)
             → IsTrue (application_description.encodable result) }
     {
         ApplicationDescription::of_type(SERVER, application_uri, name, discovery_urls)
@@ -54,7 +55,8 @@ impl ApplicationDescription {
     #[tactic(auto, using(crate::proofs::PlainFits::client_fits))]
     pub fn client(application_uri: UaString, name: UaString) -> ApplicationDescription
         ensures value { result ≡ application_of (pos 1) application_uri name None }
-        ensures encodable { IsTrue (string.encodable application_uri) → IsTrue (string.encodable name) → IsTrue (application_description.encodable result) }
+        ensures encodable { IsTrue (string.encodable application_uri) → IsTrue (string.encodable name)
+            → IsTrue (application_description.encodable result) }
     {
         ApplicationDescription::of_type(CLIENT, application_uri, name, UaArray::null())
     }
@@ -215,7 +217,8 @@ impl GetEndpointsRequest {
     #[tactic(auto, using(crate::proofs::PlainFits::endpoints_fit))]
     pub fn of_url(request_header: RequestHeader, endpoint_url: UaString) -> GetEndpointsRequest
         ensures value { result ≡ endpoints_of request_header endpoint_url }
-        ensures encodable { IsTrue (header_format.encodable request_header) → IsTrue (string.encodable endpoint_url) → IsTrue (get_endpoints_request.encodable result) }
+        ensures encodable { IsTrue (header_format.encodable request_header) → IsTrue (string.encodable endpoint_url)
+            → IsTrue (get_endpoints_request.encodable result) }
     {
         GetEndpointsRequest {
             request_header,

@@ -9,7 +9,8 @@ ghost use Rattle.ua_structures.specs.Discovery.{application_description, endpoin
 ghost use Rattle.ua_opening.specs.Field.{string};
 ghost use Rattle.ua_opening.specs.Header.{request_header as header_format, response_header as answer_format};
 ghost use Rattle.ua_structures.specs.Plain.{create_session_of, session_of, activate_session_of, activated_of};
-ghost use Rattle.ua_structures.specs.Session.{create_session_request, create_session_response, activate_session_request, activate_session_response};
+ghost use Rattle.ua_structures.specs.Session.{create_session_request, create_session_response};
+ghost use Rattle.ua_structures.specs.Session.{activate_session_request, activate_session_response};
 
 use crate::discovery::{ApplicationDescription, EndpointDescription};
 use crate::signature::{SignatureData, SignedSoftwareCertificate};
@@ -90,9 +91,12 @@ impl CreateSessionRequest {
         session_name: UaString,
         requested_session_timeout: DoubleBits,
     ) -> CreateSessionRequest
-        ensures value { result ≡ create_session_of request_header client_description endpoint_url session_name requested_session_timeout }
-        ensures encodable { IsTrue (header_format.encodable request_header) → IsTrue (application_description.encodable client_description)
-            → IsTrue (string.encodable endpoint_url) → IsTrue (string.encodable session_name) → IsTrue (create_session_request.encodable result) }
+        ensures value { result ≡ create_session_of request_header client_description endpoint_url session_name
+            requested_session_timeout }
+        ensures encodable { IsTrue (header_format.encodable request_header)
+            → IsTrue (application_description.encodable client_description)
+            → IsTrue (string.encodable endpoint_url) → IsTrue (string.encodable session_name)
+            → IsTrue (create_session_request.encodable result) }
     {
         timeout_is_encodable(&requested_session_timeout);
         CreateSessionRequest {
@@ -172,9 +176,12 @@ impl CreateSessionResponse {
         server_endpoints: UaArray<EndpointDescription>,
         max_request_message_size: u32,
     ) -> CreateSessionResponse
-        ensures value { result ≡ session_of response_header session_id authentication_token revised_session_timeout server_endpoints max_request_message_size }
-        ensures encodable { IsTrue (answer_format.encodable response_header) → IsTrue (node_id.encodable session_id) → IsTrue (node_id.encodable authentication_token)
-            → IsTrue ((array endpoint_description).encodable server_endpoints) → IsTrue (create_session_response.encodable result) }
+        ensures value { result ≡ session_of response_header session_id authentication_token revised_session_timeout
+            server_endpoints max_request_message_size }
+        ensures encodable { IsTrue (answer_format.encodable response_header) → IsTrue (node_id.encodable session_id)
+            → IsTrue (node_id.encodable authentication_token)
+            → IsTrue ((array endpoint_description).encodable server_endpoints)
+            → IsTrue (create_session_response.encodable result) }
     {
         timeout_is_encodable(&revised_session_timeout);
         CreateSessionResponse {
@@ -245,7 +252,8 @@ impl ActivateSessionRequest {
         user_identity_token: ExtensionObject,
     ) -> ActivateSessionRequest
         ensures value { result ≡ activate_session_of request_header user_identity_token }
-        ensures encodable { IsTrue (header_format.encodable request_header) → IsTrue (extension_object.encodable user_identity_token)
+        ensures encodable { IsTrue (header_format.encodable request_header)
+            → IsTrue (extension_object.encodable user_identity_token)
             → IsTrue (activate_session_request.encodable result) }
     {
         ActivateSessionRequest {
@@ -304,7 +312,8 @@ impl ActivateSessionResponse {
     #[tactic(auto, using(crate::proofs::PlainFits::activated_fits))]
     pub fn new(response_header: ResponseHeader) -> ActivateSessionResponse
         ensures value { result ≡ activated_of response_header }
-        ensures encodable { IsTrue (answer_format.encodable response_header) → IsTrue (activate_session_response.encodable result) }
+        ensures encodable { IsTrue (answer_format.encodable response_header)
+            → IsTrue (activate_session_response.encodable result) }
     {
         ActivateSessionResponse {
             response_header,

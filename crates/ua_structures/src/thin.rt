@@ -108,7 +108,8 @@ fn read_kept<S: Source, T: TakesTypes>(
     id: &NodeId,
 ) -> Result<DataValue, ReadFault>
     requires levels { depth ≤ most_levels }
-    ensures exact { Gives (image_read (kept_value (T.takes types.now id.now)) (data_value_format.decode depth)) (S.octets src.old) (S.octets src.new) result }
+    ensures exact { Gives (image_read (kept_value (T.takes types.now id.now)) (data_value_format.decode depth))
+        (S.octets src.old) (S.octets src.new) result }
     ensures behind { StaysBehind (S.octets src.old) (S.octets src.new) }
 {
     if is_kept(src, types, id) {
@@ -130,7 +131,8 @@ impl WriteValue {
         types: &T,
     ) -> Result<WriteValue, ReadFault>
         requires levels { depth ≤ most_levels }
-        ensures exact { Gives (image_read (thinned (T.takes types.now)) (write_value.decode depth)) (S.octets src.old) (S.octets src.new) result }
+        ensures exact { Gives (image_read (thinned (T.takes types.now)) (write_value.decode depth)) (S.octets src.old)
+            (S.octets src.new) result }
         ensures behind { StaysBehind (S.octets src.old) (S.octets src.new) }
     {
         let node_id = NodeId::read_value(alloc, src, depth)?;
@@ -155,7 +157,9 @@ fn read_items<S: Source, T: TakesTypes>(
     types: &T,
 ) -> Result<Vec<WriteValue>, ReadFault>
     requires levels { depth ≤ most_levels }
-    ensures exact { GivesBy (λ v. v.items) (items_at (image_read (thinned (T.takes types.now)) (write_value.decode depth)) count) (S.octets src.old) (S.octets src.new) result }
+    ensures exact { GivesBy (λ v. v.items)
+        (items_at (image_read (thinned (T.takes types.now)) (write_value.decode depth)) count) (S.octets src.old)
+        (S.octets src.new) result }
     ensures behind { StaysBehind (S.octets src.old) (S.octets src.new) }
 {
     let mut items = Vec::new(alloc);
@@ -174,7 +178,8 @@ fn read_array<S: Source, T: TakesTypes>(
     types: &T,
 ) -> Result<UaArray<WriteValue>, ReadFault>
     requires levels { depth ≤ most_levels }
-    ensures exact { Gives (array_at (image_read (thinned (T.takes types.now)) (write_value.decode depth))) (S.octets src.old) (S.octets src.new) result }
+    ensures exact { Gives (array_at (image_read (thinned (T.takes types.now)) (write_value.decode depth)))
+        (S.octets src.old) (S.octets src.new) result }
     ensures behind { StaysBehind (S.octets src.old) (S.octets src.new) }
 {
     let count = u32::read_value(alloc, src, depth)?;
@@ -202,7 +207,8 @@ impl WriteRequest {
         types: &T,
     ) -> Result<WriteRequest, ReadFault>
         requires levels { depth ≤ most_levels }
-        ensures exact { Gives (image_read (thinned_request (T.takes types.now)) (write_request.decode depth)) (S.octets src.old) (S.octets src.new) result }
+        ensures exact { Gives (image_read (thinned_request (T.takes types.now)) (write_request.decode depth))
+            (S.octets src.old) (S.octets src.new) result }
         ensures behind { StaysBehind (S.octets src.old) (S.octets src.new) }
     {
         let request_header = RequestHeader::read_value(alloc, src, depth)?;

@@ -9,7 +9,8 @@ use Rattle.ua_tcp.specs.Lines.{behind_gathered}
 everywhere : (f g : List ℕ → List ℕ) → ((x : List ℕ) → f x ≡ g x) → f ≡ g
 everywhere f g h = λ i x. h x i
 
-same-traffic : (f g : List ℕ → List ℕ) (u v : List ℕ) → f ≡ g → u ≡ v → ◌≡◌ {A = Traffic} (record { coming = f; written = u }) (record { coming = g; written = v })
+same-traffic : (f g : List ℕ → List ℕ) (u v : List ℕ) → f ≡ g → u ≡ v
+    → ◌≡◌ {A = Traffic} (record { coming = f; written = u }) (record { coming = g; written = v })
 same-traffic f g u v p q = λ i. record { coming = p i; written = q i }
 
 -- ---- some of what is gathered goes out
@@ -17,11 +18,15 @@ same-traffic f g u v p q = λ i. record { coming = p i; written = q i }
 parts-went : (n : ℕ) (gathered more : List ℕ) → take n gathered ++ (drop n gathered ++ more) ≡ gathered ++ more
 parts-went n gathered more = sym (append_assoc (take n gathered) (drop n gathered) more) ∙ ap (λ (o : List ℕ). o ++ more) (take-append-drop n gathered)
 
-pub went : (n : ℕ) (gathered : List ℕ) (before after : Option Traffic) → IfTrafficKnown (WriteTakes (Ok n) gathered) before after → option_map (behind_gathered (drop n gathered)) after ≡ option_map (behind_gathered gathered) before
+pub went : (n : ℕ) (gathered : List ℕ) (before after : Option Traffic) → IfTrafficKnown (WriteTakes (Ok n) gathered) before after
+    → option_map (behind_gathered (drop n gathered)) after ≡ option_map (behind_gathered gathered) before
 went n gathered (Some b) (Some a) h =
-    ap (λ (t : Traffic). Some t) (same-traffic (λ more. a.coming (drop n gathered ++ more)) (λ more. b.coming (gathered ++ more)) (a.written ++ drop n gathered) (b.written ++ gathered)
-    (everywhere (λ more. a.coming (drop n gathered ++ more)) (λ more. b.coming (gathered ++ more)) (λ more. h.1 (drop n gathered ++ more) ∙ ap b.coming (parts-went n gathered more)))
-    (ap (λ (o : List ℕ). o ++ drop n gathered) h.0 ∙ (append_assoc b.written (take n gathered) (drop n gathered) ∙ ap (λ (o : List ℕ). b.written ++ o) (take-append-drop n gathered))))
+    ap (λ (t : Traffic). Some t) (same-traffic (λ more. a.coming (drop n gathered ++ more)) (λ more. b.coming (gathered ++ more)) (a.written ++ drop n gathered)
+    (b.written ++ gathered)
+    (everywhere (λ more. a.coming (drop n gathered ++ more)) (λ more. b.coming (gathered ++ more)) (λ more. h.1 (drop n gathered ++ more)
+    ∙ ap b.coming (parts-went n gathered more)))
+    (ap (λ (o : List ℕ). o ++ drop n gathered) h.0
+    ∙ (append_assoc b.written (take n gathered) (drop n gathered) ∙ ap (λ (o : List ℕ). b.written ++ o) (take-append-drop n gathered))))
 went n gathered (Some b) None h = absurd h
 went n gathered None a h = ap (option_map (behind_gathered (drop n gathered))) h
 
@@ -29,7 +34,8 @@ went n gathered None a h = ap (option_map (behind_gathered (drop n gathered))) h
 all-behind : (gone : ℕ) (items : List ℕ) → take (length items - gone) (drop gone items) ≡ drop gone items
 all-behind gone items = ap (λ (k : ℕ). take k (drop gone items)) (sym (length-drop gone items)) ∙ take-length (drop gone items)
 
-pub went-on : (n gone : ℕ) (gathered items : List ℕ) (before after first : Option Traffic) → items ≡ gathered → IfTrafficKnown (WriteTakes (Ok n) (take (length items - gone) (drop gone items))) before after
+pub went-on : (n gone : ℕ) (gathered items : List ℕ) (before after first : Option Traffic) → items ≡ gathered
+    → IfTrafficKnown (WriteTakes (Ok n) (take (length items - gone) (drop gone items))) before after
     → option_map (behind_gathered (drop gone gathered)) before ≡ first → option_map (behind_gathered (drop (gone + n) gathered)) after ≡ first
 went-on n gone gathered items before after first is h so_far =
     let rest = all-behind gone items ∙ ap (drop gone) is in

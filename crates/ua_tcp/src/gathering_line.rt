@@ -52,7 +52,8 @@ impl<L: Line> GatheringLine<L> {
     /// sent stay buffered.
     pub fn flush(&mut self) -> Result<(), LineFault>
         ensures gathered { OnOk result (gathered_in self.new ≡ []) }
-        ensures octets { option_map (behind_gathered (gathered_in self.new)) (L.traffic (beneath self.new)) ≡ option_map (behind_gathered (gathered_in self.old)) (L.traffic (beneath self.old)) }
+        ensures octets { option_map (behind_gathered (gathered_in self.new)) (L.traffic (beneath self.new))
+            ≡ option_map (behind_gathered (gathered_in self.old)) (L.traffic (beneath self.old)) }
         ensures failed { L.failures (beneath self.new) ≡ failures_after (L.failures (beneath self.old)) result }
     {
         while self.gone < self.gathered.len() {
@@ -70,7 +71,8 @@ impl<L: Line> GatheringLine<L> {
     /// bytes were sent, where there would be too many, or where an allocation fails.
     fn gather(&mut self, octets: &[u8]) -> bool
         ensures line { beneath self.new ≡ beneath self.old }
-        ensures gathered { gathered_in self.new ≡ cond result (gathered_in self.old ++ octets.now) (gathered_in self.old) }
+        ensures gathered { gathered_in self.new ≡ cond result (gathered_in self.old ++ octets.now)
+            (gathered_in self.old) }
     {
         self.gone == 0
             && octets.len() <= MOST_GATHERED.saturating_sub(self.gathered.len())

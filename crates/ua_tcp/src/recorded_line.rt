@@ -95,7 +95,8 @@ impl<L: Line> Line for RecordedLine<L> {
     fn read(&mut self, buffer: &mut [u8]) -> Result<usize, LineFault>
         ensures within { IfOk result (λ n. n ≤ length buffer.new) }
         ensures failed { failed_since self.new ≡ failures_after (failed_since self.old) result }
-        ensures octets { IfTrafficKnown (HandsOut result buffer.new) (L.traffic (line_of self.old)) (L.traffic (line_of self.new)) }
+        ensures octets { IfTrafficKnown (HandsOut result buffer.new) (L.traffic (line_of self.old))
+            (L.traffic (line_of self.new)) }
         ensures kept { octets_read self.new ≡ octets_read self.old ++ moved result buffer.new }
         ensures same { octets_written self.new ≡ octets_written self.old }
     {
@@ -119,7 +120,8 @@ impl<L: Line> Line for RecordedLine<L> {
         ensures within { IfOk result (λ n. n ≤ length octets.now) }
         ensures some { 0 < length octets.now → IfOk result (λ n. 0 < n) }
         ensures failed { failed_since self.new ≡ failures_after (failed_since self.old) result }
-        ensures octets { IfTrafficKnown (WriteTakes result octets.now) (L.traffic (line_of self.old)) (L.traffic (line_of self.new)) }
+        ensures octets { IfTrafficKnown (WriteTakes result octets.now) (L.traffic (line_of self.old))
+            (L.traffic (line_of self.new)) }
         ensures kept { octets_written self.new ≡ octets_written self.old ++ moved result octets.now }
         ensures same { octets_read self.new ≡ octets_read self.old }
     {

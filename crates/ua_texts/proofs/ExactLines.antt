@@ -30,7 +30,8 @@ first_text kind field [] h = absurd (omega arith)
 first_text kind field (more ∷ rest) h = refl
 
 -- one field more was added
-pub fields_more : (whole out new kind rest field more : List ℕ) → whole ≡ out ++ last_text kind (pieces 9 rest) → pieces 9 rest ≡ field ∷ pieces 9 more → new ≡ out ++ (field ++ 9 ∷ [])
+pub fields_more : (whole out new kind rest field more : List ℕ) → whole ≡ out ++ last_text kind (pieces 9 rest) → pieces 9 rest ≡ field ∷ pieces 9 more
+    → new ≡ out ++ (field ++ 9 ∷ [])
     → whole ≡ new ++ last_text field (pieces 9 more)
 fields_more whole out new kind rest field more h first e =
     let r = last_text field (pieces 9 more) in
@@ -38,7 +39,8 @@ fields_more whole out new kind rest field more h first e =
     ∙ ap (λ (t : List ℕ). out ++ t) (sym (append_assoc field (9 ∷ []) r)) ∙ sym (append_assoc out (field ++ 9 ∷ []) r) ∙ ap (λ (t : List ℕ). t ++ r) (sym e)
 
 -- the last field was added
-pub fields_last : {E : Type 0} (r : Result (Unit {0}) E) (old line out new kind rest : List ℕ) → old ++ exact_fields line ≡ out ++ last_text kind (pieces 9 rest) → pieces 9 rest ≡ rest ∷ []
+pub fields_last : {E : Type 0} (r : Result (Unit {0}) E) (old line out new kind rest : List ℕ)
+    → old ++ exact_fields line ≡ out ++ last_text kind (pieces 9 rest) → pieces 9 rest ≡ rest ∷ []
     → OnOk r (new ≡ out ++ exact_typed kind rest) → OnOk r (new ≡ old ++ exact_fields line)
 fields_last (Ok u) old line out new kind rest h last e = e ∙ sym (h ∙ ap (λ (t : List (List ℕ)). out ++ last_text kind t) last)
 fields_last (Err x) old line out new kind rest h last e = tt

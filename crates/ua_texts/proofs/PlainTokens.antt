@@ -1,5 +1,6 @@
 -- What is put into a writer of JSON where people write values and times, step by step.
-use Rattle.std.proofs.Common.{◌≡◌, ℕ, suc, ◌+◌, Bool, true, false, List, [], ◌∷◌, ◌++◌, map, take, slice_get, option_map, Option, Some, None, Result, Ok, Err, OnOk, codes, refl, sym, ap, subst, ◌∙◌, arith, append-nil, append_assoc}
+use Rattle.std.proofs.Common.{◌≡◌, ℕ, suc, ◌+◌, Bool, true, false, List, [], ◌∷◌, ◌++◌, map, take, slice_get, option_map, Option}
+use Rattle.std.proofs.Common.{Some, None, Result, Ok, Err, OnOk, codes, refl, sym, ap, subst, ◌∙◌, arith, append-nil, append_assoc}
 use Rattle.std.specs.Float.{Float, Format, float_is_finite}
 use Rattle.std.specs.List.{flat_map}
 use Rattle.std.proofs.lemmas.Grind.{flat_map-append}
@@ -19,7 +20,8 @@ use Rattle.ua_variant.specs.View.{many_of, row}
 use Rattle.ua_variant.specs.declared.values.DataValue.{DataValue}
 use Rattle.ua_texts.specs.Json.{Field, array, array_fields, dimension_fields, items_of, json_line, object, status_fields, unwritable_fields}
 use Rattle.ua_texts.specs.Names.{number_of}
-use Rattle.ua_texts.specs.PlainJson.{AreBothFields, AreJson, AreTimeFields, AreValueFields, AreVariantFields, AreWrittenFields, IsArrayJson, IsFloatJson, IsPlainJson, IsScalarJson, IsTextJson, IsTimeJson, PutsFields, PutsJson}
+use Rattle.ua_texts.specs.PlainJson.{AreBothFields, AreJson, AreTimeFields, AreValueFields, AreVariantFields, AreWrittenFields}
+use Rattle.ua_texts.specs.PlainJson.{IsArrayJson, IsFloatJson, IsPlainJson, IsScalarJson, IsTextJson, IsTimeJson, PutsFields, PutsJson}
 use Rattle.ua_texts.specs.PlainLeaf.{Adds, Either}
 use Rattle.ua_texts.specs.Tokens.{Puts, fields_tokens}
 use Rattle.ua_texts.specs.Values.{type_name}
@@ -41,7 +43,8 @@ SomeFields old new Are = (fields : List Field) × (new.before ≡ old.before) ×
 -- ---- scalars
 
 -- a text was put
-pub text_put : {E : Type 0} (r : Result (Unit {0}) E) (old new : Written) (text : List ℕ) (Holds : List ℕ → Type 0) → Writes r old new (token.string text) → Holds text → PutsJson r old new (IsTextJson Holds)
+pub text_put : {E : Type 0} (r : Result (Unit {0}) E) (old new : Written) (text : List ℕ) (Holds : List ℕ → Type 0) → Writes r old new (token.string text)
+    → Holds text → PutsJson r old new (IsTextJson Holds)
 text_put (Ok x) old new text Holds w h = (json.string text, w.room.0, w.ok, (text, refl, h))
 text_put (Err e) old new text Holds w h = tt
 
@@ -51,34 +54,41 @@ null_put (Ok x) old new w = (json.null, w.room.0, w.ok, refl)
 null_put (Err e) old new w = tt
 
 -- a text that was added to none
-pub text_whole : (Holds : List ℕ → Type 0) (old new shown : List ℕ) → old ≡ [] → ((text : List ℕ) × (new ≡ old ++ text) × Holds text) → shown ≡ new → Holds shown
+pub text_whole : (Holds : List ℕ → Type 0) (old new shown : List ℕ) → old ≡ [] → ((text : List ℕ) × (new ≡ old ++ text) × Holds text) → shown ≡ new
+    → Holds shown
 text_whole Holds old new shown none h same = subst Holds (sym (same ∙ h.1 ∙ ap (λ (t : List ℕ). t ++ h.0) none)) h.2
 
 -- a number was put
-pub number_put : {E : Type 0} (r : Result (Unit {0}) E) (old new : Written) (f : Format) (x : Float) (Holds : List ℕ → Type 0) → float_is_finite x ≡ true → new.before ≡ old.before
-    → OnOk r ((s : List ℕ) × (new.tokens ≡ old.tokens ++ token.number s ∷ []) × IsPlainNumber s × (parse_float f s ≡ Some x)) → PutsJson r old new (IsFloatJson f x Holds)
+pub number_put : {E : Type 0} (r : Result (Unit {0}) E) (old new : Written) (f : Format) (x : Float) (Holds : List ℕ → Type 0) → float_is_finite x ≡ true
+    → new.before ≡ old.before
+    → OnOk r ((s : List ℕ) × (new.tokens ≡ old.tokens ++ token.number s ∷ []) × IsPlainNumber s × (parse_float f s ≡ Some x))
+    → PutsJson r old new (IsFloatJson f x Holds)
 number_put (Ok y) old new f x Holds finite before h = (
   json.number h.0,
   before,
   h.1,
-  subst (λ (b : Bool). Either b ((s : List ℕ) × (json.number h.0 ≡ json.number s) × IsPlainNumber s × (parse_float f s ≡ Some x)) (IsTextJson Holds (json.number h.0))) (sym finite) (h.0, refl, h.2, h.3),
+  subst (λ (b : Bool). Either b ((s : List ℕ) × (json.number h.0 ≡ json.number s) × IsPlainNumber s × (parse_float f s ≡ Some x))
+      (IsTextJson Holds (json.number h.0))) (sym finite) (h.0, refl, h.2, h.3),
 )
 number_put (Err e) old new f x Holds finite before h = tt
 
 -- the text of what is no number of JSON was put
-pub other_put : {E : Type 0} (r : Result (Unit {0}) E) (old new : Written) (f : Format) (x : Float) (text : List ℕ) (Holds : List ℕ → Type 0) → float_is_finite x ≡ false → Writes r old new (token.string text) → Holds text
+pub other_put : {E : Type 0} (r : Result (Unit {0}) E) (old new : Written) (f : Format) (x : Float) (text : List ℕ) (Holds : List ℕ → Type 0)
+    → float_is_finite x ≡ false → Writes r old new (token.string text) → Holds text
     → PutsJson r old new (IsFloatJson f x Holds)
 other_put (Ok y) old new f x text Holds finite w h = (
   json.string text,
   w.room.0,
   w.ok,
-  subst (λ (b : Bool). Either b ((s : List ℕ) × (json.string text ≡ json.number s) × IsPlainNumber s × (parse_float f s ≡ Some x)) (IsTextJson Holds (json.string text))) (sym finite) (text, refl, h),
+  subst (λ (b : Bool). Either b ((s : List ℕ) × (json.string text ≡ json.number s) × IsPlainNumber s × (parse_float f s ≡ Some x))
+      (IsTextJson Holds (json.string text))) (sym finite) (text, refl, h),
 )
 other_put (Err e) old new f x text Holds finite w h = tt
 
 -- ---- elements
 
-json_push : (names : Bool) (ss : List ScalarData) (js : List Json) (s : ScalarData) (j : Json) → AreJson names (row ss) js → IsScalarJson names s j → AreJson names (row (ss ++ s ∷ [])) (js ++ j ∷ [])
+json_push : (names : Bool) (ss : List ScalarData) (js : List Json) (s : ScalarData) (j : Json) → AreJson names (row ss) js → IsScalarJson names s j
+    → AreJson names (row (ss ++ s ∷ [])) (js ++ j ∷ [])
 json_push names [] [] s j h k = (k, tt)
 json_push names [] (i ∷ js) s j h k = absurd h
 json_push names (r ∷ ss) [] s j h k = absurd h
@@ -89,10 +99,12 @@ pub json_none : (names : Bool) (w : Written) → EachJson w w (AreJson names (ro
 json_none names w = ([], refl, sym (append-nil w.tokens), tt)
 
 -- the elements up to the next place were put
-pub json_next : {A : Type 0} (names : Bool) (f : A → ScalarData) (xs : List A) (n : ℕ) (s : ScalarData) (old now new : Written) → Some s ≡ option_map f (slice_get xs n) → EachJson old now (AreJson names (row (take n (map f xs))))
+pub json_next : {A : Type 0} (names : Bool) (f : A → ScalarData) (xs : List A) (n : ℕ) (s : ScalarData) (old now new : Written)
+    → Some s ≡ option_map f (slice_get xs n) → EachJson old now (AreJson names (row (take n (map f xs))))
     → OneJson now new (IsScalarJson names s) → EachJson old new (AreJson names (row (take (n + 1) (map f xs))))
 json_next names f xs n s old now new e p q =
-    let next : take (n + 1) (map f xs) ≡ take n (map f xs) ++ s ∷ [] = let k : n + 1 ≡ suc n = omega arith in ap (λ i. take i (map f xs)) k ∙ take_next (map f xs) n s (get_map f xs n ∙ sym e) in
+    let next : take (n + 1) (map f xs) ≡ take n (map f xs) ++ s ∷ [] = let k : n + 1 ≡ suc n = omega arith in ap (λ i. take i (map f xs)) k
+    ∙ take_next (map f xs) n s (get_map f xs n ∙ sym e) in
     let all = flat_map-append json_tokens p.0 (q.0 ∷ []) ∙ ap (λ (t : List Token). flat_map json_tokens p.0 ++ t) (append-nil (json_tokens q.0)) in
     let put = put_then old now new (flat_map json_tokens p.0) (json_tokens q.0) (p.1, p.2) (q.1, q.2) in (
       p.0 ++ q.0 ∷ [],
@@ -103,10 +115,12 @@ json_next names f xs n s old now new e p q =
 
 items_each : (js : List Json) → items_tokens (items_of js) ≡ flat_map json_tokens js ++ token.end_array ∷ []
 items_each [] = refl
-items_each (j ∷ js) = ap (λ (t : List Token). json_tokens j ++ t) (items_each js) ∙ sym (append_assoc (json_tokens j) (flat_map json_tokens js) (token.end_array ∷ []))
+items_each (j ∷ js) = ap (λ (t : List Token). json_tokens j ++ t) (items_each js)
+    ∙ sym (append_assoc (json_tokens j) (flat_map json_tokens js) (token.end_array ∷ []))
 
 -- a list was put
-pub list_put : {E : Type 0} (r : Result (Unit {0}) E) (names : Bool) (ss : ScalarsData) (a b c d : Written) → Put a b (token.begin_array ∷ []) → EachJson b c (AreJson names ss) → Puts r c d (token.end_array ∷ [])
+pub list_put : {E : Type 0} (r : Result (Unit {0}) E) (names : Bool) (ss : ScalarsData) (a b c d : Written) → Put a b (token.begin_array ∷ [])
+    → EachJson b c (AreJson names ss) → Puts r c d (token.end_array ∷ [])
     → PutsJson r a d (IsArrayJson names ss)
 list_put (Ok x) names ss a b c d first each last =
     let ts = flat_map json_tokens each.0 in
@@ -117,36 +131,44 @@ list_put (Err e) names ss a b c d first each last = tt
 -- ---- values behind their types
 
 -- members that are known were put
-pub fields_put : {E : Type 0} (r : Result (Unit {0}) E) (old new : Written) (fields : List Field) (Are : List Field → Type 0) → Puts r old new (fields_tokens fields) → Are fields → PutsFields r old new Are
+pub fields_put : {E : Type 0} (r : Result (Unit {0}) E) (old new : Written) (fields : List Field) (Are : List Field → Type 0)
+    → Puts r old new (fields_tokens fields) → Are fields → PutsFields r old new Are
 fields_put (Ok x) old new fields Are p h = (fields, p.0, p.1, h)
 fields_put (Err e) old new fields Are p h = tt
 
 -- a null array
-pub absent_put : {E : Type 0} (r : Result (Unit {0}) E) (old new : Written) (names : Bool) (k : ℕ) (items : Option (List ScalarData)) (ds : List _) → items ≡ None → Puts r old new (fields_tokens (array_fields k items ds))
+pub absent_put : {E : Type 0} (r : Result (Unit {0}) E) (old new : Written) (names : Bool) (k : ℕ) (items : Option (List ScalarData)) (ds : List _)
+    → items ≡ None → Puts r old new (fields_tokens (array_fields k items ds))
     → PutsFields r old new (AreVariantFields names (many_of k items ds))
 absent_put r old new names k None ds e p = fields_put r old new (array_fields k None ds) (AreVariantFields names (many_of k None ds)) p refl
 absent_put r old new names k (Some items) ds e p = absurd cc
 
 -- a value that cannot be written
-pub unwritable_put : {E : Type 0} (r : Result (Unit {0}) E) (old new : Written) (names : Bool) (v : VariantData) → variant_encodable v ≡ false → Puts r old new (fields_tokens unwritable_fields) → PutsFields r old new (AreWrittenFields names v)
+pub unwritable_put : {E : Type 0} (r : Result (Unit {0}) E) (old new : Written) (names : Bool) (v : VariantData) → variant_encodable v ≡ false
+    → Puts r old new (fields_tokens unwritable_fields) → PutsFields r old new (AreWrittenFields names v)
 unwritable_put r old new names v e p =
     fields_put r old new unwritable_fields (AreWrittenFields names v) p
     (subst (λ (b : Bool). Either b (AreVariantFields names v unwritable_fields) (unwritable_fields ≡ unwritable_fields)) (sym e) refl)
 
-pub one_put : {E : Type 0} (r : Result (Unit {0}) E) (names : Bool) (s : ScalarData) (a b c d : Written) → Put a b (token.key (codes "type") ∷ token.string (type_name (kind_of s)) ∷ []) → Put b c (token.key (codes "value") ∷ [])
+pub one_put : {E : Type 0} (r : Result (Unit {0}) E) (names : Bool) (s : ScalarData) (a b c d : Written)
+    → Put a b (token.key (codes "type") ∷ token.string (type_name (kind_of s)) ∷ []) → Put b c (token.key (codes "value") ∷ [])
     → PutsJson r c d (IsScalarJson names s) → PutsFields r a d (AreVariantFields names (one s))
 one_put (Ok x) names s a b c d first second h =
     let kind = type_name (kind_of s) in
-    let put = put_then a b d (token.key (codes "type") ∷ token.string kind ∷ []) (token.key (codes "value") ∷ json_tokens h.0) first (put_then b c d (token.key (codes "value") ∷ []) (json_tokens h.0) second (h.1, h.2)) in (
+    let put = put_then a b d (token.key (codes "type") ∷ token.string kind ∷ []) (token.key (codes "value") ∷ json_tokens h.0) first
+    (put_then b c d (token.key (codes "value") ∷ []) (json_tokens h.0) second (h.1, h.2)) in (
       (codes "type", json.string kind) ∷ (codes "value", h.0) ∷ [],
       put.0,
-      put.1 ∙ ap (λ (t : List Token). a.tokens ++ token.key (codes "type") ∷ token.string kind ∷ token.key (codes "value") ∷ t) (sym (append-nil (json_tokens h.0))),
+      put.1 ∙ ap (λ (t : List Token). a.tokens ++ token.key (codes "type") ∷ token.string kind ∷ token.key (codes "value") ∷ t)
+          (sym (append-nil (json_tokens h.0))),
       (h.0, refl, h.3),
     )
 one_put (Err e) names s a b c d first second h = tt
 
-pub many_put : {E : Type 0} (r : Result (Unit {0}) E) (names : Bool) (k : ℕ) (ss : ScalarsData) (ds : List _) (a b c d e : Written) → Put a b (token.key (codes "type") ∷ token.string (type_name k ++ codes "[]") ∷ [])
-    → Put b c (token.key (codes "value") ∷ []) → OneJson c d (IsArrayJson names ss) → Puts r d e (fields_tokens (dimension_fields ds)) → PutsFields r a e (AreVariantFields names (many k ss ds))
+pub many_put : {E : Type 0} (r : Result (Unit {0}) E) (names : Bool) (k : ℕ) (ss : ScalarsData) (ds : List _) (a b c d e : Written)
+    → Put a b (token.key (codes "type") ∷ token.string (type_name k ++ codes "[]") ∷ [])
+    → Put b c (token.key (codes "value") ∷ []) → OneJson c d (IsArrayJson names ss) → Puts r d e (fields_tokens (dimension_fields ds))
+    → PutsFields r a e (AreVariantFields names (many k ss ds))
 many_put (Ok x) names k ss ds a b c d e first second h last =
     let kind = type_name k ++ codes "[]" in
     let dims = fields_tokens (dimension_fields ds) in
@@ -157,7 +179,8 @@ many_put (Err x) names k ss ds a b c d e first second h last = tt
 
 -- ---- lines
 
-pub both_put : {E : Type 0} (r : Result (Unit {0}) E) (answer : DataValue) (a b c d e : Written) → Put a b (token.key (codes "source") ∷ []) → OneJson b c (IsTimeJson answer.source_timestamp)
+pub both_put : {E : Type 0} (r : Result (Unit {0}) E) (answer : DataValue) (a b c d e : Written) → Put a b (token.key (codes "source") ∷ [])
+    → OneJson b c (IsTimeJson answer.source_timestamp)
     → Put c d (token.key (codes "server") ∷ []) → PutsJson r d e (IsTimeJson answer.server_timestamp) → PutsFields r a e (AreBothFields answer)
 both_put (Ok x) answer a b c d e first h second k =
     let server = token.key (codes "server") ∷ json_tokens k.0 in
@@ -165,13 +188,16 @@ both_put (Ok x) answer a b c d e first h second k =
     let put = put_then a b e (token.key (codes "source") ∷ []) (json_tokens h.0 ++ server) first behind in (
       (codes "source", h.0) ∷ (codes "server", k.0) ∷ [],
       put.0,
-      put.1 ∙ ap (λ (t : List Token). a.tokens ++ token.key (codes "source") ∷ (json_tokens h.0 ++ token.key (codes "server") ∷ t)) (sym (append-nil (json_tokens k.0))),
+      put.1 ∙ ap (λ (t : List Token). a.tokens ++ token.key (codes "source") ∷ (json_tokens h.0 ++ token.key (codes "server") ∷ t))
+          (sym (append-nil (json_tokens k.0))),
       record { source = h.0; server = k.0; are = refl; of_source = h.3; of_server = k.3 },
     )
 both_put (Err x) answer a b c d e first h second k = tt
 
-pub json_added : {E : Type 0} (r : Result (Unit {0}) E) (style : LineStyle) (node : NodeId) (answer : DataValue) (code : ℕ) (old new : List ℕ) (a b c d : Written) → code ≡ number_of answer.status → a.tokens ≡ token.begin_object ∷ []
-    → Put a b (fields_tokens (status_fields style.names node code)) → SomeFields b c (AreValueFields style.names answer.value) → SomeFields c d (AreTimeFields style.times answer)
+pub json_added : {E : Type 0} (r : Result (Unit {0}) E) (style : LineStyle) (node : NodeId) (answer : DataValue) (code : ℕ) (old new : List ℕ)
+    (a b c d : Written) → code ≡ number_of answer.status → a.tokens ≡ token.begin_object ∷ []
+    → Put a b (fields_tokens (status_fields style.names node code)) → SomeFields b c (AreValueFields style.names answer.value)
+    → SomeFields c d (AreTimeFields style.times answer)
     → OnOk r (new ≡ old ++ (print (d.tokens ++ token.end_object ∷ []) ++ codes "\n")) → Adds r old new (IsPlainJson style node answer)
 json_added r style node answer code old new a b c d is begun first v t ended =
     let status = status_fields style.names node (number_of answer.status) in
@@ -181,5 +207,7 @@ json_added r style node answer code old new a b c d is begun first v t ended =
     let put = put_then a b d (fields_tokens status) (fields_tokens v.0 ++ fields_tokens t.0) at rest in
     let parts = fields-append status (v.0 ++ t.0) ∙ ap (λ (u : List Token). fields_tokens status ++ u) (fields-append v.0 t.0) in
     let tokens : d.tokens ≡ token.begin_object ∷ fields_tokens fields =
-    put.1 ∙ ap (λ (u : List Token). u ++ (fields_tokens status ++ (fields_tokens v.0 ++ fields_tokens t.0))) begun ∙ ap (λ (u : List Token). token.begin_object ∷ u) (sym parts) in
-    adds_is r old new (json_line (object fields)) (IsPlainJson style node answer) (line_is r old new d.tokens fields tokens ended) (record { value = v.0; times = t.0; is = refl; of_value = v.3; of_times = t.3 })
+    put.1 ∙ ap (λ (u : List Token). u ++ (fields_tokens status ++ (fields_tokens v.0 ++ fields_tokens t.0))) begun
+    ∙ ap (λ (u : List Token). token.begin_object ∷ u) (sym parts) in
+    adds_is r old new (json_line (object fields)) (IsPlainJson style node answer) (line_is r old new d.tokens fields tokens ended)
+    (record { value = v.0; times = t.0; is = refl; of_value = v.3; of_times = t.3 })

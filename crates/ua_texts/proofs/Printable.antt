@@ -1,5 +1,6 @@
 -- Escaped texts have no control character.
-use Rattle.std.proofs.Common.{◌≡◌, ℕ, ◌+◌, ◌/◌, ◌%◌, ◌<◌, ◌≤◌, nat_lt, Bool, true, false, List, [], ◌∷◌, ◌++◌, if◌then◌else◌, refl, sym, ap₂, ◌∙◌, arith, append-nil, subst}
+use Rattle.std.proofs.Common.{◌≡◌, ℕ, ◌+◌, ◌/◌, ◌%◌, ◌<◌, ◌≤◌, nat_lt, Bool, true, false, List, []}
+use Rattle.std.proofs.Common.{◌∷◌, ◌++◌, if◌then◌else◌, refl, sym, ap₂, ◌∙◌, arith, append-nil, subst}
 use Rattle.std.proofs.lemmas.Bool.Decides.{nat_tests}
 use Rattle.std.proofs.lemmas.List.Elements.{All-append, All-cons, All-nil}
 use Rattle.std.proofs.lemmas.Str.{encode_ascii, encodes-append}
@@ -45,7 +46,8 @@ printable_octet b h =
     (printable_append (digit_glyph false (b / 16) ∷ []) (digit_glyph false (b % 16) ∷ []) (glyph (b / 16) (omega arith)) (glyph (b % 16) (omega arith))))
 
 one_octet : (c : ℕ) → c < 128 → HasNoControlChar (flat_map escaped_octet (encode_utf8 c))
-one_octet c small = subst (λ (bs : List ℕ). HasNoControlChar (flat_map escaped_octet bs)) (sym (encode_ascii c small)) (subst HasNoControlChar (sym (append-nil (escaped_octet c))) (printable_octet c (omega arith)))
+one_octet c small = subst (λ (bs : List ℕ). HasNoControlChar (flat_map escaped_octet bs)) (sym (encode_ascii c small))
+    (subst HasNoControlChar (sym (append-nil (escaped_octet c))) (printable_octet c (omega arith)))
 
 two_octets : (c : ℕ) → 128 ≤ c → c < 160 → encode_utf8 c ≡ 194 ∷ c ∷ []
 unfolding encode_utf8
@@ -54,7 +56,8 @@ two_octets c least most = grind (arith, nat_tests)
 of_two : (c : ℕ) → 128 ≤ c → c < 160 → HasNoControlChar (flat_map escaped_octet (encode_utf8 c))
 of_two c least most =
     subst (λ (bs : List ℕ). HasNoControlChar (flat_map escaped_octet bs)) (sym (two_octets c least most))
-    (printable_append (escaped_octet 194) (escaped_octet c ++ []) (printable_octet 194 (omega arith)) (subst HasNoControlChar (sym (append-nil (escaped_octet c))) (printable_octet c (omega arith))))
+    (printable_append (escaped_octet 194) (escaped_octet c ++ []) (printable_octet 194 (omega arith))
+    (subst HasNoControlChar (sym (append-nil (escaped_octet c))) (printable_octet c (omega arith))))
 
 control_small : (c : ℕ) → is_control c ≡ true → c < 160
 control_small c h = grind (arith, nat_tests)
@@ -63,7 +66,8 @@ of_control : (c : ℕ) (small : Bool) → nat_lt c 128 ≡ small → c < 160 →
 of_control c true e h = one_octet c (grind (arith, nat_tests))
 of_control c false e h = of_two c (grind (arith, nat_tests)) h
 
-char_by : (c : ℕ) (slash control : Bool) → is_control c ≡ control → HasNoControlChar (if slash then 92 ∷ 92 ∷ [] else (if control then flat_map escaped_octet (encode_utf8 c) else encode_utf8 c))
+char_by : (c : ℕ) (slash control : Bool) → is_control c ≡ control
+    → HasNoControlChar (if slash then 92 ∷ 92 ∷ [] else (if control then flat_map escaped_octet (encode_utf8 c) else encode_utf8 c))
 char_by c true control h = printable_append (92 ∷ []) (92 ∷ []) (printable_ascii 92 (omega arith) refl) (printable_ascii 92 (omega arith) refl)
 char_by c false true h = of_control c (nat_lt c 128) refl (control_small c h)
 char_by c false false h = printable_one c h

@@ -1,5 +1,6 @@
 -- Elements of arrays and pairs of lists, one at a time.
-use Rattle.std.proofs.Common.{◌≡◌, ℕ, zero, suc, ◌+◌, ◌<◌, List, [], ◌∷◌, ◌++◌, length, map, take, get_or, slice_get, option_map, Option, Some, None, ℤ, refl, sym, ◌∙◌, ap, arith, append-nil, append_assoc}
+use Rattle.std.proofs.Common.{◌≡◌, ℕ, zero, suc, ◌+◌, ◌<◌, List, [], ◌∷◌, ◌++◌, length, map, take, get_or, slice_get}
+use Rattle.std.proofs.Common.{option_map, Option, Some, None, ℤ, refl, sym, ◌∙◌, ap, arith, append-nil, append_assoc}
 use Rattle.std.specs.List.{flat_map}
 use Rattle.std.proofs.lemmas.Grind.{flat_map-append}
 use Rattle.ua_variant.specs.Data.{ScalarData}
@@ -17,7 +18,8 @@ use Rattle.ua_texts.specs.Values.{array_text, parted, item_text, items_text, sca
 pub parted_more : (texts : List (List ℕ)) (text : List ℕ) → parted (texts ++ text ∷ []) ≡ parted texts ++ item_text (length texts) text
 parted_more [] text = append-nil text
 parted_more (first ∷ texts) text =
-    ap (λ (t : List ℕ). first ++ t) (flat_map-append (λ (t : List ℕ). 44 ∷ t) texts (text ∷ []) ∙ ap (λ (t : List ℕ). flat_map (λ (u : List ℕ). 44 ∷ u) texts ++ t) (append-nil (44 ∷ text)))
+    ap (λ (t : List ℕ). first ++ t) (flat_map-append (λ (t : List ℕ). 44 ∷ t) texts (text ∷ [])
+    ∙ ap (λ (t : List ℕ). flat_map (λ (u : List ℕ). 44 ∷ u) texts ++ t) (append-nil (44 ∷ text)))
     ∙ sym (append_assoc first (flat_map (λ (t : List ℕ). 44 ∷ t) texts) (44 ∷ text))
 
 -- the elements up to a place, and the one there
@@ -39,7 +41,8 @@ pub map_length : {A B : Type 0} (f : A → B) (xs : List A) → length (map f xs
 map_length f [] = refl
 map_length f (x ∷ xs) = ap suc (map_length f xs)
 
-pub items_more : (ss : List ScalarData) (n : ℕ) (s : ScalarData) → slice_get ss n ≡ Some s → items_text (take (suc n) ss) ≡ items_text (take n ss) ++ item_text n (scalar_text s)
+pub items_more : (ss : List ScalarData) (n : ℕ) (s : ScalarData) → slice_get ss n ≡ Some s → items_text (take (suc n) ss) ≡ items_text (take n ss)
+    ++ item_text n (scalar_text s)
 items_more ss n s e =
     ap items_text (take_next ss n s e) ∙ ap parted (map_append scalar_text (take n ss) (s ∷ [])) ∙ parted_more (map scalar_text (take n ss)) (scalar_text s)
     ∙ ap (λ (k : ℕ). items_text (take n ss) ++ item_text k (scalar_text s)) (map_length scalar_text (take n ss) ∙ length_next ss n s e)
@@ -52,7 +55,8 @@ array_typed : (k : ℕ) (items : Option (List ScalarData)) (ds : List ℤ) → t
 array_typed k None ds = refl
 array_typed k (Some ss) ds = ap (λ (t : List ScalarData). array_text k (Some t)) (row_list_row ss)
 
-pub typed_of : (value : Variant) (k : ℕ) (items : Option (List ScalarData)) (ds : List ℤ) → value ≡ Many k items ds → typed_text (variant_of value) ≡ array_text k items
+pub typed_of : (value : Variant) (k : ℕ) (items : Option (List ScalarData)) (ds : List ℤ) → value ≡ Many k items ds
+    → typed_text (variant_of value) ≡ array_text k items
 typed_of value k items ds e = ap (λ (v : Variant). typed_text (variant_of v)) e ∙ array_typed k items ds
 
 array_fielded : (k : ℕ) (items : Option (List ScalarData)) (ds : List ℤ) → variant_fields (many_of k items ds) ≡ array_fields k items ds
@@ -108,7 +112,8 @@ pairs_more f (a ∷ xs) (b ∷ ys) (suc n) x y e h =
     ap (λ (t : List ℕ). f a b ++ t) (pairs_more f xs ys n x y e h) ∙ sym (append_assoc (f a b) (pairs_text f (take n xs) (take n ys)) (f x y))
 
 -- the texts of the pairs up to the next place were added
-pub pairs_next : {A B : Type 0} (f : A → B → List ℕ) (xs : List A) (ys : List B) (n : ℕ) (x : A) (y : B) (start now new : List ℕ) → n < length xs → x ≡ get_or xs n x → n < length ys → y ≡ get_or ys n y
+pub pairs_next : {A B : Type 0} (f : A → B → List ℕ) (xs : List A) (ys : List B) (n : ℕ) (x : A) (y : B) (start now new : List ℕ) → n < length xs
+    → x ≡ get_or xs n x → n < length ys → y ≡ get_or ys n y
     → now ≡ start ++ pairs_text f (take n xs) (take n ys) → new ≡ now ++ f x y → new ≡ start ++ pairs_text f (take (n + 1) xs) (take (n + 1) ys)
 pairs_next f xs ys n x y start now new a e b h i k =
     let more = pairs_more f xs ys n x y (get_at xs n x a e) (get_at ys n y b h) in

@@ -19,7 +19,8 @@ abbrev numbered_step : ℕ → Step → ScriptLine
 numbered_step n step = record { number = n; step = step }
 
 -- a line that is read, behind those before
-step_more : (xs : List (List ℕ)) (x : List ℕ) (steps : List ScriptLine) (n : ℕ) (step : Step) → n ≡ 1 + length xs → is_read x ≡ true → AllZip IsLineOf (read_from 1 xs) steps → Asks (fields x) step
+step_more : (xs : List (List ℕ)) (x : List ℕ) (steps : List ScriptLine) (n : ℕ) (step : Step) → n ≡ 1 + length xs → is_read x ≡ true
+    → AllZip IsLineOf (read_from 1 xs) steps → Asks (fields x) step
     → AllZip IsLineOf (read_from 1 (xs ++ x ∷ [])) (steps ++ numbered_step n step ∷ [])
 step_more xs x steps n step e read all asks =
     let lines : read_from 1 (xs ++ x ∷ []) ≡ read_from 1 xs ++ one_line (1 + length xs) x ∷ [] =
@@ -29,7 +30,8 @@ step_more xs x steps n step e read all asks =
     subst (λ (t : List FileLine). AllZip IsLineOf t (steps ++ numbered_step n step ∷ [])) (sym lines) each
 
 -- a line that is skipped, behind those before
-skip_more : (xs : List (List ℕ)) (x : List ℕ) (steps : List ScriptLine) → is_read x ≡ false → AllZip IsLineOf (read_from 1 xs) steps → AllZip IsLineOf (read_from 1 (xs ++ x ∷ [])) steps
+skip_more : (xs : List (List ℕ)) (x : List ℕ) (steps : List ScriptLine) → is_read x ≡ false → AllZip IsLineOf (read_from 1 xs) steps
+    → AllZip IsLineOf (read_from 1 (xs ++ x ∷ [])) steps
 skip_more xs x steps skipped all =
     let lines : read_from 1 (xs ++ x ∷ []) ≡ read_from 1 xs =
     read_append 1 xs (x ∷ []) ∙ ap (λ (t : List FileLine). read_from 1 xs ++ t) (skip_cons (1 + length xs) x [] skipped) ∙ append-nil (read_from 1 xs) in
@@ -47,19 +49,24 @@ StepsOf text n steps = AllZip IsLineOf (read_from 1 (take n (lines_of text))) st
 number_is : (text : List ℕ) (n : ℕ) (x : List ℕ) → IsPiece text n x → n + 1 ≡ 1 + length (take n (lines_of text))
 number_is text n x h = let within = h.0 in omega (arith, length_first (pieces 10 text) n (omega arith))
 
-pub turn_step : (text : List ℕ) (n k : ℕ) (x : List ℕ) (steps : List ScriptLine) (step : Step) → n ≡ k → IsPiece text k x → is_read (strip_carriage_return x) ≡ true → StepsOf text n steps → Asks (fields (strip_carriage_return x)) step
+pub turn_step : (text : List ℕ) (n k : ℕ) (x : List ℕ) (steps : List ScriptLine) (step : Step) → n ≡ k → IsPiece text k x
+    → is_read (strip_carriage_return x) ≡ true → StepsOf text n steps → Asks (fields (strip_carriage_return x)) step
     → StepsOf text (n + 1) (steps ++ numbered_step (n + 1) step ∷ [])
 turn_step text n k x steps step e h read all asks =
     let here = at_place text n k x e h in
-    subst (λ (t : List (List ℕ)). AllZip IsLineOf (read_from 1 t) (steps ++ numbered_step (n + 1) step ∷ [])) (sym (lines_more (pieces 10 text) n x here.0 here.1))
+    subst (λ (t : List (List ℕ)). AllZip IsLineOf (read_from 1 t) (steps ++ numbered_step (n + 1) step ∷ []))
+    (sym (lines_more (pieces 10 text) n x here.0 here.1))
     (step_more (take n (lines_of text)) (strip_carriage_return x) steps (n + 1) step (number_is text n x here) read all asks)
 
-pub turn_skip : (text : List ℕ) (n k : ℕ) (x : List ℕ) (steps : List ScriptLine) → n ≡ k → IsPiece text k x → is_read (strip_carriage_return x) ≡ false → StepsOf text n steps → StepsOf text (n + 1) steps
+pub turn_skip : (text : List ℕ) (n k : ℕ) (x : List ℕ) (steps : List ScriptLine) → n ≡ k → IsPiece text k x → is_read (strip_carriage_return x) ≡ false
+    → StepsOf text n steps → StepsOf text (n + 1) steps
 turn_skip text n k x steps e h skipped all =
     let here = at_place text n k x e h in
-    subst (λ (t : List (List ℕ)). AllZip IsLineOf (read_from 1 t) steps) (sym (lines_more (pieces 10 text) n x here.0 here.1)) (skip_more (take n (lines_of text)) (strip_carriage_return x) steps skipped all)
+    subst (λ (t : List (List ℕ)). AllZip IsLineOf (read_from 1 t) steps) (sym (lines_more (pieces 10 text) n x here.0 here.1))
+    (skip_more (take n (lines_of text)) (strip_carriage_return x) steps skipped all)
 
-pub turn_bad : (text : List ℕ) (n k : ℕ) (x : List ℕ) (steps : List ScriptLine) → n ≡ k → IsPiece text k x → is_read (strip_carriage_return x) ≡ true → StepsOf text n steps → AsksNothing (fields (strip_carriage_return x))
+pub turn_bad : (text : List ℕ) (n k : ℕ) (x : List ℕ) (steps : List ScriptLine) → n ≡ k → IsPiece text k x → is_read (strip_carriage_return x) ≡ true
+    → StepsOf text n steps → AsksNothing (fields (strip_carriage_return x))
     → IsFirstBad (node_lines text) (n + 1)
 turn_bad text n k x steps e h read all nothing =
     let here = at_place text n k x e h in
@@ -80,7 +87,8 @@ turn_bad text n k x steps e h read all nothing =
       bad = nothing;
     }
 
-pub turn_fault : (text : List ℕ) (n k : ℕ) (x : List ℕ) (steps : List ScriptLine) (fault : ScriptLineFault) → n ≡ k → IsPiece text k x → is_read (strip_carriage_return x) ≡ true → StepsOf text n steps → GivesStep (fields (strip_carriage_return x)) (Err fault)
+pub turn_fault : (text : List ℕ) (n k : ℕ) (x : List ℕ) (steps : List ScriptLine) (fault : ScriptLineFault) → n ≡ k → IsPiece text k x
+    → is_read (strip_carriage_return x) ≡ true → StepsOf text n steps → GivesStep (fields (strip_carriage_return x)) (Err fault)
     → Refuses text (script_fault (n + 1) fault)
 turn_fault text n k x steps Bad e h read all nothing = turn_bad text n k x steps e h read all nothing
 turn_fault text n k x steps NoMemory e h read all nothing = tt

@@ -1,5 +1,6 @@
 -- What the fields of a line ask for, and that they ask for nothing else.
-use Rattle.std.proofs.Common.{◌≡◌, ℕ, ◌≤◌, ◌<◌, Bool, true, false, cond, List, [], ◌∷◌, length, Option, Some, None, MatchOption, codes, refl, sym, ◌∙◌, ap, subst, arith}
+use Rattle.std.proofs.Common.{◌≡◌, ℕ, ◌≤◌, ◌<◌, Bool, true, false, cond, List, [], ◌∷◌, length, Option}
+use Rattle.std.proofs.Common.{Some, None, MatchOption, codes, refl, sym, ◌∙◌, ap, subst, arith}
 use Rattle.std.specs.Option.{unwrap_or}
 use Rattle.std.proofs.lemmas.Bool.Decides.{nat_tests}
 use denote.Ref.{Bor}
@@ -34,7 +35,8 @@ write_renew xs ys e = let w : ◌≡◌ {A = ℕ} 119 114 = cc in omega arith
 
 -- ---- lines that begin with `read`
 
-no_read : (fields : List (List ℕ)) (id : List ℕ) (rest : List (List ℕ)) → fields ≡ id ∷ rest → ((node : NodeId) (range : Option (List ℕ)) → NamesId id node → range_denoted rest ≡ Some range → ⊥)
+no_read : (fields : List (List ℕ)) (id : List ℕ) (rest : List (List ℕ)) → fields ≡ id ∷ rest
+    → ((node : NodeId) (range : Option (List ℕ)) → NamesId id node → range_denoted rest ≡ Some range → ⊥)
     → AsksNothing (codes "read" ∷ fields)
 no_read fields id rest e never (Read node range) h =
     let same : h.id ≡ id = let p = h.parts in cc in
@@ -59,10 +61,12 @@ long_range [] h = absurd (omega arith)
 long_range (x ∷ []) h = absurd (omega arith)
 long_range (x ∷ (y ∷ ys)) h = refl
 
-pub one_range : (behind : List ℕ) (t : Bool) → pieces 9 behind ≡ behind ∷ [] → is_short behind ≡ t → range_denoted (pieces 9 behind) ≡ cond t (Some (range_of behind)) None
+pub one_range : (behind : List ℕ) (t : Bool) → pieces 9 behind ≡ behind ∷ [] → is_short behind ≡ t
+    → range_denoted (pieces 9 behind) ≡ cond t (Some (range_of behind)) None
 one_range behind t e s = ap range_denoted e ∙ ap (λ (b : Bool). cond b (Some (range_of behind)) None) s
 
-pub asks_read : (text id behind : List ℕ) (node : NodeId) (range : Option (List ℕ)) → IsCutBehindFirst text id behind → NamesId id node → range_denoted (pieces 9 behind) ≡ Some range → AsksRead (codes "read" ∷ pieces 9 text) node range
+pub asks_read : (text id behind : List ℕ) (node : NodeId) (range : Option (List ℕ)) → IsCutBehindFirst text id behind → NamesId id node
+    → range_denoted (pieces 9 behind) ≡ Some range → AsksRead (codes "read" ∷ pieces 9 text) node range
 asks_read text id behind node range w names part = record {
   id = id;
   rest = w.rest;
@@ -73,7 +77,8 @@ asks_read text id behind node range w names part = record {
 
 -- ---- lines that begin with `write`
 
-no_write_by : (fields : List (List ℕ)) → ((node : NodeId) (value : VariantData) → AsksWrite (codes "write" ∷ fields) node value → ⊥) → AsksNothing (codes "write" ∷ fields)
+no_write_by : (fields : List (List ℕ)) → ((node : NodeId) (value : VariantData) → AsksWrite (codes "write" ∷ fields) node value → ⊥)
+    → AsksNothing (codes "write" ∷ fields)
 no_write_by fields never (Read node range) h = read_write (h.id ∷ h.rest) fields (sym h.parts)
 no_write_by fields never (Write node value) h = never node (variant_of value) h
 no_write_by fields never Renew h = write_renew fields [] h
@@ -82,23 +87,28 @@ no_write_by fields never Renew h = write_renew fields [] h
 pub no_three : (fields : List (List ℕ)) → (length fields ≡ 3 → ⊥) → AsksNothing (codes "write" ∷ fields)
 no_three fields never = no_write_by fields (λ node value h. never (let p : fields ≡ h.id ∷ h.kind ∷ h.text ∷ [] = let q = h.parts in cc in ap length p))
 
-pub no_write : (fields : List (List ℕ)) (id kind text : List ℕ) → fields ≡ id ∷ kind ∷ text ∷ [] → ((node : NodeId) (value : VariantData) → NamesId id node → typed_denoted kind text ≡ Some value → ⊥)
+pub no_write : (fields : List (List ℕ)) (id kind text : List ℕ) → fields ≡ id ∷ kind ∷ text ∷ []
+    → ((node : NodeId) (value : VariantData) → NamesId id node → typed_denoted kind text ≡ Some value → ⊥)
     → AsksNothing (codes "write" ∷ fields)
 no_write fields id kind text e never = no_write_by fields (λ node value h.
     let a : h.id ≡ id = let p = h.parts in cc in
     let b : h.kind ≡ kind = let p = h.parts in cc in
     let c : h.text ≡ text = let p = h.parts in cc in
-    never node value (subst (λ (t : List ℕ). NamesId t node) a h.names) (ap (λ (t : List ℕ). typed_denoted t text) (sym b) ∙ ap (λ (t : List ℕ). typed_denoted h.kind t) (sym c) ∙ h.denotes))
+    never node value (subst (λ (t : List ℕ). NamesId t node) a h.names) (ap (λ (t : List ℕ). typed_denoted t text) (sym b)
+    ∙ ap (λ (t : List ℕ). typed_denoted h.kind t) (sym c) ∙ h.denotes))
 
-pub no_write_id : (fields : List (List ℕ)) (id kind text : List ℕ) → fields ≡ id ∷ kind ∷ text ∷ [] → ((node : NodeId) → NamesId id node → ⊥) → AsksNothing (codes "write" ∷ fields)
+pub no_write_id : (fields : List (List ℕ)) (id kind text : List ℕ) → fields ≡ id ∷ kind ∷ text ∷ [] → ((node : NodeId) → NamesId id node → ⊥)
+    → AsksNothing (codes "write" ∷ fields)
 no_write_id fields id kind text e never = no_write fields id kind text e (λ node value names denotes. never node names)
 
-pub no_write_value : (fields : List (List ℕ)) (id kind text : List ℕ) → fields ≡ id ∷ kind ∷ text ∷ [] → typed_denoted kind text ≡ None → AsksNothing (codes "write" ∷ fields)
+pub no_write_value : (fields : List (List ℕ)) (id kind text : List ℕ) → fields ≡ id ∷ kind ∷ text ∷ [] → typed_denoted kind text ≡ None
+    → AsksNothing (codes "write" ∷ fields)
 no_write_value fields id kind text e none = no_write fields id kind text e (λ node value names denotes. none_some (typed_denoted kind text) value none denotes)
 
 -- ---- lines that begin with no such word
 
-pub no_word : (word : List ℕ) (rest : List (List ℕ)) → (word ≡ codes "read" → ⊥) → (word ≡ codes "write" → ⊥) → (word ≡ codes "renew" → rest ≡ [] → ⊥) → AsksNothing (word ∷ rest)
+pub no_word : (word : List ℕ) (rest : List (List ℕ)) → (word ≡ codes "read" → ⊥) → (word ≡ codes "write" → ⊥) → (word ≡ codes "renew" → rest ≡ [] → ⊥)
+    → AsksNothing (word ∷ rest)
 no_word word rest a b c (Read node range) h = a (first_of word (codes "read") rest (h.id ∷ h.rest) h.parts)
 no_word word rest a b c (Write node value) h = b (first_of word (codes "write") rest (h.id ∷ h.kind ∷ h.text ∷ []) h.parts)
 no_word word rest a b c Renew h = c (first_of word (codes "renew") rest [] h) (let e : rest ≡ [] = cc in e)
@@ -115,7 +125,8 @@ no_first word rest a b = no_word word (pieces 9 rest) a b (λ e none. let few = 
 -- ---- the first field, and what stands behind it
 
 pub cut_behind : (text : List ℕ) (r : Option (Bor (List ℕ) × Bor (List ℕ))) (d : Bor (List ℕ) × Bor (List ℕ)) → d.0.now ≡ text → d.1.now ≡ []
-    → MatchOption r (pieces 9 text ≡ text ∷ []) (λ x. pieces 9 text ≡ x.0.now ∷ pieces 9 x.1.now) → IsCutBehindFirst text (unwrap_or r d).0.now (unwrap_or r d).1.now
+    → MatchOption r (pieces 9 text ≡ text ∷ []) (λ x. pieces 9 text ≡ x.0.now ∷ pieces 9 x.1.now)
+    → IsCutBehindFirst text (unwrap_or r d).0.now (unwrap_or r d).1.now
 cut_behind text None d e f h = record {
   rest = [];
   parts = h ∙ ap (λ (t : List ℕ). t ∷ []) (sym e);
@@ -125,7 +136,8 @@ cut_behind text (Some x) d e f h = record { rest = pieces 9 x.1.now; parts = h; 
 
 -- ---- NodeIds and values
 
-pub id_refused : (text : List ℕ) (x : TextFault) → (IsErrOf {T = NodeId} (Err x) NotNodeId → (v : NodeId) → ¬ (NamesNode v text)) → GivesId text (Err (id_fault x))
+pub id_refused : (text : List ℕ) (x : TextFault) → (IsErrOf {T = NodeId} (Err x) NotNodeId → (v : NodeId) → ¬ (NamesNode v text))
+    → GivesId text (Err (id_fault x))
 id_refused text NotNodeId h = λ id n. h refl id n.1
 id_refused text NoTextMemory h = tt
 
@@ -137,18 +149,22 @@ not_short text h = grind (arith, nat_tests)
 pub short_enough : (text : List ℕ) → length text ≤ 1073741824 → is_short text ≡ true
 short_enough text h = grind (arith, nat_tests)
 
-pub read_refused : (text id behind : List ℕ) (x : ScriptLineFault) → IsCutBehindFirst text id behind → GivesId id (Err x) → GivesStep (codes "read" ∷ pieces 9 text) (Err x)
+pub read_refused : (text id behind : List ℕ) (x : ScriptLineFault) → IsCutBehindFirst text id behind → GivesId id (Err x)
+    → GivesStep (codes "read" ∷ pieces 9 text) (Err x)
 read_refused text id behind Bad w h = no_id text id behind w h
 read_refused text id behind NoMemory w h = tt
 
-pub write_refused_id : (fields : List (List ℕ)) (id kind text : List ℕ) (x : ScriptLineFault) → fields ≡ id ∷ kind ∷ text ∷ [] → GivesId id (Err x) → GivesStep (codes "write" ∷ fields) (Err x)
+pub write_refused_id : (fields : List (List ℕ)) (id kind text : List ℕ) (x : ScriptLineFault) → fields ≡ id ∷ kind ∷ text ∷ [] → GivesId id (Err x)
+    → GivesStep (codes "write" ∷ fields) (Err x)
 write_refused_id fields id kind text Bad e h = no_write_id fields id kind text e h
 write_refused_id fields id kind text NoMemory e h = tt
 
-pub write_refused_value : (fields : List (List ℕ)) (id kind text : List ℕ) (x : ScriptLineFault) → fields ≡ id ∷ kind ∷ text ∷ [] → GivesValue kind text (Err x) → GivesStep (codes "write" ∷ fields) (Err x)
+pub write_refused_value : (fields : List (List ℕ)) (id kind text : List ℕ) (x : ScriptLineFault) → fields ≡ id ∷ kind ∷ text ∷ [] → GivesValue kind text (Err x)
+    → GivesStep (codes "write" ∷ fields) (Err x)
 write_refused_value fields id kind text Bad e h = no_write_value fields id kind text e h
 write_refused_value fields id kind text NoMemory e h = tt
 
 -- three fields, one behind the other
-pub three : (line id rest kind text : List ℕ) → pieces 9 line ≡ id ∷ pieces 9 rest → pieces 9 rest ≡ kind ∷ pieces 9 text → pieces 9 text ≡ text ∷ [] → pieces 9 line ≡ id ∷ kind ∷ text ∷ []
+pub three : (line id rest kind text : List ℕ) → pieces 9 line ≡ id ∷ pieces 9 rest → pieces 9 rest ≡ kind ∷ pieces 9 text → pieces 9 text ≡ text ∷ []
+    → pieces 9 line ≡ id ∷ kind ∷ text ∷ []
 three line id rest kind text h i last = h ∙ ap (λ (t : List (List ℕ)). id ∷ t) (i ∙ ap (λ (t : List (List ℕ)). kind ∷ t) last)

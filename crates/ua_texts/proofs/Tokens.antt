@@ -1,5 +1,6 @@
 -- What is put into a writer of JSON, step by step.
-use Rattle.std.proofs.Common.{◌≡◌, ℕ, suc, ◌+◌, List, [], ◌∷◌, ◌++◌, map, take, slice_get, option_map, Some, Result, Ok, Err, OnOk, codes, refl, sym, ap, ◌∙◌, arith, append-nil, append_assoc}
+use Rattle.std.proofs.Common.{◌≡◌, ℕ, suc, ◌+◌, List, [], ◌∷◌, ◌++◌, map, take, slice_get, option_map, Some}
+use Rattle.std.proofs.Common.{Result, Ok, Err, OnOk, codes, refl, sym, ap, ◌∙◌, arith, append-nil, append_assoc}
 use Rattle.std.specs.List.{flat_map}
 use Rattle.std.proofs.lemmas.Grind.{flat_map-append}
 use Rattle.json.specs.Json.{Json}
@@ -18,7 +19,8 @@ use Rattle.ua_variant.specs.Data.{ScalarData}
 members_are : (fields : List Field) → members_tokens (members_of fields) ≡ fields_tokens fields ++ token.end_object ∷ []
 members_are [] = refl
 members_are (field ∷ fields) =
-    ap (λ (t : List Token). token.key field.0 ∷ t) (ap (λ (t : List Token). json_tokens field.1 ++ t) (members_are fields) ∙ sym (append_assoc (json_tokens field.1) (fields_tokens fields) (token.end_object ∷ [])))
+    ap (λ (t : List Token). token.key field.0 ∷ t) (ap (λ (t : List Token). json_tokens field.1 ++ t) (members_are fields)
+    ∙ sym (append_assoc (json_tokens field.1) (fields_tokens fields) (token.end_object ∷ [])))
 
 pub object_is : (fields : List Field) → json_tokens (object fields) ≡ token.begin_object ∷ (fields_tokens fields ++ token.end_object ∷ [])
 object_is fields = ap (λ (t : List Token). token.begin_object ∷ t) (members_are fields)
@@ -26,15 +28,18 @@ object_is fields = ap (λ (t : List Token). token.begin_object ∷ t) (members_a
 items_are : {A : Type 0} (f : A → Json) (xs : List A) → items_tokens (items_of (map f xs)) ≡ flat_map (λ x. json_tokens (f x)) xs ++ token.end_array ∷ []
 items_are f [] = refl
 items_are f (x ∷ xs) =
-    ap (λ (t : List Token). json_tokens (f x) ++ t) (items_are f xs) ∙ sym (append_assoc (json_tokens (f x)) (flat_map (λ y. json_tokens (f y)) xs) (token.end_array ∷ []))
+    ap (λ (t : List Token). json_tokens (f x) ++ t) (items_are f xs)
+    ∙ sym (append_assoc (json_tokens (f x)) (flat_map (λ y. json_tokens (f y)) xs) (token.end_array ∷ []))
 
-pub array_is : {A : Type 0} (f : A → Json) (xs : List A) → json_tokens (array (map f xs)) ≡ token.begin_array ∷ (flat_map (λ x. json_tokens (f x)) xs ++ token.end_array ∷ [])
+pub array_is : {A : Type 0} (f : A → Json) (xs : List A)
+    → json_tokens (array (map f xs)) ≡ token.begin_array ∷ (flat_map (λ x. json_tokens (f x)) xs ++ token.end_array ∷ [])
 array_is f xs = ap (λ (t : List Token). token.begin_array ∷ t) (items_are f xs)
 
 pub fields-append : (a b : List Field) → fields_tokens (a ++ b) ≡ fields_tokens a ++ fields_tokens b
 fields-append [] b = refl
 fields-append (field ∷ a) b =
-    ap (λ (t : List Token). token.key field.0 ∷ t) (ap (λ (t : List Token). json_tokens field.1 ++ t) (fields-append a b) ∙ sym (append_assoc (json_tokens field.1) (fields_tokens a) (fields_tokens b)))
+    ap (λ (t : List Token). token.key field.0 ∷ t) (ap (λ (t : List Token). json_tokens field.1 ++ t) (fields-append a b)
+    ∙ sym (append_assoc (json_tokens field.1) (fields_tokens a) (fields_tokens b)))
 
 -- ---- what was put
 
@@ -64,7 +69,8 @@ puts_as (Ok x) old new ts us is p = (p.0, p.1 ∙ ap (λ (t : List Token). old.t
 puts_as (Err e) old new ts us is p = tt
 
 -- the elements of an array were put, its end last
-pub array_put : {E A : Type 0} (r : Result (Unit {0}) E) (a b c d : Written) (f : A → Json) (xs : List A) → Put a b (token.begin_array ∷ []) → Put b c (flat_map (λ x. json_tokens (f x)) xs)
+pub array_put : {E A : Type 0} (r : Result (Unit {0}) E) (a b c d : Written) (f : A → Json) (xs : List A) → Put a b (token.begin_array ∷ [])
+    → Put b c (flat_map (λ x. json_tokens (f x)) xs)
     → Puts r c d (token.end_array ∷ []) → Puts r a d (json_tokens (array (map f xs)))
 array_put r a b c d f xs first elements last =
     let ts = flat_map (λ x. json_tokens (f x)) xs in
@@ -72,13 +78,16 @@ array_put r a b c d f xs first elements last =
     (then_last r a b d (token.begin_array ∷ []) (ts ++ token.end_array ∷ []) first (then_last r b c d ts (token.end_array ∷ []) elements last))
 
 -- a member was put, its name first
-pub field_put : {E : Type 0} (r : Result (Unit {0}) E) (a b c : Written) (name : List ℕ) (value : Json) → Put a b (token.key name ∷ []) → Puts r b c (json_tokens value) → Puts r a c (fields_tokens ((name, value) ∷ []))
+pub field_put : {E : Type 0} (r : Result (Unit {0}) E) (a b c : Written) (name : List ℕ) (value : Json) → Put a b (token.key name ∷ [])
+    → Puts r b c (json_tokens value) → Puts r a c (fields_tokens ((name, value) ∷ []))
 field_put r a b c name value first p =
     let ts = json_tokens value in
-    puts_as r a c (token.key name ∷ ts) (token.key name ∷ (ts ++ [])) (ap (λ (t : List Token). token.key name ∷ t) (sym (append-nil ts))) (then_last r a b c (token.key name ∷ []) ts first p)
+    puts_as r a c (token.key name ∷ ts) (token.key name ∷ (ts ++ [])) (ap (λ (t : List Token). token.key name ∷ t) (sym (append-nil ts)))
+    (then_last r a b c (token.key name ∷ []) ts first p)
 
 -- the line of the object of these fields
-pub line_is : {E : Type 0} (r : Result (Unit {0}) E) (old new : List ℕ) (tokens : List Token) (fields : List Field) → tokens ≡ token.begin_object ∷ fields_tokens fields
+pub line_is : {E : Type 0} (r : Result (Unit {0}) E) (old new : List ℕ) (tokens : List Token) (fields : List Field)
+    → tokens ≡ token.begin_object ∷ fields_tokens fields
     → OnOk r (new ≡ old ++ (print (tokens ++ token.end_object ∷ []) ++ codes "\n")) → OnOk r (new ≡ old ++ json_line (object fields))
 unfolding json_line
 line_is (Ok x) old new tokens fields is h =
@@ -87,10 +96,12 @@ line_is (Err e) old new tokens fields is h = tt
 
 -- the elements up to the next place were put
 pub elements_next : {A : Type 0} (f : A → ScalarData) (xs : List A) (n : ℕ) (s : ScalarData) (old now new : Written) → Some s ≡ option_map f (slice_get xs n)
-    → Put old now (flat_map element_tokens (take n (map f xs))) → Put now new (element_tokens s) → Put old new (flat_map element_tokens (take (n + 1) (map f xs)))
+    → Put old now (flat_map element_tokens (take n (map f xs))) → Put now new (element_tokens s)
+    → Put old new (flat_map element_tokens (take (n + 1) (map f xs)))
 elements_next f xs n s old now new e p q =
     let next : n + 1 ≡ suc n = omega arith in
     let so_far = flat_map element_tokens (take n (map f xs)) in
-    let more = ap (flat_map element_tokens) (take_next (map f xs) n s (get_map f xs n ∙ sym e)) ∙ flat_map-append element_tokens (take n (map f xs)) (s ∷ []) ∙ ap (λ (t : List Token). so_far ++ t) (append-nil (element_tokens s)) in
+    let more = ap (flat_map element_tokens) (take_next (map f xs) n s (get_map f xs n ∙ sym e)) ∙ flat_map-append element_tokens (take n (map f xs)) (s ∷ [])
+    ∙ ap (λ (t : List Token). so_far ++ t) (append-nil (element_tokens s)) in
     let put = put_then old now new so_far (element_tokens s) p q in
     (put.0, put.1 ∙ ap (λ (t : List Token). old.tokens ++ t) (sym more ∙ ap (λ (m : ℕ). flat_map element_tokens (take m (map f xs))) (sym next)))

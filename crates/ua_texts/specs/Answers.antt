@@ -69,7 +69,8 @@ policies_part wanted (Some policies) = cond wanted (flat_map policy_line policie
 
 -- the address of a server and its security: URL MODE POLICY, the mode by its number
 unfoldable pub address_line : EndpointDescription → List ℕ
-address_line e = shown_string e.endpoint_url ++ ((codes " " ++ (signed_decimal e.security_mode ++ codes " ")) ++ (shown_string e.security_policy_uri ++ codes "\n"))
+address_line e = shown_string e.endpoint_url
+    ++ ((codes " " ++ (signed_decimal e.security_mode ++ codes " ")) ++ (shown_string e.security_policy_uri ++ codes "\n"))
 
 -- an endpoint: its address, followed by its token policies if they are wanted
 unfoldable pub plain_endpoint : EndpointStyle → EndpointDescription → List ℕ

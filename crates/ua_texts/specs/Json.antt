@@ -14,7 +14,9 @@ use Rattle.ua_builtin.specs.declared.node_id.NodeId.{NodeId}
 use Rattle.ua_builtin.specs.declared.status_code.StatusCode.{StatusCode}
 use Rattle.ua_structures.specs.declared.discovery.EndpointDescription.{EndpointDescription}
 use Rattle.ua_structures.specs.declared.discovery.UserTokenPolicy.{UserTokenPolicy}
-use Rattle.ua_variant.specs.Data.{LeafData, boolean, sbyte, byte, int16, uint16, int32, uint32, int64, uint64, float, double, string, date_time, guid, byte_string, xml_element, node_id, expanded_node_id, status_code, qualified_name, localized_text, extension_object, reserved, VariantData, null, one, absent, many, ScalarData, leaf, data_value, variant, diagnostic}
+use Rattle.ua_variant.specs.Data.{LeafData, boolean, sbyte, byte, int16, uint16, int32, uint32, int64, uint64, float, double, string, date_time, guid}
+use Rattle.ua_variant.specs.Data.{byte_string, xml_element, node_id, expanded_node_id, status_code, qualified_name, localized_text, extension_object}
+use Rattle.ua_variant.specs.Data.{reserved, VariantData, null, one, absent, many, ScalarData, leaf, data_value, variant, diagnostic}
 use Rattle.ua_variant.specs.Encodable.{kind_of, variant_encodable}
 use Rattle.ua_variant.specs.View.{row_list}
 use Rattle.ua_variant.specs.declared.values.DataValue.{DataValue}
@@ -152,7 +154,8 @@ name_fields names (Some name) = cond names ((codes "name", json.string name) ∷
 
 -- a NodeId and a status, with its name if names are wanted
 abbrev pub status_fields : Bool → NodeId → ℕ → List Field
-status_fields names node code = (codes "node", json.string (node_text node)) ∷ (codes "status", json.string (code_text code)) ∷ name_fields names (name_of_code code)
+status_fields names node code = (codes "node", json.string (node_text node)) ∷ (codes "status", json.string (code_text code)) ∷ name_fields names
+    (name_of_code code)
 
 -- a timestamp: a string of its ticks, or null
 abbrev pub time_json : Option DateTime → Json

@@ -2,11 +2,14 @@
 use Rattle.std.specs.Prelude.{◌≡◌, ℕ, ℤ, Bool, true, false, List, [], ◌∷◌, ◌++◌, codes}
 use Rattle.std.specs.Fmt.{signed_decimal}
 use Rattle.std.specs.List.{flat_map}
-use Rattle.ua_variant.specs.Data.{DataFields, LeafData, float, double, string, date_time, node_id, expanded_node_id, status_code, qualified_name, localized_text, ScalarData, leaf, data_value, variant, diagnostic, ScalarsData, no_scalars, scalar, VariantData, null, one, absent, many, DataValueData, bare, valued}
+use Rattle.ua_variant.specs.Data.{DataFields, LeafData, float, double, string, date_time, node_id, expanded_node_id, status_code}
+use Rattle.ua_variant.specs.Data.{qualified_name, localized_text, ScalarData, leaf, data_value, variant, diagnostic, ScalarsData}
+use Rattle.ua_variant.specs.Data.{no_scalars, scalar, VariantData, null, one, absent, many, DataValueData, bare, valued}
 use Rattle.ua_variant.specs.Encodable.{kind_of, variant_encodable}
 use Rattle.ua_variant.specs.View.{row}
 use Rattle.ua_texts.specs.PlainDiagnostic.{plain_diagnostic}
-use Rattle.ua_texts.specs.PlainLeaf.{Either, IsPlainDouble, IsPlainFloat, IsPlainMoment, plain_code, plain_expanded, plain_localized, plain_name, plain_node, plain_string}
+use Rattle.ua_texts.specs.PlainLeaf.{Either, IsPlainDouble, IsPlainFloat, IsPlainMoment, plain_code}
+use Rattle.ua_texts.specs.PlainLeaf.{plain_expanded, plain_localized, plain_name, plain_node, plain_string}
 use Rattle.ua_texts.specs.PlainParts.{IsTimePart, status_part}
 use Rattle.ua_texts.specs.Shown.{unwritable}
 use Rattle.ua_texts.specs.Values.{leaf_text, parted, scalar_text, type_name}
@@ -84,7 +87,8 @@ abbrev mutual
   -- ` }`
   pub IsPlainDataValue : Bool → DataValueData → List ℕ → Type 0
   IsPlainDataValue names (bare f) text = (fields : List ℕ) × (text ≡ codes "{" ++ (fields ++ codes " }")) × IsPlainFields names f fields
-  IsPlainDataValue names (valued v f) text = (value : List ℕ) × (fields : List ℕ) × (text ≡ codes "{ value (" ++ (value ++ (codes ")" ++ (fields ++ codes " }"))))
+  IsPlainDataValue names (valued v f) text = (value : List ℕ) × (fields : List ℕ)
+      × (text ≡ codes "{ value (" ++ (value ++ (codes ")" ++ (fields ++ codes " }"))))
       × IsPlainTyped names true v value × IsPlainFields names f fields
 
 -- elements separated by commas

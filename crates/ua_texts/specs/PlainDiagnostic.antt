@@ -7,7 +7,8 @@ use Rattle.ua_texts.specs.PlainParts.{number_part, status_part, text_part}
 unfoldable pub diagnostic_parts : Bool → DiagnosticFields → List ℕ
 diagnostic_parts names f =
     number_part (codes "symbolic_id") f.symbolic_id ++ (number_part (codes "namespace_uri") f.namespace_uri ++ (number_part (codes "locale") f.locale
-    ++ (number_part (codes "localized_text") f.localized_text ++ (text_part (codes "additional_info") f.additional_info ++ status_part names (codes "inner_status_code") f.inner_status_code))))
+    ++ (number_part (codes "localized_text") f.localized_text
+    ++ (text_part (codes "additional_info") f.additional_info ++ status_part names (codes "inner_status_code") f.inner_status_code))))
 
 -- a DiagnosticInfo: its fields within curly brackets, with its inner DiagnosticInfo in the same
 -- form, if there is one

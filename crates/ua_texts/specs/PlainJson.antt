@@ -11,7 +11,8 @@ use Rattle.json.specs.Written.{Written}
 use Rattle.ryu.specs.Plain.{IsPlainNumber}
 use Rattle.ua_builtin.specs.declared.date_time.DateTime.{DateTime}
 use Rattle.ua_builtin.specs.declared.node_id.NodeId.{NodeId}
-use Rattle.ua_variant.specs.Data.{boolean, sbyte, byte, int16, uint16, int32, uint32, int64, uint64, float, double, string, byte_string, VariantData, null, one, absent, many, ScalarData, leaf, ScalarsData, no_scalars, scalar}
+use Rattle.ua_variant.specs.Data.{boolean, sbyte, byte, int16, uint16, int32, uint32, int64, uint64, float, double, string}
+use Rattle.ua_variant.specs.Data.{byte_string, VariantData, null, one, absent, many, ScalarData, leaf, ScalarsData, no_scalars, scalar}
 use Rattle.ua_variant.specs.Encodable.{kind_of, variant_encodable}
 use Rattle.ua_variant.specs.declared.values.DataValue.{DataValue}
 use Rattle.ua_texts.specs.Json.{Field, array, dimension_fields, json_line, object, scalar_json, status_fields, unwritable_fields, variant_fields}
@@ -31,7 +32,8 @@ IsTextJson Holds j = (text : List ℕ) × (j ≡ json.string text) × Holds text
 -- a floating-point number: a number that is parsed back as it; an infinity and a NaN are strings of
 -- their text
 abbrev pub IsFloatJson : Format → Float → (List ℕ → Type 0) → Json → Type 0
-IsFloatJson f x Holds j = Either (float_is_finite x) ((text : List ℕ) × (j ≡ json.number text) × IsPlainNumber text × (parse_float f text ≡ Some x)) (IsTextJson Holds j)
+IsFloatJson f x Holds j = Either (float_is_finite x) ((text : List ℕ) × (j ≡ json.number text) × IsPlainNumber text × (parse_float f text ≡ Some x))
+    (IsTextJson Holds j)
 
 -- a scalar: Boolean, whole numbers, String and ByteString as in exact JSON; a Float and a Double as
 -- numbers; all others as strings of the texts that they have in lines that are not JSON
@@ -68,10 +70,12 @@ IsArrayJson names ss j = (items : List Json) × (j ≡ array items) × AreJson n
 -- are as in exact JSON
 abbrev pub AreVariantFields : Bool → VariantData → List Field → Type 0
 AreVariantFields names null fields = fields ≡ variant_fields null
-AreVariantFields names (one s) fields = (value : Json) × (fields ≡ (codes "type", json.string (type_name (kind_of s))) ∷ (codes "value", value) ∷ []) × IsScalarJson names s value
+AreVariantFields names (one s) fields = (value : Json) × (fields ≡ (codes "type", json.string (type_name (kind_of s))) ∷ (codes "value", value) ∷ [])
+    × IsScalarJson names s value
 AreVariantFields names (absent k ds) fields = fields ≡ variant_fields (absent k ds)
 AreVariantFields names (many k ss ds) fields =
-    (value : Json) × (fields ≡ (codes "type", json.string (type_name k ++ codes "[]")) ∷ (codes "value", value) ∷ dimension_fields ds) × IsArrayJson names ss value
+    (value : Json) × (fields ≡ (codes "type", json.string (type_name k ++ codes "[]")) ∷ (codes "value", value) ∷ dimension_fields ds)
+    × IsArrayJson names ss value
 
 -- a value: one that cannot be encoded is `unwritable`, without its type
 abbrev pub AreWrittenFields : Bool → VariantData → List Field → Type 0

@@ -5,7 +5,9 @@ use Rattle.std.specs.List.{flat_map}
 use Rattle.uuid.specs.Text.{hyphenated_text, lower}
 use Rattle.ua_diagnostic.specs.Diagnostic.{diagnostic_canonical}
 use Rattle.ua_variant.specs.Canonical.{variant_canonical, data_value_canonical}
-use Rattle.ua_variant.specs.Data.{LeafData, boolean, sbyte, byte, int16, uint16, int32, uint32, int64, uint64, float, double, string, date_time, guid, byte_string, xml_element, node_id, expanded_node_id, status_code, qualified_name, localized_text, extension_object, reserved, VariantData, null, one, absent, many, ScalarData, leaf, data_value, variant, diagnostic}
+use Rattle.ua_variant.specs.Data.{LeafData, boolean, sbyte, byte, int16, uint16, int32, uint32, int64, uint64, float, double, string, date_time, guid}
+use Rattle.ua_variant.specs.Data.{byte_string, xml_element, node_id, expanded_node_id, status_code, qualified_name, localized_text, extension_object}
+use Rattle.ua_variant.specs.Data.{reserved, VariantData, null, one, absent, many, ScalarData, leaf, data_value, variant, diagnostic}
 use Rattle.ua_variant.specs.Encodable.{kind_of, variant_encodable, data_value_encodable, diagnostic_encodable}
 use Rattle.ua_variant.specs.Leaf.{leaf_encodable, leaf_canonical}
 use Rattle.ua_variant.specs.View.{row_list}

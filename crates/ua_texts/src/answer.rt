@@ -3,7 +3,9 @@
 ghost use Rattle.std.specs.Prelude.{◌≡◌, ◌++◌, codes, string_bytes, OnOk};
 ghost use Rattle.std.specs.List.{flat_map};
 ghost use Rattle.ua_builtin.specs.NodeText.{node_text};
-ghost use Rattle.ua_texts.specs.Answers.{address_line, endpoint_line, plain_endpoint, plain_read, plain_write, policies_part, policy_line, read_line, status_text, ticks_text, times_part, times_text, value_part, write_line};
+ghost use Rattle.ua_texts.specs.Answers.{address_line, endpoint_line, plain_endpoint, plain_read};
+ghost use Rattle.ua_texts.specs.Answers.{plain_write, policies_part, policy_line, read_line, status_text};
+ghost use Rattle.ua_texts.specs.Answers.{ticks_text, times_part, times_text, value_part, write_line};
 ghost use Rattle.ua_texts.specs.Names.{named_code, number_of};
 
 use crate::names::push_code_as;

@@ -1,7 +1,8 @@
 //! Texts between delimiters, which are called marks.
 
 ghost use Rattle.std.specs.Prelude.{◌≡◌, ◌++◌, string_bytes, OnOk, Some, None, if◌then◌else◌};
-ghost use Rattle.ua_texts.specs.Marks.{before_bar, before_semicolon, is_mark, marked, marked_char, marked_string, of as marks_of};
+ghost use Rattle.ua_texts.specs.Marks.{before_bar, before_semicolon, is_mark, marked};
+ghost use Rattle.ua_texts.specs.Marks.{marked_char, marked_string, of as marks_of};
 
 use crate::text::{push_char, push_escaped_octet};
 use std::alloc::AllocError;

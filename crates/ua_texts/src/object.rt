@@ -11,7 +11,11 @@ ghost use Rattle.json.specs.Tree.{json_tokens};
 ghost use Rattle.ua_variant.specs.Data.{leaf, null};
 ghost use Rattle.ua_variant.specs.Packed.{packed_leaves};
 ghost use Rattle.ua_variant.specs.View.{elements_of, scalar_of, variant_of};
-ghost use Rattle.ua_texts.specs.Json.{address_fields, array, array_fields, both_fields, dimension_fields, endpoint_json, int64_json, items_json, json_line, name_fields, policies_json, policy_fields, policy_json, read_json, scalar_fields, scalar_json, signed_json, status_fields, text_or_null, time_fields, time_json, uint64_json, value_fields, variant_fields, write_json, written_fields};
+ghost use Rattle.ua_texts.specs.Json.{address_fields, array, array_fields, both_fields, dimension_fields};
+ghost use Rattle.ua_texts.specs.Json.{endpoint_json, int64_json, items_json, json_line, name_fields, policies_json};
+ghost use Rattle.ua_texts.specs.Json.{policy_fields, policy_json, read_json, scalar_fields, scalar_json};
+ghost use Rattle.ua_texts.specs.Json.{signed_json, status_fields, text_or_null, time_fields, time_json};
+ghost use Rattle.ua_texts.specs.Json.{uint64_json, value_fields, variant_fields, write_json, written_fields};
 ghost use Rattle.ua_texts.specs.Names.{name_of_code};
 ghost use Rattle.ua_texts.specs.Tokens.{Puts, element_tokens, fields_tokens};
 ghost use Rattle.ua_texts.specs.Values.{scalar_text, type_name as name_of_type};
@@ -40,7 +44,8 @@ pub fn push_read_json(
     answer: &DataValue,
     style: LineStyle,
 ) -> Result<(), AllocError>
-    ensures { OnOk result (string_bytes out.new ≡ string_bytes out.old ++ json_line (read_json style node.now answer.now)) }
+    ensures { OnOk result
+        (string_bytes out.new ≡ string_bytes out.old ++ json_line (read_json style node.now answer.now)) }
 {
     let mut line = begin_line(alloc)?;
     let status = answer.status.unwrap_or(StatusCode::GOOD);
@@ -58,7 +63,8 @@ pub fn push_write_json(
     status: StatusCode,
     style: LineStyle,
 ) -> Result<(), AllocError>
-    ensures { OnOk result (string_bytes out.new ≡ string_bytes out.old ++ json_line (write_json style node.now status)) }
+    ensures { OnOk result
+        (string_bytes out.new ≡ string_bytes out.old ++ json_line (write_json style node.now status)) }
 {
     let mut line = begin_line(alloc)?;
     put_status(alloc, &mut line, node, status, style.names)?;
@@ -72,7 +78,8 @@ pub fn push_endpoint_json(
     endpoint: &EndpointDescription,
     style: EndpointStyle,
 ) -> Result<(), AllocError>
-    ensures { OnOk result (string_bytes out.new ≡ string_bytes out.old ++ json_line (endpoint_json style endpoint.now)) }
+    ensures { OnOk result
+        (string_bytes out.new ≡ string_bytes out.old ++ json_line (endpoint_json style endpoint.now)) }
 {
     let mut line = begin_line(alloc)?;
     put_address(&mut line, endpoint)?;
@@ -92,7 +99,8 @@ pub(crate) fn begin_line(alloc: Global) -> Result<Writer, AllocError>
 /// Ends the object, and appends what was put as a line.
 pub(crate) fn end_line(out: &mut String, mut line: Writer) -> Result<(), AllocError>
     requires { line.before ≡ [] }
-    ensures { OnOk result (string_bytes out.new ≡ string_bytes out.old ++ (print (line.tokens ++ end_object ∷ []) ++ codes "\n")) }
+    ensures { OnOk result
+        (string_bytes out.new ≡ string_bytes out.old ++ (print (line.tokens ++ end_object ∷ []) ++ codes "\n")) }
 {
     line.end_object()?;
     push_line(out, line)
@@ -323,7 +331,8 @@ pub(crate) fn put_dimensions(line: &mut Writer, dims: &Dimensions) -> Result<(),
 }
 
 fn put_each_dimension(line: &mut Writer, dims: &[i32]) -> Result<(), AllocError>
-    ensures { Puts result line.old line.new (fields_tokens ((codes "dimensions", array (map signed_json dims.now)) ∷ [])) }
+    ensures { Puts result line.old line.new
+        (fields_tokens ((codes "dimensions", array (map signed_json dims.now)) ∷ [])) }
 {
     line.key("dimensions")?;
     put_size_list(line, dims)

@@ -5,7 +5,8 @@ ghost use Rattle.std.specs.List.{flat_map};
 ghost use Rattle.ua_variant.specs.Data.{leaf, variant};
 ghost use Rattle.ua_variant.specs.Packed.{packed_leaves};
 ghost use Rattle.ua_variant.specs.View.{data_fields_of, data_value_of, many_of, scalar_of, variant_of};
-ghost use Rattle.ua_texts.specs.Plain.{IsLeafOrOctets, IsPlainDataValue, IsPlainFields, IsPlainItems, IsPlainScalar, IsPlainTyped, IsPlainVariant, array_type, length_text};
+ghost use Rattle.ua_texts.specs.Plain.{IsLeafOrOctets, IsPlainDataValue, IsPlainFields, IsPlainItems};
+ghost use Rattle.ua_texts.specs.Plain.{IsPlainScalar, IsPlainTyped, IsPlainVariant, array_type, length_text};
 ghost use Rattle.ua_texts.specs.PlainLeaf.{Adds};
 ghost use Rattle.ua_texts.specs.Values.{comma_at};
 
@@ -50,7 +51,8 @@ fn push_plain_typed(
     names: bool,
     within: bool,
 ) -> Result<(), AllocError>
-    ensures { Adds result (string_bytes out.old) (string_bytes out.new) (IsPlainTyped names within (variant_of value.now)) }
+    ensures { Adds result (string_bytes out.old) (string_bytes out.new)
+        (IsPlainTyped names within (variant_of value.now)) }
 {
     match value {
         Variant::Null => out.push_str("Null"),
@@ -75,7 +77,8 @@ fn push_plain_array(
     dims: &Dimensions,
     names: bool,
 ) -> Result<(), AllocError>
-    ensures { Adds result (string_bytes out.old) (string_bytes out.new) (IsPlainTyped names true (many_of kind items.now dims.now)) }
+    ensures { Adds result (string_bytes out.old) (string_bytes out.new)
+        (IsPlainTyped names true (many_of kind items.now dims.now)) }
 {
     push_array_type(out, kind, dims)?;
     match items {
@@ -133,7 +136,8 @@ fn push_plain_packed(
     packed: &Packed,
     names: bool,
 ) -> Result<(), AllocError>
-    ensures { Adds result (string_bytes out.old) (string_bytes out.new) (IsPlainItems names (map leaf (packed_leaves packed.now))) }
+    ensures { Adds result (string_bytes out.old) (string_bytes out.new)
+        (IsPlainItems names (map leaf (packed_leaves packed.now))) }
 {
     for index in 0..packed.len() {
         let Some(scalar) = packed.get(index) else {
@@ -152,7 +156,8 @@ fn push_plain_scalars(
     scalars: &[Scalar],
     names: bool,
 ) -> Result<(), AllocError>
-    ensures { Adds result (string_bytes out.old) (string_bytes out.new) (IsPlainItems names (map scalar_of scalars.now)) }
+    ensures { Adds result (string_bytes out.old) (string_bytes out.new)
+        (IsPlainItems names (map scalar_of scalars.now)) }
 {
     for (index, scalar) in scalars.iter().enumerate() {
         push_comma(out, index)?;
@@ -180,7 +185,8 @@ pub(crate) fn push_plain_scalar(
     names: bool,
     within: bool,
 ) -> Result<(), AllocError>
-    ensures { Adds result (string_bytes out.old) (string_bytes out.new) (IsPlainScalar names within (scalar_of scalar.now)) }
+    ensures { Adds result (string_bytes out.old) (string_bytes out.new)
+        (IsPlainScalar names within (scalar_of scalar.now)) }
 {
     match scalar {
         Scalar::DataValue(value) => push_plain_data_value(alloc, out, value, names),
@@ -199,7 +205,8 @@ fn push_plain_leaf(
     names: bool,
     within: bool,
 ) -> Result<(), AllocError>
-    ensures { Adds result (string_bytes out.old) (string_bytes out.new) (IsLeafOrOctets names within (scalar_of scalar.now)) }
+    ensures { Adds result (string_bytes out.old) (string_bytes out.new)
+        (IsLeafOrOctets names within (scalar_of scalar.now)) }
 {
     match scalar {
         Scalar::Float(value) => push_float(out, *value),
@@ -265,7 +272,8 @@ fn push_plain_data_value(
 /// Appends the fields of a DataValue that are present, except its value.
 #[inline(never)]
 fn push_plain_fields(out: &mut String, value: &DataValue, names: bool) -> Result<(), AllocError>
-    ensures { Adds result (string_bytes out.old) (string_bytes out.new) (IsPlainFields names (data_fields_of value.now)) }
+    ensures { Adds result (string_bytes out.old) (string_bytes out.new)
+        (IsPlainFields names (data_fields_of value.now)) }
 {
     push_status_part(out, "status", value.status, names)?;
     push_time_part(

@@ -1,7 +1,8 @@
 //! The lines of Read results, with values and timestamps in the human-readable form.
 
 ghost use Rattle.std.specs.Prelude.{◌≡◌, ◌++◌, string_bytes};
-ghost use Rattle.ua_texts.specs.PlainAnswers.{ArePlainTimes, IsPlainLine, IsPlainRead, IsPlainTime, IsPlainTimesPart, IsPlainValuePart};
+ghost use Rattle.ua_texts.specs.PlainAnswers.{ArePlainTimes, IsPlainLine, IsPlainRead};
+ghost use Rattle.ua_texts.specs.PlainAnswers.{IsPlainTime, IsPlainTimesPart, IsPlainValuePart};
 ghost use Rattle.ua_texts.specs.PlainLeaf.{Adds};
 
 use crate::answer::push_status;

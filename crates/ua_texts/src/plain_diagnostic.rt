@@ -31,7 +31,8 @@ pub fn push_diagnostic(
     value: &DiagnosticInfo,
     names: bool,
 ) -> Result<(), AllocError>
-    ensures { OnOk result (string_bytes out.new ≡ string_bytes out.old ++ plain_diagnostic names (diagnostic_of value.now)) }
+    ensures { OnOk result (string_bytes out.new ≡ string_bytes out.old ++ plain_diagnostic names
+        (diagnostic_of value.now)) }
 {
     out.push_str("{")?;
     push_diagnostic_parts(out, value, names)?;
@@ -48,7 +49,8 @@ pub fn push_diagnostic(
 /// Appends a DiagnosticInfo without any field.
 #[tactic(auto, using(crate::proofs::PlainDiagnostics::no_parts))]
 fn push_empty_diagnostic(out: &mut String, names: bool) -> Result<(), AllocError>
-    ensures { OnOk result (string_bytes out.new ≡ string_bytes out.old ++ plain_diagnostic names (innermost no_fields)) }
+    ensures { OnOk result (string_bytes out.new ≡ string_bytes out.old ++ plain_diagnostic names
+        (innermost no_fields)) }
 {
     let _names = names;
     out.push_str("{ }")
@@ -61,7 +63,8 @@ fn push_diagnostic_parts(
     value: &DiagnosticInfo,
     names: bool,
 ) -> Result<(), AllocError>
-    ensures { OnOk result (string_bytes out.new ≡ string_bytes out.old ++ diagnostic_parts names (diagnostic_fields_of value.now)) }
+    ensures { OnOk result (string_bytes out.new ≡ string_bytes out.old ++ diagnostic_parts names
+        (diagnostic_fields_of value.now)) }
 {
     push_number_part(out, "symbolic_id", value.symbolic_id)?;
     push_number_part(out, "namespace_uri", value.namespace_uri)?;

@@ -1,7 +1,9 @@
 //! Values that contain no other value, in the human-readable form.
 
 ghost use Rattle.std.specs.Prelude.{◌≡◌, ◌++◌, OnOk, string_bytes};
-ghost use Rattle.ua_texts.specs.PlainLeaf.{Adds, IsPlainDouble, IsPlainFloat, IsPlainMoment, locale_text, plain_code, plain_expanded, plain_localized, plain_name, plain_node, plain_string, server_text, uri_text};
+ghost use Rattle.ua_texts.specs.PlainLeaf.{Adds, IsPlainDouble, IsPlainFloat, IsPlainMoment};
+ghost use Rattle.ua_texts.specs.PlainLeaf.{locale_text, plain_code, plain_expanded, plain_localized};
+ghost use Rattle.ua_texts.specs.PlainLeaf.{plain_name, plain_node, plain_string, server_text, uri_text};
 
 use crate::marks::{Marks, push_marked, push_marked_string};
 use crate::names::code_name;

@@ -1,7 +1,8 @@
 //! Texts of values after their types, and the lines that contain them, in the human-readable form.
 
 ghost use Rattle.std.specs.Prelude.{◌≡◌, ◌++◌, ◌∷◌, [], IfOk, OnOk, string_bytes};
-ghost use Rattle.ua_texts.specs.PlainLines.{exact_fields, exact_line, exact_lines as exact_lines_of, exact_typed as exact_typed_of};
+ghost use Rattle.ua_texts.specs.PlainLines.{exact_fields, exact_line, exact_lines as exact_lines_of};
+ghost use Rattle.ua_texts.specs.PlainLines.{exact_typed as exact_typed_of};
 
 use crate::plain_read::push_exact_text;
 use std::alloc::{AllocError, Global};

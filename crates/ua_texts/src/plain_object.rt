@@ -6,7 +6,9 @@ ghost use Rattle.ua_variant.specs.Data.{leaf, many, one};
 ghost use Rattle.ua_variant.specs.Packed.{packed_leaves};
 ghost use Rattle.ua_variant.specs.View.{elements_of, many_of, row, scalar_of, variant_of};
 ghost use Rattle.ua_texts.specs.Plain.{IsPlainScalar};
-ghost use Rattle.ua_texts.specs.PlainJson.{AreBothFields, AreJson, AreTimeFields, AreValueFields, AreVariantFields, AreWrittenFields, IsArrayJson, IsFloatJson, IsPlainJson, IsScalarJson, IsTextJson, IsTimeJson, PutsEach, PutsFields, PutsJson};
+ghost use Rattle.ua_texts.specs.PlainJson.{AreBothFields, AreJson, AreTimeFields, AreValueFields, AreVariantFields};
+ghost use Rattle.ua_texts.specs.PlainJson.{AreWrittenFields, IsArrayJson, IsFloatJson, IsPlainJson, IsScalarJson};
+ghost use Rattle.ua_texts.specs.PlainJson.{IsTextJson, IsTimeJson, PutsEach, PutsFields, PutsJson};
 ghost use Rattle.ua_texts.specs.PlainLeaf.{Adds, IsPlainDouble, IsPlainFloat, IsPlainMoment};
 
 use crate::object::{
@@ -227,7 +229,8 @@ fn put_plain_scalar(
 
 /// Puts a Float: a number, or the text of one that JSON has no number for.
 fn put_float(alloc: Global, line: &mut Writer, value: FloatBits) -> Result<(), AllocError>
-    ensures { PutsJson result line.old line.new (IsFloatJson binary32 (from_bits binary32 value.bits) (IsPlainFloat value.bits)) }
+    ensures { PutsJson result line.old line.new
+        (IsFloatJson binary32 (from_bits binary32 value.bits) (IsPlainFloat value.bits)) }
 {
     let number = num::f32_from_bits_with_nan(value.bits);
     if number.is_finite() {
@@ -240,7 +243,8 @@ fn put_float(alloc: Global, line: &mut Writer, value: FloatBits) -> Result<(), A
 
 /// Puts a Double: a number, or the text of one that JSON has no number for.
 fn put_double(alloc: Global, line: &mut Writer, value: DoubleBits) -> Result<(), AllocError>
-    ensures { PutsJson result line.old line.new (IsFloatJson binary64 (from_bits binary64 value.bits) (IsPlainDouble value.bits)) }
+    ensures { PutsJson result line.old line.new
+        (IsFloatJson binary64 (from_bits binary64 value.bits) (IsPlainDouble value.bits)) }
 {
     let number = num::f64_from_bits_with_nan(value.bits);
     if number.is_finite() {

@@ -2,7 +2,8 @@
 
 ghost use Rattle.std.specs.Prelude.{◌≡◌, ◌++◌, OnOk, string_bytes};
 ghost use Rattle.ua_texts.specs.PlainLeaf.{Adds};
-ghost use Rattle.ua_texts.specs.PlainParts.{IsMomentPart, IsTimePart, number_part, picoseconds_part, status_part, text_part};
+ghost use Rattle.ua_texts.specs.PlainParts.{IsMomentPart, IsTimePart, number_part};
+ghost use Rattle.ua_texts.specs.PlainParts.{picoseconds_part, status_part, text_part};
 
 use crate::marks::{Marks, push_marked};
 use crate::plain_leaf::{push_moment, push_plain_code};

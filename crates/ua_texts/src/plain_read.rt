@@ -76,7 +76,8 @@ fn push_exact_item(
     index: usize,
     element: &str,
 ) -> Result<(), AllocError>
-    ensures { OnOk result (string_bytes out.new ≡ string_bytes out.old ++ item_text index (exact_element kind element.now)) }
+    ensures { OnOk result
+        (string_bytes out.new ≡ string_bytes out.old ++ item_text index (exact_element kind element.now)) }
 {
     if index > 0 {
         out.push_str(",")?;

@@ -24,7 +24,8 @@ pub fn push_plain_read_answers(
     response: &Response,
     style: LineStyle,
 ) -> Result<(), AnswerFault>
-    ensures lines { OnOk result (HaveLines (values_in response.now) (length nodes.now) (ArePlainReads style nodes.now) (string_bytes out.old) (string_bytes out.new)) }
+    ensures lines { OnOk result (HaveLines (values_in response.now) (length nodes.now) (ArePlainReads style nodes.now)
+        (string_bytes out.old) (string_bytes out.new)) }
     ensures faults { IfErr result (NoAnswers (values_in response.now) (length nodes.now) response.now) }
     ensures kept { IfErr result (Leaves (string_bytes out.old) (string_bytes out.new)) }
 {
@@ -69,7 +70,8 @@ pub fn push_read_answers_as(
     response: &Response,
     style: AnswerStyle,
 ) -> Result<(), AnswerFault>
-    ensures lines { OnOk result (HaveLines (values_in response.now) (length nodes.now) (AreReads style nodes.now) (string_bytes out.old) (string_bytes out.new)) }
+    ensures lines { OnOk result (HaveLines (values_in response.now) (length nodes.now) (AreReads style nodes.now)
+        (string_bytes out.old) (string_bytes out.new)) }
     ensures faults { IfErr result (NoAnswers (values_in response.now) (length nodes.now) response.now) }
     ensures kept { IfErr result (Leaves (string_bytes out.old) (string_bytes out.new)) }
 {

@@ -4,7 +4,8 @@ ghost use Rattle.std.specs.Prelude.{◌≡◌, ◌++◌, length, string_bytes, I
 ghost use Rattle.std.specs.List.{flat_map, list_any};
 ghost use Rattle.ua_builtin.specs.Status.{is_bad};
 ghost use Rattle.ua_texts.specs.Answers.{endpoint_line, read_lines, write_lines};
-ghost use Rattle.ua_texts.specs.Replies.{AreAnswers, AreEndpoints, Leaves, NoAnswers, NoEndpoints, endpoints_in, has_bad, is_bad_value, statuses_in, values_in};
+ghost use Rattle.ua_texts.specs.Replies.{AreAnswers, AreEndpoints, Leaves, NoAnswers, NoEndpoints};
+ghost use Rattle.ua_texts.specs.Replies.{endpoints_in, has_bad, is_bad_value, statuses_in, values_in};
 
 use crate::answer::{push_endpoint_line, push_read_line, push_write_line};
 use crate::fault::AnswerFault;
@@ -57,7 +58,8 @@ pub fn push_read_answers(
     response: &Response,
     style: LineStyle,
 ) -> Result<(), AnswerFault>
-    ensures lines { OnOk result (AreAnswers (values_in response.now) (length nodes.now) (read_lines style nodes.now) (string_bytes out.old) (string_bytes out.new)) }
+    ensures lines { OnOk result (AreAnswers (values_in response.now) (length nodes.now) (read_lines style nodes.now)
+        (string_bytes out.old) (string_bytes out.new)) }
     ensures faults { IfErr result (NoAnswers (values_in response.now) (length nodes.now) response.now) }
     ensures kept { IfErr result (Leaves (string_bytes out.old) (string_bytes out.new)) }
 {
@@ -100,7 +102,8 @@ pub fn push_write_answers(
     response: &Response,
     style: LineStyle,
 ) -> Result<(), AnswerFault>
-    ensures lines { OnOk result (AreAnswers (statuses_in response.now) (length nodes.now) (write_lines style nodes.now) (string_bytes out.old) (string_bytes out.new)) }
+    ensures lines { OnOk result (AreAnswers (statuses_in response.now) (length nodes.now) (write_lines style nodes.now)
+        (string_bytes out.old) (string_bytes out.new)) }
     ensures faults { IfErr result (NoAnswers (statuses_in response.now) (length nodes.now) response.now) }
     ensures kept { IfErr result (Leaves (string_bytes out.old) (string_bytes out.new)) }
 {
@@ -142,7 +145,8 @@ pub fn push_endpoints(
     response: &Response,
     style: EndpointStyle,
 ) -> Result<(), AnswerFault>
-    ensures lines { OnOk result (AreEndpoints style (endpoints_in response.now) (string_bytes out.old) (string_bytes out.new)) }
+    ensures lines { OnOk result (AreEndpoints style (endpoints_in response.now) (string_bytes out.old)
+        (string_bytes out.new)) }
     ensures faults { IfErr result (NoEndpoints response.now) }
     ensures kept { IfErr result (Leaves (string_bytes out.old) (string_bytes out.new)) }
 {
@@ -164,7 +168,8 @@ fn push_endpoint_lines(
     endpoints: &[EndpointDescription],
     style: EndpointStyle,
 ) -> Result<(), AllocError>
-    ensures { OnOk result (string_bytes out.new ≡ string_bytes out.old ++ flat_map (endpoint_line style) endpoints.now) }
+    ensures { OnOk result
+        (string_bytes out.new ≡ string_bytes out.old ++ flat_map (endpoint_line style) endpoints.now) }
 {
     for endpoint in endpoints {
         push_endpoint_line(alloc, out, endpoint, style)?;

@@ -4,7 +4,8 @@ ghost use Rattle.std.specs.Prelude.{◌≡◌, ◌++◌, string_bytes, OnOk};
 ghost use Rattle.std.specs.Char.{encode_utf8};
 ghost use Rattle.uuid.specs.Text.{hyphenated_text, lower};
 ghost use Rattle.std.specs.List.{flat_map};
-ghost use Rattle.ua_texts.specs.Shown.{escaped, escaped_char as one_escaped, escaped_octet, escaped_string, shown, shown_string, code_text, pattern_text, base64_text, written_text};
+ghost use Rattle.ua_texts.specs.Shown.{escaped, escaped_char as one_escaped, escaped_octet, escaped_string};
+ghost use Rattle.ua_texts.specs.Shown.{shown, shown_string, code_text, pattern_text, base64_text, written_text};
 
 use base64::engine::general_purpose::STANDARD;
 use std::alloc::{AllocError, Global};
@@ -135,7 +136,8 @@ pub fn push_base64(out: &mut String, octets: &UaBytes) -> Result<(), AllocError>
 /// Appends the bytes of a value's canonical encoding, as `0x` and two hexadecimal digits for each,
 /// or `unwritable` if it has none.
 pub fn push_encoded<T: Wire>(alloc: Global, out: &mut String, value: &T) -> Result<(), AllocError>
-    ensures { OnOk result (string_bytes out.new ≡ string_bytes out.old ++ written_text (T.format.encodable value.now) (T.format.canonical value.now)) }
+    ensures { OnOk result (string_bytes out.new ≡ string_bytes out.old ++ written_text (T.format.encodable value.now)
+        (T.format.canonical value.now)) }
 {
     let mut octets = Vec::new(alloc);
     match value.write(&mut octets) {

@@ -4,7 +4,8 @@ ghost use Rattle.std.specs.Prelude.{◌≡◌, ◌++◌, map, string_bytes, OnOk
 ghost use Rattle.ua_variant.specs.Data.{data_value, diagnostic, leaf, variant};
 ghost use Rattle.ua_variant.specs.Packed.{packed_leaves};
 ghost use Rattle.ua_variant.specs.View.{elements_of, scalar_of, variant_of};
-ghost use Rattle.ua_texts.specs.Values.{array_text, boolean_text, item_text, items_text, scalar_text, type_name as name_of_type, typed_text, variant_text};
+ghost use Rattle.ua_texts.specs.Values.{array_text, boolean_text, item_text, items_text, scalar_text};
+ghost use Rattle.ua_texts.specs.Values.{type_name as name_of_type, typed_text, variant_text};
 
 use crate::text::{
     push_base64, push_encoded, push_guid, push_pattern, push_string, push_wide_pattern,
@@ -110,7 +111,8 @@ fn push_elements(alloc: Global, out: &mut String, elements: &Elements) -> Result
 }
 
 fn push_packed(alloc: Global, out: &mut String, packed: &Packed) -> Result<(), AllocError>
-    ensures { OnOk result (string_bytes out.new ≡ string_bytes out.old ++ items_text (map leaf (packed_leaves packed.now))) }
+    ensures { OnOk result
+        (string_bytes out.new ≡ string_bytes out.old ++ items_text (map leaf (packed_leaves packed.now))) }
 {
     for index in 0..packed.len() {
         let Some(scalar) = packed.get(index) else {
@@ -137,7 +139,8 @@ fn push_item(
     index: usize,
     scalar: &Scalar,
 ) -> Result<(), AllocError>
-    ensures { OnOk result (string_bytes out.new ≡ string_bytes out.old ++ item_text index (scalar_text (scalar_of scalar.now))) }
+    ensures { OnOk result
+        (string_bytes out.new ≡ string_bytes out.old ++ item_text index (scalar_text (scalar_of scalar.now))) }
 {
     if index > 0 {
         out.push_str(",")?;

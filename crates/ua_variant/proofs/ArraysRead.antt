@@ -55,7 +55,8 @@ none_to n k y b r = subst (λ x. RowOf n k 0 x b) (sym r.0) (refl, r.1, omega ar
 
 pub exact_row : (n k m : ℕ) (p : Reader ScalarData) → Exact (ShallowS n k) p → Exact (RowOf n k m) (row_at m p)
 exact_row n k zero p e = exact_as (RowOf n k 0) (exact_only no_scalars) (none_to n k) (none_from n k)
-exact_row n k (suc m) p e = exact_as (RowOf n k (suc m)) (exact_then e (λ s. exact_map (λ ss. scalar s ss) (exact_row n k m p e))) (row_to n k m) (row_from n k m)
+exact_row n k (suc m) p e = exact_as (RowOf n k (suc m)) (exact_then e (λ s. exact_map (λ ss. scalar s ss) (exact_row n k m p e))) (row_to n k m)
+    (row_from n k m)
 
 -- ---- arrays
 
@@ -65,7 +66,8 @@ NullArray k f y b = (ds : List ℤ) × (y ≡ absent k ds) × Joins IsNegative (
 
 -- an array of the type id k: the count of its elements, the elements, of the depth n at most, and its dimensions
 abbrev WholeArray : ℕ → ℕ → Bool → VariantData → List ℕ → Type 0
-WholeArray n k f y b = (ss : ScalarsData) × (ds : List ℤ) × (y ≡ many k ss ds) × (scalars_depth ss ≤ n) × Joins (IsCount (row_length ss)) (Joins (EncodesRow k ss) (EncodesDims f (row_length ss) ds)) b
+WholeArray n k f y b = (ss : ScalarsData) × (ds : List ℤ) × (y ≡ many k ss ds) × (scalars_depth ss ≤ n)
+    × Joins (IsCount (row_length ss)) (Joins (EncodesRow k ss) (EncodesDims f (row_length ss) ds)) b
 
 -- what stands behind the first octet of an array of the type id k, of the depth n at most within
 abbrev pub ArrayOf : ℕ → ℕ → Bool → VariantData → List ℕ → Type 0
@@ -92,17 +94,32 @@ whole_body_from n k f m h y c (inl r) = let e : is_negative m ≡ true = r.0 in 
 whole_body_from n k f m h y c (inr r) = r.1
 
 array_body : (n k : ℕ) (f : Bool) (p : Reader ScalarData) → Exact (ShallowS n k) p → (m : ℕ)
-    → Exact (ArrayBody n k f m) (λ octets. cond (is_negative m) (no_dims_at f octets >>= λ ds. Some (absent k ds.0, ds.1)) (row_at m p octets >>= λ ss. dims_at f m ss.1 >>= λ ds. Some (many k ss.0 ds.0, ds.1)))
+    → Exact (ArrayBody n k f m) (λ octets. cond (is_negative m) (no_dims_at f octets >>= λ ds. Some (absent k ds.0, ds.1))
+    (row_at m p octets >>= λ ss. dims_at f m ss.1 >>= λ ds. Some (many k ss.0 ds.0, ds.1)))
 array_body n k f p e m =
-    exact_if (is_negative m) (λ h. exact_as (ArrayBody n k f m) (exact_map (λ ds. absent k ds) (exact_no_dims f)) (λ y c r. inl (h, r)) (null_body_from n k f m h))
-    (λ h. exact_as (ArrayBody n k f m) (exact_then (exact_row n k m p e) (λ ss. exact_map (λ ds. many k ss ds) (exact_dims f m))) (λ y c r. inr (h, r)) (whole_body_from n k f m h))
+    exact_if (is_negative m) (λ h. exact_as (ArrayBody n k f m) (exact_map (λ ds. absent k ds) (exact_no_dims f)) (λ y c r. inl (h, r))
+    (null_body_from n k f m h))
+    (λ h. exact_as (ArrayBody n k f m) (exact_then (exact_row n k m p e) (λ ss. exact_map (λ ds. many k ss ds) (exact_dims f m))) (λ y c r. inr (h, r))
+    (whole_body_from n k f m h))
 
 array_to_at : (n k : ℕ) (f : Bool) (m : ℕ) (y : VariantData) (b a c : List ℕ) → b ≡ a ++ c → IsNumber 4 m a → ArrayBody n k f m y c → ArrayOf n k f y b
 array_to_at n k f m y b a c e w (inl r) = inl (r.1.0, r.1.1, (a, c, e, (m, w, negative_is m r.0), r.1.2))
 array_to_at n k f m y b a c e w (inr r) =
     let j = r.1.1 in
     let l : row_length r.1.0 ≡ m = j.3.0 in
-    inr (r.1.0, j.4.0, j.4.1, j.3.2, (a, c, e, (subst (λ i. IsNumber 4 i a) (sym l) w, subst (λ i. i < 2147483648) (sym l) (not_negative m r.0)), (j.0, j.1, j.2, j.3.1, subst (λ i. EncodesDims f i j.4.0 j.1) (sym l) j.4.2)))
+    inr (
+      r.1.0,
+      j.4.0,
+      j.4.1,
+      j.3.2,
+      (
+        a,
+        c,
+        e,
+        (subst (λ i. IsNumber 4 i a) (sym l) w, subst (λ i. i < 2147483648) (sym l) (not_negative m r.0)),
+        (j.0, j.1, j.2, j.3.1, subst (λ i. EncodesDims f i j.4.0 j.1) (sym l) j.4.2),
+      ),
+    )
 
 array_to : (n k : ℕ) (f : Bool) (y : VariantData) (b : List ℕ) → (m : ℕ) × Joins (IsNumber 4 m) (ArrayBody n k f m y) b → ArrayOf n k f y b
 array_to n k f y b r = array_to_at n k f r.0 y b r.1.0 r.1.1 r.1.2 r.1.3 r.1.4

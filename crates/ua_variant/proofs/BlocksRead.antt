@@ -1,5 +1,6 @@
 -- Arrays of a type whose values all take the same octets, read a block at a time.
-use Rattle.std.proofs.Common.{◌≡◌, ℕ, zero, suc, ◌+◌, ◌-◌, ◌*◌, ◌/◌, ◌<◌, ◌≤◌, true, false, cond, eqb, List, [], ◌∷◌, ◌++◌, length, take, map, Option, Some, None, refl, sym, subst, ap, ◌∙◌, append-nil, arith, length-append}
+use Rattle.std.proofs.Common.{◌≡◌, ℕ, zero, suc, ◌+◌, ◌-◌, ◌*◌, ◌/◌, ◌<◌, ◌≤◌, true, false, cond, eqb, List, [], ◌∷◌, ◌++◌}
+use Rattle.std.proofs.Common.{length, take, map, Option, Some, None, refl, sym, subst, ap, ◌∙◌, append-nil, arith, length-append}
 use Rattle.std.proofs.lemmas.Grind.{common_steps}
 use Rattle.std.proofs.lemmas.List.{map-append}
 use Rattle.std.proofs.Math.Seq.{take-append_seam}
@@ -20,7 +21,9 @@ use Rattle.ua_wire.specs.declared.fault.ReadFault.{ReadFault}
 use Rattle.ua_wire.specs.declared.fault.ReadFault.TheVariants.{NoValue, OutOfMemory}
 use Rattle.std.specs.Prelude.{Result, Ok, Err}
 use Rattle.ua_variant.specs.Blocks.{before, with_front, row_behind, leaf_row_at, GoesOn}
-use Rattle.ua_variant.specs.Data.{LeafData, boolean, sbyte, byte, int16, uint16, int32, uint32, int64, uint64, float, double, string, date_time, guid, byte_string, xml_element, node_id, expanded_node_id, status_code, qualified_name, localized_text, extension_object, reserved, ScalarData, leaf, data_value, variant, diagnostic, ScalarsData, no_scalars, scalar}
+use Rattle.ua_variant.specs.Data.{LeafData, boolean, sbyte, byte, int16, uint16, int32, uint32, int64, uint64, float, double, string, date_time}
+use Rattle.ua_variant.specs.Data.{guid, byte_string, xml_element, node_id, expanded_node_id, status_code, qualified_name, localized_text}
+use Rattle.ua_variant.specs.Data.{extension_object, reserved, ScalarData, leaf, data_value, variant, diagnostic, ScalarsData, no_scalars, scalar}
 use Rattle.ua_variant.specs.Decoding.{row_at, scalar_at, scalars_at, data_value_at, variant_at}
 use Rattle.ua_diagnostic.specs.Diagnostic.{diagnostic_at}
 use Rattle.ua_variant.specs.Encodable.{kind_of, row_length}
@@ -80,7 +83,8 @@ row_width : (k : ℕ) (ss : ScalarsData) (b : List ℕ) → is_packed_kind k ≡
 row_width k no_scalars b p h = omega (arith, ap length h)
 row_width k (scalar s ss) b p h =
     let j = h.1 in
-    let one : length j.0 ≡ least_octets k = subst (λ i. length j.0 ≡ least_octets i) h.0 (scalar_width s j.0 j.3 (subst (λ i. is_packed_kind i ≡ true) (sym h.0) p)) in
+    let one : length j.0 ≡ least_octets k =
+    subst (λ i. length j.0 ≡ least_octets i) h.0 (scalar_width s j.0 j.3 (subst (λ i. is_packed_kind i ≡ true) (sym h.0) p)) in
     omega (arith, ap length j.2, length-append j.0 j.1, one, row_width k ss j.1 p j.4)
 
 -- ---- the reader of a packed type
@@ -116,7 +120,8 @@ row_packed n k m octets h = row_same (scalars_at n k) (leaves_at k) (λ o. packe
 pub packed_ends : (n k m : ℕ) (octets : List ℕ) → is_packed_kind k ≡ true → row_at m (leaves_at k) octets ≡ None → row_at m (scalars_at n k) octets ≡ None
 packed_ends n k m octets h none = row_packed n k m octets h ∙ none
 
-pub packed_is : (n k m : ℕ) (octets new : List ℕ) {ss ts : List ScalarData} → is_packed_kind k ≡ true → row_at m (leaves_at k) octets ≡ Some (row ss, new) → ts ≡ ss → row_at m (scalars_at n k) octets ≡ Some (row ts, new)
+pub packed_is : (n k m : ℕ) (octets new : List ℕ) {ss ts : List ScalarData} → is_packed_kind k ≡ true → row_at m (leaves_at k) octets ≡ Some (row ss, new)
+    → ts ≡ ss → row_at m (scalars_at n k) octets ≡ Some (row ts, new)
 packed_is n k m octets new h e is = row_packed n k m octets h ∙ e ∙ ap (λ (l : List ScalarData). Some (row l, new)) (sym is)
 
 exact_leaves : (k : ℕ) → is_packed_kind k ≡ true → Exact (ShallowS 0 k) (leaves_at k)
@@ -138,7 +143,8 @@ no_length [] h = refl
 no_length (x ∷ b) h = absurd (omega (arith, h))
 
 -- what stands in a whole block is read alike before other octets
-block_some : (k m : ℕ) (block rest left : List ℕ) (ss : ScalarsData) → is_packed_kind k ≡ true → length block ≡ m * least_octets k → row_at m (leaves_at k) block ≡ Some (ss, left) → row_at m (leaves_at k) (block ++ rest) ≡ Some (ss, rest)
+block_some : (k m : ℕ) (block rest left : List ℕ) (ss : ScalarsData) → is_packed_kind k ≡ true → length block ≡ m * least_octets k
+    → row_at m (leaves_at k) block ≡ Some (ss, left) → row_at m (leaves_at k) (block ++ rest) ≡ Some (ss, rest)
 block_some k m block rest left ss h l e =
     let s = (exact_leaf_row k m h).sound block ss left e in
     let w : length s.front ≡ row_length ss * least_octets k = row_width k ss s.front h s.encoded.1 in
@@ -147,14 +153,16 @@ block_some k m block rest left ss h l e =
     let whole : block ≡ s.front = s.parts ∙ ap (λ (t : List ℕ). s.front ++ t) none ∙ append-nil s.front in
     ap (λ (t : List ℕ). row_at m (leaves_at k) (t ++ rest)) whole ∙ (exact_leaf_row k m h).complete ss s.front rest s.encoded
 
-block_none : (k m : ℕ) (block rest : List ℕ) → is_packed_kind k ≡ true → length block ≡ m * least_octets k → row_at m (leaves_at k) block ≡ None → row_at m (leaves_at k) (block ++ rest) ≡ None
+block_none : (k m : ℕ) (block rest : List ℕ) → is_packed_kind k ≡ true → length block ≡ m * least_octets k → row_at m (leaves_at k) block ≡ None
+    → row_at m (leaves_at k) (block ++ rest) ≡ None
 block_none k m block rest h l e =
     never_some (row_at m (leaves_at k) (block ++ rest))
     (λ x f. let s = (exact_leaf_row k m h).sound (block ++ rest) x.0 x.1 f in
     let w : length s.front ≡ row_length x.0 * least_octets k = row_width k x.0 s.front h s.encoded.1 in
     let n : row_length x.0 * least_octets k ≡ m * least_octets k = ap (λ i. i * least_octets k) s.encoded.0 in
     let same : block ≡ s.front = same_front block rest s.front x.1 s.parts (omega (arith, w, n, l)) in
-    let found : row_at m (leaves_at k) block ≡ Some (x.0, []) = ap (row_at m (leaves_at k)) (same ∙ sym (append-nil s.front)) ∙ (exact_leaf_row k m h).complete x.0 s.front [] s.encoded in
+    let found : row_at m (leaves_at k) block ≡ Some (x.0, []) = ap (row_at m (leaves_at k)) (same ∙ sym (append-nil s.front))
+    ∙ (exact_leaf_row k m h).complete x.0 s.front [] s.encoded in
     absurd (let clash = sym e ∙ found in cc))
 
 -- ---- a row in two parts
@@ -163,7 +171,8 @@ pub before_before : (a b : List ScalarData) (r : ScalarsData) → before a (befo
 before_before [] b r = refl
 before_before (s ∷ a) b r = ap (scalar s) (before_before a b r)
 
-front_scalar : (s : ScalarData) (ss : List ScalarData) (r : Option (ScalarsData × List ℕ)) → (with_front ss r >>= λ x. Some (scalar s x.0, x.1)) ≡ with_front (s ∷ ss) r
+front_scalar : (s : ScalarData) (ss : List ScalarData) (r : Option (ScalarsData × List ℕ)) → (with_front ss r >>= λ x. Some (scalar s x.0, x.1))
+    ≡ with_front (s ∷ ss) r
 front_scalar s ss None = refl
 front_scalar s ss (Some x) = refl
 
@@ -187,11 +196,13 @@ on_from p m x = with_front (row_list x.0) (row_at m p x.1)
 abbrev in_front : ScalarData → ScalarsData × List ℕ → Option (ScalarsData × List ℕ)
 in_front s x = Some (scalar s x.0, x.1)
 
-on_step : (p : Reader ScalarData) (m : ℕ) (s : ScalarData) (o : Option (ScalarsData × List ℕ)) → ((o >>= on_from p m) >>= in_front s) ≡ ((o >>= in_front s) >>= on_from p m)
+on_step : (p : Reader ScalarData) (m : ℕ) (s : ScalarData) (o : Option (ScalarsData × List ℕ))
+    → ((o >>= on_from p m) >>= in_front s) ≡ ((o >>= in_front s) >>= on_from p m)
 on_step p m s None = refl
 on_step p m s (Some x) = front_scalar s (row_list x.0) (row_at m p x.1)
 
-split_step : (p : Reader ScalarData) (n m : ℕ) (o : Option (ScalarData × List ℕ)) → ((octets : List ℕ) → row_at (n + m) p octets ≡ (row_at n p octets >>= on_from p m))
+split_step : (p : Reader ScalarData) (n m : ℕ) (o : Option (ScalarData × List ℕ))
+    → ((octets : List ℕ) → row_at (n + m) p octets ≡ (row_at n p octets >>= on_from p m))
     → (o >>= λ s. row_at (n + m) p s.1 >>= in_front s.0) ≡ ((o >>= λ s. row_at n p s.1 >>= in_front s.0) >>= on_from p m)
 split_step p n m None e = refl
 split_step p n m (Some s) e = ap (λ r. r >>= in_front s.0) (e s.1) ∙ on_step p m s.0 (row_at n p s.1)
@@ -199,7 +210,8 @@ split_step p n m (Some s) e = ap (λ r. r >>= in_front s.0) (e s.1) ∙ on_step 
 -- a row in two parts
 row_split : (p : Reader ScalarData) (n m : ℕ) (octets : List ℕ) → row_at (n + m) p octets ≡ (row_at n p octets >>= on_from p m)
 row_split p zero m octets = let e : 0 + m ≡ m = omega arith in ap (λ (k : ℕ). row_at k p octets) e ∙ sym (front_nothing (row_at m p octets))
-row_split p (suc n) m octets = let e : suc n + m ≡ suc (n + m) = omega arith in ap (λ (k : ℕ). row_at k p octets) e ∙ split_step p n m (p octets) (row_split p n m)
+row_split p (suc n) m octets = let e : suc n + m ≡ suc (n + m) = omega arith in ap (λ (k : ℕ). row_at k p octets) e
+    ∙ split_step p n m (p octets) (row_split p n m)
 
 list_before : (a : List ScalarData) (r : ScalarsData) → row_list (before a r) ≡ a ++ row_list r
 list_before [] r = refl
@@ -213,21 +225,27 @@ front_is : (a b : List ScalarData) (r : ScalarsData) → before a r ≡ row b �
 front_is a b r e = sym (list_before a r) ∙ ap row_list e ∙ list_row b
 
 -- behind a block whose elements were read, reading goes on
-pub block_goes_on : (k n more : ℕ) (a b : List ScalarData) (block rest left : List ℕ) → is_packed_kind k ≡ true → length block ≡ n * least_octets k → row_behind a n (leaves_at k) block ≡ Some (row b, left)
+pub block_goes_on : (k n more : ℕ) (a b : List ScalarData) (block rest left : List ℕ) → is_packed_kind k ≡ true → length block ≡ n * least_octets k
+    → row_behind a n (leaves_at k) block ≡ Some (row b, left)
     → row_behind a (n + more) (leaves_at k) (block ++ rest) ≡ row_behind b more (leaves_at k) rest
 block_goes_on k n more a b block rest left h l e =
     let f = bind_some (row_at n (leaves_at k) block) (λ x. Some (before a x.0, x.1)) (row b, left) e in
     let front : before a f.0.0 ≡ row b = ap (λ (u : ScalarsData × List ℕ). u.0) (some_is (before a f.0.0, f.0.1) (row b, left) f.2) in
-    ap (with_front a) (row_split (leaves_at k) n more (block ++ rest) ∙ ap (λ o. o >>= on_from (leaves_at k) more) (block_some k n block rest f.0.1 f.0.0 h l f.1))
-    ∙ front_front a (row_list f.0.0) (row_at more (leaves_at k) rest) ∙ ap (λ (xs : List ScalarData). with_front xs (row_at more (leaves_at k) rest)) (front_is a b f.0.0 front)
+    ap (with_front a) (row_split (leaves_at k) n more (block ++ rest)
+    ∙ ap (λ o. o >>= on_from (leaves_at k) more) (block_some k n block rest f.0.1 f.0.0 h l f.1))
+    ∙ front_front a (row_list f.0.0) (row_at more (leaves_at k) rest) ∙ ap (λ (xs : List ScalarData). with_front xs (row_at more (leaves_at k) rest))
+    (front_is a b f.0.0 front)
 
 -- behind a block that has no such elements, nothing is read
-pub block_stops : (k n more : ℕ) (a : List ScalarData) (block rest : List ℕ) → is_packed_kind k ≡ true → length block ≡ n * least_octets k → row_behind a n (leaves_at k) block ≡ None → row_behind a (n + more) (leaves_at k) (block ++ rest) ≡ None
+pub block_stops : (k n more : ℕ) (a : List ScalarData) (block rest : List ℕ) → is_packed_kind k ≡ true → length block ≡ n * least_octets k
+    → row_behind a n (leaves_at k) block ≡ None → row_behind a (n + more) (leaves_at k) (block ++ rest) ≡ None
 block_stops k n more a block rest h l e =
-    ap (with_front a) (row_split (leaves_at k) n more (block ++ rest) ∙ ap (λ o. o >>= on_from (leaves_at k) more) (block_none k n block rest h l (front_none_is a (row_at n (leaves_at k) block) e)))
+    ap (with_front a) (row_split (leaves_at k) n more (block ++ rest)
+    ∙ ap (λ o. o >>= on_from (leaves_at k) more) (block_none k n block rest h l (front_none_is a (row_at n (leaves_at k) block) e)))
 
 -- fewer octets than a block's have no such elements
-pub block_short : (k n more : ℕ) (a : List ScalarData) (octets : List ℕ) → is_packed_kind k ≡ true → length octets < n * least_octets k → row_behind a (n + more) (leaves_at k) octets ≡ None
+pub block_short : (k n more : ℕ) (a : List ScalarData) (octets : List ℕ) → is_packed_kind k ≡ true → length octets < n * least_octets k
+    → row_behind a (n + more) (leaves_at k) octets ≡ None
 block_short k n more a octets h l =
     ap (with_front a) (row_split (leaves_at k) n more octets ∙ ap (λ o. o >>= on_from (leaves_at k) more)
     (never_some (row_at n (leaves_at k) octets)
@@ -237,8 +255,10 @@ block_short k n more a octets h l =
     absurd (omega (arith, w, m, l, ap length s.parts, length-append s.front x.1)))))
 
 -- a block that was taken, and what reading it gave
-pub block_read : {X : Type 0} (k n more : ℕ) (a b : List ScalarData) (block rest old left : List ℕ) (answer : Result X ReadFault) → is_packed_kind k ≡ true → length block ≡ n * least_octets k → old ≡ block ++ rest
-    → GivesBy (λ _. row b) (row_behind a n (leaves_at k)) block left answer → GoesOn (row_behind a (n + more) (leaves_at k) old) (row_behind b more (leaves_at k) rest) answer
+pub block_read : {X : Type 0} (k n more : ℕ) (a b : List ScalarData) (block rest old left : List ℕ) (answer : Result X ReadFault) → is_packed_kind k ≡ true
+    → length block ≡ n * least_octets k → old ≡ block ++ rest
+    → GivesBy (λ _. row b) (row_behind a n (leaves_at k)) block left answer
+    → GoesOn (row_behind a (n + more) (leaves_at k) old) (row_behind b more (leaves_at k) rest) answer
 block_read k n more a b block rest old left (Ok v) h l is e = ap (row_behind a (n + more) (leaves_at k)) is ∙ block_goes_on k n more a b block rest left h l e
 block_read k n more a b block rest old left (Err NoValue) h l is e = ap (row_behind a (n + more) (leaves_at k)) is ∙ block_stops k n more a block rest h l e
 block_read k n more a b block rest old left (Err OutOfMemory) h l is e = tt
@@ -246,11 +266,13 @@ block_read k n more a b block rest old left (Err OutOfMemory) h l is e = tt
 -- ---- faults
 
 -- where a step met no value, there is none
-pub fault_ends : {X Y A B : Type 0} (v : X → A) (w : Y → B) (r : List ℕ → Option (A × List ℕ)) (s : List ℕ → Option (B × List ℕ)) (old new start left : List ℕ) (e : ReadFault) → (r old ≡ None → s start ≡ None) → GivesBy v r old new (Err e) → GivesBy w s start left (Err e)
+pub fault_ends : {X Y A B : Type 0} (v : X → A) (w : Y → B) (r : List ℕ → Option (A × List ℕ)) (s : List ℕ → Option (B × List ℕ)) (old new start left : List ℕ)
+    (e : ReadFault) → (r old ≡ None → s start ≡ None) → GivesBy v r old new (Err e) → GivesBy w s start left (Err e)
 fault_ends v w r s old new start left NoValue f h = f h
 fault_ends v w r s old new start left OutOfMemory f h = tt
 
-pub fault_goes : (X : Type 0) {Y A B : Type 0} (w : Y → B) (s : List ℕ → Option (B × List ℕ)) (whole rest : Option A) (start left : List ℕ) (e : ReadFault) → (whole ≡ None → s start ≡ None) → GoesOn {X = X} whole rest (Err e) → GivesBy w s start left (Err e)
+pub fault_goes : (X : Type 0) {Y A B : Type 0} (w : Y → B) (s : List ℕ → Option (B × List ℕ)) (whole rest : Option A) (start left : List ℕ) (e : ReadFault)
+    → (whole ≡ None → s start ≡ None) → GoesOn {X = X} whole rest (Err e) → GivesBy w s start left (Err e)
 fault_goes X w s whole rest start left NoValue f h = f h
 fault_goes X w s whole rest start left OutOfMemory f h = tt
 
@@ -260,17 +282,21 @@ pub leaves_push : {X : Type 0} (f : X → LeafData) (xs : List X) (x : X) → ma
 leaves_push f xs x = ap (map leaf) (map-append f xs (x ∷ [])) ∙ map-append leaf (map f xs) (f x ∷ [])
 
 -- one more element
-pub leaf_step : {X : Type 0} (f : X → LeafData) (p : Reader ScalarData) (all xs : List X) (x : X) (count counter : ℕ) (old new : List ℕ) (whole : Option (ScalarsData × List ℕ)) → counter < count → all ≡ xs ++ x ∷ [] → p old ≡ Some (leaf (f x), new)
+pub leaf_step : {X : Type 0} (f : X → LeafData) (p : Reader ScalarData) (all xs : List X) (x : X) (count counter : ℕ) (old new : List ℕ)
+    (whole : Option (ScalarsData × List ℕ)) → counter < count → all ≡ xs ++ x ∷ [] → p old ≡ Some (leaf (f x), new)
     → row_behind (map leaf (map f xs)) (count - counter) p old ≡ whole → row_behind (map leaf (map f all)) (count - (counter + 1)) p new ≡ whole
 leaf_step {X} f p all xs x count counter old new whole lt is read so_far =
-    row_step p (map leaf (map f all)) (map leaf (map f xs)) (leaf (f x)) count counter old new whole lt (ap (λ (ys : List X). map leaf (map f ys)) is ∙ leaves_push f xs x) read so_far
+    row_step p (map leaf (map f all)) (map leaf (map f xs)) (leaf (f x)) count counter old new whole lt (ap (λ (ys : List X). map leaf (map f ys)) is
+    ∙ leaves_push f xs x) read so_far
 
 -- no element where one is owed
-pub leaf_stops : (p : Reader ScalarData) (a : List ScalarData) (count counter : ℕ) (old : List ℕ) (whole : Option (ScalarsData × List ℕ)) → counter < count → p old ≡ None → row_behind a (count - counter) p old ≡ whole → whole ≡ None
+pub leaf_stops : (p : Reader ScalarData) (a : List ScalarData) (count counter : ℕ) (old : List ℕ) (whole : Option (ScalarsData × List ℕ)) → counter < count
+    → p old ≡ None → row_behind a (count - counter) p old ≡ whole → whole ≡ None
 leaf_stops p a count counter old whole lt none so_far = sym so_far ∙ row_stops p a (count - counter) (count - (counter + 1)) old (omega arith) none
 
 -- the last element
-pub leaf_ends : (p : Reader ScalarData) (a : List ScalarData) (rest : ℕ) (old : List ℕ) (whole : Option (ScalarsData × List ℕ)) → rest ≡ 0 → row_behind a rest p old ≡ whole → whole ≡ Some (row a, old)
+pub leaf_ends : (p : Reader ScalarData) (a : List ScalarData) (rest : ℕ) (old : List ℕ) (whole : Option (ScalarsData × List ℕ)) → rest ≡ 0
+    → row_behind a rest p old ≡ whole → whole ≡ Some (row a, old)
 leaf_ends p a rest old whole none so_far = sym so_far ∙ row_ends p a rest old none
 
 -- so many of a width lie within a block
@@ -280,15 +306,20 @@ block_within w n h l = Prim.grind (arith, common_steps)
 -- ---- rows of scalars that are not packed
 
 -- no scalar where one is owed
-pub element_stops : {Y : Type 0} (w : Y → ScalarsData) (p : Reader ScalarData) (ss : List Scalar) (count counter : ℕ) (start old new : List ℕ) (e : ReadFault) → counter < count → GivesBy scalar_of p old new (Err e)
+pub element_stops : {Y : Type 0} (w : Y → ScalarsData) (p : Reader ScalarData) (ss : List Scalar) (count counter : ℕ) (start old new : List ℕ) (e : ReadFault)
+    → counter < count → GivesBy scalar_of p old new (Err e)
     → with_front (map scalar_of ss) (row_at (count - counter) p old) ≡ row_at count p start → GivesBy w (row_at count p) start new (Err e)
-element_stops w p ss count counter start old new NoValue lt none so_far = sym so_far ∙ row_stops p (map scalar_of ss) (count - counter) (count - (counter + 1)) old (omega arith) none
+element_stops w p ss count counter start old new NoValue lt none so_far = sym so_far
+    ∙ row_stops p (map scalar_of ss) (count - counter) (count - (counter + 1)) old (omega arith) none
 element_stops w p ss count counter start old new OutOfMemory lt none so_far = tt
 
-pub records_stop : (k : ℕ) (ss : List Scalar) (count counter : ℕ) (start old new : List ℕ) (e : ReadFault) → counter < count → GivesBy scalar_of (leaves_at k) old new (Err e)
-    → with_front (map scalar_of ss) (row_at (count - counter) (leaves_at k) old) ≡ row_at count (leaves_at k) start → GivesBy (λ (v : Vec Scalar Global). row (map scalar_of v.items)) (leaf_row_at count k) start new (Err e)
+pub records_stop : (k : ℕ) (ss : List Scalar) (count counter : ℕ) (start old new : List ℕ) (e : ReadFault) → counter < count
+    → GivesBy scalar_of (leaves_at k) old new (Err e)
+    → with_front (map scalar_of ss) (row_at (count - counter) (leaves_at k) old) ≡ row_at count (leaves_at k) start
+    → GivesBy (λ (v : Vec Scalar Global). row (map scalar_of v.items)) (leaf_row_at count k) start new (Err e)
 unfolding leaf_row_at
-records_stop k ss count counter start old new e lt none so_far = element_stops (λ (v : Vec Scalar Global). row (map scalar_of v.items)) (leaves_at k) ss count counter start old new e lt none so_far
+records_stop k ss count counter start old new e lt none so_far = element_stops (λ (v : Vec Scalar Global). row (map scalar_of v.items))
+    (leaves_at k) ss count counter start old new e lt none so_far
 
 -- at any level, such scalars are read alike
 record_at : (n k : ℕ) (octets : List ℕ) → holds_values k ≡ false → scalars_at n k octets ≡ leaves_at k octets
@@ -305,5 +336,6 @@ row_records n k m octets h = row_same (scalars_at n k) (leaves_at k) (λ o. reco
 pub records_end : (n k m : ℕ) (octets : List ℕ) → holds_values k ≡ false → leaf_row_at m k octets ≡ None → row_at m (scalars_at n k) octets ≡ None
 records_end n k m octets h none = row_records n k m octets h ∙ none
 
-pub records_are : (n k m : ℕ) (octets new : List ℕ) {ss ts : List ScalarData} → holds_values k ≡ false → leaf_row_at m k octets ≡ Some (row ss, new) → ts ≡ ss → row_at m (scalars_at n k) octets ≡ Some (row ts, new)
+pub records_are : (n k m : ℕ) (octets new : List ℕ) {ss ts : List ScalarData} → holds_values k ≡ false → leaf_row_at m k octets ≡ Some (row ss, new) → ts ≡ ss
+    → row_at m (scalars_at n k) octets ≡ Some (row ts, new)
 records_are n k m octets new h e is = row_records n k m octets h ∙ e ∙ ap (λ (l : List ScalarData). Some (row l, new)) (sym is)

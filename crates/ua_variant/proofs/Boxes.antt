@@ -9,7 +9,8 @@ pub data_value_ends : (n : ℕ) (octets : List ℕ) → data_value_at n octets �
 unfolding scalar_at
 data_value_ends n octets h = ap (λ (o : Option (DataValueData × List ℕ)). o >>= λ x. Some (data_value x.0, x.1)) h
 
-pub data_value_is : (n : ℕ) (octets new : List ℕ) (d : DataValueData) → data_value_at n octets ≡ Some (d, new) → scalars_at n 23 octets ≡ Some (data_value d, new)
+pub data_value_is : (n : ℕ) (octets new : List ℕ) (d : DataValueData) → data_value_at n octets ≡ Some (d, new)
+    → scalars_at n 23 octets ≡ Some (data_value d, new)
 unfolding scalar_at
 data_value_is n octets new d h = ap (λ (o : Option (DataValueData × List ℕ)). o >>= λ x. Some (data_value x.0, x.1)) h
 

@@ -5,7 +5,8 @@ use Rattle.std.proofs.lemmas.Grind.{common_steps}
 use Rattle.ua_wire.specs.Format.{most_levels}
 use Rattle.ua_wire.proofs.Readers.{both_true, not_false}
 use Rattle.ua_builtin.specs.Number.{number_octets}
-use Rattle.ua_variant.specs.Data.{DataFields, VariantData, null, one, absent, many, ScalarData, leaf, data_value, variant, diagnostic, ScalarsData, no_scalars, scalar, DataValueData, bare, valued}
+use Rattle.ua_variant.specs.Data.{DataFields, VariantData, null, one, absent, many, ScalarData, leaf, data_value}
+use Rattle.ua_variant.specs.Data.{variant, diagnostic, ScalarsData, no_scalars, scalar, DataValueData, bare, valued}
 use Rattle.ua_variant.specs.Measure.{variant_depth, data_value_depth}
 use Rattle.ua_builtin.specs.Flags.{has}
 use Rattle.ua_diagnostic.specs.Parts.{IsOctet}
@@ -14,7 +15,8 @@ use Rattle.ua_variant.specs.Leaf.{holds_values}
 use Rattle.ua_variant.proofs.LeavesRead.{leaf_canonical_encodes, leaf_apart}
 use Rattle.ua_variant.specs.Fields.{data_fields, data_flags}
 use Rattle.ua_variant.proofs.FieldFlags.{data_mask, data_mask_low, data_mask_value, data_fields_encodable_as}
-use Rattle.ua_variant.specs.Encodable.{data_fields_encodable, kind_of, is_kind, is_read_kind, is_variant, row_length, variant_fits, scalar_fits, scalars_fit, data_value_fits, variant_encodable, data_value_encodable}
+use Rattle.ua_variant.specs.Encodable.{data_fields_encodable, kind_of, is_kind, is_read_kind, is_variant, row_length, variant_fits}
+use Rattle.ua_variant.specs.Encodable.{scalar_fits, scalars_fit, data_value_fits, variant_encodable, data_value_encodable}
 use Rattle.ua_diagnostic.proofs.DiagnosticsWritten.{diagnostic_encodes}
 use Rattle.ua_diagnostic.specs.Dimensions.{is_count, dims_encodable, null_count, has_dims, dims_canonical}
 use Rattle.ua_variant.specs.Encoding.{array_octet, EncodesVariant, EncodesScalar, EncodesRow, EncodesDataValue}
@@ -40,17 +42,41 @@ low_63 m h = Prim.grind (arith, common_steps)
 
 bare_at : (f : DataFields) (m : ℕ) → m ≡ data_mask f 0 → data_fields_encodable f ≡ true → EncodesDataValue (bare f) (m ∷ data_fields_canonical f)
 bare_at f m e fits =
-    let low : m ≤ 63 = omega (arith, e, data_mask_low f 0 (omega arith)) in
-    (m, (m ∷ [], data_fields_canonical f, refl, (omega arith, refl), (low_63 m low, (ap (λ (k : ℕ). has k 1) e ∙ data_mask_value f 0 (omega arith), subst (λ k. (data_fields k).encodes f (data_fields_canonical f)) (sym e) (data_fields_encoded f 0 (omega arith) fits)))))
+    let low : m ≤ 63 = omega (arith, e, data_mask_low f 0 (omega arith)) in (
+      m,
+      (
+        m ∷ [],
+        data_fields_canonical f,
+        refl,
+        (omega arith, refl),
+        (
+          low_63 m low,
+          (
+            ap (λ (k : ℕ). has k 1) e ∙ data_mask_value f 0 (omega arith),
+            subst (λ k. (data_fields k).encodes f (data_fields_canonical f)) (sym e)
+                (data_fields_encoded f 0 (omega arith) fits),
+          ),
+        ),
+      ),
+    )
 
 bare_encodes : (f : DataFields) → data_fields_encodable f ≡ true → EncodesDataValue (bare f) (data_value_canonical (bare f))
 bare_encodes f h = bare_at f (data_flags f) (omega arith) h
 
-valued_encodes : (v : VariantData) (f : DataFields) → data_fields_encodable f ≡ true → EncodesVariant v (variant_canonical v) → EncodesDataValue (valued v f) (data_value_canonical (valued v f))
+valued_encodes : (v : VariantData) (f : DataFields) → data_fields_encodable f ≡ true → EncodesVariant v (variant_canonical v)
+    → EncodesDataValue (valued v f) (data_value_canonical (valued v f))
 valued_encodes v f h w =
     let m = data_mask f 1 in
-    let low : m ≤ 63 = data_mask_low f 1 (omega arith) in
-    (m, (m ∷ [], variant_canonical v ++ data_fields_canonical f, refl, (omega arith, refl), (low_63 m low, (data_mask_value f 1 (omega arith), (variant_canonical v, data_fields_canonical f, refl, w, data_fields_encoded f 1 (omega arith) h)))))
+    let low : m ≤ 63 = data_mask_low f 1 (omega arith) in (
+      m,
+      (
+        m ∷ [],
+        variant_canonical v ++ data_fields_canonical f,
+        refl,
+        (omega arith, refl),
+        (low_63 m low, (data_mask_value f 1 (omega arith), (variant_canonical v, data_fields_canonical f, refl, w, data_fields_encoded f 1 (omega arith) h))),
+      ),
+    )
 
 -- ---- arrays
 
@@ -85,15 +111,40 @@ mutual
       let w = both_true (not (is_variant s)) (scalar_fits s) h in
       let e = scalar_encodes s w.1 in
       (not_variant s w.0 w.1, (kind_of s ∷ [], scalar_canonical s, refl, kind_octet s (scalar_canonical s) e, e))
-  variant_encodes (absent k []) h =
-      (kind_read k h, refl, false, (array_octet false k ∷ [], null_count, refl, (array_octet_low false k (kind_low k h), refl), (null_count, [], sym (append-nil null_count), null_encodes, (refl, refl))))
+  variant_encodes (absent k []) h = (
+    kind_read k h,
+    refl,
+    false,
+    (
+      array_octet false k ∷ [],
+      null_count,
+      refl,
+      (array_octet_low false k (kind_low k h), refl),
+      (null_count, [], sym (append-nil null_count), null_encodes, (refl, refl)),
+    ),
+  )
   variant_encodes (absent k (d ∷ ds)) h = not_false h
   variant_encodes (many k ss ds) h =
       let n = row_length ss in
       let u = both_true (is_kind k && is_count n && dims_encodable ds n) (scalars_fit k ss) h in
       let v = both_true (is_kind k && is_count n) (dims_encodable ds n) u.0 in
-      let w = both_true (is_kind k) (is_count n) v.0 in
-      (kind_read k w.0, has_dims ds, (array_octet (has_dims ds) k ∷ [], number_octets 4 n ++ (row_canonical ss ++ dims_canonical ds), refl, (array_octet_low (has_dims ds) k (kind_low k w.0), refl), (number_octets 4 n, row_canonical ss ++ dims_canonical ds, refl, count_encodes n w.1, (row_canonical ss, dims_canonical ds, refl, row_encodes k ss u.1, dims_encode ds n v.1))))
+      let w = both_true (is_kind k) (is_count n) v.0 in (
+        kind_read k w.0,
+        has_dims ds,
+        (
+          array_octet (has_dims ds) k ∷ [],
+          number_octets 4 n ++ (row_canonical ss ++ dims_canonical ds),
+          refl,
+          (array_octet_low (has_dims ds) k (kind_low k w.0), refl),
+          (
+            number_octets 4 n,
+            row_canonical ss ++ dims_canonical ds,
+            refl,
+            count_encodes n w.1,
+            (row_canonical ss, dims_canonical ds, refl, row_encodes k ss u.1, dims_encode ds n v.1),
+          ),
+        ),
+      )
 
   pub scalar_encodes : (s : ScalarData) → scalar_fits s ≡ true → EncodesScalar s (scalar_canonical s)
   scalar_encodes (leaf l) h = leaf_canonical_encodes l h

@@ -16,14 +16,25 @@ use Rattle.ua_variant.specs.Encodable.{data_fields_encodable}
 abbrev pub data_mask : DataFields → ℕ → ℕ
 data_mask f v = data_flags f + v
 
-data_sum : (f : DataFields) (v : ℕ) → data_mask f v ≡ v + 2 * there f.status + 4 * there f.source_timestamp + 8 * there f.server_timestamp + 16 * there f.source_picoseconds + 32 * there f.server_picoseconds
+data_sum : (f : DataFields) (v : ℕ) → data_mask f v ≡ v + 2 * there f.status + 4 * there f.source_timestamp + 8 * there f.server_timestamp
+    + 16 * there f.source_picoseconds + 32 * there f.server_picoseconds
 unfolding data_flags
-data_sum f v = omega (arith, bit_is 2 f.status, bit_is 4 f.source_timestamp, bit_is 8 f.server_timestamp, bit_is 16 f.source_picoseconds, bit_is 32 f.server_picoseconds)
+data_sum f v = omega (
+  arith,
+  bit_is 2 f.status,
+  bit_is 4 f.source_timestamp,
+  bit_is 8 f.server_timestamp,
+  bit_is 16 f.source_picoseconds,
+  bit_is 32 f.server_picoseconds,
+)
 
 data_bits : (f : DataFields) (v : ℕ) → v ≤ 1 → let m = data_mask f v in
-    (m / 1 % 2 ≡ v) × (m / 2 % 2 ≡ there f.status) × (m / 4 % 2 ≡ there f.source_timestamp) × (m / 8 % 2 ≡ there f.server_timestamp) × (m / 16 % 2 ≡ there f.source_picoseconds) × (m / 32 % 2 ≡ there f.server_picoseconds) × (m ≤ 63)
+    (m / 1 % 2 ≡ v) × (m / 2 % 2 ≡ there f.status) × (m / 4 % 2 ≡ there f.source_timestamp) × (m / 8 % 2 ≡ there f.server_timestamp)
+    × (m / 16 % 2 ≡ there f.source_picoseconds) × (m / 32 % 2 ≡ there f.server_picoseconds) × (m ≤ 63)
 data_bits f v h =
-    bits_of (data_mask f v) v (there f.status) (there f.source_timestamp) (there f.server_timestamp) (there f.source_picoseconds) (there f.server_picoseconds) (data_sum f v) h (there_within f.status) (there_within f.source_timestamp) (there_within f.server_timestamp) (there_within f.source_picoseconds) (there_within f.server_picoseconds)
+    bits_of (data_mask f v) v (there f.status) (there f.source_timestamp) (there f.server_timestamp) (there f.source_picoseconds) (there f.server_picoseconds)
+    (data_sum f v) h (there_within f.status) (there_within f.source_timestamp) (there_within f.server_timestamp) (there_within f.source_picoseconds)
+    (there_within f.server_picoseconds)
 
 pub data_mask_low : (f : DataFields) (v : ℕ) → v ≤ 1 → data_mask f v ≤ 63
 data_mask_low f v h = (data_bits f v h).6

@@ -13,7 +13,8 @@ use Rattle.ua_wire.specs.DoubleBits.{double_bits}
 use Rattle.ua_wire.specs.Counted.{text, counted}
 use Rattle.ua_wire.proofs.Readers.{exact_same, exact_image, not_false}
 use Rattle.ua_wire.proofs.Lawfulness.{sound_such, lawful_flat, lawful_8, lawful_16, lawful_32, lawful_64}
-use Rattle.ua_wire.proofs.ScalarsLawful.{lawful_boolean, lawful_signed_8, lawful_signed_16, lawful_signed_32, lawful_signed_64, lawful_float_bits, lawful_double_bits}
+use Rattle.ua_wire.proofs.ScalarsLawful.{lawful_boolean, lawful_signed_8, lawful_signed_16, lawful_signed_32}
+use Rattle.ua_wire.proofs.ScalarsLawful.{lawful_signed_64, lawful_float_bits, lawful_double_bits}
 use Rattle.ua_wire.proofs.CountedLawful.{sound_counted, counted_starts, lawful_counted, lawful_text}
 use Rattle.ua_builtin.specs.DateTime.{date_time as date_time_format}
 use Rattle.ua_builtin.specs.Guid.{guid as guid_format}
@@ -31,7 +32,8 @@ use Rattle.ua_builtin.proofs.LocalizedTextLawful.{lawful_localized_text}
 use Rattle.ua_builtin.proofs.ExtensionObjectLawful.{lawful_extension_object}
 use Rattle.ua_diagnostic.specs.Parts.{Reader}
 use Rattle.ua_diagnostic.proofs.PartsLawful.{sound_unwritten}
-use Rattle.ua_variant.specs.Data.{LeafData, boolean, sbyte, byte, int16, uint16, int32, uint32, int64, uint64, float, double, string, date_time, guid, byte_string, xml_element, node_id, expanded_node_id, status_code, qualified_name, localized_text, extension_object, reserved}
+use Rattle.ua_variant.specs.Data.{LeafData, boolean, sbyte, byte, int16, uint16, int32, uint32, int64, uint64, float, double, string, date_time, guid}
+use Rattle.ua_variant.specs.Data.{byte_string, xml_element, node_id, expanded_node_id, status_code, qualified_name, localized_text, extension_object, reserved}
 use Rattle.ua_variant.specs.Leaf.{leaf_kind, is_reserved, holds_values, reserved_octets, leaf_typed, EncodesLeaf, leaf_encodable, leaf_canonical, leaf_at}
 
 lawful_reserved : (k : ℕ) → IsLawful (flat (reserved_octets k))
@@ -86,7 +88,8 @@ IsLeaf k l b = (leaf_kind l ≡ k) × EncodesLeaf l b
 abbrev pub Sound : {A : Type 0} → (A → List ℕ → Type 0) → Reader A → Type 0
 Sound {A} p r = (octets : List ℕ) (v : A) (rest : List ℕ) → r octets ≡ Some (v, rest) → Begins p octets v rest
 
-pub sound_if : {A : Type 0} {p : A → List ℕ → Type 0} {r s : List ℕ → Option (A × List ℕ)} (b : Bool) → (b ≡ true → Sound p r) → (b ≡ false → Sound p s) → Sound p (λ octets. cond b (r octets) (s octets))
+pub sound_if : {A : Type 0} {p : A → List ℕ → Type 0} {r s : List ℕ → Option (A × List ℕ)} (b : Bool) → (b ≡ true → Sound p r) → (b ≡ false → Sound p s)
+    → Sound p (λ octets. cond b (r octets) (s octets))
 sound_if true e f = e refl
 sound_if false e f = f refl
 
@@ -96,10 +99,12 @@ sound_none k octets v rest h = absurd cc
 pub eqb_is : (a b : ℕ) → eqb a b ≡ true → a ≡ b
 eqb_is a b h = Prim.grind (arith, common_steps)
 
-leaf_made : {A : Type 0} (make : A → LeafData) (f : Flat A) (k : ℕ) → ((x : A) (b : List ℕ) → f.encodes x b → IsLeaf k (make x) b) → (v : LeafData) (b : List ℕ) → Image make f.encodes v b → IsLeaf k v b
+leaf_made : {A : Type 0} (make : A → LeafData) (f : Flat A) (k : ℕ) → ((x : A) (b : List ℕ) → f.encodes x b → IsLeaf k (make x) b) → (v : LeafData) (b : List ℕ)
+    → Image make f.encodes v b → IsLeaf k v b
 leaf_made make f k made v b h = subst (λ l. IsLeaf k l b) (sym h.is) (made h.of b h.encoded)
 
-leaf_part : {A : Type 0} (make : A → LeafData) (f : Flat A) (k : ℕ) → IsLawful (flat f) → ((x : A) (b : List ℕ) → f.encodes x b → IsLeaf k (make x) b) → Sound (IsLeaf k) (image_read make f.decode)
+leaf_part : {A : Type 0} (make : A → LeafData) (f : Flat A) (k : ℕ) → IsLawful (flat f) → ((x : A) (b : List ℕ) → f.encodes x b → IsLeaf k (make x) b)
+    → Sound (IsLeaf k) (image_read make f.decode)
 leaf_part make f k lawful made octets v rest h =
     let s = (made_exact make f lawful).sound octets v rest h in
     record { front = s.front; parts = s.parts; encoded = leaf_made make f k made v s.front s.encoded }
@@ -111,7 +116,8 @@ leaf_sound : (k : ℕ) → Sound (IsLeaf k) (leaf_at k)
 unfolding leaf_at
 leaf_sound k =
     sound_if (is_reserved k) (λ h. leaf_part (reserved k) counted k lawful_counted (λ x b e. (refl, (h, e)))) (λ _.
-    sound_if (eqb k 1) (λ h. of_kind k 1 (image_read boolean boolean_format.decode) h (leaf_part boolean boolean_format 1 lawful_boolean (λ x b e. (refl, e)))) (λ _.
+    sound_if (eqb k 1) (λ h. of_kind k 1 (image_read boolean boolean_format.decode) h (leaf_part boolean boolean_format 1 lawful_boolean (λ x b e. (refl, e))))
+    (λ _.
     sound_if (eqb k 2) (λ h. of_kind k 2 (image_read sbyte (signed w8).decode) h (leaf_part sbyte (signed w8) 2 lawful_signed_8 (λ x b e. (refl, e)))) (λ _.
     sound_if (eqb k 3) (λ h. of_kind k 3 (image_read byte (number 1).decode) h (leaf_part byte (number 1) 3 lawful_8 (λ x b e. (refl, e)))) (λ _.
     sound_if (eqb k 4) (λ h. of_kind k 4 (image_read int16 (signed w16).decode) h (leaf_part int16 (signed w16) 4 lawful_signed_16 (λ x b e. (refl, e)))) (λ _.
@@ -121,18 +127,35 @@ leaf_sound k =
     sound_if (eqb k 8) (λ h. of_kind k 8 (image_read int64 (signed w64).decode) h (leaf_part int64 (signed w64) 8 lawful_signed_64 (λ x b e. (refl, e)))) (λ _.
     sound_if (eqb k 9) (λ h. of_kind k 9 (image_read uint64 (number 8).decode) h (leaf_part uint64 (number 8) 9 lawful_64 (λ x b e. (refl, e)))) (λ _.
     sound_if (eqb k 10) (λ h. of_kind k 10 (image_read float float_bits.decode) h (leaf_part float float_bits 10 lawful_float_bits (λ x b e. (refl, e)))) (λ _.
-    sound_if (eqb k 11) (λ h. of_kind k 11 (image_read double double_bits.decode) h (leaf_part double double_bits 11 lawful_double_bits (λ x b e. (refl, e)))) (λ _.
+    sound_if (eqb k 11) (λ h. of_kind k 11 (image_read double double_bits.decode) h (leaf_part double double_bits 11 lawful_double_bits (λ x b e. (refl, e))))
+    (λ _.
     sound_if (eqb k 12) (λ h. of_kind k 12 (image_read string text.decode) h (leaf_part string text 12 lawful_text (λ x b e. (refl, e)))) (λ _.
-    sound_if (eqb k 13) (λ h. of_kind k 13 (image_read date_time date_time_format.decode) h (leaf_part date_time date_time_format 13 lawful_date_time (λ x b e. (refl, e)))) (λ _.
+    sound_if (eqb k 13)
+    (λ h. of_kind k 13 (image_read date_time date_time_format.decode) h (leaf_part date_time date_time_format 13 lawful_date_time (λ x b e. (refl, e))))
+    (λ _.
     sound_if (eqb k 14) (λ h. of_kind k 14 (image_read guid guid_format.decode) h (leaf_part guid guid_format 14 lawful_guid (λ x b e. (refl, e)))) (λ _.
-    sound_if (eqb k 15) (λ h. of_kind k 15 (image_read byte_string counted.decode) h (leaf_part byte_string counted 15 lawful_counted (λ x b e. (refl, e)))) (λ _.
-    sound_if (eqb k 16) (λ h. of_kind k 16 (image_read xml_element xml_element_format.decode) h (leaf_part xml_element xml_element_format 16 lawful_xml_element (λ x b e. (refl, e)))) (λ _.
-    sound_if (eqb k 17) (λ h. of_kind k 17 (image_read node_id node_id_format.decode) h (leaf_part node_id node_id_format 17 lawful_node_id (λ x b e. (refl, e)))) (λ _.
-    sound_if (eqb k 18) (λ h. of_kind k 18 (image_read expanded_node_id expanded_node_id_format.decode) h (leaf_part expanded_node_id expanded_node_id_format 18 lawful_expanded_node_id (λ x b e. (refl, e)))) (λ _.
-    sound_if (eqb k 19) (λ h. of_kind k 19 (image_read status_code status_code_format.decode) h (leaf_part status_code status_code_format 19 lawful_status_code (λ x b e. (refl, e)))) (λ _.
-    sound_if (eqb k 20) (λ h. of_kind k 20 (image_read qualified_name qualified_name_format.decode) h (leaf_part qualified_name qualified_name_format 20 lawful_qualified_name (λ x b e. (refl, e)))) (λ _.
-    sound_if (eqb k 21) (λ h. of_kind k 21 (image_read localized_text localized_text_format.decode) h (leaf_part localized_text localized_text_format 21 lawful_localized_text (λ x b e. (refl, e)))) (λ _.
-    sound_if (eqb k 22) (λ h. of_kind k 22 (image_read extension_object extension_object_format.decode) h (leaf_part extension_object extension_object_format 22 lawful_extension_object (λ x b e. (refl, e)))) (λ _.
+    sound_if (eqb k 15) (λ h. of_kind k 15 (image_read byte_string counted.decode) h (leaf_part byte_string counted 15 lawful_counted (λ x b e. (refl, e))))
+    (λ _.
+    sound_if (eqb k 16)
+    (λ h. of_kind k 16 (image_read xml_element xml_element_format.decode) h
+    (leaf_part xml_element xml_element_format 16 lawful_xml_element (λ x b e. (refl, e)))) (λ _.
+    sound_if (eqb k 17)
+    (λ h. of_kind k 17 (image_read node_id node_id_format.decode) h (leaf_part node_id node_id_format 17 lawful_node_id (λ x b e. (refl, e)))) (λ _.
+    sound_if (eqb k 18)
+    (λ h. of_kind k 18 (image_read expanded_node_id expanded_node_id_format.decode) h
+    (leaf_part expanded_node_id expanded_node_id_format 18 lawful_expanded_node_id (λ x b e. (refl, e)))) (λ _.
+    sound_if (eqb k 19)
+    (λ h. of_kind k 19 (image_read status_code status_code_format.decode) h
+    (leaf_part status_code status_code_format 19 lawful_status_code (λ x b e. (refl, e)))) (λ _.
+    sound_if (eqb k 20)
+    (λ h. of_kind k 20 (image_read qualified_name qualified_name_format.decode) h
+    (leaf_part qualified_name qualified_name_format 20 lawful_qualified_name (λ x b e. (refl, e)))) (λ _.
+    sound_if (eqb k 21)
+    (λ h. of_kind k 21 (image_read localized_text localized_text_format.decode) h
+    (leaf_part localized_text localized_text_format 21 lawful_localized_text (λ x b e. (refl, e)))) (λ _.
+    sound_if (eqb k 22)
+    (λ h. of_kind k 22 (image_read extension_object extension_object_format.decode) h
+    (leaf_part extension_object extension_object_format 22 lawful_extension_object (λ x b e. (refl, e)))) (λ _.
     sound_none k)))))))))))))))))))))))
 
 pub if_true : {A : Type 0} (b : Bool) (x y : A) → IsTrue b → cond b x y ≡ x
@@ -141,28 +164,42 @@ if_true false x y h = not_false h
 
 leaf_complete : (l : LeafData) (front rest : List ℕ) → EncodesLeaf l front → leaf_at (leaf_kind l) (front ++ rest) ≡ Some (l, rest)
 unfolding leaf_at
-leaf_complete (boolean x) front rest h = (made_exact boolean boolean_format lawful_boolean).complete (boolean x) front rest (record { of = x; is = refl; encoded = h })
+leaf_complete (boolean x) front rest h = (made_exact boolean boolean_format lawful_boolean).complete (boolean x) front rest
+    (record { of = x; is = refl; encoded = h })
 leaf_complete (sbyte x) front rest h = (made_exact sbyte (signed w8) lawful_signed_8).complete (sbyte x) front rest (record { of = x; is = refl; encoded = h })
 leaf_complete (byte x) front rest h = (made_exact byte (number 1) lawful_8).complete (byte x) front rest (record { of = x; is = refl; encoded = h })
-leaf_complete (int16 x) front rest h = (made_exact int16 (signed w16) lawful_signed_16).complete (int16 x) front rest (record { of = x; is = refl; encoded = h })
+leaf_complete (int16 x) front rest h = (made_exact int16 (signed w16) lawful_signed_16).complete (int16 x) front rest
+    (record { of = x; is = refl; encoded = h })
 leaf_complete (uint16 x) front rest h = (made_exact uint16 (number 2) lawful_16).complete (uint16 x) front rest (record { of = x; is = refl; encoded = h })
-leaf_complete (int32 x) front rest h = (made_exact int32 (signed w32) lawful_signed_32).complete (int32 x) front rest (record { of = x; is = refl; encoded = h })
+leaf_complete (int32 x) front rest h = (made_exact int32 (signed w32) lawful_signed_32).complete (int32 x) front rest
+    (record { of = x; is = refl; encoded = h })
 leaf_complete (uint32 x) front rest h = (made_exact uint32 (number 4) lawful_32).complete (uint32 x) front rest (record { of = x; is = refl; encoded = h })
-leaf_complete (int64 x) front rest h = (made_exact int64 (signed w64) lawful_signed_64).complete (int64 x) front rest (record { of = x; is = refl; encoded = h })
+leaf_complete (int64 x) front rest h = (made_exact int64 (signed w64) lawful_signed_64).complete (int64 x) front rest
+    (record { of = x; is = refl; encoded = h })
 leaf_complete (uint64 x) front rest h = (made_exact uint64 (number 8) lawful_64).complete (uint64 x) front rest (record { of = x; is = refl; encoded = h })
 leaf_complete (float x) front rest h = (made_exact float float_bits lawful_float_bits).complete (float x) front rest (record { of = x; is = refl; encoded = h })
-leaf_complete (double x) front rest h = (made_exact double double_bits lawful_double_bits).complete (double x) front rest (record { of = x; is = refl; encoded = h })
+leaf_complete (double x) front rest h = (made_exact double double_bits lawful_double_bits).complete (double x) front rest
+    (record { of = x; is = refl; encoded = h })
 leaf_complete (string x) front rest h = (made_exact string text lawful_text).complete (string x) front rest (record { of = x; is = refl; encoded = h })
-leaf_complete (date_time x) front rest h = (made_exact date_time date_time_format lawful_date_time).complete (date_time x) front rest (record { of = x; is = refl; encoded = h })
+leaf_complete (date_time x) front rest h = (made_exact date_time date_time_format lawful_date_time).complete (date_time x) front rest
+    (record { of = x; is = refl; encoded = h })
 leaf_complete (guid x) front rest h = (made_exact guid guid_format lawful_guid).complete (guid x) front rest (record { of = x; is = refl; encoded = h })
-leaf_complete (byte_string x) front rest h = (made_exact byte_string counted lawful_counted).complete (byte_string x) front rest (record { of = x; is = refl; encoded = h })
-leaf_complete (xml_element x) front rest h = (made_exact xml_element xml_element_format lawful_xml_element).complete (xml_element x) front rest (record { of = x; is = refl; encoded = h })
-leaf_complete (node_id x) front rest h = (made_exact node_id node_id_format lawful_node_id).complete (node_id x) front rest (record { of = x; is = refl; encoded = h })
-leaf_complete (expanded_node_id x) front rest h = (made_exact expanded_node_id expanded_node_id_format lawful_expanded_node_id).complete (expanded_node_id x) front rest (record { of = x; is = refl; encoded = h })
-leaf_complete (status_code x) front rest h = (made_exact status_code status_code_format lawful_status_code).complete (status_code x) front rest (record { of = x; is = refl; encoded = h })
-leaf_complete (qualified_name x) front rest h = (made_exact qualified_name qualified_name_format lawful_qualified_name).complete (qualified_name x) front rest (record { of = x; is = refl; encoded = h })
-leaf_complete (localized_text x) front rest h = (made_exact localized_text localized_text_format lawful_localized_text).complete (localized_text x) front rest (record { of = x; is = refl; encoded = h })
-leaf_complete (extension_object x) front rest h = (made_exact extension_object extension_object_format lawful_extension_object).complete (extension_object x) front rest (record { of = x; is = refl; encoded = h })
+leaf_complete (byte_string x) front rest h = (made_exact byte_string counted lawful_counted).complete (byte_string x) front rest
+    (record { of = x; is = refl; encoded = h })
+leaf_complete (xml_element x) front rest h = (made_exact xml_element xml_element_format lawful_xml_element).complete (xml_element x) front rest
+    (record { of = x; is = refl; encoded = h })
+leaf_complete (node_id x) front rest h = (made_exact node_id node_id_format lawful_node_id).complete (node_id x) front rest
+    (record { of = x; is = refl; encoded = h })
+leaf_complete (expanded_node_id x) front rest h = (made_exact expanded_node_id expanded_node_id_format lawful_expanded_node_id).complete
+    (expanded_node_id x) front rest (record { of = x; is = refl; encoded = h })
+leaf_complete (status_code x) front rest h = (made_exact status_code status_code_format lawful_status_code).complete (status_code x) front rest
+    (record { of = x; is = refl; encoded = h })
+leaf_complete (qualified_name x) front rest h = (made_exact qualified_name qualified_name_format lawful_qualified_name).complete (qualified_name x) front rest
+    (record { of = x; is = refl; encoded = h })
+leaf_complete (localized_text x) front rest h = (made_exact localized_text localized_text_format lawful_localized_text).complete (localized_text x) front rest
+    (record { of = x; is = refl; encoded = h })
+leaf_complete (extension_object x) front rest h = (made_exact extension_object extension_object_format lawful_extension_object).complete
+    (extension_object x) front rest (record { of = x; is = refl; encoded = h })
 leaf_complete (reserved k x) front rest h =
     if_true (is_reserved k) (image_read (reserved k) counted.decode (front ++ rest)) _ h.0
     ∙ (made_exact (reserved k) counted lawful_counted).complete (reserved k x) front rest (record { of = x; is = refl; encoded = h.1 })

@@ -8,8 +8,12 @@ use Rattle.ua_builtin.specs.DateTime.{date_time as date_time_format}
 use Rattle.ua_builtin.specs.Status.{status_code as status_code_format}
 use Rattle.ua_builtin.proofs.PlainLawful.{lawful_date_time, lawful_status_code}
 use Rattle.ua_wire.proofs.Leasts.{number_least, signed_least, float_bits_least, double_bits_least, counted_least, text_least}
-use Rattle.ua_builtin.proofs.Leasts.{date_time_least, guid_least, xml_element_least, node_id_least, expanded_node_id_least, status_code_least, qualified_name_least, extension_object_least}
-use Rattle.ua_variant.specs.Data.{LeafData, boolean, sbyte, byte, int16, uint16, int32, uint32, int64, uint64, float, double, string, date_time, guid, byte_string, xml_element, node_id, expanded_node_id, status_code, qualified_name, localized_text, extension_object, reserved, DataFields, VariantData, null, one, absent, many, ScalarData, leaf, data_value, variant, diagnostic, ScalarsData, no_scalars, scalar, DataValueData, bare, valued}
+use Rattle.ua_builtin.proofs.Leasts.{date_time_least, guid_least, xml_element_least, node_id_least, expanded_node_id_least}
+use Rattle.ua_builtin.proofs.Leasts.{status_code_least, qualified_name_least, extension_object_least}
+use Rattle.ua_variant.specs.Data.{LeafData, boolean, sbyte, byte, int16, uint16, int32, uint32, int64, uint64, float, double, string}
+use Rattle.ua_variant.specs.Data.{date_time, guid, byte_string, xml_element, node_id, expanded_node_id, status_code, qualified_name}
+use Rattle.ua_variant.specs.Data.{localized_text, extension_object, reserved, DataFields, VariantData, null, one, absent, many, ScalarData}
+use Rattle.ua_variant.specs.Data.{leaf, data_value, variant, diagnostic, ScalarsData, no_scalars, scalar, DataValueData, bare, valued}
 use Rattle.ua_diagnostic.specs.Diagnostic.{innermost, around}
 use Rattle.ua_builtin.specs.Flags.{has}
 use Rattle.ua_variant.specs.Measure.{data_fields_count, variant_count, scalar_count, scalars_count, data_value_count}
@@ -28,10 +32,13 @@ data_fields_take m f b h =
     let k = j.second_encoded in
     let l = k.second_encoded in
     let n = l.second_encoded in
-    let d = both_take l.back n.front n.back _ _ n.parts (optional_takes (date_time_format).encodes lawful_date_time.starts (has m 8) _ n.front n.first_encoded) (optional_takes (number 2).encodes (number_starts 1) (has m 32) _ n.back n.second_encoded) in
+    let d = both_take l.back n.front n.back _ _ n.parts (optional_takes (date_time_format).encodes lawful_date_time.starts (has m 8) _ n.front n.first_encoded)
+    (optional_takes (number 2).encodes (number_starts 1) (has m 32) _ n.back n.second_encoded) in
     let c = both_take k.back l.front l.back _ _ l.parts (optional_takes (number 2).encodes (number_starts 1) (has m 16) _ l.front l.first_encoded) d in
-    let e = both_take j.back k.front k.back _ _ k.parts (optional_takes (date_time_format).encodes lawful_date_time.starts (has m 4) _ k.front k.first_encoded) c in
-    let a = both_take b j.front j.back _ _ j.parts (optional_takes status_code_format.encodes lawful_status_code.starts (has m 2) _ j.front j.first_encoded) e in
+    let e = both_take j.back k.front k.back _ _ k.parts (optional_takes (date_time_format).encodes lawful_date_time.starts (has m 4) _ k.front k.first_encoded)
+    c in
+    let a = both_take b j.front j.back _ _ j.parts (optional_takes status_code_format.encodes lawful_status_code.starts (has m 2) _ j.front j.first_encoded) e
+    in
     subst (λ g. data_fields_count g ≤ length b) (sym h.is) (omega arith)
 
 leaf_takes : (l : LeafData) (b : List ℕ) → EncodesLeaf l b → 1 ≤ length b

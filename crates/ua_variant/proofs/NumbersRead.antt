@@ -1,10 +1,12 @@
 -- Numbers of a width at the front of octets, and many of them one behind the other.
-use Rattle.std.proofs.Common.{◌≡◌, ℕ, zero, suc, ◌+◌, ◌-◌, ◌*◌, ◌<◌, ◌≤◌, List, [], ◌∷◌, ◌++◌, length, get_or, take, drop, set, map, Option, Some, refl, sym, ap, ◌∙◌, arith, length-append}
+use Rattle.std.proofs.Common.{◌≡◌, ℕ, zero, suc, ◌+◌, ◌-◌, ◌*◌, ◌<◌, ◌≤◌, List, [], ◌∷◌, ◌++◌, length, get_or}
+use Rattle.std.proofs.Common.{take, drop, set, map, Option, Some, refl, sym, ap, ◌∙◌, arith, length-append}
 use Rattle.std.specs.Prelude.{slice_index}
 use lib.Seq.{take-nil}
 use Rattle.std.proofs.Math.Nat.{mul_comm}
 use Rattle.std.proofs.lemmas.Grind.{common_steps}
-use Rattle.std.proofs.lemmas.List.{length-take-le, length-drop, length-set, take-append-drop, take_all, take_at, take_more_set, drop-drop, append_assoc, map-append}
+use Rattle.std.proofs.lemmas.List.{length-take-le, length-drop, length-set, take-append-drop, take_all}
+use Rattle.std.proofs.lemmas.List.{take_at, take_more_set, drop-drop, append_assoc, map-append}
 use Rattle.byteorder.specs.Endian.{little_number}
 use Rattle.byteorder.specs.Numbers.{little_from-take}
 use Rattle.ua_wire.specs.Exact.{◌>>=◌, image_read}
@@ -39,21 +41,25 @@ number_first k o l b =
     ∙ ap (λ (n : ℕ). Some (n, drop k o)) (little_from-take 0 k k o (omega arith))
 
 -- what is made of what was read
-pub image_via : {A B : Type 0} (make : A → B) (p : List ℕ → Option (A × List ℕ)) (o rest : List ℕ) (x : A) → p o ≡ Some (x, rest) → image_read make p o ≡ Some (make x, rest)
+pub image_via : {A B : Type 0} (make : A → B) (p : List ℕ → Option (A × List ℕ)) (o rest : List ℕ) (x : A) → p o ≡ Some (x, rest)
+    → image_read make p o ≡ Some (make x, rest)
 image_via {A} {B} make p o rest x e = ap (λ (r : Option (A × List ℕ)). ◌>>=◌ {A = A × List ℕ} {B = B × List ℕ} r (λ y. Some (make y.0, y.1))) e
 
 -- a number as a value
-pub plain_first : (k : ℕ) (make : ℕ → LeafData) (o : List ℕ) (x : ℕ) → k ≤ length o → AreOctets o → x ≡ little_number k o → image_read make (number_at k) o ≡ Some (make x, drop k o)
+pub plain_first : (k : ℕ) (make : ℕ → LeafData) (o : List ℕ) (x : ℕ) → k ≤ length o → AreOctets o → x ≡ little_number k o
+    → image_read make (number_at k) o ≡ Some (make x, drop k o)
 plain_first k make o x l b e = image_via make (number_at k) o (drop k o) x (number_first k o l b ∙ ap (λ (y : ℕ). Some (y, drop k o)) (sym e))
 
 -- what is made of a number
 pub made_first : {A : Type 0} (k : ℕ) (inner : ℕ → A) (make : A → LeafData) (o : List ℕ) (x : A) → k ≤ length o → AreOctets o → x ≡ inner (little_number k o)
     → image_read make (image_read inner (number_at k)) o ≡ Some (make x, drop k o)
 made_first {A} k inner make o x l b e =
-    image_via make (image_read inner (number_at k)) o (drop k o) x (image_via inner (number_at k) o (drop k o) (little_number k o) (number_first k o l b) ∙ ap (λ (y : A). Some (y, drop k o)) (sym e))
+    image_via make (image_read inner (number_at k)) o (drop k o) x (image_via inner (number_at k) o (drop k o) (little_number k o) (number_first k o l b)
+    ∙ ap (λ (y : A). Some (y, drop k o)) (sym e))
 
 -- what is made of what is made of a number
-pub remade_first : {A B : Type 0} (k : ℕ) (inner : ℕ → A) (outer : A → B) (make : B → LeafData) (o : List ℕ) (x : A) → k ≤ length o → AreOctets o → x ≡ inner (little_number k o)
+pub remade_first : {A B : Type 0} (k : ℕ) (inner : ℕ → A) (outer : A → B) (make : B → LeafData) (o : List ℕ) (x : A) → k ≤ length o → AreOctets o
+    → x ≡ inner (little_number k o)
     → image_read make (image_read outer (image_read inner (number_at k))) o ≡ Some (make (outer x), drop k o)
 remade_first {A} k inner outer make o x l b e =
     image_via make (image_read outer (image_read inner (number_at k))) o (drop k o) (outer x) (image_via outer (image_read inner (number_at k)) o (drop k o) x
@@ -65,7 +71,8 @@ next_place : (w i : ℕ) → w * i + w ≡ w * (i + 1)
 next_place w i = Prim.grind (arith, common_steps)
 
 -- one more number, as the loop over places meets it
-pub number_step : {X : Type 0} (f : X → LeafData) (p : Reader ScalarData) (whole : Option (ScalarsData × List ℕ)) (w i : ℕ) (octets : List ℕ) (xs : List X) (x : X) → i < length xs
+pub number_step : {X : Type 0} (f : X → LeafData) (p : Reader ScalarData) (whole : Option (ScalarsData × List ℕ)) (w i : ℕ) (octets : List ℕ) (xs : List X)
+    (x : X) → i < length xs
     → p (drop (w * i) octets) ≡ Some (leaf (f x), drop w (drop (w * i) octets))
     → row_behind (map leaf (map f (take i xs))) (length xs - i) p (drop (w * i) octets) ≡ whole
     → row_behind (map leaf (map f (take (i + 1) (set xs i x)))) (length (set xs i x) - (i + 1)) p (drop (w * (i + 1)) octets) ≡ whole
@@ -80,7 +87,8 @@ no_octets [] h = refl
 no_octets (x ∷ b) h = absurd (omega (arith, h))
 
 -- all numbers, where the loop ends
-pub numbers_end : {X : Type 0} (f : X → LeafData) (p : Reader ScalarData) (whole : Option (ScalarsData × List ℕ)) (w i : ℕ) (octets : List ℕ) (xs : List X) → i ≡ length xs → length octets ≡ length xs * w
+pub numbers_end : {X : Type 0} (f : X → LeafData) (p : Reader ScalarData) (whole : Option (ScalarsData × List ℕ)) (w i : ℕ) (octets : List ℕ) (xs : List X)
+    → i ≡ length xs → length octets ≡ length xs * w
     → row_behind (map leaf (map f (take i xs))) (length xs - i) p (drop (w * i) octets) ≡ whole → whole ≡ Some (row (map leaf (map f xs)), [])
 numbers_end {X} f p whole w i octets xs is all so_far =
     let times : w * i ≡ length octets = mul_comm w i ∙ (ap (λ (n : ℕ). n * w) is ∙ sym all) in
@@ -96,7 +104,8 @@ pub room_for : (w i n len : ℕ) → i < n → len ≡ n * w → w * i + w ≤ l
 room_for w i n len lt all = Prim.grind (arith, common_steps)
 
 -- one more number is written
-pub write_more : {X : Type 0} (f : X → LeafData) (w i : ℕ) (dst bs rest post : List ℕ) (xs : List X) (x : X) → w * i ≤ length dst → i < length xs → x ≡ get_or xs i x → length bs ≡ w → bs ≡ leaf_canonical (f x)
+pub write_more : {X : Type 0} (f : X → LeafData) (w i : ℕ) (dst bs rest post : List ℕ) (xs : List X) (x : X) → w * i ≤ length dst → i < length xs
+    → x ≡ get_or xs i x → length bs ≡ w → bs ≡ leaf_canonical (f x)
     → take (w * i) dst ≡ row_canonical (row (map leaf (map f (take i xs))))
     → take (w * (i + 1)) (take (w * i) dst ++ ((bs ++ rest) ++ post)) ≡ row_canonical (row (map leaf (map f (take (i + 1) xs))))
 write_more {X} f w i dst bs rest post xs x room lt is width made before =
@@ -104,7 +113,8 @@ write_more {X} f w i dst bs rest post xs x room lt is width made before =
     let lf : length front ≡ w * i = length-take-le (w * i) dst room in
     let parts : front ++ ((bs ++ rest) ++ post) ≡ (front ++ bs) ++ (rest ++ post) =
     ap (λ (r : List ℕ). front ++ r) (append_assoc bs rest post) ∙ sym (append_assoc front bs (rest ++ post)) in
-    let lw : length (front ++ bs) ≡ w * (i + 1) = length-append front bs ∙ (ap (λ (n : ℕ). n + length bs) lf ∙ (ap (λ (n : ℕ). w * i + n) width ∙ next_place w i)) in
+    let lw : length (front ++ bs) ≡ w * (i + 1) = length-append front bs
+    ∙ (ap (λ (n : ℕ). n + length bs) lf ∙ (ap (λ (n : ℕ). w * i + n) width ∙ next_place w i)) in
     ap (take (w * (i + 1))) parts ∙ take_at (front ++ bs) (rest ++ post) (w * (i + 1)) lw
     ∙ ap (λ (t : List ℕ). t ++ bs) before ∙ ap (λ (t : List ℕ). row_canonical (row (map leaf (map f (take i xs)))) ++ t) made
     ∙ leaves_after f [] xs i x lt is
@@ -116,7 +126,8 @@ many_within w n h l = Prim.grind (arith, common_steps)
 -- two rows, one behind the other
 row_two : (a b : List ScalarData) → row_canonical (row (a ++ b)) ≡ row_canonical (row a) ++ row_canonical (row b)
 row_two [] b = refl
-row_two (s ∷ a) b = ap (λ (t : List ℕ). scalar_canonical s ++ t) (row_two a b) ∙ sym (append_assoc (scalar_canonical s) (row_canonical (row a)) (row_canonical (row b)))
+row_two (s ∷ a) b = ap (λ (t : List ℕ). scalar_canonical s ++ t) (row_two a b)
+    ∙ sym (append_assoc (scalar_canonical s) (row_canonical (row a)) (row_canonical (row b)))
 
 mapped_two : {X : Type 0} (f : X → LeafData) (xs ys : List X) → map leaf (map f (xs ++ ys)) ≡ map leaf (map f xs) ++ map leaf (map f ys)
 mapped_two f xs ys = ap (map leaf) (map-append f xs ys) ∙ map-append leaf (map f xs) (map f ys)
@@ -124,22 +135,27 @@ mapped_two f xs ys = ap (map leaf) (map-append f xs ys) ∙ map-append leaf (map
 take_two : {X : Type 0} (i n : ℕ) (xs : List X) → take (i + n) xs ≡ take i xs ++ take n (drop i xs)
 take_two {X} zero n xs = let e : 0 + n ≡ n = omega arith in ap (λ (m : ℕ). take m xs) e
 take_two {X} (suc i) n [] = let e : suc i + n ≡ suc (i + n) = omega arith in ap (λ (m : ℕ). take {A = X} m []) e ∙ sym (take-nil n)
-take_two {X} (suc i) n (x ∷ xs) = let e : suc i + n ≡ suc (i + n) = omega arith in ap (λ (m : ℕ). take m (x ∷ xs)) e ∙ ap (λ (t : List X). x ∷ t) (take_two i n xs)
+take_two {X} (suc i) n (x ∷ xs) = let e : suc i + n ≡ suc (i + n) = omega arith in ap (λ (m : ℕ). take m (x ∷ xs)) e
+    ∙ ap (λ (t : List X). x ∷ t) (take_two i n xs)
 
 -- so many more numbers are added
-pub numbers_after : {X : Type 0} (f : X → LeafData) (old out part : List ℕ) (i n : ℕ) (xs : List X) → out ≡ old ++ row_canonical (row (map leaf (map f (take i xs)))) → part ≡ row_canonical (row (map leaf (map f (take n (drop i xs)))))
+pub numbers_after : {X : Type 0} (f : X → LeafData) (old out part : List ℕ) (i n : ℕ) (xs : List X)
+    → out ≡ old ++ row_canonical (row (map leaf (map f (take i xs)))) → part ≡ row_canonical (row (map leaf (map f (take n (drop i xs)))))
     → out ++ part ≡ old ++ row_canonical (row (map leaf (map f (take (i + n) xs))))
 numbers_after {X} f old out part i n xs so_far more =
     ap (λ (t : List ℕ). t ++ part) so_far ∙ append_assoc old (row_canonical (row (map leaf (map f (take i xs))))) part
     ∙ ap (λ (t : List ℕ). old ++ t) (ap (λ (t : List ℕ). row_canonical (row (map leaf (map f (take i xs)))) ++ t) more
-    ∙ sym (ap (λ (ys : List X). row_canonical (row (map leaf (map f ys)))) (take_two i n xs) ∙ ap (λ (ys : List ScalarData). row_canonical (row ys)) (mapped_two f (take i xs) (take n (drop i xs)))
+    ∙ sym (ap (λ (ys : List X). row_canonical (row (map leaf (map f ys)))) (take_two i n xs)
+    ∙ ap (λ (ys : List ScalarData). row_canonical (row ys)) (mapped_two f (take i xs) (take n (drop i xs)))
     ∙ row_two (map leaf (map f (take i xs))) (map leaf (map f (take n (drop i xs))))))
 
 -- numbers that were read, behind the elements that there are
-pub numbers_behind : {X : Type 0} (f : X → LeafData) (p : Reader ScalarData) (n : ℕ) (block : List ℕ) (items xs all : List X) → all ≡ items ++ xs → row_at n p block ≡ Some (row (map leaf (map f xs)), [])
+pub numbers_behind : {X : Type 0} (f : X → LeafData) (p : Reader ScalarData) (n : ℕ) (block : List ℕ) (items xs all : List X) → all ≡ items ++ xs
+    → row_at n p block ≡ Some (row (map leaf (map f xs)), [])
     → row_behind (map leaf (map f items)) n p block ≡ Some (row (map leaf (map f all)), [])
 numbers_behind {X} f p n block items xs all is read =
     let a = map leaf (map f items) in
     let b = map leaf (map f xs) in
     let joined : before a (row b) ≡ row (a ++ b) = ap (before a) (sym (before_row b)) ∙ (before_before a b no_scalars ∙ before_row (a ++ b)) in
-    ap (with_front a) read ∙ ap (λ (r : ScalarsData). Some (r, [])) (joined ∙ sym (ap (λ (ys : List X). row (map leaf (map f ys))) is ∙ ap row (mapped_two f items xs)))
+    ap (with_front a) read
+    ∙ ap (λ (r : ScalarsData). Some (r, [])) (joined ∙ sym (ap (λ (ys : List X). row (map leaf (map f ys))) is ∙ ap row (mapped_two f items xs)))

@@ -41,7 +41,8 @@ value_placed items d = Some (items ++ d.0 ∷ [], d.1)
 pub valued_none : (items : List DataValue) (m n : ℕ) (octets : List ℕ) → n ≡ 0 → image_read (with_last items) (valued_at m (variant_at n)) octets ≡ None
 valued_none items m n octets e = ap (λ (o : Option (VariantData × List ℕ)). (o >>= behind_value m) >>= placed items) (variant_none n octets e)
 
-pub valued_level : (items : List DataValue) (m n : ℕ) (octets : List ℕ) → 0 < n → image_read (with_last items) (valued_at m (variant_at n)) octets ≡ image_read (with_last items) (valued_at m (variant_step (scalars_at (n - 1)))) octets
+pub valued_level : (items : List DataValue) (m n : ℕ) (octets : List ℕ) → 0 < n → image_read (with_last items) (valued_at m (variant_at n)) octets
+    ≡ image_read (with_last items) (valued_at m (variant_step (scalars_at (n - 1)))) octets
 valued_level items m n octets h = ap (λ (o : Option (VariantData × List ℕ)). (o >>= behind_value m) >>= placed items) (variant_level n octets h)
 
 -- ---- a Boolean, a whole number, a Float or a Double
@@ -59,7 +60,8 @@ number_behind m n t octets low high =
     let is = is_number t low high in
     rw (is.0, is.1, is.2, is.3) (leaf_behind m (leaf_at t octets))
 
-pub valued_number : (items : List DataValue) (m n t : ℕ) (octets : List ℕ) → 1 ≤ t → t ≤ 11 → image_read (with_last items) (valued_at m (variant_after (scalars_at n) t)) octets ≡ image_read (with_last items) (leaf_valued_at m t) octets
+pub valued_number : (items : List DataValue) (m n t : ℕ) (octets : List ℕ) → 1 ≤ t → t ≤ 11
+    → image_read (with_last items) (valued_at m (variant_after (scalars_at n) t)) octets ≡ image_read (with_last items) (leaf_valued_at m t) octets
 valued_number items m n t octets low high = ap (λ (o : Option (DataValueData × List ℕ)). o >>= placed items) (number_behind m n t octets low high)
 
 -- ---- the DataValue itself
@@ -68,12 +70,14 @@ in_turn : (items : List DataValue) (o : Option (DataValueData × List ℕ)) → 
 in_turn items None = refl
 in_turn items (Some d) = refl
 
-by_data : (items : List DataValue) (n : ℕ) (octets : List ℕ) → image_read (λ d. items ++ d ∷ []) (data_value_format.decode n) octets ≡ image_read (with_last items) (data_value_at n) octets
+by_data : (items : List DataValue) (n : ℕ) (octets : List ℕ) → image_read (λ d. items ++ d ∷ []) (data_value_format.decode n) octets
+    ≡ image_read (with_last items) (data_value_at n) octets
 unfolding data_value_format
 by_data items n octets = in_turn items (data_value_at n octets)
 
 pub onto_none : (items : List DataValue) (n : ℕ) (octets : List ℕ) → n ≡ 0 → image_read (λ d. items ++ d ∷ []) (data_value_format.decode n) octets ≡ None
 onto_none items n octets e = by_data items n octets ∙ ap (λ (o : Option (DataValueData × List ℕ)). o >>= placed items) (data_value_none n octets e)
 
-pub onto_level : (items : List DataValue) (n : ℕ) (octets : List ℕ) → 0 < n → image_read (λ d. items ++ d ∷ []) (data_value_format.decode n) octets ≡ image_read (with_last items) (data_value_step (variant_at (n - 1))) octets
+pub onto_level : (items : List DataValue) (n : ℕ) (octets : List ℕ) → 0 < n → image_read (λ d. items ++ d ∷ []) (data_value_format.decode n) octets
+    ≡ image_read (with_last items) (data_value_step (variant_at (n - 1))) octets
 onto_level items n octets h = by_data items n octets ∙ ap (λ (o : Option (DataValueData × List ℕ)). o >>= placed items) (data_value_level n octets h)

@@ -1,5 +1,6 @@
 -- Rows whose elements are held in a vector of their own type.
-use Rattle.std.proofs.Common.{◌≡◌, ◌≢◌, ℕ, ◌+◌, ◌<◌, Bool, true, false, ◌&&◌, eqb, List, [], ◌∷◌, ◌++◌, length, get_or, take, drop, map, refl, sym, ap, ◌∙◌, append_assoc, arith}
+use Rattle.std.proofs.Common.{◌≡◌, ◌≢◌, ℕ, ◌+◌, ◌<◌, Bool, true, false, ◌&&◌, eqb, List, [], ◌∷◌, ◌++◌}
+use Rattle.std.proofs.Common.{length, get_or, take, drop, map, refl, sym, ap, ◌∙◌, append_assoc, arith}
 use Rattle.std.proofs.lemmas.List.{take_more, take-map, drop-map}
 use Rattle.std.specs.Prelude.{Result, Ok, Err, OnErr}
 use Rattle.ua_builtin.specs.Format.{Extends}
@@ -46,7 +47,8 @@ abbrev leaf_fits : ℕ → LeafData → Bool
 leaf_fits k l = eqb (leaf_kind l) k && leaf_encodable l
 
 -- the elements so far fit, with one more
-pub leaves_fit_after : {X : Type 0} (f : X → LeafData) (k : ℕ) (xs : List X) (i : ℕ) (x : X) → i < length xs → x ≡ get_or xs i x → scalars_fit k (row (map leaf (map f (take i xs)))) ≡ true → eqb (leaf_kind (f x)) k ≡ true → leaf_encodable (f x) ≡ true
+pub leaves_fit_after : {X : Type 0} (f : X → LeafData) (k : ℕ) (xs : List X) (i : ℕ) (x : X) → i < length xs → x ≡ get_or xs i x
+    → scalars_fit k (row (map leaf (map f (take i xs)))) ≡ true → eqb (leaf_kind (f x)) k ≡ true → leaf_encodable (f x) ≡ true
     → scalars_fit k (row (map leaf (map f (take (i + 1) xs)))) ≡ true
 leaves_fit_after {X} f k xs i x h is before kind fits =
     ap (λ (ys : List X). scalars_fit k (row (map leaf (map f ys)))) (take_more xs i x h)
@@ -55,8 +57,10 @@ leaves_fit_after {X} f k xs i x h is before kind fits =
     ∙ ap (λ b. b && leaf_fits k (f x)) before ∙ ap (λ b. b && leaf_encodable (f x)) kind ∙ fits
 
 -- one that does not fit
-pub leaves_fit_fails : {X : Type 0} (f : X → LeafData) (k : ℕ) (xs : List X) (i : ℕ) (x : X) → i < length xs → x ≡ get_or xs i x → leaf_fits k (f x) ≡ false → scalars_fit k (row (map leaf (map f xs))) ≡ false
-leaves_fit_fails {X} f k xs i x h is refused = and_fails_at (λ (ys : List X). scalars_fit k (row (map leaf (map f ys)))) (λ y. leaf_fits k (f y)) refl (λ _ _. refl) xs i x h (ap (λ y. leaf_fits k (f y)) (sym is) ∙ refused)
+pub leaves_fit_fails : {X : Type 0} (f : X → LeafData) (k : ℕ) (xs : List X) (i : ℕ) (x : X) → i < length xs → x ≡ get_or xs i x → leaf_fits k (f x) ≡ false
+    → scalars_fit k (row (map leaf (map f xs))) ≡ false
+leaves_fit_fails {X} f k xs i x h is refused = and_fails_at (λ (ys : List X). scalars_fit k (row (map leaf (map f ys)))) (λ y. leaf_fits k (f y)) refl
+    (λ _ _. refl) xs i x h (ap (λ y. leaf_fits k (f y)) (sym is) ∙ refused)
 
 pub other_leaf : (k : ℕ) (l : LeafData) (own : ℕ) → leaf_kind l ≡ own → own ≢ k → leaf_fits k l ≡ false
 other_leaf k l own is h = ap (λ b. b && leaf_encodable l) (ap (λ i. eqb i k) is ∙ other_kind own k h)
@@ -65,9 +69,11 @@ pub unfit_leaf : (k : ℕ) (l : LeafData) → leaf_encodable l ≡ false → lea
 unfit_leaf k l h = and_false (eqb (leaf_kind l) k) (leaf_encodable l) h
 
 -- each of a row that fits can be written
-pub leaf_fits_at : {X : Type 0} (f : X → LeafData) (k : ℕ) (xs : List X) (i : ℕ) (x : X) → i < length xs → x ≡ get_or xs i x → scalars_fit k (row (map leaf (map f xs))) ≡ true → leaf_encodable (f x) ≡ true
+pub leaf_fits_at : {X : Type 0} (f : X → LeafData) (k : ℕ) (xs : List X) (i : ℕ) (x : X) → i < length xs → x ≡ get_or xs i x
+    → scalars_fit k (row (map leaf (map f xs))) ≡ true → leaf_encodable (f x) ≡ true
 leaf_fits_at {X} f k xs i x h is good =
-    and_second (eqb (leaf_kind (f x)) k) (leaf_encodable (f x)) (ap (λ y. leaf_fits k (f y)) is ∙ and_at (λ (ys : List X). scalars_fit k (row (map leaf (map f ys)))) (λ y. leaf_fits k (f y)) refl (λ _ _. refl) xs i x h good)
+    and_second (eqb (leaf_kind (f x)) k) (leaf_encodable (f x)) (ap (λ y. leaf_fits k (f y)) is
+    ∙ and_at (λ (ys : List X). scalars_fit k (row (map leaf (map f ys)))) (λ y. leaf_fits k (f y)) refl (λ _ _. refl) xs i x h good)
 
 -- ---- what is written
 
@@ -76,7 +82,8 @@ pub leaves_after : {X : Type 0} (f : X → LeafData) (old : List ℕ) (xs : List
 leaves_after {X} f old xs i x h is =
     append_assoc old (row_canonical (row (map leaf (map f (take i xs))))) (leaf_canonical (f x))
     ∙ ap (λ r. old ++ r) (ap (λ y. row_canonical (row (map leaf (map f (take i xs)))) ++ leaf_canonical (f y)) is
-    ∙ sym (ap (λ (ys : List X). row_canonical (row (map leaf (map f ys)))) (take_more xs i x h) ∙ ap (λ ys. row_canonical (row ys)) (leaves_push f (take i xs) (get_or xs i x)) ∙ row_push (map leaf (map f (take i xs))) (leaf (f (get_or xs i x)))))
+    ∙ sym (ap (λ (ys : List X). row_canonical (row (map leaf (map f ys)))) (take_more xs i x h)
+    ∙ ap (λ ys. row_canonical (row ys)) (leaves_push f (take i xs) (get_or xs i x)) ∙ row_push (map leaf (map f (take i xs))) (leaf (f (get_or xs i x)))))
 
 -- ---- what was added before a fault
 

@@ -22,10 +22,12 @@ count_push (x ∷ ss) s = omega (arith, count_push ss s)
 pub seen_next : (ss : List Scalar) (i : ℕ) (d : Scalar) → i < length ss → seen (take (i + 1) ss) ≡ seen (take i ss) ++ scalar_of (get_or ss i d) ∷ []
 seen_next ss i d h = ap seen (take_more ss i d h) ∙ map-append scalar_of (take i ss) (get_or ss i d ∷ [])
 
-depth_next : (ss : List Scalar) (i : ℕ) (d : Scalar) → i < length ss → scalars_depth (row (seen (take (i + 1) ss))) ≡ max (scalars_depth (row (seen (take i ss)))) (scalar_depth (scalar_of (get_or ss i d)))
+depth_next : (ss : List Scalar) (i : ℕ) (d : Scalar) → i < length ss
+    → scalars_depth (row (seen (take (i + 1) ss))) ≡ max (scalars_depth (row (seen (take i ss)))) (scalar_depth (scalar_of (get_or ss i d)))
 depth_next ss i d h = ap (λ xs. scalars_depth (row xs)) (seen_next ss i d h) ∙ depth_push (seen (take i ss)) (scalar_of (get_or ss i d))
 
-count_next : (ss : List Scalar) (i : ℕ) (d : Scalar) → i < length ss → scalars_count (row (seen (take (i + 1) ss))) ≡ scalars_count (row (seen (take i ss))) + scalar_count (scalar_of (get_or ss i d))
+count_next : (ss : List Scalar) (i : ℕ) (d : Scalar) → i < length ss → scalars_count (row (seen (take (i + 1) ss))) ≡ scalars_count (row (seen (take i ss)))
+    + scalar_count (scalar_of (get_or ss i d))
 count_next ss i d h = ap (λ xs. scalars_count (row xs)) (seen_next ss i d h) ∙ count_push (seen (take i ss)) (scalar_of (get_or ss i d))
 
 -- an element counts no more than the row
@@ -35,13 +37,17 @@ count_within (s ∷ ss) zero d h = omega arith
 count_within (s ∷ ss) (suc i) d h = omega (arith, count_within ss i d (omega arith))
 
 -- the same, as a loop over the row meets it
-pub count_below : (ss : List Scalar) (i : ℕ) (s : Scalar) (all : List ScalarData) → map scalar_of ss ≡ all → i < length ss → s ≡ get_or ss i s → scalar_count (scalar_of s) ≤ scalars_count (row all)
-count_below ss i s all e h is = subst (λ xs. scalar_count (scalar_of s) ≤ scalars_count (row xs)) e (subst (λ x. scalar_count (scalar_of x) ≤ scalars_count (row (map scalar_of ss))) (sym is) (omega (arith, count_within ss i s h)))
+pub count_below : (ss : List Scalar) (i : ℕ) (s : Scalar) (all : List ScalarData) → map scalar_of ss ≡ all → i < length ss → s ≡ get_or ss i s
+    → scalar_count (scalar_of s) ≤ scalars_count (row all)
+count_below ss i s all e h is = subst (λ xs. scalar_count (scalar_of s) ≤ scalars_count (row xs)) e
+    (subst (λ x. scalar_count (scalar_of x) ≤ scalars_count (row (map scalar_of ss))) (sym is) (omega (arith, count_within ss i s h)))
 
-pub depth_after : (ss : List Scalar) (i : ℕ) (s : Scalar) → i < length ss → s ≡ get_or ss i s → scalars_depth (row (seen (take (i + 1) ss))) ≡ max (scalars_depth (row (seen (take i ss)))) (scalar_depth (scalar_of s))
+pub depth_after : (ss : List Scalar) (i : ℕ) (s : Scalar) → i < length ss → s ≡ get_or ss i s
+    → scalars_depth (row (seen (take (i + 1) ss))) ≡ max (scalars_depth (row (seen (take i ss)))) (scalar_depth (scalar_of s))
 depth_after ss i s h is = depth_next ss i s h ∙ ap (λ x. max (scalars_depth (row (seen (take i ss)))) (scalar_depth (scalar_of x))) (sym is)
 
-pub count_after : (ss : List Scalar) (i : ℕ) (s : Scalar) → i < length ss → s ≡ get_or ss i s → scalars_count (row (seen (take (i + 1) ss))) ≡ scalars_count (row (seen (take i ss))) + scalar_count (scalar_of s)
+pub count_after : (ss : List Scalar) (i : ℕ) (s : Scalar) → i < length ss → s ≡ get_or ss i s
+    → scalars_count (row (seen (take (i + 1) ss))) ≡ scalars_count (row (seen (take i ss))) + scalar_count (scalar_of s)
 count_after ss i s h is = count_next ss i s h ∙ ap (λ x. scalars_count (row (seen (take i ss))) + scalar_count (scalar_of x)) (sym is)
 
 length_all : (ss : List Scalar) → length ss ≡ row_length (row (map scalar_of ss))
@@ -53,7 +59,8 @@ pub length_seen : (ss : List Scalar) (all : List ScalarData) → map scalar_of s
 length_seen ss all e = length_all ss ∙ ap (λ xs. row_length (row xs)) e
 
 -- one more copy
-pub seen_more : (copies ss : List Scalar) (i : ℕ) (s : Scalar) → map scalar_of copies ≡ seen (take i ss) → i < length ss → s ≡ get_or ss i s → map scalar_of copies ++ scalar_of s ∷ [] ≡ seen (take (i + 1) ss)
+pub seen_more : (copies ss : List Scalar) (i : ℕ) (s : Scalar) → map scalar_of copies ≡ seen (take i ss) → i < length ss → s ≡ get_or ss i s
+    → map scalar_of copies ++ scalar_of s ∷ [] ≡ seen (take (i + 1) ss)
 seen_more copies ss i s before h is =
     ap₂ (λ (xs : List ScalarData) (x : Scalar). xs ++ scalar_of x ∷ []) before is ∙ sym (seen_next ss i s h)
 

@@ -48,21 +48,28 @@ ShallowS n k s b = (kind_of s ≡ k) × EncodesScalar s b × (scalar_depth s ≤
 
 -- behind the mask m
 abbrev Body : ℕ → ℕ → DataValueData → List ℕ → Type 0
-Body n m y b = IsTrue (leb m 63) × ((v : Option VariantData) × Joins (Optional (ShallowV n) (has m 1) v) (λ c. (f : DataFields) × (y ≡ value_within v f) × (data_fields m).encodes f c) b)
+Body n m y b = IsTrue (leb m 63)
+    × ((v : Option VariantData) × Joins (Optional (ShallowV n) (has m 1) v) (λ c. (f : DataFields) × (y ≡ value_within v f) × (data_fields m).encodes f c) b)
 
 body : (n m : ℕ) (r : Reader VariantData) → Exact (ShallowV n) r
-    → Exact (Body n m) (λ octets. when (leb m 63) (optional_read (has m 1) r octets >>= λ v. (data_fields m).decode v.1 >>= λ f. Some (value_within v.0 f.0, f.1)))
+    → Exact (Body n m)
+    (λ octets. when (leb m 63) (optional_read (has m 1) r octets >>= λ v. (data_fields m).decode v.1 >>= λ f. Some (value_within v.0 f.0, f.1)))
 body n m r e =
-    exact_when (leb m 63) (exact_then (exact_optional (ShallowV n) r (has m 1) e) (λ v. exact_map (λ (f : DataFields). value_within v f) (sound_data_fields m).exact))
+    exact_when (leb m 63)
+    (exact_then (exact_optional (ShallowV n) r (has m 1) e) (λ v. exact_map (λ (f : DataFields). value_within v f) (sound_data_fields m).exact))
 
 nil_before : (b front back : List ℕ) → b ≡ front ++ back → Nothing front → b ≡ back
 nil_before b front back e none = e ∙ ap (λ (c : List ℕ). c ++ back) none
 
 to_at : (n m : ℕ) (y : DataValueData) (b a c c1 c2 : List ℕ) (f : DataFields) (v : Option VariantData) (t : Bool)
-    → has m 1 ≡ t → IsTrue (leb m 63) → b ≡ a ++ c → IsOctet m a → c ≡ c1 ++ c2 → Optional (ShallowV n) t v c1 → y ≡ value_within v f → (data_fields m).encodes f c2 → ShallowD (suc n) y b
+    → has m 1 ≡ t → IsTrue (leb m 63) → b ≡ a ++ c → IsOctet m a → c ≡ c1 ++ c2 → Optional (ShallowV n) t v c1 → y ≡ value_within v f
+    → (data_fields m).encodes f c2 → ShallowD (suc n) y b
 to_at n m y b a c c1 c2 f None true is low e o e1 r1 iy r2 = absurd r1
 to_at n m y b a c c1 c2 f None false is low e o e1 r1 iy r2 =
-    subst (λ x. ShallowD (suc n) x b) (sym iy) ((m, (a, c, e, o, (low, (is, subst ((data_fields m).encodes f) (sym (nil_before c c1 c2 e1 r1)) r2)))), omega arith)
+    subst (λ x. ShallowD (suc n) x b) (sym iy) (
+      (m, (a, c, e, o, (low, (is, subst ((data_fields m).encodes f) (sym (nil_before c c1 c2 e1 r1)) r2)))),
+      omega arith,
+    )
 to_at n m y b a c c1 c2 f (Some v) true is low e o e1 r1 iy r2 =
     let deep : variant_depth v ≤ n = r1.1 in
     subst (λ x. ShallowD (suc n) x b) (sym iy) ((m, (a, c, e, o, (low, (is, (c1, c2, e1, r1.0, r2))))), omega arith)
@@ -86,8 +93,16 @@ data_value_back n (valued v f) b r =
     let j = r.0.1 in
     let w = j.4 in
     let g = w.1.1 in
-    let deep : variant_depth v ≤ n = let h : 1 + variant_depth v ≤ suc n = r.1 in omega arith in
-    (m, (j.0, j.1, j.2, j.3, (w.0, (Some v, (g.0, g.1, g.2, subst (λ (t : Bool). Optional (ShallowV n) t (Some v) g.0) (sym w.1.0) (g.3, deep), (f, refl, g.4))))))
+    let deep : variant_depth v ≤ n = let h : 1 + variant_depth v ≤ suc n = r.1 in omega arith in (
+      m,
+      (
+        j.0,
+        j.1,
+        j.2,
+        j.3,
+        (w.0, (Some v, (g.0, g.1, g.2, subst (λ (t : Bool). Optional (ShallowV n) t (Some v) g.0) (sym w.1.0) (g.3, deep), (f, refl, g.4)))),
+      ),
+    )
 
 pub exact_data_value_step : (n : ℕ) (r : Reader VariantData) → Exact (ShallowV n) r → Exact (ShallowD (suc n)) (data_value_step r)
 unfolding data_value_step
@@ -95,7 +110,8 @@ exact_data_value_step n r e = exact_as (ShallowD (suc n)) (exact_then exact_octe
 
 -- ---- scalars
 
-sound_as : {A B : Type 0} {p : A → List ℕ → Type 0} {r : List ℕ → Option (A × List ℕ)} (q : B → List ℕ → Type 0) (f : A → B) → Exact p r → ((x : A) (b : List ℕ) → p x b → q (f x) b) → Sound q (λ octets. r octets >>= λ x. Some (f x.0, x.1))
+sound_as : {A B : Type 0} {p : A → List ℕ → Type 0} {r : List ℕ → Option (A × List ℕ)} (q : B → List ℕ → Type 0) (f : A → B) → Exact p r
+    → ((x : A) (b : List ℕ) → p x b → q (f x) b) → Sound q (λ octets. r octets >>= λ x. Some (f x.0, x.1))
 sound_as {A} {B} {p} {r} q f e to octets v rest h =
     let s = (exact_map f e).sound octets v rest h in
     record { front = s.front; parts = s.parts; encoded = subst (λ y. q y s.front) (sym s.encoded.1) (to s.encoded.0 s.front s.encoded.2) }
@@ -121,7 +137,8 @@ module _ (n : ℕ) (dv : Reader DataValueData) (v : Reader VariantData) (dg : Re
       at_kind k 25 _ (last_holder k h no23 no24) (sound_as (ShallowS n 25) diagnostic eg (λ x b s. (refl, s.0, s.1))))))
       (λ h. sound_as (ShallowS n k) leaf (exact_leaf k) (λ x b s. (s.0, s.1, omega arith)))
 
-  scalar_complete : (s : ScalarData) (front rest : List ℕ) → EncodesScalar s front → scalar_depth s ≤ n → scalar_at dv v dg (kind_of s) (front ++ rest) ≡ Some (s, rest)
+  scalar_complete : (s : ScalarData) (front rest : List ℕ) → EncodesScalar s front → scalar_depth s ≤ n
+      → scalar_at dv v dg (kind_of s) (front ++ rest) ≡ Some (s, rest)
   unfolding scalar_at
   scalar_complete (leaf l) front rest r h =
       if_false (holds_values (leaf_kind l)) _ (leaf_at (leaf_kind l) (front ++ rest) >>= λ x. Some (leaf x.0, x.1)) (leaf_apart l front r)

@@ -16,10 +16,12 @@ use Rattle.ua_variant.proofs.VariantsRead.{exact_variant, exact_data_value, no_o
 use Rattle.ua_variant.proofs.Encoded.{variant_canonical_encodes, variant_encodable_depth, data_value_canonical_encodes, data_value_encodable_depth}
 use Rattle.ua_variant.proofs.Lengths.{variant_takes, data_value_takes}
 
-pub exact_variant_value : (n : ℕ) → Exact (Within (λ v. EncodesVariant (variant_of v)) (λ v. variant_depth (variant_of v)) n) (image_read variant_value (variant_at n))
+pub exact_variant_value : (n : ℕ) → Exact (Within (λ v. EncodesVariant (variant_of v)) (λ v. variant_depth (variant_of v)) n)
+    (image_read variant_value (variant_at n))
 exact_variant_value n = exact_made variant_of variant_value (ShallowV n) (variant_at n) variant_value_of variant_forth (exact_variant n)
 
-pub exact_data_value_value : (n : ℕ) → Exact (Within (λ v. EncodesDataValue (data_value_of v)) (λ v. data_value_depth (data_value_of v)) n) (image_read data_value_value (data_value_at n))
+pub exact_data_value_value : (n : ℕ) → Exact (Within (λ v. EncodesDataValue (data_value_of v)) (λ v. data_value_depth (data_value_of v)) n)
+    (image_read data_value_value (data_value_at n))
 exact_data_value_value n = exact_made data_value_of data_value_value (ShallowD n) (data_value_at n) data_value_value_of data_value_forth (exact_data_value n)
 
 pub data_value_some : (d : DataValueData) → EncodesDataValue d [] → ⊥

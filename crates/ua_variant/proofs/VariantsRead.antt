@@ -43,8 +43,10 @@ null_from : (n t : ℕ) → t ≡ 0 → (y : VariantData) (b : List ℕ) → Aft
 null_from n t h null b r = let e : t ∷ b ≡ 0 ∷ [] = r.0.1 in (refl, cc)
 null_from n t h (one s) b r =
     let j = r.0.1 in let e = head_of t (kind_of s) b j.0 j.1 j.2 j.3 in let k = kind_within s j.1 j.4 in absurd (omega (arith, e.0, k.0))
-null_from n t h (absent k ds) b r = let f = r.0.2 in let j = r.0.3 in let e = head_of t (array_octet f k) b j.0 j.1 j.2 j.3 in absurd (omega (arith, e.0, octet_high f k))
-null_from n t h (many k ss ds) b r = let f = r.0.1 in let j = r.0.2 in let e = head_of t (array_octet f k) b j.0 j.1 j.2 j.3 in absurd (omega (arith, e.0, octet_high f k))
+null_from n t h (absent k ds) b r = let f = r.0.2 in let j = r.0.3 in let e = head_of t (array_octet f k) b j.0 j.1 j.2 j.3 in absurd
+    (omega (arith, e.0, octet_high f k))
+null_from n t h (many k ss ds) b r = let f = r.0.1 in let j = r.0.2 in let e = head_of t (array_octet f k) b j.0 j.1 j.2 j.3 in absurd
+    (omega (arith, e.0, octet_high f k))
 
 not_24 : (t : ℕ) → not (eqb t 24) ≡ true → t ≡ 24 → ⊥
 not_24 t h e = absurd (let x : not (eqb 24 24) ≡ true = subst (λ k. not (eqb k 24) ≡ true) e h in let z : false ≡ true = x in cc)
@@ -60,15 +62,18 @@ one_to n t low y b r =
     let other : kind_of s ≡ 24 → ⊥ = λ e. not_24 t r.0 (sym w.0 ∙ e) in
     subst (λ x. ShallowV (suc n) x (t ∷ b)) (sym r.1.1) ((other, (t ∷ [], b, refl, (omega (arith, w.0), ap (λ (x : ℕ). x ∷ []) (sym w.0)), w.1)), omega arith)
 
-one_from : (n t : ℕ) → t < 128 → (t ≡ 0 → ⊥) → (y : VariantData) (b : List ℕ) → After n t y b → IsTrue (not (eqb t 24)) × ((s : ScalarData) × (y ≡ one s) × ShallowS n t s b)
+one_from : (n t : ℕ) → t < 128 → (t ≡ 0 → ⊥) → (y : VariantData) (b : List ℕ) → After n t y b → IsTrue (not (eqb t 24))
+    × ((s : ScalarData) × (y ≡ one s) × ShallowS n t s b)
 one_from n t h z null b r = absurd (let e : t ∷ b ≡ 0 ∷ [] = r.0.1 in z cc)
 one_from n t h z (one s) b r =
     let j = r.0.1 in
     let e = head_of t (kind_of s) b j.0 j.1 j.2 j.3 in
     let d : 1 + scalar_depth s ≤ suc n = r.1 in
     (is_not_24 t (λ i. r.0.0 (sym e.0 ∙ i)), (s, refl, (sym e.0, subst (EncodesScalar s) (sym e.1) j.4, omega arith)))
-one_from n t h z (absent k ds) b r = let f = r.0.2 in let j = r.0.3 in let e = head_of t (array_octet f k) b j.0 j.1 j.2 j.3 in absurd (omega (arith, e.0, octet_high f k))
-one_from n t h z (many k ss ds) b r = let f = r.0.1 in let j = r.0.2 in let e = head_of t (array_octet f k) b j.0 j.1 j.2 j.3 in absurd (omega (arith, e.0, octet_high f k))
+one_from n t h z (absent k ds) b r = let f = r.0.2 in let j = r.0.3 in let e = head_of t (array_octet f k) b j.0 j.1 j.2 j.3 in absurd
+    (omega (arith, e.0, octet_high f k))
+one_from n t h z (many k ss ds) b r = let f = r.0.1 in let j = r.0.2 in let e = head_of t (array_octet f k) b j.0 j.1 j.2 j.3 in absurd
+    (omega (arith, e.0, octet_high f k))
 
 tag_is : (t : ℕ) → 128 ≤ t → t ≤ 255 → t ≡ array_octet (has t 64) (t % 64)
 tag_is t h k = omega (arith, flag_has t 6)
@@ -87,11 +92,13 @@ read_kind_low k h = Prim.grind (arith, common_steps)
 test_is : (t : ℕ) → (is_read_kind (t % 64) && leb t 255) ≡ true → (is_read_kind (t % 64) ≡ true) × (t ≤ 255)
 test_is t h = (Prim.grind (arith, common_steps), Prim.grind (arith, common_steps))
 
-array_after : (n t : ℕ) (y : VariantData) (b : List ℕ) → IsTrue (is_read_kind (t % 64)) → t ≤ 255 → t ≡ array_octet (has t 64) (t % 64) → ArrayOf n (t % 64) (has t 64) y b → After n t y b
+array_after : (n t : ℕ) (y : VariantData) (b : List ℕ) → IsTrue (is_read_kind (t % 64)) → t ≤ 255 → t ≡ array_octet (has t 64) (t % 64)
+    → ArrayOf n (t % 64) (has t 64) y b → After n t y b
 array_after n t y b k low e (inl r) =
     let j = r.2 in
     let none = j.4 in
-    subst (λ x. ShallowV (suc n) x (t ∷ b)) (sym r.1) ((k, none.0, has t 64, (t ∷ [], b, refl, (omega (arith, e), ap (λ (x : ℕ). x ∷ []) e), (j.0, j.1, j.2, j.3, none.1))), omega arith)
+    subst (λ x. ShallowV (suc n) x (t ∷ b)) (sym r.1)
+    ((k, none.0, has t 64, (t ∷ [], b, refl, (omega (arith, e), ap (λ (x : ℕ). x ∷ []) e), (j.0, j.1, j.2, j.3, none.1))), omega arith)
 array_after n t y b k low e (inr r) =
     let d : scalars_depth r.0 ≤ n = r.3 in
     subst (λ x. ShallowV (suc n) x (t ∷ b)) (sym r.2) ((k, has t 64, (t ∷ [], b, refl, (omega (arith, e), ap (λ (x : ℕ). x ∷ []) e), r.4)), omega arith)
@@ -105,16 +112,22 @@ octet_low true k h = Prim.grind (arith, common_steps)
 octet_low false k h = Prim.grind (arith, common_steps)
 
 test_at : (f : Bool) (k : ℕ) → IsTrue (is_read_kind k) → (is_read_kind (array_octet f k % 64) && leb (array_octet f k) 255) ≡ true
-test_at f k h = ap (λ (i : ℕ). is_read_kind i && leb (array_octet f k) 255) (tag_kind f k (read_kind_low k h)) ∙ ap (λ (b : Bool). b && leb (array_octet f k) 255) h ∙ octet_low f k (read_kind_low k h)
+test_at f k h = ap (λ (i : ℕ). is_read_kind i && leb (array_octet f k) 255) (tag_kind f k (read_kind_low k h))
+    ∙ ap (λ (b : Bool). b && leb (array_octet f k) 255) h ∙ octet_low f k (read_kind_low k h)
 
 wanted_at : (n t : ℕ) (f : Bool) (k : ℕ) (y : VariantData) (b : List ℕ) → t ≡ array_octet f k → IsTrue (is_read_kind k) → ArrayOf n k f y b → Wanted n t y b
 wanted_at n t f k y b e h r =
     let low = read_kind_low k h in
-    subst (λ x. Wanted n x y b) (sym e) (test_at f k h, subst (λ g. ArrayOf n (array_octet f k % 64) g y b) (sym (tag_flag f k low)) (subst (λ i. ArrayOf n i f y b) (sym (tag_kind f k low)) r))
+    subst (λ x. Wanted n x y b) (sym e) (
+      test_at f k h,
+      subst (λ g. ArrayOf n (array_octet f k % 64) g y b) (sym (tag_flag f k low))
+          (subst (λ i. ArrayOf n i f y b) (sym (tag_kind f k low)) r),
+    )
 
 array_back : (n t : ℕ) → 128 ≤ t → (y : VariantData) (b : List ℕ) → After n t y b → Wanted n t y b
 array_back n t h null b r = absurd (let e : t ∷ b ≡ 0 ∷ [] = r.0.1 in let z : t ≡ 0 = cc in omega arith)
-array_back n t h (one s) b r = let j = r.0.1 in let e = head_of t (kind_of s) b j.0 j.1 j.2 j.3 in let k = kind_within s j.1 j.4 in absurd (omega (arith, e.0, k.1))
+array_back n t h (one s) b r = let j = r.0.1 in let e = head_of t (kind_of s) b j.0 j.1 j.2 j.3 in let k =
+    kind_within s j.1 j.4 in absurd (omega (arith, e.0, k.1))
 array_back n t h (absent k ds) b r =
     let f = r.0.2 in
     let j = r.0.3 in
@@ -145,7 +158,8 @@ exact_after : (n t : ℕ) (p : ℕ → Reader ScalarData) → ((k : ℕ) → Exa
 unfolding variant_after
 exact_after n t p e =
     exact_if (eqb t 0) (λ h. exact_as (After n t) (exact_only null) (null_to n t (eqb_is t 0 h)) (null_from n t (eqb_is t 0 h)))
-    (λ z. exact_if (leb 128 t) (λ h. exact_as (After n t) (exact_when (is_read_kind (t % 64) && leb t 255) (exact_array n (t % 64) (has t 64) p (e (t % 64)))) (array_there n t (leb_is t h)) (array_back n t (leb_is t h)))
+    (λ z. exact_if (leb 128 t) (λ h. exact_as (After n t) (exact_when (is_read_kind (t % 64) && leb t 255) (exact_array n (t % 64) (has t 64) p (e (t % 64))))
+    (array_there n t (leb_is t h)) (array_back n t (leb_is t h)))
     (λ h. exact_as (After n t) (exact_when (not (eqb t 24)) (exact_map one (e t))) (one_to n t (leb_no t h)) (one_from n t (leb_no t h) (eqb_no t 0 z))))
 
 tagged_to : (n : ℕ) (y : VariantData) (b : List ℕ) → (t : ℕ) × Joins (IsOctet t) (After n t y) b → ShallowV (suc n) y b
@@ -190,7 +204,8 @@ mutual
 
   pub exact_variant : (n : ℕ) → Exact (ShallowV n) (variant_at n)
   exact_variant zero = exact_none no_level_v
-  exact_variant (suc n) = exact_step n (scalar_at (data_value_at n) (variant_at n) (diagnostic_at n)) (exact_scalar n (data_value_at n) (variant_at n) (diagnostic_at n) (exact_data_value n) (exact_variant n) (exact_diagnostic n))
+  exact_variant (suc n) = exact_step n (scalar_at (data_value_at n) (variant_at n) (diagnostic_at n))
+      (exact_scalar n (data_value_at n) (variant_at n) (diagnostic_at n) (exact_data_value n) (exact_variant n) (exact_diagnostic n))
 
   pub exact_data_value : (n : ℕ) → Exact (ShallowD n) (data_value_at n)
   exact_data_value zero = exact_none no_level_d

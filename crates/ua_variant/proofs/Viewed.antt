@@ -1,7 +1,10 @@
 -- A value of the code and the data that it stands for give each other back.
 use Rattle.std.specs.Prelude.{◌≡◌, List, [], ◌∷◌, Option, Some, None, refl}
 use Rattle.std.proofs.Common.{ap}
-use Rattle.ua_variant.specs.Data.{LeafData, boolean, sbyte, byte, int16, uint16, int32, uint32, int64, uint64, float, double, string, date_time, guid, byte_string, xml_element, node_id, expanded_node_id, status_code, qualified_name, localized_text, extension_object, reserved, DataFields, VariantData, null, one, absent, many, ScalarData, leaf, data_value, variant, diagnostic, ScalarsData, no_scalars, scalar, DataValueData, bare, valued}
+use Rattle.ua_variant.specs.Data.{LeafData, boolean, sbyte, byte, int16, uint16, int32, uint32, int64, uint64, float, double, string}
+use Rattle.ua_variant.specs.Data.{date_time, guid, byte_string, xml_element, node_id, expanded_node_id, status_code, qualified_name}
+use Rattle.ua_variant.specs.Data.{localized_text, extension_object, reserved, DataFields, VariantData, null, one, absent, many, ScalarData}
+use Rattle.ua_variant.specs.Data.{leaf, data_value, variant, diagnostic, ScalarsData, no_scalars, scalar, DataValueData, bare, valued}
 use Rattle.ua_variant.specs.View.{row, row_list, value_within, data_fields_of, data_value_of, scalar_of, variant_of}
 use Rattle.ua_variant.specs.declared.values.Scalar.{Scalar}
 use Rattle.ua_variant.specs.declared.values.Variant.{Variant}

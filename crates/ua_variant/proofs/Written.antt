@@ -12,7 +12,8 @@ use Rattle.ua_builtin.specs.Join.{number}
 use Rattle.ua_builtin.specs.Status.{status_code}
 use Rattle.ua_diagnostic.specs.Parts.{optional_fits}
 use Rattle.ua_variant.specs.Measure.{variant_depth, data_value_depth}
-use Rattle.ua_variant.specs.Encodable.{data_fields_encodable, variant_encodable, data_value_encodable, data_value_fits, variant_fits, scalars_fit, row_length, is_kind}
+use Rattle.ua_variant.specs.Encodable.{data_fields_encodable, variant_encodable, data_value_encodable}
+use Rattle.ua_variant.specs.Encodable.{data_value_fits, variant_fits, scalars_fit, row_length, is_kind}
 use Rattle.ua_diagnostic.specs.Dimensions.{dims_encodable, is_count}
 use Rattle.ua_variant.specs.Canonical.{row_canonical, scalar_canonical}
 use Rattle.ua_diagnostic.proofs.DimensionsRead.{count_is}
@@ -22,7 +23,8 @@ use Rattle.ua_variant.proofs.Rows.{seen, seen_next}
 kind_low : (k : ℕ) → is_kind k ≡ true → k < 32
 kind_low k h = Prim.grind (arith, common_steps)
 
-pub many_parts : (k : ℕ) (ss : ScalarsData) (ds : List ℤ) → variant_fits (many k ss ds) ≡ true → (k < 32) × (row_length ss < 2147483648) × (dims_encodable ds (row_length ss) ≡ true) × (scalars_fit k ss ≡ true)
+pub many_parts : (k : ℕ) (ss : ScalarsData) (ds : List ℤ) → variant_fits (many k ss ds) ≡ true → (k < 32) × (row_length ss < 2147483648)
+    × (dims_encodable ds (row_length ss) ≡ true) × (scalars_fit k ss ≡ true)
 many_parts k ss ds h =
     let n = row_length ss in
     let u = both_true (is_kind k && is_count n && dims_encodable ds n) (scalars_fit k ss) h in
@@ -50,16 +52,20 @@ data_value_fits_of d h = (both_true (leb (data_value_depth d) most_levels) (data
 
 -- a value and the fields beside it
 pub valued_parts : (v : VariantData) (f : DataFields) → data_value_encodable (valued v f) ≡ true → (data_fields_encodable f ≡ true) × (variant_fits v ≡ true)
-valued_parts v f h = both_true (data_fields_encodable f) (variant_fits v) (both_true (leb (data_value_depth (valued v f)) most_levels) (data_value_fits (valued v f)) h).1
+valued_parts v f h = both_true (data_fields_encodable f) (variant_fits v)
+    (both_true (leb (data_value_depth (valued v f)) most_levels) (data_value_fits (valued v f)) h).1
 
 -- each of the fields can be written
 pub data_fields_parts : (f : DataFields) → data_fields_encodable f ≡ true
-    → IsTrue (optional_fits status_code.encodable f.status) × IsTrue (optional_fits date_time.encodable f.source_timestamp) × IsTrue (optional_fits (number 2).encodable f.source_picoseconds) × IsTrue (optional_fits date_time.encodable f.server_timestamp) × IsTrue (optional_fits (number 2).encodable f.server_picoseconds)
+    → IsTrue (optional_fits status_code.encodable f.status) × IsTrue (optional_fits date_time.encodable f.source_timestamp)
+    × IsTrue (optional_fits (number 2).encodable f.source_picoseconds) × IsTrue (optional_fits date_time.encodable f.server_timestamp)
+    × IsTrue (optional_fits (number 2).encodable f.server_picoseconds)
 unfolding data_fields_encodable
 data_fields_parts f h =
     let time = optional_fits date_time.encodable in
     let parts = optional_fits (number 2).encodable in
-    let a = both_true (optional_fits status_code.encodable f.status) (time f.source_timestamp && (parts f.source_picoseconds && (time f.server_timestamp && parts f.server_picoseconds))) h in
+    let a = both_true (optional_fits status_code.encodable f.status)
+    (time f.source_timestamp && (parts f.source_picoseconds && (time f.server_timestamp && parts f.server_picoseconds))) h in
     let b = both_true (time f.source_timestamp) (parts f.source_picoseconds && (time f.server_timestamp && parts f.server_picoseconds)) a.1 in
     let c = both_true (parts f.source_picoseconds) (time f.server_timestamp && parts f.server_picoseconds) b.1 in
     let d = both_true (time f.server_timestamp) (parts f.server_picoseconds) c.1 in

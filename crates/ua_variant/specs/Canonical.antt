@@ -1,7 +1,8 @@
 -- The canonical encoding.
 use Rattle.std.specs.Prelude.{ℕ, ◌+◌, false, List, [], ◌∷◌, ◌++◌}
 use Rattle.ua_builtin.specs.Number.{number_octets}
-use Rattle.ua_variant.specs.Data.{DataFields, VariantData, null, one, absent, many, ScalarData, leaf, data_value, variant, diagnostic, ScalarsData, no_scalars, scalar, DataValueData, bare, valued}
+use Rattle.ua_variant.specs.Data.{DataFields, VariantData, null, one, absent, many, ScalarData, leaf, data_value}
+use Rattle.ua_variant.specs.Data.{variant, diagnostic, ScalarsData, no_scalars, scalar, DataValueData, bare, valued}
 use Rattle.ua_variant.specs.Leaf.{leaf_canonical}
 use Rattle.ua_variant.specs.Fields.{data_fields, data_flags}
 use Rattle.ua_variant.specs.Encodable.{kind_of, row_length}

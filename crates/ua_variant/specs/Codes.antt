@@ -5,7 +5,8 @@ use lib.IntN.{ℤ}
 use Rattle.std.proofs.Common.{ap, ap₂}
 use Rattle.std.specs.Coded.{Coded, code_by, coded_list}
 use Rattle.ua_variant.specs.Trees.{Tree, tip, fork, coded_tree}
-use Rattle.ua_variant.specs.Data.{LeafData, DataFields, VariantData, null, one, absent, many, ScalarData, leaf, data_value, variant, diagnostic, ScalarsData, no_scalars, scalar, DataValueData, bare, valued}
+use Rattle.ua_variant.specs.Data.{LeafData, DataFields, VariantData, null, one, absent, many, ScalarData, leaf, data_value}
+use Rattle.ua_variant.specs.Data.{variant, diagnostic, ScalarsData, no_scalars, scalar, DataValueData, bare, valued}
 use Rattle.ua_diagnostic.specs.Diagnostic.{DiagnosticData}
 
 -- the contents of the leaves of a tree

@@ -2,7 +2,8 @@
 use Rattle.std.specs.Prelude.{ℕ, suc, zero, ◌%◌, Bool, cond, ◌&&◌, not, leb, eqb, Option, Some, None}
 use Rattle.ua_builtin.specs.Exact.{◌>>=◌}
 use Rattle.ua_builtin.specs.Number.{number_at}
-use Rattle.ua_variant.specs.Data.{VariantData, null, one, absent, many, ScalarData, leaf, data_value, variant, diagnostic, ScalarsData, no_scalars, scalar, DataValueData}
+use Rattle.ua_variant.specs.Data.{VariantData, null, one, absent, many, ScalarData, leaf, data_value}
+use Rattle.ua_variant.specs.Data.{variant, diagnostic, ScalarsData, no_scalars, scalar, DataValueData}
 use Rattle.ua_diagnostic.specs.Diagnostic.{DiagnosticData}
 use Rattle.ua_variant.specs.View.{value_within}
 use Rattle.ua_builtin.specs.Flags.{has}

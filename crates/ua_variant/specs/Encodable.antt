@@ -2,7 +2,8 @@
 pub use Rattle.ua_diagnostic.specs.Diagnostic.{diagnostic_encodable}
 pub use Rattle.ua_diagnostic.specs.Dimensions.{dims_encodable}
 use Rattle.std.specs.Prelude.{ℕ, ◌+◌, Bool, true, false, ◌&&◌, leb, eqb, not, [], ◌∷◌}
-use Rattle.ua_variant.specs.Data.{DataFields, VariantData, null, one, absent, many, ScalarData, leaf, data_value, variant, diagnostic, ScalarsData, no_scalars, scalar, DataValueData, bare, valued}
+use Rattle.ua_variant.specs.Data.{DataFields, VariantData, null, one, absent, many, ScalarData, leaf, data_value}
+use Rattle.ua_variant.specs.Data.{variant, diagnostic, ScalarsData, no_scalars, scalar, DataValueData, bare, valued}
 use Rattle.ua_variant.specs.Leaf.{leaf_kind, leaf_encodable}
 use Rattle.ua_variant.specs.Measure.{variant_depth, data_value_depth}
 use Rattle.ua_builtin.specs.Format.{most_levels}

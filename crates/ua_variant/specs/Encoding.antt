@@ -5,7 +5,8 @@
 pub use Rattle.ua_diagnostic.specs.Diagnostic.{EncodesDiagnostic}
 pub use Rattle.ua_diagnostic.specs.Dimensions.{EncodesDims}
 use Rattle.std.specs.Prelude.{◌≡◌, ℕ, ◌+◌, Bool, true, false, IsTrue, List, []}
-use Rattle.ua_variant.specs.Data.{VariantData, null, one, absent, many, ScalarData, leaf, data_value, variant, diagnostic, ScalarsData, no_scalars, scalar, DataValueData, bare, valued}
+use Rattle.ua_variant.specs.Data.{VariantData, null, one, absent, many, ScalarData, leaf, data_value, variant}
+use Rattle.ua_variant.specs.Data.{diagnostic, ScalarsData, no_scalars, scalar, DataValueData, bare, valued}
 use Rattle.ua_diagnostic.specs.Parts.{Joins, Nothing, IsOctet, IsCount, IsNegative, Masked}
 use Rattle.ua_builtin.specs.Flags.{has, flag_bit}
 use Rattle.ua_variant.specs.Leaf.{EncodesLeaf}
@@ -28,7 +29,8 @@ abbrev mutual
   EncodesVariant (absent k ds) b =
       IsTrue (is_read_kind k) × (ds ≡ []) × (f : Bool) × Joins (IsOctet (array_octet f k)) (Joins IsNegative (EncodesDims f 0 [])) b
   EncodesVariant (many k ss ds) b =
-      IsTrue (is_read_kind k) × (f : Bool) × Joins (IsOctet (array_octet f k)) (Joins (IsCount (row_length ss)) (Joins (EncodesRow k ss) (EncodesDims f (row_length ss) ds))) b
+      IsTrue (is_read_kind k) × (f : Bool)
+      × Joins (IsOctet (array_octet f k)) (Joins (IsCount (row_length ss)) (Joins (EncodesRow k ss) (EncodesDims f (row_length ss) ds))) b
 
   pub EncodesScalar : ScalarData → List ℕ → Type 0
   EncodesScalar (leaf l) b = EncodesLeaf l b

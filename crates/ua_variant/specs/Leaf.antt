@@ -18,7 +18,8 @@ use Rattle.ua_builtin.specs.Status.{status_code as status_code_format}
 use Rattle.ua_builtin.specs.QualifiedName.{qualified_name as qualified_name_format}
 use Rattle.ua_builtin.specs.LocalizedText.{localized_text as localized_text_format}
 use Rattle.ua_builtin.specs.ExtensionObject.{extension_object as extension_object_format}
-use Rattle.ua_variant.specs.Data.{LeafData, boolean, sbyte, byte, int16, uint16, int32, uint32, int64, uint64, float, double, string, date_time, guid, byte_string, xml_element, node_id, expanded_node_id, status_code, qualified_name, localized_text, extension_object, reserved}
+use Rattle.ua_variant.specs.Data.{LeafData, boolean, sbyte, byte, int16, uint16, int32, uint32, int64, uint64, float, double, string, date_time, guid}
+use Rattle.ua_variant.specs.Data.{byte_string, xml_element, node_id, expanded_node_id, status_code, qualified_name, localized_text, extension_object, reserved}
 use Rattle.ua_diagnostic.specs.Parts.{unwritten, Reader}
 
 -- the type id (OPC 10000-6, 5.1.2)

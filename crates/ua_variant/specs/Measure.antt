@@ -1,7 +1,8 @@
 -- The nesting depth of values, and how many values a value contains.
 pub use Rattle.ua_diagnostic.specs.Diagnostic.{diagnostic_depth, diagnostic_count}
 use Rattle.std.specs.Prelude.{ℕ, ◌+◌, max, length}
-use Rattle.ua_variant.specs.Data.{DataFields, VariantData, null, one, absent, many, ScalarData, leaf, data_value, variant, diagnostic, ScalarsData, no_scalars, scalar, DataValueData, bare, valued}
+use Rattle.ua_variant.specs.Data.{DataFields, VariantData, null, one, absent, many, ScalarData, leaf, data_value}
+use Rattle.ua_variant.specs.Data.{variant, diagnostic, ScalarsData, no_scalars, scalar, DataValueData, bare, valued}
 use Rattle.ua_diagnostic.specs.Parts.{there}
 
 -- a Variant, DataValue or DiagnosticInfo is one level more than the deepest of these directly

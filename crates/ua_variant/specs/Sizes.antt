@@ -11,7 +11,8 @@ use Rattle.ua_variant.specs.declared.values.Scalar.{Scalar}
 use Rattle.ua_variant.specs.declared.values.Variant.{Variant}
 use Rattle.ua_variant.specs.declared.values.DataValue.{DataValue}
 use Rattle.ua_variant.specs.declared.values.Elements.{Elements}
-use Rattle.ua_variant.specs.declared.values.BoxedDataValue.TheDeep.{deep-Variant, deep-Scalar, deep-DataValue, deep-Elements, deep-BoxedVariant, deep-BoxedDataValue}
+use Rattle.ua_variant.specs.declared.values.BoxedDataValue.TheDeep.{deep-Variant, deep-Scalar, deep-DataValue}
+use Rattle.ua_variant.specs.declared.values.BoxedDataValue.TheDeep.{deep-Elements, deep-BoxedVariant, deep-BoxedDataValue}
 use Rattle.ua_variant.specs.Values.{made_data_value}
 
 data_value_at : (v : Option VariantData) (f : DataFields) → deep-DataValue (made_data_value v f) ≤ 2 * data_value_count (value_within v f)
@@ -21,7 +22,8 @@ data_value_at (Some v) f = max-le (max-le (twice_within (data_fields_count f) (v
 pub data_value_falls : (d : DataValue) → deep-DataValue d ≤ 2 * data_value_count (data_value_of d)
 data_value_falls d = data_value_at d.value (data_fields_of d)
 
-pub boxed_data_value_falls : (o : Option (Box DataValue Global)) → deep-BoxedDataValue (record { inner = o }) ≤ 2 * data_value_count (or_bare (option_map (λ b. data_value_of b.value) o))
+pub boxed_data_value_falls : (o : Option (Box DataValue Global))
+    → deep-BoxedDataValue (record { inner = o }) ≤ 2 * data_value_count (or_bare (option_map (λ b. data_value_of b.value) o))
 boxed_data_value_falls None = zero-le
 boxed_data_value_falls (Some b) = max-le (max-le (data_value_falls b.value) zero-le) zero-le
 
@@ -55,7 +57,8 @@ scalar_falls (Scalar.Reserved k x) = zero-le
 
 pub scalars_fall : (ss : List Scalar) → most deep-Scalar ss ≤ 2 * scalars_count (row (map scalar_of ss)) + 1
 scalars_fall [] = zero-le
-scalars_fall (s ∷ ss) = max-le (twice_first (deep-Scalar s) (scalar_count (scalar_of s)) (scalars_count (row (map scalar_of ss))) (scalar_falls s)) (twice_second (most deep-Scalar ss) (scalar_count (scalar_of s)) (scalars_count (row (map scalar_of ss))) (scalars_fall ss))
+scalars_fall (s ∷ ss) = max-le (twice_first (deep-Scalar s) (scalar_count (scalar_of s)) (scalars_count (row (map scalar_of ss))) (scalar_falls s))
+    (twice_second (most deep-Scalar ss) (scalar_count (scalar_of s)) (scalars_count (row (map scalar_of ss))) (scalars_fall ss))
 
 pub elements_fall : (e : Elements) → deep-Elements e ≤ 2 * scalars_count (row (elements_of e)) + 1
 elements_fall (Elements.Packed p) = zero-le
@@ -67,6 +70,7 @@ variant_falls (Variant.One s) = max-le (max-le (le_trans (scalar_falls s) (twice
 variant_falls (Variant.Many k None ds) = zero-le
 variant_falls (Variant.Many k (Some ss) ds) = max-le (max-le (max-le (twice_before (length ds) (scalars_count (row ss))) zero-le) zero-le) zero-le
 
-pub boxed_variant_falls : (o : Option (Box Variant Global)) → deep-BoxedVariant (record { inner = o }) ≤ 2 * variant_count (or_null (option_map (λ b. variant_of b.value) o))
+pub boxed_variant_falls : (o : Option (Box Variant Global))
+    → deep-BoxedVariant (record { inner = o }) ≤ 2 * variant_count (or_null (option_map (λ b. variant_of b.value) o))
 boxed_variant_falls None = zero-le
 boxed_variant_falls (Some b) = max-le (variant_falls b.value) zero-le

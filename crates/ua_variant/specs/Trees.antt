@@ -37,4 +37,5 @@ trees_of-marks (fork a b) more done = trees_of-marks a (marks b (None ∷ more))
 -- a tree is coded as the list of its marks
 abbrev pub coded_tree : {P : Type 0} → P → Coded P → Coded (Tree P)
 coded_tree {P} d c =
-    code_by (List (Option P)) (coded_list (coded_option c)) (λ t. marks t []) (λ ms. first_tree (tip d) (trees_of ms [])) (λ t. ap (first_tree (tip d)) (trees_of-marks t [] []))
+    code_by (List (Option P)) (coded_list (coded_option c)) (λ t. marks t []) (λ ms. first_tree (tip d) (trees_of ms []))
+    (λ t. ap (first_tree (tip d)) (trees_of-marks t [] []))

@@ -1,6 +1,9 @@
 -- The values of the code that stand for data: each data is that of one value.
 use Rattle.std.specs.Prelude.{Option, Some, None}
-use Rattle.ua_variant.specs.Data.{LeafData, boolean, sbyte, byte, int16, uint16, int32, uint32, int64, uint64, float, double, string, date_time, guid, byte_string, xml_element, node_id, expanded_node_id, status_code, qualified_name, localized_text, extension_object, reserved, DataFields, VariantData, null, one, absent, many, ScalarData, leaf, data_value, variant, diagnostic, DataValueData, bare, valued}
+use Rattle.ua_variant.specs.Data.{LeafData, boolean, sbyte, byte, int16, uint16, int32, uint32, int64, uint64, float, double}
+use Rattle.ua_variant.specs.Data.{string, date_time, guid, byte_string, xml_element, node_id, expanded_node_id, status_code}
+use Rattle.ua_variant.specs.Data.{qualified_name, localized_text, extension_object, reserved, DataFields, VariantData, null, one}
+use Rattle.ua_variant.specs.Data.{absent, many, ScalarData, leaf, data_value, variant, diagnostic, DataValueData, bare, valued}
 use Rattle.ua_variant.specs.View.{row_list}
 use Rattle.ua_variant.specs.declared.values.Scalar.{Scalar}
 use Rattle.ua_variant.specs.declared.values.Variant.{Variant}

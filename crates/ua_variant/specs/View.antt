@@ -2,7 +2,10 @@
 pub use Rattle.ua_diagnostic.specs.View.{diagnostic_fields_of, diagnostic_of}
 use Rattle.std.specs.Prelude.{◌≡◌, ℕ, List, [], ◌∷◌, map, Option, Some, None}
 use lib.IntN.{ℤ}
-use Rattle.ua_variant.specs.Data.{boolean, sbyte, byte, int16, uint16, int32, uint32, int64, uint64, float, double, string, date_time, guid, byte_string, xml_element, node_id, expanded_node_id, status_code, qualified_name, localized_text, extension_object, reserved, DataFields, VariantData, null, one, absent, many, ScalarData, leaf, data_value, variant, diagnostic, ScalarsData, no_scalars, scalar, DataValueData, bare, valued}
+use Rattle.ua_variant.specs.Data.{boolean, sbyte, byte, int16, uint16, int32, uint32, int64, uint64, float, double, string, date_time}
+use Rattle.ua_variant.specs.Data.{guid, byte_string, xml_element, node_id, expanded_node_id, status_code, qualified_name, localized_text}
+use Rattle.ua_variant.specs.Data.{extension_object, reserved, DataFields, VariantData, null, one, absent, many, ScalarData, leaf}
+use Rattle.ua_variant.specs.Data.{data_value, variant, diagnostic, ScalarsData, no_scalars, scalar, DataValueData, bare, valued}
 use Rattle.ua_variant.specs.declared.values.Scalar.{Scalar}
 use Rattle.ua_variant.specs.declared.values.Variant.{Variant}
 use Rattle.ua_variant.specs.declared.values.DataValue.{DataValue}

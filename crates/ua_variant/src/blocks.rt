@@ -37,7 +37,8 @@ pub fn read_packed<S: Source>(
     count: u32,
 ) -> Result<Packed, ReadFault>
     requires { is_packed_kind kind ≡ true }
-    ensures exact { GivesBy (λ p. row (map leaf (packed_leaves p))) (row_at count (image_read leaf (leaf_at kind))) (S.octets src.old) (S.octets src.new) result }
+    ensures exact { GivesBy (λ p. row (map leaf (packed_leaves p))) (row_at count (image_read leaf (leaf_at kind)))
+        (S.octets src.old) (S.octets src.new) result }
     ensures behind { StaysBehind (S.octets src.old) (S.octets src.new) }
 {
     match kind {
@@ -68,7 +69,8 @@ fn read_items<T: Pack, S: Source>(
 ) -> Result<Packed, ReadFault>
     requires own { kind ≡ T.kind }
     requires packed { is_packed_kind kind ≡ true }
-    ensures exact { GivesBy (λ p. row (map leaf (packed_leaves p))) (row_at count (image_read leaf (leaf_at kind))) (S.octets src.old) (S.octets src.new) result }
+    ensures exact { GivesBy (λ p. row (map leaf (packed_leaves p))) (row_at count (image_read leaf (leaf_at kind)))
+        (S.octets src.old) (S.octets src.new) result }
     ensures behind { StaysBehind (S.octets src.old) (S.octets src.new) }
 {
     let width = least_octets(kind);
@@ -94,7 +96,8 @@ fn read_many<T: Group, S: Source>(
 ) -> Result<Packed, ReadFault>
     requires own { kind ≡ T.kind }
     requires packed { is_packed_kind kind ≡ true }
-    ensures exact { GivesBy (λ p. row (map leaf (packed_leaves p))) (row_at count (image_read leaf (leaf_at kind))) (S.octets src.old) (S.octets src.new) result }
+    ensures exact { GivesBy (λ p. row (map leaf (packed_leaves p))) (row_at count (image_read leaf (leaf_at kind)))
+        (S.octets src.old) (S.octets src.new) result }
     ensures behind { StaysBehind (S.octets src.old) (S.octets src.new) }
 {
     let count = count as usize;
@@ -123,8 +126,10 @@ fn read_part<T: Group, S: Source>(
     requires whole { length block.old ≡ count * least_of T.kind }
     requires few { count ≤ 64 }
     ensures exact { (more : ℕ) → GoesOn
-        (row_behind (map leaf (map T.as_leaf items.old.items)) (count + more) (image_read leaf (leaf_at T.kind)) (S.octets src.old))
-        (row_behind (map leaf (map T.as_leaf items.new.items)) more (image_read leaf (leaf_at T.kind)) (S.octets src.new)) result }
+        (row_behind (map leaf (map T.as_leaf items.old.items)) (count + more) (image_read leaf (leaf_at T.kind))
+        (S.octets src.old))
+        (row_behind (map leaf (map T.as_leaf items.new.items)) more (image_read leaf (leaf_at T.kind))
+        (S.octets src.new)) result }
     ensures behind { StaysBehind (S.octets src.old) (S.octets src.new) }
 {
     if !src.take_into(block) {
@@ -146,8 +151,10 @@ fn read_block<T: Pack, S: Source>(
     requires packed { is_packed_kind T.kind ≡ true }
     requires whole { length block.old ≡ count * least_of T.kind }
     ensures exact { (more : ℕ) → GoesOn
-        (row_behind (map leaf (map T.as_leaf items.old.items)) (count + more) (image_read leaf (leaf_at T.kind)) (S.octets src.old))
-        (row_behind (map leaf (map T.as_leaf items.new.items)) more (image_read leaf (leaf_at T.kind)) (S.octets src.new)) result }
+        (row_behind (map leaf (map T.as_leaf items.old.items)) (count + more) (image_read leaf (leaf_at T.kind))
+        (S.octets src.old))
+        (row_behind (map leaf (map T.as_leaf items.new.items)) more (image_read leaf (leaf_at T.kind))
+        (S.octets src.new)) result }
     ensures behind { StaysBehind (S.octets src.old) (S.octets src.new) }
 {
     if !src.take_into(block) {
@@ -165,7 +172,8 @@ fn read_each<T: Pack>(
     items: &mut Vec<T>,
 ) -> Result<(), ReadFault>
     ensures { GivesBy (λ _. row (map leaf (map T.as_leaf items.new.items)))
-        (row_behind (map leaf (map T.as_leaf items.old.items)) count (image_read leaf (leaf_at T.kind))) src.old src.new result }
+        (row_behind (map leaf (map T.as_leaf items.old.items)) count (image_read leaf (leaf_at T.kind))) src.old src.new
+        result }
 {
     for _ in 0..count {
         let item = read_leaf_as::<T, Octets<'_>>(alloc, src)?;

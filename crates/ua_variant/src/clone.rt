@@ -1,6 +1,7 @@
 //! Copies of values.
 
-ghost use Rattle.std.specs.Prelude.{◌≡◌, ◌≤◌, ◌-◌, ◌++◌, ◌∷◌, [], drop, take, length, map, option_map, slice_get, IfOk, OnOk};
+ghost use Rattle.std.specs.Prelude.{◌≡◌, ◌≤◌, ◌-◌, ◌++◌, ◌∷◌, [], drop, take};
+ghost use Rattle.std.specs.Prelude.{length, map, option_map, slice_get, IfOk, OnOk};
 ghost use Rattle.ua_variant.specs.Data.{bare, data_value, leaf, many, one, valued, variant};
 ghost use Rattle.ua_variant.specs.Packed.{packed_leaves};
 ghost use Rattle.ua_variant.specs.View.{data_fields_of, data_value_of, row, scalar_of, value_within, variant_of};

@@ -1,7 +1,9 @@
 //! Whether values can be encoded.
 
 ghost use Rattle.std.specs.Prelude.{◌≡◌};
-ghost use Rattle.ua_variant.specs.Encodable.{variant_encodable, data_value_encodable, variant_fits, scalar_fits, scalars_fit, data_value_fits, data_fields_encodable, kind_of, is_kind, row_length};
+ghost use Rattle.ua_variant.specs.Encodable.{variant_encodable, data_value_encodable, variant_fits};
+ghost use Rattle.ua_variant.specs.Encodable.{scalar_fits, scalars_fit, data_value_fits};
+ghost use Rattle.ua_variant.specs.Encodable.{data_fields_encodable, kind_of, is_kind, row_length};
 ghost use Rattle.ua_variant.specs.Judging.{levels_if, is_within};
 ghost use Rattle.ua_variant.specs.Measure.{variant_depth, scalar_depth, scalars_depth, data_value_depth};
 ghost use Rattle.ua_variant.specs.View.{row, variant_of, scalar_of, data_value_of, data_fields_of};
@@ -226,7 +228,8 @@ fn row_levels_of(kind: u8, items: &Scalars) -> Option<u32>
 #[cycle(fits)]
 #[inline(always)]
 fn data_value_levels_of(value: &DataValue) -> Option<u32>
-    ensures { result ≡ levels_if (data_value_fits (data_value_of value.now)) (data_value_depth (data_value_of value.now)) }
+    ensures { result ≡ levels_if (data_value_fits (data_value_of value.now))
+        (data_value_depth (data_value_of value.now)) }
 {
     if !data_fields_fit(value) {
         return None;

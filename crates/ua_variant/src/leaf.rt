@@ -48,7 +48,8 @@ pub trait BoxedLeaf: Leaf + Drop {
 /// Decodes a scalar as a value of its type.
 #[inline]
 pub fn read_leaf_as<T: Leaf, S: Source>(alloc: Global, src: &mut S) -> Result<T, ReadFault>
-    ensures exact { GivesBy (λ x. leaf (T.as_leaf x)) (image_read leaf (leaf_at T.kind)) (S.octets src.old) (S.octets src.new) result }
+    ensures exact { GivesBy (λ x. leaf (T.as_leaf x)) (image_read leaf (leaf_at T.kind)) (S.octets src.old)
+        (S.octets src.new) result }
     ensures behind { StaysBehind (S.octets src.old) (S.octets src.new) }
 {
     T::is_leaf();

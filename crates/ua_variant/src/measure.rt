@@ -1,7 +1,8 @@
 //! The nesting depth of values, and the number of values in them.
 
 ghost use Rattle.std.specs.Prelude.{◌≡◌, ◌≤◌, min};
-ghost use Rattle.ua_variant.specs.Measure.{variant_depth, scalar_depth, scalars_depth, data_value_depth, variant_count, scalar_count, scalars_count, data_value_count, data_fields_count};
+ghost use Rattle.ua_variant.specs.Measure.{variant_depth, scalar_depth, scalars_depth, data_value_depth, variant_count};
+ghost use Rattle.ua_variant.specs.Measure.{scalar_count, scalars_count, data_value_count, data_fields_count};
 ghost use Rattle.ua_variant.specs.View.{row, variant_of, scalar_of, data_value_of, data_fields_of};
 
 use crate::values::{DataValue, Elements, Scalar, Scalars, Variant};

@@ -29,7 +29,8 @@ pub trait Number: Pack {
     /// The value that the first bytes encode.
     fn first(octets: &[u8]) -> Self
         requires whole { least_of Self.kind ≤ length octets.now }
-        ensures read { leaf_at Self.kind octets.now ≡ Some (Self.as_leaf result, drop (least_of Self.kind) octets.now) };
+        ensures read { leaf_at Self.kind octets.now
+            ≡ Some (Self.as_leaf result, drop (least_of Self.kind) octets.now) };
 
     /// Writes the encoding of the value to the first bytes.
     fn put(self, octets: &mut [u8])
@@ -43,7 +44,9 @@ pub trait Group: Number {
     fn extend(octets: &[u8], count: usize, items: &mut Vec<Self>) -> Result<(), AllocError>
         requires few { count ≤ 64 }
         requires whole { length octets.now ≡ count * least_of Self.kind }
-        ensures read { OnOk result (row_behind (map leaf (map Self.as_leaf items.old.items)) count (image_read leaf (leaf_at Self.kind)) octets.now ≡ Some (row (map leaf (map Self.as_leaf items.new.items)), [])) };
+        ensures read { OnOk result
+            (row_behind (map leaf (map Self.as_leaf items.old.items)) count (image_read leaf (leaf_at Self.kind))
+            octets.now ≡ Some (row (map leaf (map Self.as_leaf items.new.items)), [])) };
 }
 
 /// Decodes so many numbers from consecutive bytes into a slice of that length.
@@ -51,7 +54,8 @@ pub trait Group: Number {
 pub fn read_numbers<T: Number>(octets: &[u8], count: usize, numbers: &mut [T])
     requires room { length numbers.old ≡ count }
     requires whole { length octets.now ≡ count * least_of T.kind }
-    ensures read { row_at count (image_read leaf (leaf_at T.kind)) octets.now ≡ Some (row (map leaf (map T.as_leaf numbers.new)), []) }
+    ensures read { row_at count (image_read leaf (leaf_at T.kind)) octets.now
+        ≡ Some (row (map leaf (map T.as_leaf numbers.new)), []) }
     ensures same { length numbers.new ≡ length numbers.old }
 {
     let width = T::width();

@@ -5,7 +5,8 @@ ghost use Rattle.std.specs.Prelude.{◌≡◌, ◌≤◌, ◌<◌, ◌++◌, ◌
 ghost use Rattle.std.specs.Vec.{vec_len, vec_capacity};
 ghost use Rattle.ua_builtin.specs.Exact.{image_read};
 ghost use Rattle.ua_builtin.specs.Format.{most_levels, GivesBy, StaysBehind};
-ghost use Rattle.ua_variant.specs.Decoding.{variant_at, variant_step, variant_after, data_value_at, data_value_step, scalars_at};
+ghost use Rattle.ua_variant.specs.Decoding.{variant_at, variant_step, variant_after};
+ghost use Rattle.ua_variant.specs.Decoding.{data_value_at, data_value_step, scalars_at};
 ghost use Rattle.ua_variant.specs.Formats.{data_value_format};
 ghost use Rattle.ua_variant.specs.Onto.{with_last, announced_at, valued_at, leaf_valued_at};
 
@@ -28,7 +29,9 @@ impl DataValue {
         items: &mut Vec<DataValue>,
     ) -> Result<(), ReadFault>
         requires levels { depth ≤ most_levels }
-        ensures exact { GivesBy (λ _. items.new.items) (image_read (λ d. items.old.items ++ d ∷ []) (data_value_format.decode depth)) (S.octets src.old) (S.octets src.new) result }
+        ensures exact { GivesBy (λ _. items.new.items)
+            (image_read (λ d. items.old.items ++ d ∷ []) (data_value_format.decode depth)) (S.octets src.old)
+            (S.octets src.new) result }
         ensures kept { OnErr result (items.new.items ≡ items.old.items) }
         ensures behind { StaysBehind (S.octets src.old) (S.octets src.new) }
     {
@@ -51,7 +54,9 @@ fn push_level<S: Source>(
 ) -> Result<(), ReadFault>
     requires levels { depth ≤ most_levels }
     requires room { vec_len items.old < vec_capacity items.old }
-    ensures exact { GivesBy (λ _. items.new.items) (image_read (with_last items.old.items) (data_value_step (variant_at depth))) (S.octets src.old) (S.octets src.new) result }
+    ensures exact { GivesBy (λ _. items.new.items)
+        (image_read (with_last items.old.items) (data_value_step (variant_at depth))) (S.octets src.old)
+        (S.octets src.new) result }
     ensures kept { OnErr result (items.new.items ≡ items.old.items) }
     ensures behind { StaysBehind (S.octets src.old) (S.octets src.new) }
 {
@@ -74,7 +79,9 @@ fn push_announced<S: Source>(
 ) -> Result<(), ReadFault>
     requires levels { depth ≤ most_levels }
     requires room { vec_len items.old < vec_capacity items.old }
-    ensures exact { GivesBy (λ _. items.new.items) (image_read (with_last items.old.items) (announced_at mask set (variant_at depth))) (S.octets src.old) (S.octets src.new) result }
+    ensures exact { GivesBy (λ _. items.new.items)
+        (image_read (with_last items.old.items) (announced_at mask set (variant_at depth))) (S.octets src.old)
+        (S.octets src.new) result }
     ensures kept { OnErr result (items.new.items ≡ items.old.items) }
     ensures behind { StaysBehind (S.octets src.old) (S.octets src.new) }
 {
@@ -96,7 +103,9 @@ fn push_valued<S: Source>(
 ) -> Result<(), ReadFault>
     requires levels { depth ≤ most_levels }
     requires room { vec_len items.old < vec_capacity items.old }
-    ensures exact { GivesBy (λ _. items.new.items) (image_read (with_last items.old.items) (valued_at mask (variant_at depth))) (S.octets src.old) (S.octets src.new) result }
+    ensures exact { GivesBy (λ _. items.new.items)
+        (image_read (with_last items.old.items) (valued_at mask (variant_at depth))) (S.octets src.old)
+        (S.octets src.new) result }
     ensures kept { OnErr result (items.new.items ≡ items.old.items) }
     ensures behind { StaysBehind (S.octets src.old) (S.octets src.new) }
 {
@@ -118,7 +127,9 @@ fn push_stepped<S: Source>(
 ) -> Result<(), ReadFault>
     requires levels { depth ≤ most_levels }
     requires room { vec_len items.old < vec_capacity items.old }
-    ensures exact { GivesBy (λ _. items.new.items) (image_read (with_last items.old.items) (valued_at mask (variant_step (scalars_at depth)))) (S.octets src.old) (S.octets src.new) result }
+    ensures exact { GivesBy (λ _. items.new.items)
+        (image_read (with_last items.old.items) (valued_at mask (variant_step (scalars_at depth)))) (S.octets src.old)
+        (S.octets src.new) result }
     ensures kept { OnErr result (items.new.items ≡ items.old.items) }
     ensures behind { StaysBehind (S.octets src.old) (S.octets src.new) }
 {
@@ -138,7 +149,9 @@ fn push_tagged<S: Source>(
 ) -> Result<(), ReadFault>
     requires levels { depth ≤ most_levels }
     requires room { vec_len items.old < vec_capacity items.old }
-    ensures exact { GivesBy (λ _. items.new.items) (image_read (with_last items.old.items) (valued_at mask (variant_after (scalars_at depth) tag))) (S.octets src.old) (S.octets src.new) result }
+    ensures exact { GivesBy (λ _. items.new.items)
+        (image_read (with_last items.old.items) (valued_at mask (variant_after (scalars_at depth) tag)))
+        (S.octets src.old) (S.octets src.new) result }
     ensures kept { OnErr result (items.new.items ≡ items.old.items) }
     ensures behind { StaysBehind (S.octets src.old) (S.octets src.new) }
 {
@@ -160,7 +173,9 @@ fn push_other<S: Source>(
 ) -> Result<(), ReadFault>
     requires levels { depth ≤ most_levels }
     requires room { vec_len items.old < vec_capacity items.old }
-    ensures exact { GivesBy (λ _. items.new.items) (image_read (with_last items.old.items) (valued_at mask (variant_after (scalars_at depth) tag))) (S.octets src.old) (S.octets src.new) result }
+    ensures exact { GivesBy (λ _. items.new.items)
+        (image_read (with_last items.old.items) (valued_at mask (variant_after (scalars_at depth) tag)))
+        (S.octets src.old) (S.octets src.new) result }
     ensures kept { OnErr result (items.new.items ≡ items.old.items) }
     ensures behind { StaysBehind (S.octets src.old) (S.octets src.new) }
 {
@@ -189,7 +204,8 @@ fn push_number<S: Source>(
     requires low { 1 ≤ kind }
     requires high { kind ≤ 11 }
     requires room { vec_len items.old < vec_capacity items.old }
-    ensures exact { GivesBy (λ _. items.new.items) (image_read (with_last items.old.items) (leaf_valued_at mask kind)) (S.octets src.old) (S.octets src.new) result }
+    ensures exact { GivesBy (λ _. items.new.items) (image_read (with_last items.old.items) (leaf_valued_at mask kind))
+        (S.octets src.old) (S.octets src.new) result }
     ensures kept { OnErr result (items.new.items ≡ items.old.items) }
     ensures behind { StaysBehind (S.octets src.old) (S.octets src.new) }
 {
@@ -217,7 +233,8 @@ fn push_leaf<T: HeldLeaf + Drop, S: Source>(
     items: &mut Vec<DataValue>,
 ) -> Result<(), ReadFault>
     requires room { vec_len items.old < vec_capacity items.old }
-    ensures exact { GivesBy (λ _. items.new.items) (image_read (with_last items.old.items) (leaf_valued_at mask T.kind)) (S.octets src.old) (S.octets src.new) result }
+    ensures exact { GivesBy (λ _. items.new.items) (image_read (with_last items.old.items) (leaf_valued_at mask T.kind))
+        (S.octets src.old) (S.octets src.new) result }
     ensures kept { OnErr result (items.new.items ≡ items.old.items) }
     ensures behind { StaysBehind (S.octets src.old) (S.octets src.new) }
 {

@@ -1,6 +1,7 @@
 //! Arrays of numbers and of other fixed-width types, each in a vector of its own type.
 
-ghost use Rattle.std.specs.Prelude.{◌≡◌, ◌≢◌, ◌-◌, ◌≤◌, ◌++◌, List, drop, take, length, map, option_map, slice_get, true, IfOk, IfSome, IsNone, OnOk, OnErr};
+ghost use Rattle.std.specs.Prelude.{◌≡◌, ◌≢◌, ◌-◌, ◌≤◌, ◌++◌, List, drop, take, length, map};
+ghost use Rattle.std.specs.Prelude.{option_map, slice_get, true, IfOk, IfSome, IsNone, OnOk, OnErr};
 ghost use Rattle.ua_builtin.specs.Format.{Extends};
 ghost use Rattle.ua_variant.specs.Canonical.{row_canonical};
 ghost use Rattle.ua_variant.specs.Data.{leaf};
@@ -182,7 +183,8 @@ impl Packed {
     #[inline(never)]
     pub(crate) fn append(&self, kind: u8, out: &mut Vec<u8>) -> Result<(), AllocError>
         requires { scalars_fit kind (row (map leaf (packed_leaves self.now))) ≡ true }
-        ensures ok { OnOk result (out.new.items ≡ out.old.items ++ row_canonical (row (map leaf (packed_leaves self.now)))) }
+        ensures ok { OnOk result
+            (out.new.items ≡ out.old.items ++ row_canonical (row (map leaf (packed_leaves self.now)))) }
         ensures err { OnErr result (Extends out.old.items out.new.items) }
     {
         match self {
@@ -248,7 +250,8 @@ fn items_fit<T: Pack>(items: &[T], own: u8, kind: u8) -> bool
 /// Appends the canonical encodings of the elements at the end.
 fn append_items<T: Pack>(items: &[T], kind: u8, out: &mut Vec<u8>) -> Result<(), AllocError>
     requires { scalars_fit kind (row (map leaf (map T.as_leaf items.now))) ≡ true }
-    ensures ok { OnOk result (out.new.items ≡ out.old.items ++ row_canonical (row (map leaf (map T.as_leaf items.now)))) }
+    ensures ok { OnOk result
+        (out.new.items ≡ out.old.items ++ row_canonical (row (map leaf (map T.as_leaf items.now)))) }
     ensures err { OnErr result (Extends out.old.items out.new.items) }
 {
     T::is_leaf();
@@ -264,7 +267,8 @@ const BLOCK: usize = 512;
 
 /// Appends the canonical encodings of numbers at the end.
 fn append_numbers<T: Number>(items: &[T], out: &mut Vec<u8>) -> Result<(), AllocError>
-    ensures ok { OnOk result (out.new.items ≡ out.old.items ++ row_canonical (row (map leaf (map T.as_leaf items.now)))) }
+    ensures ok { OnOk result
+        (out.new.items ≡ out.old.items ++ row_canonical (row (map leaf (map T.as_leaf items.now)))) }
     ensures err { OnErr result (Extends out.old.items out.new.items) }
 {
     out.reserve(items.len().saturating_mul(T::width()))?;

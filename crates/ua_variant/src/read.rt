@@ -7,7 +7,9 @@ ghost use Rattle.ua_wire.specs.declared.fault.ReadFault.TheVariants.{NoValue};
 ghost use Rattle.ua_diagnostic.specs.Parts.{optional_read};
 ghost use Rattle.ua_variant.specs.Formats.{IsOverlongArray, IsOverlongRow};
 ghost use Rattle.ua_variant.specs.Encodable.{is_read_kind as read_kind};
-ghost use Rattle.ua_variant.specs.Decoding.{variant_at, variant_step, variant_after, data_value_at, data_value_step, scalars_at, scalar_at, array_at, elements_at, row_at, fields_behind, dims_behind, no_dims_behind};
+ghost use Rattle.ua_variant.specs.Decoding.{variant_at, variant_step, variant_after, data_value_at};
+ghost use Rattle.ua_variant.specs.Decoding.{data_value_step, scalars_at, scalar_at, array_at, elements_at};
+ghost use Rattle.ua_variant.specs.Decoding.{row_at, fields_behind, dims_behind, no_dims_behind};
 ghost use Rattle.ua_variant.specs.Onto.{announced_at};
 ghost use Rattle.ua_variant.specs.View.{row, variant_of, scalar_of, data_value_of};
 
@@ -76,9 +78,11 @@ pub fn read_tagged<S: Source>(
     tag: u8,
 ) -> Result<Variant, ReadFault>
     requires levels { depth ≤ most_levels }
-    ensures exact { GivesBy variant_of (variant_after (scalars_at depth) tag) (S.octets src.old) (S.octets src.new) result }
+    ensures exact { GivesBy variant_of (variant_after (scalars_at depth) tag) (S.octets src.old)
+        (S.octets src.new) result }
     ensures behind { StaysBehind (S.octets src.old) (S.octets src.new) }
-    ensures long { 0x80 ≤ tag → read_kind (tag % 0x40) ≡ true → IsOverlongRow (tag % 0x40) (S.octets src.old) → IsErrOf result NoValue }
+    ensures long { 0x80 ≤ tag → read_kind (tag % 0x40) ≡ true → IsOverlongRow (tag % 0x40) (S.octets src.old)
+        → IsErrOf result NoValue }
 {
     if tag == 0 {
         return Ok(Variant::Null);
@@ -109,7 +113,8 @@ fn read_array<S: Source>(
 ) -> Result<Variant, ReadFault>
     requires levels { depth ≤ most_levels }
     requires read { read_kind kind ≡ true }
-    ensures exact { GivesBy variant_of (array_at (scalars_at depth) kind flagged) (S.octets src.old) (S.octets src.new) result }
+    ensures exact { GivesBy variant_of (array_at (scalars_at depth) kind flagged) (S.octets src.old)
+        (S.octets src.new) result }
     ensures behind { StaysBehind (S.octets src.old) (S.octets src.new) }
     ensures long { IsOverlongRow kind (S.octets src.old) → IsErrOf result NoValue }
 {
@@ -142,7 +147,8 @@ fn read_elements<S: Source>(
     requires levels { depth ≤ most_levels }
     requires read { read_kind kind ≡ true }
     requires count { count < first_negative }
-    ensures exact { GivesBy variant_of (elements_at (scalars_at depth) kind flagged count) (S.octets src.old) (S.octets src.new) result }
+    ensures exact { GivesBy variant_of (elements_at (scalars_at depth) kind flagged count) (S.octets src.old)
+        (S.octets src.new) result }
     ensures behind { StaysBehind (S.octets src.old) (S.octets src.new) }
 {
     let items = read_row(alloc, src, depth, kind, count)?;
@@ -165,7 +171,8 @@ fn read_row<S: Source>(
 ) -> Result<Scalars, ReadFault>
     requires levels { depth ≤ most_levels }
     requires read { read_kind kind ≡ true }
-    ensures exact { GivesBy (λ ss. row ss) (row_at count (scalars_at depth kind)) (S.octets src.old) (S.octets src.new) result }
+    ensures exact { GivesBy (λ ss. row ss) (row_at count (scalars_at depth kind)) (S.octets src.old)
+        (S.octets src.new) result }
     ensures behind { StaysBehind (S.octets src.old) (S.octets src.new) }
 {
     if is_packed(kind) {
@@ -192,7 +199,8 @@ fn read_values<S: Source>(
     requires levels { depth ≤ most_levels }
     requires low { 23 ≤ kind }
     requires high { kind ≤ 24 }
-    ensures exact { GivesBy (λ v. row (map scalar_of v.items)) (row_at count (scalars_at depth kind)) (S.octets src.old) (S.octets src.new) result }
+    ensures exact { GivesBy (λ v. row (map scalar_of v.items)) (row_at count (scalars_at depth kind)) (S.octets src.old)
+        (S.octets src.new) result }
     ensures behind { StaysBehind (S.octets src.old) (S.octets src.new) }
 {
     match kind {
@@ -211,7 +219,8 @@ fn read_data_values<S: Source>(
     count: u32,
 ) -> Result<Vec<Scalar>, ReadFault>
     requires levels { depth ≤ most_levels }
-    ensures exact { GivesBy (λ v. row (map scalar_of v.items)) (row_at count (scalars_at depth 23)) (S.octets src.old) (S.octets src.new) result }
+    ensures exact { GivesBy (λ v. row (map scalar_of v.items)) (row_at count (scalars_at depth 23)) (S.octets src.old)
+        (S.octets src.new) result }
     ensures behind { StaysBehind (S.octets src.old) (S.octets src.new) }
 {
     let mut items = Vec::with_capacity(alloc, (count as usize).min(MOST_RESERVED))?;
@@ -233,7 +242,8 @@ fn read_variants<S: Source>(
     count: u32,
 ) -> Result<Vec<Scalar>, ReadFault>
     requires levels { depth ≤ most_levels }
-    ensures exact { GivesBy (λ v. row (map scalar_of v.items)) (row_at count (scalars_at depth 24)) (S.octets src.old) (S.octets src.new) result }
+    ensures exact { GivesBy (λ v. row (map scalar_of v.items)) (row_at count (scalars_at depth 24)) (S.octets src.old)
+        (S.octets src.new) result }
     ensures behind { StaysBehind (S.octets src.old) (S.octets src.new) }
 {
     let mut items = Vec::with_capacity(alloc, (count as usize).min(MOST_RESERVED))?;
@@ -485,7 +495,8 @@ fn box_array<S: Source>(
     items: Vec<Scalar>,
 ) -> Result<BoxedVariant, ReadFault>
     requires count { count < first_negative }
-    ensures exact { Gives (dims_behind kind flagged count (row (map scalar_of items.items))) (S.octets src.old) (S.octets src.new) result }
+    ensures exact { Gives (dims_behind kind flagged count (row (map scalar_of items.items))) (S.octets src.old)
+        (S.octets src.new) result }
     ensures behind { StaysBehind (S.octets src.old) (S.octets src.new) }
 {
     let dims = read_dims(alloc, src, flagged, count)?;
@@ -543,7 +554,8 @@ fn read_data_value_level<S: Source>(
     depth: u32,
 ) -> Result<DataValue, ReadFault>
     requires levels { depth ≤ most_levels }
-    ensures exact { GivesBy data_value_of (data_value_step (variant_at depth)) (S.octets src.old) (S.octets src.new) result }
+    ensures exact { GivesBy data_value_of (data_value_step (variant_at depth)) (S.octets src.old)
+        (S.octets src.new) result }
     ensures behind { StaysBehind (S.octets src.old) (S.octets src.new) }
 {
     let mask = u8::read_value(alloc, src, 0)?;

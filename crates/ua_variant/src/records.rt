@@ -124,7 +124,8 @@ pub fn read_records<S: Source>(
     requires low { 12 ≤ kind }
     requires high { kind ≤ 31 }
     requires leaf { holds_values kind ≡ false }
-    ensures exact { GivesBy (λ v. row (map scalar_of v.items)) (leaf_row_at count kind) (S.octets src.old) (S.octets src.new) result }
+    ensures exact { GivesBy (λ v. row (map scalar_of v.items)) (leaf_row_at count kind) (S.octets src.old)
+        (S.octets src.new) result }
     ensures behind { StaysBehind (S.octets src.old) (S.octets src.new) }
 {
     match kind {
@@ -149,7 +150,8 @@ fn read_held_row<T: HeldLeaf, S: Source>(
     src: &mut S,
     count: u32,
 ) -> Result<Vec<Scalar>, ReadFault>
-    ensures exact { GivesBy (λ v. row (map scalar_of v.items)) (leaf_row_at count T.kind) (S.octets src.old) (S.octets src.new) result }
+    ensures exact { GivesBy (λ v. row (map scalar_of v.items)) (leaf_row_at count T.kind) (S.octets src.old)
+        (S.octets src.new) result }
     ensures behind { StaysBehind (S.octets src.old) (S.octets src.new) }
 {
     let mut items = Vec::with_capacity(alloc, (count as usize).min(MOST_RESERVED))?;
@@ -167,7 +169,8 @@ fn read_boxed_row<T: BoxedLeaf, S: Source>(
     src: &mut S,
     count: u32,
 ) -> Result<Vec<Scalar>, ReadFault>
-    ensures exact { GivesBy (λ v. row (map scalar_of v.items)) (leaf_row_at count T.kind) (S.octets src.old) (S.octets src.new) result }
+    ensures exact { GivesBy (λ v. row (map scalar_of v.items)) (leaf_row_at count T.kind) (S.octets src.old)
+        (S.octets src.new) result }
     ensures behind { StaysBehind (S.octets src.old) (S.octets src.new) }
 {
     let mut items = Vec::with_capacity(alloc, (count as usize).min(MOST_RESERVED))?;
@@ -188,7 +191,8 @@ fn read_reserved_row<S: Source>(
 ) -> Result<Vec<Scalar>, ReadFault>
     requires low { 26 ≤ kind }
     requires high { kind ≤ 31 }
-    ensures exact { GivesBy (λ v. row (map scalar_of v.items)) (leaf_row_at count kind) (S.octets src.old) (S.octets src.new) result }
+    ensures exact { GivesBy (λ v. row (map scalar_of v.items)) (leaf_row_at count kind) (S.octets src.old)
+        (S.octets src.new) result }
     ensures behind { StaysBehind (S.octets src.old) (S.octets src.new) }
 {
     let mut items = Vec::with_capacity(alloc, (count as usize).min(MOST_RESERVED))?;
@@ -220,7 +224,8 @@ pub fn read_diagnostic_row<S: Source>(
     count: u32,
 ) -> Result<Scalars, ReadFault>
     requires levels { depth ≤ most_levels }
-    ensures exact { GivesBy (λ ss. row ss) (row_at count (scalars_at depth 25)) (S.octets src.old) (S.octets src.new) result }
+    ensures exact { GivesBy (λ ss. row ss) (row_at count (scalars_at depth 25)) (S.octets src.old)
+        (S.octets src.new) result }
     ensures behind { StaysBehind (S.octets src.old) (S.octets src.new) }
 {
     let mut items = Vec::with_capacity(alloc, (count as usize).min(MOST_RESERVED))?;

@@ -8,7 +8,8 @@ ghost use Rattle.ua_builtin.specs.Format.{most_levels, Gives, StaysBehind};
 ghost use Rattle.ua_wire.specs.declared.fault.ReadFault.TheVariants.{NoValue};
 ghost use Rattle.ua_diagnostic.specs.Parts.{optional_read};
 ghost use Rattle.ua_variant.specs.Data.{leaf};
-ghost use Rattle.ua_variant.specs.Decoding.{variant_at, variant_step, variant_after, data_value_at, data_value_step, scalars_at, array_at, elements_at, row_at};
+ghost use Rattle.ua_variant.specs.Decoding.{variant_at, variant_step, variant_after, data_value_at};
+ghost use Rattle.ua_variant.specs.Decoding.{data_value_step, scalars_at, array_at, elements_at, row_at};
 ghost use Rattle.ua_variant.specs.Encodable.{is_read_kind as read_kind};
 ghost use Rattle.ua_variant.specs.Formats.{IsOverlongArray, IsOverlongRow};
 ghost use Rattle.ua_variant.specs.Leaf.{leaf_at};
@@ -58,7 +59,8 @@ fn skip_leaf<S: Source>(alloc: Global, src: &mut S, kind: u8) -> Result<(), Read
 #[inline(never)]
 fn skip_packed<S: Source>(alloc: Global, src: &mut S, kind: u8, count: u32) -> Result<(), ReadFault>
     requires { is_packed_kind kind ≡ true }
-    ensures exact { Gives (skipped (row_at count (image_read leaf (leaf_at kind)))) (S.octets src.old) (S.octets src.new) result }
+    ensures exact { Gives (skipped (row_at count (image_read leaf (leaf_at kind)))) (S.octets src.old)
+        (S.octets src.new) result }
     ensures behind { StaysBehind (S.octets src.old) (S.octets src.new) }
 {
     let mut left = count;
@@ -102,9 +104,11 @@ fn skip_variant_level<S: Source>(alloc: Global, src: &mut S, depth: u32) -> Resu
 #[tactic(auto, unfolding(crate::specs::Decoding::variant_after))]
 fn skip_tagged<S: Source>(alloc: Global, src: &mut S, depth: u32, tag: u8) -> Result<(), ReadFault>
     requires levels { depth ≤ most_levels }
-    ensures exact { Gives (skipped (variant_after (scalars_at depth) tag)) (S.octets src.old) (S.octets src.new) result }
+    ensures exact { Gives (skipped (variant_after (scalars_at depth) tag)) (S.octets src.old)
+        (S.octets src.new) result }
     ensures behind { StaysBehind (S.octets src.old) (S.octets src.new) }
-    ensures long { 0x80 ≤ tag → read_kind (tag % 0x40) ≡ true → IsOverlongRow (tag % 0x40) (S.octets src.old) → IsErrOf result NoValue }
+    ensures long { 0x80 ≤ tag → read_kind (tag % 0x40) ≡ true → IsOverlongRow (tag % 0x40) (S.octets src.old)
+        → IsErrOf result NoValue }
 {
     if tag == 0 {
         return Ok(());
@@ -134,7 +138,8 @@ fn skip_array<S: Source>(
 ) -> Result<(), ReadFault>
     requires levels { depth ≤ most_levels }
     requires read { read_kind kind ≡ true }
-    ensures exact { Gives (skipped (array_at (scalars_at depth) kind flagged)) (S.octets src.old) (S.octets src.new) result }
+    ensures exact { Gives (skipped (array_at (scalars_at depth) kind flagged)) (S.octets src.old)
+        (S.octets src.new) result }
     ensures behind { StaysBehind (S.octets src.old) (S.octets src.new) }
     ensures long { IsOverlongRow kind (S.octets src.old) → IsErrOf result NoValue }
 {
@@ -162,7 +167,8 @@ fn skip_elements<S: Source>(
 ) -> Result<(), ReadFault>
     requires levels { depth ≤ most_levels }
     requires count { count < first_negative }
-    ensures exact { Gives (skipped (elements_at (scalars_at depth) kind flagged count)) (S.octets src.old) (S.octets src.new) result }
+    ensures exact { Gives (skipped (elements_at (scalars_at depth) kind flagged count)) (S.octets src.old)
+        (S.octets src.new) result }
     ensures behind { StaysBehind (S.octets src.old) (S.octets src.new) }
 {
     skip_row(alloc, src, depth, kind, count)?;
@@ -179,7 +185,8 @@ fn skip_row<S: Source>(
     count: u32,
 ) -> Result<(), ReadFault>
     requires levels { depth ≤ most_levels }
-    ensures exact { Gives (skipped (row_at count (scalars_at depth kind))) (S.octets src.old) (S.octets src.new) result }
+    ensures exact { Gives (skipped (row_at count (scalars_at depth kind))) (S.octets src.old)
+        (S.octets src.new) result }
     ensures behind { StaysBehind (S.octets src.old) (S.octets src.new) }
 {
     if is_packed(kind) {
@@ -241,7 +248,8 @@ fn skip_data_value_level<S: Source>(alloc: Global, src: &mut S, depth: u32) -> R
 #[cycle(skips)]
 fn skip_held<S: Source>(alloc: Global, src: &mut S, depth: u32, set: bool) -> Result<(), ReadFault>
     requires levels { depth ≤ most_levels }
-    ensures exact { Gives (skipped (optional_read set (variant_at depth))) (S.octets src.old) (S.octets src.new) result }
+    ensures exact { Gives (skipped (optional_read set (variant_at depth))) (S.octets src.old)
+        (S.octets src.new) result }
     ensures behind { StaysBehind (S.octets src.old) (S.octets src.new) }
 {
     if !set {

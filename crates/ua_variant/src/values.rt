@@ -344,7 +344,8 @@ impl Variant {
     pub fn into_array(self) -> Result<(u8, Option<Scalars>, Dimensions), Variant>
         ensures taken { IfOk result (λ (kind, items, dims). self ≡ Many kind items dims) }
         ensures same { IfErr result (λ other. other ≡ self) }
-        ensures other { IfErr result (λ other. (kind : ℕ) (items : Option Scalars) (dims : Dimensions) → other ≢ Many kind items dims) }
+        ensures other { IfErr result (λ other. (kind : ℕ) (items : Option Scalars) (dims : Dimensions)
+            → other ≢ Many kind items dims) }
     {
         match self {
             Variant::Many { kind, items, dims } => Ok((kind, items, dims)),

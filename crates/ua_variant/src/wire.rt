@@ -82,7 +82,9 @@ impl DataValue {
     #[tactic(auto, using(crate::proofs::Written::valued_parts))]
     pub fn append_beside(&self, value: &Variant, out: &mut Vec<u8>) -> Result<(), AllocError>
         requires { data_value_encodable (valued (variant_of value.now) (data_fields_of self.now)) ≡ true }
-        ensures ok { OnOk result (out.new.items ≡ out.old.items ++ data_value_canonical (valued (variant_of value.now) (data_fields_of self.now))) }
+        ensures ok { OnOk result
+            (out.new.items ≡ out.old.items ++ data_value_canonical
+            (valued (variant_of value.now) (data_fields_of self.now))) }
         ensures err { OnErr result (Extends out.old.items out.new.items) }
     {
         append_valued(value, self, out)

@@ -5,10 +5,12 @@ ghost use Rattle.ua_builtin.specs.Counted.{first_negative};
 ghost use Rattle.ua_builtin.specs.Format.{Extends};
 ghost use Rattle.ua_diagnostic.specs.Dimensions.{dims_encodable, has_dims};
 ghost use Rattle.ua_variant.specs.Data.{many, valued};
-ghost use Rattle.ua_variant.specs.Canonical.{data_fields_canonical, variant_canonical, scalar_canonical, row_canonical, data_value_canonical};
+ghost use Rattle.ua_variant.specs.Canonical.{data_fields_canonical, variant_canonical};
+ghost use Rattle.ua_variant.specs.Canonical.{scalar_canonical, row_canonical, data_value_canonical};
 ghost use Rattle.ua_variant.specs.Encoding.{array_octet};
 ghost use Rattle.ua_variant.specs.Fields.{data_flags};
-ghost use Rattle.ua_variant.specs.Encodable.{data_fields_encodable, row_length, variant_fits, scalar_fits, scalars_fit, data_value_fits};
+ghost use Rattle.ua_variant.specs.Encodable.{data_fields_encodable, row_length, variant_fits};
+ghost use Rattle.ua_variant.specs.Encodable.{scalar_fits, scalars_fit, data_value_fits};
 ghost use Rattle.ua_variant.specs.View.{row, variant_of, scalar_of, data_value_of, data_fields_of};
 
 use crate::encodable::element_count;
@@ -246,7 +248,9 @@ pub fn append_valued(
 ) -> Result<(), AllocError>
     requires fields { data_fields_encodable (data_fields_of beside.now) ≡ true }
     requires value { variant_fits (variant_of value.now) ≡ true }
-    ensures ok { OnOk result (out.new.items ≡ out.old.items ++ data_value_canonical (valued (variant_of value.now) (data_fields_of beside.now))) }
+    ensures ok { OnOk result
+        (out.new.items ≡ out.old.items ++ data_value_canonical
+        (valued (variant_of value.now) (data_fields_of beside.now))) }
     ensures err { OnErr result (Extends out.old.items out.new.items) }
 {
     out.push(data_mask(beside) + masks::VALUE)?;

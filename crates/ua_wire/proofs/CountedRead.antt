@@ -24,7 +24,11 @@ octets_sound n octets v rest e =
     let v_is : take n octets ≡ v = ap (λ (u : List ℕ × List ℕ). u.0) same in
     let rest_is : drop n octets ≡ rest = ap (λ (u : List ℕ × List ℕ). u.1) same in
     let len : length v ≡ n = sym (ap length v_is) ∙ length-take-le n octets enough in
-    record { front = v; parts = sym (take-append-drop n octets) ∙ ap (λ (t : List ℕ). t ++ drop n octets) v_is ∙ ap (λ (t : List ℕ). v ++ t) rest_is; encoded = (len, refl) }
+    record {
+      front = v;
+      parts = sym (take-append-drop n octets) ∙ ap (λ (t : List ℕ). t ++ drop n octets) v_is ∙ ap (λ (t : List ℕ). v ++ t) rest_is;
+      encoded = (len, refl);
+    }
 
 pub octets_taken : (n : ℕ) (v rest : List ℕ) → length v ≡ n → octets_at n (v ++ rest) ≡ Some (v, rest)
 unfolding octets_at
@@ -65,10 +69,12 @@ behind_null : (n : ℕ) → first_negative ≤ n → (v : Option (List ℕ)) (b 
 behind_null n large None b h = (refl, h.1)
 behind_null n large (Some v) b h = absurd (omega (arith, h.0))
 
-exact_behind_at : (n : ℕ) (small : Bool) → nat_lt n first_negative ≡ small → Exact (BehindCount n) (λ octets. cond small (image_read Some (octets_at n) octets) (Some (None, octets)))
+exact_behind_at : (n : ℕ) (small : Bool) → nat_lt n first_negative ≡ small
+    → Exact (BehindCount n) (λ octets. cond small (image_read Some (octets_at n) octets) (Some (None, octets)))
 exact_behind_at n true e =
     let small : n < first_negative = ltb-true n first_negative e in
-    exact_same (Image Some (AreOctets n)) (BehindCount n) (image_read Some (octets_at n)) (some_behind n small) (behind_some n small) (exact_image Some (AreOctets n) (octets_at n) (exact_octets n))
+    exact_same (Image Some (AreOctets n)) (BehindCount n) (image_read Some (octets_at n)) (some_behind n small) (behind_some n small)
+    (exact_image Some (AreOctets n) (octets_at n) (exact_octets n))
 exact_behind_at n false e =
     let large : first_negative ≤ n = ltb-false n first_negative e in
     exact_same (IsOnly None) (BehindCount n) (λ octets. Some (None, octets)) (null_behind n large) (behind_null n large) (exact_only None)
@@ -83,7 +89,8 @@ counted_there None b h =
 counted_there (Some v) b h =
     let len : length v ≡ h.head = h.rest_encoded.1.0 in (
       subst (λ (n : ℕ). n < first_negative) (sym len) h.rest_encoded.0,
-      h.parts ∙ ap (λ (t : List ℕ). t ++ h.back) (h.head_encoded.1 ∙ ap (number_octets 4) (sym len)) ∙ ap (λ (t : List ℕ). number_octets 4 (length v) ++ t) h.rest_encoded.1.1,
+      h.parts ∙ ap (λ (t : List ℕ). t ++ h.back) (h.head_encoded.1 ∙ ap (number_octets 4) (sym len))
+          ∙ ap (λ (t : List ℕ). number_octets 4 (length v) ++ t) h.rest_encoded.1.1,
     )
 
 counted_back : (v : Option (List ℕ)) (b : List ℕ) → EncodesCounted v b → Follows (IsNumber 4) BehindCount v b

@@ -16,7 +16,8 @@ encodes_once_of {A = A} f lawful v w a c x y p q e =
     let levels = max (f.depth v) (f.depth w) in
     let one : Within f.encodes f.depth levels v a = (p, omega arith) in
     let two : Within f.encodes f.depth levels w c = (q, omega arith) in
-    let same : ◌≡◌ {A = A × List ℕ} (v, x) (w, y) = some_is (v, x) (w, y) (sym ((lawful.exact levels).complete v a x one) ∙ ap (f.decode levels) e ∙ (lawful.exact levels).complete w c y two) in
+    let same : ◌≡◌ {A = A × List ℕ} (v, x) (w, y) = some_is (v, x) (w, y) (sym ((lawful.exact levels).complete v a x one) ∙ ap (f.decode levels) e
+    ∙ (lawful.exact levels).complete w c y two) in
     let rests : x ≡ y = ap (λ (u : A × List ℕ). u.1) same in
     (ap (λ (u : A × List ℕ). u.0) same, append_same_end a c y (subst (λ (t : List ℕ). a ++ t ≡ c ++ y) rests e))
 

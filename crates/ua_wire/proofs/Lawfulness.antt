@@ -39,7 +39,14 @@ sound_bind f g head first second = record {
   exact = exact_bind f.encodes f.decode (λ x. (g x).encodes) (λ x. (g x).decode) first.exact (λ x. (second x).exact);
   canonical_encodes = λ v h.
       let w = both_true (f.encodable (head v)) ((g (head v)).encodable v) h in
-      record { head = head v; front = f.canonical (head v); back = (g (head v)).canonical v; parts = refl; head_encoded = first.canonical_encodes (head v) w.0; rest_encoded = (second (head v)).canonical_encodes v w.1 };
+      record {
+        head = head v;
+        front = f.canonical (head v);
+        back = (g (head v)).canonical v;
+        parts = refl;
+        head_encoded = first.canonical_encodes (head v) w.0;
+        rest_encoded = (second (head v)).canonical_encodes v w.1;
+      };
 }
 
 pub sound_both : {A B : Type 0} {f : Flat A} {g : Flat B} → IsSound f → IsSound g → IsSound (both f g)
@@ -47,10 +54,17 @@ sound_both {f = f} {g = g} first second = record {
   exact = exact_pair f.encodes f.decode g.encodes g.decode first.exact second.exact;
   canonical_encodes = λ v h.
       let w = both_true (f.encodable v.0) (g.encodable v.1) h in
-      record { front = f.canonical v.0; back = g.canonical v.1; parts = refl; first_encoded = first.canonical_encodes v.0 w.0; second_encoded = second.canonical_encodes v.1 w.1 };
+      record {
+        front = f.canonical v.0;
+        back = g.canonical v.1;
+        parts = refl;
+        first_encoded = first.canonical_encodes v.0 w.0;
+        second_encoded = second.canonical_encodes v.1 w.1;
+      };
 }
 
-pub sound_image : {A B : Type 0} {f : Flat A} (make : A → B) (parts : B → A) (is : B → Bool) → ((v : B) → IsTrue (is v) → v ≡ make (parts v)) → IsSound f → IsSound (image make parts is f)
+pub sound_image : {A B : Type 0} {f : Flat A} (make : A → B) (parts : B → A) (is : B → Bool) → ((v : B) → IsTrue (is v) → v ≡ make (parts v)) → IsSound f
+    → IsSound (image make parts is f)
 sound_image {f = f} make parts is back sound = record {
   exact = exact_image make f.encodes f.decode sound.exact;
   canonical_encodes = λ v h.
@@ -107,14 +121,16 @@ lawful_64 = lawful_flat (sound_number 8) (number_starts 7)
 
 -- ---- formats with levels
 
-joined_within : {A B : Type 0} (f : Format A) (g : Format B) (levels : ℕ) (v : A × B) (b : List ℕ) → Joined (Within f.encodes f.depth levels) (Within g.encodes g.depth levels) v b
+joined_within : {A B : Type 0} (f : Format A) (g : Format B) (levels : ℕ) (v : A × B) (b : List ℕ)
+    → Joined (Within f.encodes f.depth levels) (Within g.encodes g.depth levels) v b
     → Within (Joined f.encodes g.encodes) (pair_depth f.depth g.depth) levels v b
 joined_within f g levels v b h = (
   record { front = h.front; back = h.back; parts = h.parts; first_encoded = h.first_encoded.0; second_encoded = h.second_encoded.0 },
   omega (arith, h.first_encoded.1, h.second_encoded.1),
 )
 
-within_joined : {A B : Type 0} (f : Format A) (g : Format B) (levels : ℕ) (v : A × B) (b : List ℕ) → Within (Joined f.encodes g.encodes) (pair_depth f.depth g.depth) levels v b
+within_joined : {A B : Type 0} (f : Format A) (g : Format B) (levels : ℕ) (v : A × B) (b : List ℕ)
+    → Within (Joined f.encodes g.encodes) (pair_depth f.depth g.depth) levels v b
     → Joined (Within f.encodes f.depth levels) (Within g.encodes g.depth levels) v b
 within_joined f g levels v b h = record {
   front = h.0.front;
@@ -124,12 +140,17 @@ within_joined f g levels v b h = record {
   second_encoded = (h.0.second_encoded, omega (arith, h.1));
 }
 
-pair_exact : {A B : Type 0} (f : Format A) (g : Format B) → IsLawful f → IsLawful g → (levels : ℕ) → Exact (Within (Joined f.encodes g.encodes) (pair_depth f.depth g.depth) levels) (pair_read (f.decode levels) (g.decode levels))
+pair_exact : {A B : Type 0} (f : Format A) (g : Format B) → IsLawful f → IsLawful g → (levels : ℕ)
+    → Exact (Within (Joined f.encodes g.encodes) (pair_depth f.depth g.depth) levels) (pair_read (f.decode levels) (g.decode levels))
 pair_exact f g first second levels =
-    exact_same (Joined (Within f.encodes f.depth levels) (Within g.encodes g.depth levels)) (Within (Joined f.encodes g.encodes) (pair_depth f.depth g.depth) levels) (pair_read (f.decode levels) (g.decode levels)) (joined_within f g levels) (within_joined f g levels)
-    (exact_pair (Within f.encodes f.depth levels) (f.decode levels) (Within g.encodes g.depth levels) (g.decode levels) (first.exact levels) (second.exact levels))
+    exact_same (Joined (Within f.encodes f.depth levels) (Within g.encodes g.depth levels))
+    (Within (Joined f.encodes g.encodes) (pair_depth f.depth g.depth) levels) (pair_read (f.decode levels) (g.decode levels)) (joined_within f g levels)
+    (within_joined f g levels)
+    (exact_pair (Within f.encodes f.depth levels) (f.decode levels) (Within g.encodes g.depth levels) (g.decode levels) (first.exact levels)
+    (second.exact levels))
 
-pair_counted : {A B : Type 0} (f : Format A) (g : Format B) → IsLawful f → IsLawful g → (v : A × B) (b : List ℕ) → Joined f.encodes g.encodes v b → pair_count f.count g.count v ≤ length b
+pair_counted : {A B : Type 0} (f : Format A) (g : Format B) → IsLawful f → IsLawful g → (v : A × B) (b : List ℕ) → Joined f.encodes g.encodes v b
+    → pair_count f.count g.count v ≤ length b
 pair_counted f g first second v b h =
     let one : f.count v.0 ≤ length h.front = first.counted v.0 h.front h.first_encoded in
     let two : g.count v.1 ≤ length h.back = second.counted v.1 h.back h.second_encoded in
@@ -140,7 +161,13 @@ lawful_pair {f = f} {g = g} first second = record {
   exact = pair_exact f g first second;
   canonical_encodes = λ v h.
       let w = both_true (f.encodable v.0) (g.encodable v.1) h in
-      record { front = f.canonical v.0; back = g.canonical v.1; parts = refl; first_encoded = first.canonical_encodes v.0 w.0; second_encoded = second.canonical_encodes v.1 w.1 };
+      record {
+        front = f.canonical v.0;
+        back = g.canonical v.1;
+        parts = refl;
+        first_encoded = first.canonical_encodes v.0 w.0;
+        second_encoded = second.canonical_encodes v.1 w.1;
+      };
   encodable_depth = λ v h.
       let w = both_true (f.encodable v.0) (g.encodable v.1) h in
       omega (arith, first.encodable_depth v.0 w.0, second.encodable_depth v.1 w.1);
@@ -148,28 +175,34 @@ lawful_pair {f = f} {g = g} first second = record {
   starts = pair_starts f.encodes g.encodes first.starts;
 }
 
-image_within : {A B : Type 0} (make : A → B) (parts : B → A) (forth : (x : A) → parts (make x) ≡ x) (f : Format A) (levels : ℕ) (v : B) (b : List ℕ) → Image make (Within f.encodes f.depth levels) v b → Within (Image make f.encodes) (λ v. f.depth (parts v)) levels v b
+image_within : {A B : Type 0} (make : A → B) (parts : B → A) (forth : (x : A) → parts (make x) ≡ x) (f : Format A) (levels : ℕ) (v : B) (b : List ℕ)
+    → Image make (Within f.encodes f.depth levels) v b → Within (Image make f.encodes) (λ v. f.depth (parts v)) levels v b
 image_within make parts forth f levels v b h =
     let same : f.depth (parts v) ≡ f.depth h.of = ap f.depth (ap parts h.is ∙ forth h.of) in
     (record { of = h.of; is = h.is; encoded = h.encoded.0 }, omega (arith, h.encoded.1))
 
-within_image : {A B : Type 0} (make : A → B) (parts : B → A) (forth : (x : A) → parts (make x) ≡ x) (f : Format A) (levels : ℕ) (v : B) (b : List ℕ) → Within (Image make f.encodes) (λ v. f.depth (parts v)) levels v b → Image make (Within f.encodes f.depth levels) v b
+within_image : {A B : Type 0} (make : A → B) (parts : B → A) (forth : (x : A) → parts (make x) ≡ x) (f : Format A) (levels : ℕ) (v : B) (b : List ℕ)
+    → Within (Image make f.encodes) (λ v. f.depth (parts v)) levels v b → Image make (Within f.encodes f.depth levels) v b
 within_image make parts forth f levels v b h =
     let same : f.depth (parts v) ≡ f.depth h.0.of = ap f.depth (ap parts h.0.is ∙ forth h.0.of) in
     record { of = h.0.of; is = h.0.is; encoded = (h.0.encoded, omega (arith, h.1)) }
 
-struct_exact : {A B : Type 0} (make : A → B) (parts : B → A) → ((x : A) → parts (make x) ≡ x) → (f : Format A) → IsLawful f → (levels : ℕ) → Exact (Within (Image make f.encodes) (λ v. f.depth (parts v)) levels) (image_read make (f.decode levels))
+struct_exact : {A B : Type 0} (make : A → B) (parts : B → A) → ((x : A) → parts (make x) ≡ x) → (f : Format A) → IsLawful f → (levels : ℕ)
+    → Exact (Within (Image make f.encodes) (λ v. f.depth (parts v)) levels) (image_read make (f.decode levels))
 struct_exact make parts forth f lawful levels =
-    exact_same (Image make (Within f.encodes f.depth levels)) (Within (Image make f.encodes) (λ v. f.depth (parts v)) levels) (image_read make (f.decode levels)) (image_within make parts forth f levels) (within_image make parts forth f levels)
+    exact_same (Image make (Within f.encodes f.depth levels)) (Within (Image make f.encodes) (λ v. f.depth (parts v)) levels)
+    (image_read make (f.decode levels)) (image_within make parts forth f levels) (within_image make parts forth f levels)
     (exact_image make (Within f.encodes f.depth levels) (f.decode levels) (lawful.exact levels))
 
-struct_counted : {A B : Type 0} (make : A → B) (parts : B → A) → ((x : A) → parts (make x) ≡ x) → (f : Format A) → IsLawful f → (v : B) (b : List ℕ) → Image make f.encodes v b → f.count (parts v) ≤ length b
+struct_counted : {A B : Type 0} (make : A → B) (parts : B → A) → ((x : A) → parts (make x) ≡ x) → (f : Format A) → IsLawful f → (v : B) (b : List ℕ)
+    → Image make f.encodes v b → f.count (parts v) ≤ length b
 struct_counted make parts forth f lawful v b h =
     let same : f.count (parts v) ≡ f.count h.of = ap f.count (ap parts h.is ∙ forth h.of) in
     omega (arith, lawful.counted h.of b h.encoded)
 
 -- back: a value is made of its parts; forth: its parts are what it is made of
-pub lawful_struct : {A B : Type 0} {f : Format A} (make : A → B) (parts : B → A) (back : (v : B) → v ≡ make (parts v)) (forth : (x : A) → parts (make x) ≡ x) → IsLawful f → IsLawful (struct make parts f)
+pub lawful_struct : {A B : Type 0} {f : Format A} (make : A → B) (parts : B → A) (back : (v : B) → v ≡ make (parts v)) (forth : (x : A) → parts (make x) ≡ x)
+    → IsLawful f → IsLawful (struct make parts f)
 lawful_struct {f = f} make parts back forth lawful = record {
   exact = struct_exact make parts forth f lawful;
   canonical_encodes = λ v h. record { of = parts v; is = back v; encoded = lawful.canonical_encodes (parts v) h };

@@ -31,10 +31,12 @@ none_least p v b h = omega arith
 both_least : (m n : ℕ) (b front back : List ℕ) → b ≡ front ++ back → m ≤ length front → n ≤ length back → m + n ≤ length b
 both_least m n b front back e h k = omega (arith, ap length e, length-append front back)
 
-pub pair_least : {A B : Type 0} (m n : ℕ) (p : A → List ℕ → Type 0) (q : B → List ℕ → Type 0) → TakesLeast m p → TakesLeast n q → TakesLeast (m + n) (Joined p q)
+pub pair_least : {A B : Type 0} (m n : ℕ) (p : A → List ℕ → Type 0) (q : B → List ℕ → Type 0) → TakesLeast m p → TakesLeast n q
+    → TakesLeast (m + n) (Joined p q)
 pair_least m n p q first second v b h = both_least m n b h.front h.back h.parts (first v.0 h.front h.first_encoded) (second v.1 h.back h.second_encoded)
 
-pub bind_least : {A B : Type 0} (m n : ℕ) (p : A → List ℕ → Type 0) (q : A → B → List ℕ → Type 0) → TakesLeast m p → ((x : A) → TakesLeast n (q x)) → TakesLeast (m + n) (Follows p q)
+pub bind_least : {A B : Type 0} (m n : ℕ) (p : A → List ℕ → Type 0) (q : A → B → List ℕ → Type 0) → TakesLeast m p → ((x : A) → TakesLeast n (q x))
+    → TakesLeast (m + n) (Follows p q)
 bind_least m n p q first second v b h = both_least m n b h.front h.back h.parts (first h.head h.front h.head_encoded) (second h.head v h.back h.rest_encoded)
 
 pub image_least : {A B : Type 0} (n : ℕ) (make : A → B) (p : A → List ℕ → Type 0) → TakesLeast n p → TakesLeast n (Image make p)

@@ -1,5 +1,6 @@
 -- The readers of numbers are exact, and read what byteorder writes.
-use Rattle.std.specs.Prelude.{Bool, true, false, ◌≡◌, ◌<◌, ◌%◌, ◌/◌, ◌*◌, ◌+◌, ◌^◌, ℕ, zero, suc, List, [], ◌∷◌, ◌++◌, cond, nat_lt, length, slice_index, Option, Some, None}
+use Rattle.std.specs.Prelude.{Bool, true, false, ◌≡◌, ◌<◌, ◌%◌, ◌/◌, ◌*◌, ◌+◌, ◌^◌, ℕ, zero, suc, List}
+use Rattle.std.specs.Prelude.{[], ◌∷◌, ◌++◌, cond, nat_lt, length, slice_index, Option, Some, None}
 use Rattle.std.proofs.Common.{refl, sym, ◌∙◌, ap, arith}
 use Rattle.std.proofs.lemmas.Bool.{lt-ltb, ltb-true}
 use Rattle.std.proofs.Math.Nat.{div-div-eq-div-mul, div-one, mod-lt, pow-suc}
@@ -40,7 +41,11 @@ number_sound (suc k) (x ∷ octets) n rest e =
     record {
       front = x ∷ high.front;
       parts = ap (λ (t : List ℕ). x ∷ t) (high.parts ∙ ap (λ (t : List ℕ). high.front ++ t) rest_is);
-      encoded = (rw (pow-suc 256 k) (omega arith), sym (ap (λ (y : ℕ). y ∷ number_octets k (n / 256)) low ∙ ap (λ (y : ℕ). x ∷ number_octets k y) up ∙ ap (λ (t : List ℕ). x ∷ t) (sym high.encoded.1)));
+      encoded = (
+        rw (pow-suc 256 k) (omega arith),
+        sym (ap (λ (y : ℕ). y ∷ number_octets k (n / 256)) low ∙ ap (λ (y : ℕ). x ∷ number_octets k y) up
+            ∙ ap (λ (t : List ℕ). x ∷ t) (sym high.encoded.1)),
+      );
     }
 
 number_again : (k n : ℕ) (rest : List ℕ) → n < 256 ^ k → number_at k (number_octets k n ++ rest) ≡ Some (n, rest)
@@ -49,7 +54,8 @@ number_again zero n rest h = let e : 0 ≡ n = omega arith in ap (λ (m : ℕ). 
 number_again (suc k) n rest h =
     let bound : n < 256 ^ k * 256 = rw (pow-suc 256 k) at h in
     let low : n % 256 < 256 = mod-lt n (omega arith) in
-    guard_true (nat_lt (n % 256) 256) (number_at k (number_octets k (n / 256) ++ rest) >>= λ high. Some (n % 256 + 256 * high.0, high.1)) (lt-ltb (n % 256) 256 low)
+    guard_true (nat_lt (n % 256) 256) (number_at k (number_octets k (n / 256) ++ rest) >>= λ high. Some (n % 256 + 256 * high.0, high.1))
+    (lt-ltb (n % 256) 256 low)
     ∙ ap (λ o. o >>= λ high. Some (n % 256 + 256 * high.0, high.1)) (number_again k (n / 256) rest (omega arith))
     ∙ ap (λ (m : ℕ). Some (m, rest)) (whole_number n)
 
@@ -84,7 +90,8 @@ bytes_low_first-is (suc i) (suc k) n =
 pub little_bytes-is : (k n : ℕ) → little_bytes k n ≡ number_octets k n
 little_bytes-is k n = bytes_low_first-is 0 k n ∙ ap (number_octets k) (div-one n)
 
-pub number_at-octets : (k : ℕ) (octets rest : List ℕ) → length octets ≡ k → ((i : ℕ) → slice_index octets i < 256) → number_at k (octets ++ rest) ≡ Some (little_number k octets, rest)
+pub number_at-octets : (k : ℕ) (octets rest : List ℕ) → length octets ≡ k → ((i : ℕ) → slice_index octets i < 256)
+    → number_at k (octets ++ rest) ≡ Some (little_number k octets, rest)
 unfolding number_at
 number_at-octets zero [] rest len below = refl
 number_at-octets zero (x ∷ octets) rest len below = absurd (omega arith)
@@ -102,7 +109,8 @@ pub number_at-short : (k : ℕ) (octets : List ℕ) → length octets < k → nu
 unfolding number_at
 number_at-short zero octets h = absurd (omega arith)
 number_at-short (suc k) [] h = refl
-number_at-short (suc k) (x ∷ octets) h = short_guard (nat_lt x 256) (ap (λ o. o >>= λ high. Some (x + 256 * high.0, high.1)) (number_at-short k octets (omega arith)))
+number_at-short (suc k) (x ∷ octets) h =
+    short_guard (nat_lt x 256) (ap (λ o. o >>= λ high. Some (x + 256 * high.0, high.1)) (number_at-short k octets (omega arith)))
 
 pub one_octet : (n : ℕ) → n < 256 → number_octets 1 n ≡ n ∷ []
 unfolding number_octets

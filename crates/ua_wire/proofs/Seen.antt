@@ -4,7 +4,8 @@ use Rattle.std.proofs.Common.{refl}
 use Rattle.std.specs.Option.{option_eq}
 use Rattle.std.specs.Hash.{HashWrites, option}
 
-pub option_eq-map : {X Y : Type 0} (view : X → Y) (same : Y → Y → Bool) (a b : Option X) → option_eq (λ x y. same (view x) (view y)) a b ≡ option_eq same (option_map view a) (option_map view b)
+pub option_eq-map : {X Y : Type 0} (view : X → Y) (same : Y → Y → Bool) (a b : Option X)
+    → option_eq (λ x y. same (view x) (view y)) a b ≡ option_eq same (option_map view a) (option_map view b)
 option_eq-map view same None None = refl
 option_eq-map view same None (Some y) = refl
 option_eq-map view same (Some x) None = refl

@@ -12,7 +12,8 @@ EncodesOnce {A = A} encodes = (v w : A) (a c x y : List ℕ) → encodes v a →
 
 -- decoding gives back the value that was encoded, whatever follows
 abbrev pub ReadsBack : {A : Type 0} → Format A → Type 0
-ReadsBack {A = A} format = (v : A) (rest : List ℕ) (levels : ℕ) → IsTrue (format.encodable v) → format.depth v ≤ levels → format.decode levels (format.canonical v ++ rest) ≡ Some (v, rest)
+ReadsBack {A = A} format = (v : A) (rest : List ℕ) (levels : ℕ) → IsTrue (format.encodable v) → format.depth v ≤ levels
+    → format.decode levels (format.canonical v ++ rest) ≡ Some (v, rest)
 
 -- the count of values of a value is at most the number of bytes of its encoding
 abbrev pub CountsWithinOctets : {A : Type 0} → Format A → Type 0

@@ -15,7 +15,8 @@ pub fn append_two<A: Wire, B: Wire>(
 ) -> Result<(), AllocError>
     requires first { IsTrue (A.format.encodable first.now) }
     requires second { IsTrue (B.format.encodable second.now) }
-    ensures ok { OnOk result (out.new.items ≡ out.old.items ++ (A.format.canonical first.now ++ B.format.canonical second.now)) }
+    ensures ok { OnOk result
+        (out.new.items ≡ out.old.items ++ (A.format.canonical first.now ++ B.format.canonical second.now)) }
     ensures err { OnErr result (Extends out.old.items out.new.items) }
 {
     first.append(out)?;
@@ -32,7 +33,9 @@ pub fn append_three<A: Wire, B: Wire, C: Wire>(
     requires first { IsTrue (A.format.encodable first.now) }
     requires second { IsTrue (B.format.encodable second.now) }
     requires third { IsTrue (C.format.encodable third.now) }
-    ensures ok { OnOk result (out.new.items ≡ out.old.items ++ (A.format.canonical first.now ++ (B.format.canonical second.now ++ C.format.canonical third.now))) }
+    ensures ok { OnOk result
+        (out.new.items ≡ out.old.items
+        ++ (A.format.canonical first.now ++ (B.format.canonical second.now ++ C.format.canonical third.now))) }
     ensures err { OnErr result (Extends out.old.items out.new.items) }
 {
     first.append(out)?;

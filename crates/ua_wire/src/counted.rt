@@ -1,6 +1,7 @@
 //! Bytes and texts with their length prefix.
 
-ghost use Rattle.std.specs.Prelude.{◌≡◌, ◌<◌, length, true, false, string_bytes, Some, None, IsErrOf, MatchOption, MatchResult};
+ghost use Rattle.std.specs.Prelude.{◌≡◌, ◌<◌, length, true, false, string_bytes};
+ghost use Rattle.std.specs.Prelude.{Some, None, IsErrOf, MatchOption, MatchResult};
 ghost use Rattle.std.specs.Str.{is_utf8};
 ghost use Rattle.ua_wire.specs.Format.{GivesBy, StaysBehind};
 ghost use Rattle.ua_wire.specs.Counted.{octets_at};
@@ -19,7 +20,8 @@ pub const FIRST_NEGATIVE: u32 = 1 << 31;
 /// Reads as many bytes as the buffer has into it.
 #[inline]
 pub fn fill_octets<S: Source>(src: &mut S, octets: &mut [u8]) -> Result<(), ReadFault>
-    ensures exact { MatchResult result (λ _. octets_at (length octets.old) (S.octets src.old) ≡ Some (octets.new, S.octets src.new))
+    ensures exact { MatchResult result (λ _. octets_at (length octets.old) (S.octets src.old)
+        ≡ Some (octets.new, S.octets src.new))
         (λ e. (e ≡ NoValue) × (octets_at (length octets.old) (S.octets src.old) ≡ None)) }
     ensures behind { StaysBehind (S.octets src.old) (S.octets src.new) }
 {

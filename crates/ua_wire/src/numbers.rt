@@ -17,7 +17,8 @@ use std::alloc::{AllocError, Global};
 #[inline]
 #[tactic(auto, using(crate::proofs::Behind::stays_behind))]
 fn take_number<S: Source>(src: &mut S, octets: &mut [u8]) -> Result<(), ReadFault>
-    ensures exact { MatchResult result (λ _. number_at (length octets.old) (S.octets src.old) ≡ Some (little_number (length octets.old) octets.new, S.octets src.new))
+    ensures exact { MatchResult result (λ _. number_at (length octets.old) (S.octets src.old)
+        ≡ Some (little_number (length octets.old) octets.new, S.octets src.new))
         (λ e. (e ≡ NoValue) × (number_at (length octets.old) (S.octets src.old) ≡ None)) }
     ensures behind { StaysBehind (S.octets src.old) (S.octets src.new) }
 {

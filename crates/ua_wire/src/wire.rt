@@ -1,6 +1,7 @@
 //! Types with a binary encoding.
 
-ghost use Rattle.std.specs.Prelude.{◌≡◌, ◌≤◌, ◌+◌, ◌++◌, ℕ, List, length, IsTrue, IsFalse, OnOk, OnErr, IfOk, IfErr, IsOk, IsErrOf, ◌↔◌};
+ghost use Rattle.std.specs.Prelude.{◌≡◌, ◌≤◌, ◌+◌, ◌++◌, ℕ, List, length, IsTrue, IsFalse};
+ghost use Rattle.std.specs.Prelude.{OnOk, OnErr, IfOk, IfErr, IsOk, IsErrOf, ◌↔◌};
 ghost use Rattle.ua_wire.specs.Exact.{Begins};
 ghost use Rattle.ua_wire.specs.Format.{Format, IsLawful, most_levels, Gives, Behind, StaysBehind, Extends, IsWhole};
 ghost use Rattle.ua_wire.specs.declared.fault.ReadFault.TheVariants.{NoValue};

@@ -22,7 +22,8 @@ pub fn accept_next(
 ) -> Result<Option<Delivered>, AssembleFault>
     ensures given { (cs : List Chunk) → Stands assembler.old cs →
         IfOk result (λ d. delivered (cs ++ chunk ∷ []) ≡ delivered cs ++ items_of d) }
-    ensures stands { (cs : List Chunk) → Stands assembler.old cs → OnOk result (Stands assembler.new (cs ++ chunk ∷ [])) }
+    ensures stands { (cs : List Chunk) → Stands assembler.old cs
+        → OnOk result (Stands assembler.new (cs ++ chunk ∷ [])) }
 {
     assembler.accept(chunk)
 }
@@ -33,7 +34,8 @@ pub fn accept_by_reason(
     chunk: Chunk,
 ) -> Result<Option<Delivered>, AssembleFault>
     ensures faults { (cs : List Chunk) → Stands assembler.old cs →
-        let reason = refusal (octet_limit assembler.old) (chunk_limit assembler.old) (last_number assembler.old) cs chunk in
+        let reason = refusal (octet_limit assembler.old) (chunk_limit assembler.old) (last_number assembler.old) cs
+        chunk in
         MatchResult result (λ _. reason ≡ None) (IsFor reason) }
 {
     let taken = assembler.accept(chunk);

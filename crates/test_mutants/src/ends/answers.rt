@@ -21,7 +21,8 @@ pub fn reply_to<S: Source>(
     src: &mut S,
     moment: DateTime,
 ) -> Result<Vec<u8>, AllocError>
-    ensures body { IfOk result (λ body. body.items ≡ response.canonical (answered services.old moment (S.octets src.old)).1) }
+    ensures body { IfOk result
+        (λ body. body.items ≡ response.canonical (answered services.old moment (S.octets src.old)).1) }
     ensures state { IfOk result (λ body. services.new ≡ (answered services.old moment (S.octets src.old)).0) }
 {
     services.reply(alloc, src, moment)
@@ -36,8 +37,10 @@ pub fn answer_both(
     moment: DateTime,
 ) -> (Result<Response, AllocError>, Result<Response, AllocError>)
     ensures first { IfOk result.0 (λ r. r ≡ (answer services.old moment first).1) }
-    ensures second { IfOk result.0 (λ _. IfOk result.1 (λ r. r ≡ (answer (answer services.old moment first).0 moment second).1)) }
-    ensures state { IfOk result.0 (λ _. IfOk result.1 (λ _. services.new ≡ (answer (answer services.old moment first).0 moment second).0)) }
+    ensures second { IfOk result.0
+        (λ _. IfOk result.1 (λ r. r ≡ (answer (answer services.old moment first).0 moment second).1)) }
+    ensures state { IfOk result.0
+        (λ _. IfOk result.1 (λ _. services.new ≡ (answer (answer services.old moment first).0 moment second).0)) }
 {
     let one = services.answer(alloc, first, moment);
     let two = services.answer(alloc, second, moment);
@@ -53,7 +56,9 @@ pub fn answer_behind_set(
     request: Request,
     moment: DateTime,
 ) -> Result<Response, AllocError>
-    ensures response { IfOk result (λ r. r ≡ (answer (with_nodes services.old (after_set sensor.now reading services.old.nodes)) moment request).1) }
+    ensures response { IfOk result
+        (λ r. r ≡ (answer (with_nodes services.old (after_set sensor.now reading services.old.nodes)) moment
+        request).1) }
 {
     let _set = services.set(sensor, reading);
     services.answer(alloc, request, moment)

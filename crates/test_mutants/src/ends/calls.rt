@@ -23,7 +23,8 @@ pub fn call_each<L: Line>(
     requests: &[Request],
     moment: DateTime,
 ) -> Result<Vec<Reply>, ClientFault>
-    ensures { IsReady client.old → CallsAll (λ replies. replies.items) requests.now (connection_of client.old) (connection_of client.new) (L.traffic line.old) (L.traffic line.new) result }
+    ensures { IsReady client.old → CallsAll (λ replies. replies.items) requests.now (connection_of client.old)
+        (connection_of client.new) (L.traffic line.old) (L.traffic line.new) result }
 {
     let _alloc = alloc;
     client.call_all(line, requests, moment)
@@ -38,7 +39,8 @@ pub fn open_over<L: Line>(
     moment: DateTime,
 ) -> Result<Client, ClientFault>
     requires { IsTrue (text.encodable url) }
-    ensures { OpensNothing (L.traffic line.old) (L.traffic line.new) result ⊎ OpensClient limits url moment (L.traffic line.old) (L.traffic line.new) result }
+    ensures { OpensNothing (L.traffic line.old) (L.traffic line.new) result
+        ⊎ OpensClient limits url moment (L.traffic line.old) (L.traffic line.new) result }
 {
     Client::open(alloc, line, limits, url, moment)
 }
@@ -51,7 +53,8 @@ pub fn call_behind<L: Line>(
     moment: DateTime,
     replies: &mut Vec<Reply>,
 ) -> Result<(), CallsFault>
-    ensures { IsReady client.old → CallsInto requests.now (connection_of client.old) (connection_of client.new) (L.traffic line.old) (L.traffic line.new) result replies.old.items replies.new.items }
+    ensures { IsReady client.old → CallsInto requests.now (connection_of client.old) (connection_of client.new)
+        (L.traffic line.old) (L.traffic line.new) result replies.old.items replies.new.items }
 {
     client.call_into(line, requests, moment, replies)
 }
@@ -62,7 +65,8 @@ pub fn renew_token<L: Line>(
     line: &mut L,
     moment: DateTime,
 ) -> Result<(), ClientFault>
-    ensures { IsReady client.old → Renews moment (connection_of client.old) (connection_of client.new) (L.traffic line.old) (L.traffic line.new) result }
+    ensures { IsReady client.old → Renews moment (connection_of client.old) (connection_of client.new)
+        (L.traffic line.old) (L.traffic line.new) result }
 {
     client.renew(line, moment)
 }
@@ -73,7 +77,8 @@ pub fn close_channel<L: Line>(
     line: &mut L,
     moment: DateTime,
 ) -> Result<(), ClientFault>
-    ensures { IsReady client.old → Closes moment (client_channel client.old) (L.traffic line.old) (L.traffic line.new) result }
+    ensures { IsReady client.old → Closes moment (client_channel client.old) (L.traffic line.old) (L.traffic line.new)
+        result }
 {
     client.close(line, moment)
 }
@@ -85,7 +90,8 @@ pub fn begin_by<L: Line>(
     policy_id: UaString,
     moment: DateTime,
 ) -> Result<NodeId, ClientFault>
-    ensures { IsReady client.old → BeginsSessionAs policy_id moment (connection_of client.old) (connection_of client.new) (L.traffic line.old) (L.traffic line.new) result }
+    ensures { IsReady client.old → BeginsSessionAs policy_id moment (connection_of client.old)
+        (connection_of client.new) (L.traffic line.old) (L.traffic line.new) result }
 {
     client.begin_session_as(line, policy_id, moment)
 }
@@ -97,7 +103,8 @@ pub fn try_begin_by<L: Line>(
     policy_id: UaString,
     moment: DateTime,
 ) -> Result<NodeId, SessionFault>
-    ensures { IsReady client.old → TriesSession policy_id moment (connection_of client.old) (connection_of client.new) (L.traffic line.old) (L.traffic line.new) result }
+    ensures { IsReady client.old → TriesSession policy_id moment (connection_of client.old) (connection_of client.new)
+        (L.traffic line.old) (L.traffic line.new) result }
 {
     client.try_begin_session(line, policy_id, moment)
 }

@@ -22,7 +22,8 @@ pub fn read_one_item(
     stamps: Stamps,
     moment: DateTime,
 ) -> Result<DataValue, AllocError>
-    ensures answer { IfOk result (λ d. data_value_of d ≡ read_answer (node_at nodes.now item.now.node_id) item.now stamps moment) }
+    ensures answer { IfOk result
+        (λ d. data_value_of d ≡ read_answer (node_at nodes.now item.now.node_id) item.now stamps moment) }
 {
     nodes.read_item(alloc, item, stamps, moment)
 }
@@ -39,7 +40,8 @@ pub fn append_answers(
     out: &mut Vec<u8>,
 ) -> Result<(), AllocError>
     requires sound { IsSound nodes.now }
-    ensures ok { OnOk result (IsWithin most (answer_octets nodes.now stamps moment) items.now out.old.items out.new.items) }
+    ensures ok { OnOk result
+        (IsWithin most (answer_octets nodes.now stamps moment) items.now out.old.items out.new.items) }
 {
     nodes.append_items(alloc, items, stamps, moment, most, out)
 }

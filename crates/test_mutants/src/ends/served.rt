@@ -24,7 +24,8 @@ use ua_server::Services;
 
 /// Writes bytes to a transport to a server.
 pub fn write_up<W: Began>(line: &mut ServedLine<W>, octets: &[u8]) -> Result<usize, LineFault>
-    ensures octets { IfTrafficKnown (WriteTakes result octets.now) (Some (traffic_of W.beginning line.old)) (Some (traffic_of W.beginning line.new)) }
+    ensures octets { IfTrafficKnown (WriteTakes result octets.now) (Some (traffic_of W.beginning line.old))
+        (Some (traffic_of W.beginning line.new)) }
 {
     line.write(octets)
 }
@@ -45,10 +46,17 @@ pub fn converse_over(
 ) -> ConversationLog
     requires url { IsTrue (text.encodable url) }
     requires same { before.old ≡ services }
-    ensures services { LeavesAt result.stage (record { limits = limits; channel = channel_id; first = services; moment = moment }) result.up.items result.services }
+    ensures services { LeavesAt result.stage
+        (record { limits = limits; channel = channel_id; first = services; moment = moment }) result.up.items
+        result.services }
     ensures closed { OnOk result.outcome (result.stage ≡ Ended Closed) }
-    ensures left { OnOk result.outcome (result.services ≡ services_after (record { limits = limits; channel = channel_id; first = services; moment = moment }) result.up.items) }
-    ensures before { IfErr result.outcome (λ fault. IsTurnFault fault → BehindRefused (record { limits = limits; channel = channel_id; first = services; moment = moment }) limits url moment (map asked_by turns.now) result.taken result.up.items result.replies.items) }
+    ensures left { OnOk result.outcome
+        (result.services
+        ≡ services_after (record { limits = limits; channel = channel_id; first = services; moment = moment })
+        result.up.items) }
+    ensures before { IfErr result.outcome (λ fault. IsTurnFault fault
+        → BehindRefused (record { limits = limits; channel = channel_id; first = services; moment = moment }) limits url
+        moment (map asked_by turns.now) result.taken result.up.items result.replies.items) }
     ensures fails { IfErr result.outcome (λ fault. url_length url ≤ 4095 → FailsAt result.stage fault) }
 {
     let _before = before;

@@ -27,7 +27,8 @@ pub fn serve_begun<L: Line, M: Moments>(
     channel_id: u32,
     moments: &mut M,
 ) -> Result<End, ServeFault>
-    ensures serves { Serves limits channel_id M.gives (begun services.old) moments.old result services.new moments.new (L.traffic line.old) (L.traffic line.new) }
+    ensures serves { Serves limits channel_id M.gives (begun services.old) moments.old result services.new moments.new
+        (L.traffic line.old) (L.traffic line.new) }
     ensures failed { LineFailed (L.failures line.old) result (L.failures line.new) }
 {
     serve(alloc, line, services, limits, channel_id, moments)
@@ -44,7 +45,9 @@ pub fn serve_beside<L: Line, M: Moments, W: Watch, A: Application>(
     watch: &mut W,
     application: &mut A,
 ) -> Result<End, ServeFault>
-    ensures serves { ServesApplication limits channel_id M.gives W.notes A.changes (begun services.old, application.old) (moments.old, watch.old) result (services.new, application.new) (moments.new, watch.new) (L.traffic line.old) (L.traffic line.new) }
+    ensures serves { ServesApplication limits channel_id M.gives W.notes A.changes (begun services.old, application.old)
+        (moments.old, watch.old) result (services.new, application.new) (moments.new, watch.new) (L.traffic line.old)
+        (L.traffic line.new) }
 {
     serve_application(
         alloc,
@@ -66,9 +69,12 @@ pub fn serve_more(
     moment: DateTime,
     out: &mut Vec<u8>,
 ) -> Result<Option<End>, StepFault>
-    ensures leaves { (b : Beginning) (before : List ℕ) → Takes b server.old services.old before → moment ≡ b.moment → OnOk result (services.new ≡ services_after b (before ++ octets.now)) }
-    ensures answers { (b : Beginning) (before : List ℕ) → Takes b server.old services.old before → moment ≡ b.moment → OnOk result (Answers b before (before ++ octets.now) out.old.items out.new.items) }
-    ensures ends { (b : Beginning) (before : List ℕ) → Takes b server.old services.old before → moment ≡ b.moment → IfOk result (λ end. EndsAt (stage_of end) b (before ++ octets.now)) }
+    ensures leaves { (b : Beginning) (before : List ℕ) → Takes b server.old services.old before → moment ≡ b.moment
+        → OnOk result (services.new ≡ services_after b (before ++ octets.now)) }
+    ensures answers { (b : Beginning) (before : List ℕ) → Takes b server.old services.old before → moment ≡ b.moment
+        → OnOk result (Answers b before (before ++ octets.now) out.old.items out.new.items) }
+    ensures ends { (b : Beginning) (before : List ℕ) → Takes b server.old services.old before → moment ≡ b.moment
+        → IfOk result (λ end. EndsAt (stage_of end) b (before ++ octets.now)) }
 {
     serve_octets(server, services, octets, moment, out)
 }

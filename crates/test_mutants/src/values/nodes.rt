@@ -12,7 +12,8 @@ use ua_builtin::{MOST_LEVELS, NodeId, Octets, ReadFault, Wire};
 /// The NodeId that bytes begin with, and what is after it.
 pub fn read_node_id<'a>(alloc: Global, octets: &'a [u8]) -> Result<(NodeId, Octets<'a>), ReadFault>
     ensures found { IfOk result (λ r. Begins node_id.encodes octets.now r.0 r.1) }
-    ensures none { IsErrOf result NoValue → (v : NodeId) (front rest : List ℕ) → octets.now ≡ front ++ rest → ¬ (node_id.encodes v front) }
+    ensures none { IsErrOf result NoValue → (v : NodeId) (front rest : List ℕ) → octets.now ≡ front ++ rest
+        → ¬ (node_id.encodes v front) }
 {
     let mut source = Octets::new(octets);
     let id = NodeId::read(alloc, &mut source, MOST_LEVELS)?;

@@ -1,5 +1,6 @@
 -- What the parts of a client make of a frame, and of a fragment.
-use Rattle.std.specs.Prelude.{◌≡◌, ℕ, ◌==◌, Bool, true, false, ◌||◌, if◌then◌else◌, not, map, nat_le, is_none, List, [], ◌∷◌, ◌++◌, Option, Some, None, Result, Ok, Err}
+use Rattle.std.specs.Prelude.{◌≡◌, ℕ, ◌==◌, Bool, true, false, ◌||◌, if◌then◌else◌, not, map, nat_le}
+use Rattle.std.specs.Prelude.{is_none, List, [], ◌∷◌, ◌++◌, Option, Some, None, Result, Ok, Err}
 use Rattle.std.specs.List.{filter}
 use Rattle.ua_builtin.specs.Reasons.{first_reason, renamed_reason}
 use Rattle.ua_builtin.specs.declared.date_time.DateTime.{DateTime}
@@ -110,7 +111,8 @@ pub record IsAnswerOf (o : Opening) (a : Answer) : Type 0 where
   pub numbers_are : o.numbers ≡ Some (a.sequence, a.request)
   pub channel_is : response.channel_id ≡ a.channel
   pub token_is : response.token_id ≡ a.token
-  pub remain : (limits : Limits) (before : Received) (asked : List Asking) → first_reason (client_reasons limits before asked (Opens o)) ≡ first_reason (answer_reasons before asked a)
+  pub remain : (limits : Limits) (before : Received) (asked : List Asking) → first_reason (client_reasons limits before asked (Opens o))
+      ≡ first_reason (answer_reasons before asked a)
 
 -- the outcome for an OPN, whatever was received and requested before
 abbrev pub JudgesAnswer : Opening → Result Answer StepFault → Type 0

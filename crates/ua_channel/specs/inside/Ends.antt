@@ -62,7 +62,8 @@ pub record TakenBy {R P E : Type 0} (S : Side R P E) (r : R) (k : S.Key) (frames
 -- a frame after these is rejected with this fault
 abbrev pub RefusedBy : {R P E : Type 0} (S : Side R P E) → R → (k : S.Key) → List Frame → Frame → StepFault → Type 0
 RefusedBy S r k frames f fault =
-    IsFaultFor (λ (code : ℕ). refusal (S.rules r k) frames f ≡ Some ((S.rules r k).of_header code)) (λ (code : ℕ). MatchOption (S.peer code) ⊥ (λ (why : S.Why). refusal (S.rules r k) frames f ≡ Some why)) fault
+    IsFaultFor (λ (code : ℕ). refusal (S.rules r k) frames f ≡ Some ((S.rules r k).of_header code))
+    (λ (code : ℕ). MatchOption (S.peer code) ⊥ (λ (why : S.Why). refusal (S.rules r k) frames f ≡ Some why)) fault
 
 -- the outcome for a frame after these
 abbrev pub JudgesNext : {R P E : Type 0} (S : Side R P E) → R → (k : S.Key) → List Frame → Frame → P → ℕ → Result (Option E) StepFault → Type 0

@@ -43,7 +43,8 @@ pub record AgreesTo (limits : Limits) (body : List ℕ) (a : Agreement) : Type 0
 -- the outcome for the body of a HEL
 abbrev pub JudgesHello : Limits → List ℕ → Result Agreement StepFault → Type 0
 JudgesHello limits body (Ok a) = AgreesTo limits body a
-JudgesHello limits body (Err fault) = IsRefusalFor (λ code. (channel : ℕ) (before : Received) → first_reason (server_reasons limits channel before (Greets (hello_in body))) ≡ Some code) fault
+JudgesHello limits body (Err fault) =
+    IsRefusalFor (λ code. (channel : ℕ) (before : Received) → first_reason (server_reasons limits channel before (Greets (hello_in body))) ≡ Some code) fault
 
 -- ---- OPN
 
@@ -78,14 +79,16 @@ asked_reasons a on channel count =
 -- whether a token is left
 pub record OpensSo (channel count : ℕ) (body : List ℕ) (o : Opened) : Type 0 where
   pub numbers_are : (opening_of body).numbers ≡ Some (o.sequence, o.request)
-  pub tells : (limits : Limits) (before : Received) → issued before ≡ count → server_tells limits before (Opens (opening_of body)) ≡ told.Opened o.request o.handle (count + 1) o.lifetime ∷ []
+  pub tells : (limits : Limits) (before : Received) → issued before ≡ count → server_tells limits before (Opens (opening_of body))
+      ≡ told.Opened o.request o.handle (count + 1) o.lifetime ∷ []
   pub remain : (limits : Limits) (before : Received) → issued before ≡ count → first_reason (server_reasons limits channel before (Opens (opening_of body)))
       ≡ first_reason ((0x8088_0000, not (may_follow before.last o.sequence)) ∷ (0x8081_0000, issued before == 4294967295) ∷ [])
 
 -- the outcome for the body of an OPN if this many tokens were issued
 abbrev pub JudgesOpening : ℕ → ℕ → List ℕ → Result Opened StepFault → Type 0
 JudgesOpening channel count body (Ok o) = OpensSo channel count body o
-JudgesOpening channel count body (Err fault) = IsRefusalFor (λ code. (limits : Limits) (before : Received) → issued before ≡ count → first_reason (server_reasons limits channel before (Opens (opening_of body))) ≡ Some code) fault
+JudgesOpening channel count body (Err fault) = IsRefusalFor (λ code. (limits : Limits) (before : Received) → issued before ≡ count
+    → first_reason (server_reasons limits channel before (Opens (opening_of body))) ≡ Some code) fault
 
 -- ---- an open channel
 

@@ -1,6 +1,7 @@
 //! The responses to OPNs.
 ghost use Rattle.ua_opening.specs.Open.{answer_read};
-ghost use Rattle.ua_channel.specs.inside.ClientParts.{Judged, JudgesAnswer, body_reasons, response_reasons, IsResponse, IsAnsweredBy};
+ghost use Rattle.ua_channel.specs.inside.ClientParts.{Judged, JudgesAnswer, body_reasons};
+ghost use Rattle.ua_channel.specs.inside.ClientParts.{response_reasons, IsResponse, IsAnsweredBy};
 ghost use Rattle.ua_channel.specs.Content.{opening_of};
 
 use crate::step_fault::StepFault;

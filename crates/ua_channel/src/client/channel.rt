@@ -1,15 +1,20 @@
 //! A client's channel.
 
-ghost use Rattle.std.specs.Prelude.{◌≡◌, ◌≤◌, ◌<◌, ◌++◌, ◌∷◌, [], List, ℕ, length, take, IsTrue, Some, Err, IfOk, IsErrOf, OnOk, OnErr};
+ghost use Rattle.std.specs.Prelude.{◌≡◌, ◌≤◌, ◌<◌, ◌++◌, ◌∷◌, [], List, ℕ, length, take};
+ghost use Rattle.std.specs.Prelude.{IsTrue, Some, Err, IfOk, IsErrOf, OnOk, OnErr};
 ghost use Rattle.ua_wire.specs.Counted.{text};
 ghost use Rattle.ua_builtin.specs.Reasons.{first_reason};
 ghost use Rattle.ua_frame.specs.Frames.{frame_octets};
 ghost use Rattle.ua_frame.specs.declared.frame.Frame.{Frame};
 ghost use Rattle.ua_channel.specs.Asks.{Placed, asked_in, next_id};
 ghost use Rattle.ua_channel.specs.Asks.Asking.{Call, Renewal};
-ghost use Rattle.ua_channel.specs.Client.{ClientStands, ClientGoes, ClientStarvedAt, IsClientDone, SameClient, client_limits, url_of, client_next, client_bound, client_bound_behind, held_octets, call_refused, renewal_refused, closing_refused, JudgesLength, SendsCall, SendsRenewal, SendsClosing};
+ghost use Rattle.ua_channel.specs.Client.{ClientStands, ClientGoes, ClientStarvedAt, IsClientDone, SameClient};
+ghost use Rattle.ua_channel.specs.Client.{client_limits, url_of, client_next, client_bound};
+ghost use Rattle.ua_channel.specs.Client.{client_bound_behind, held_octets, call_refused, renewal_refused};
+ghost use Rattle.ua_channel.specs.Client.{closing_refused, JudgesLength, SendsCall, SendsRenewal, SendsClosing};
 ghost use Rattle.ua_channel.specs.ClientAnswers.{ClientAnswers, ComesInParts, ClientProgress, parts_handed};
-ghost use Rattle.ua_channel.specs.ClientAsks.{call_reasons, closing_reasons, renewing_reasons, AnswersFor, IsCalled, IsClosed, IsRenewed, JudgesBy};
+ghost use Rattle.ua_channel.specs.ClientAsks.{call_reasons, closing_reasons, renewing_reasons};
+ghost use Rattle.ua_channel.specs.ClientAsks.{AnswersFor, IsCalled, IsClosed, IsRenewed, JudgesBy};
 ghost use Rattle.ua_channel.specs.inside.ClientParts.{AnswersEvent, ComesTo, counted};
 ghost use Rattle.ua_channel.specs.ClientSends.{AreFramesOf, hello_frame, hello_to};
 ghost use Rattle.ua_channel.specs.ClientTold.{ClientTold};
@@ -73,9 +78,11 @@ impl ClientChannel {
 
     /// The number of bytes held that are incomplete: of a frame, and of unfinished messages.
     pub fn held(&self) -> usize
-        ensures held { (asks : List Placed) (octets : List ℕ) (frames : List Frame) (rest : List ℕ) → ClientStands self.now asks octets frames rest
+        ensures held { (asks : List Placed) (octets : List ℕ) (frames : List Frame) (rest : List ℕ)
+            → ClientStands self.now asks octets frames rest
             → result ≡ held_octets frames rest }
-        ensures bound { (asks : List Placed) (octets : List ℕ) (frames : List Frame) (rest : List ℕ) → ClientStands self.now asks octets frames rest
+        ensures bound { (asks : List Placed) (octets : List ℕ) (frames : List Frame) (rest : List ℕ)
+            → ClientStands self.now asks octets frames rest
             → result ≤ client_bound self.now }
         ensures done { IsClientDone self.now → result ≡ 0 }
     {
@@ -86,7 +93,8 @@ impl ClientChannel {
     /// frame that the server sends, and 4 times the largest message that this end accepts.
     #[inline]
     pub fn bound(&self) -> usize
-        ensures stands { (asks : List Placed) (octets : List ℕ) (frames : List Frame) (rest : List ℕ) → ClientStands self.now asks octets frames rest
+        ensures stands { (asks : List Placed) (octets : List ℕ) (frames : List Frame) (rest : List ℕ)
+            → ClientStands self.now asks octets frames rest
             → result ≡ client_bound_behind (client_limits self.now) (received frames).ack }
         ensures is { result ≡ client_bound self.now }
     {
@@ -105,7 +113,8 @@ impl ClientChannel {
 
     /// The RequestId of the next call, renewal or CLO; 2 where the channel failed or was closed.
     pub fn next_id(&self) -> u32
-        ensures stands { (asks : List Placed) (octets : List ℕ) (frames : List Frame) (rest : List ℕ) → ClientStands self.now asks octets frames rest
+        ensures stands { (asks : List Placed) (octets : List ℕ) (frames : List Frame) (rest : List ℕ)
+            → ClientStands self.now asks octets frames rest
             → result ≡ next_id (asked_in asks) }
         ensures done { IsClientDone self.now → result ≡ 2 }
     {
@@ -117,7 +126,8 @@ impl ClientChannel {
 
     /// The HEL that begins the connection, whatever was received so far.
     pub fn hello(&self) -> Result<Vec<u8>, AllocError>
-        ensures { IfOk result (λ out. out.items ≡ frame_octets (hello_frame (hello_to (client_limits self.now) (url_of self.now)))) }
+        ensures { IfOk result
+            (λ out. out.items ≡ frame_octets (hello_frame (hello_to (client_limits self.now) (url_of self.now)))) }
     {
         hello_octets(self.end.alloc, &self.end.rules.limits, &self.address.url)
     }
@@ -126,7 +136,8 @@ impl ClientChannel {
     /// which succeeds. Failing allocations are not considered, and the function allocates nothing.
     pub fn judge(&self, before: usize, len: usize) -> Result<(), AskFault>
         ensures judges { JudgesLength self.now before len result }
-        ensures stands { (asks : List Placed) (octets : List ℕ) (frames : List Frame) (rest : List ℕ) → ClientStands self.now asks octets frames rest
+        ensures stands { (asks : List Placed) (octets : List ℕ) (frames : List Frame) (rest : List ℕ)
+            → ClientStands self.now asks octets frames rest
             → JudgesBy (λ body. first_reason (call_reasons (received frames) (asked_in asks) before body)) len result }
     {
         match &self.end.phase {
@@ -140,18 +151,26 @@ impl ClientChannel {
     pub fn call(&mut self, body: &[u8]) -> Result<AskedCall, AskFault>
         requires { 0 < length body.now }
         ensures answers { AnswersFor (call_refused self.old 0 body.now) result }
-        ensures sent { IfOk result (λ asked. SendsCall self.old (client_next self.old) body.now asked.id asked.octets.items (client_next self.new)) }
+        ensures sent { IfOk result
+            (λ asked. SendsCall self.old (client_next self.old) body.now asked.id asked.octets.items
+            (client_next self.new)) }
         ensures frames { IfOk result (λ asked. AreFramesOf asked.frame_len asked.octets.items) }
         // The same by what was received and sent, also inside a frame or a message.
-        ensures refuses { (asks : List Placed) (octets : List ℕ) (frames : List Frame) (rest : List ℕ) → ClientStands self.old asks octets frames rest
+        ensures refuses { (asks : List Placed) (octets : List ℕ) (frames : List Frame) (rest : List ℕ)
+            → ClientStands self.old asks octets frames rest
             → AnswersFor (first_reason (call_reasons (received frames) (asked_in asks) 0 body.now)) result }
-        ensures calls { (asks : List Placed) (octets : List ℕ) (frames : List Frame) (rest : List ℕ) → ClientStands self.old asks octets frames rest
-            → IfOk result (λ asked. IsCalled (received frames) (asked_in asks) (client_next self.old) body.now asked.id asked.octets.items (client_next self.new)) }
-        ensures stands { (asks : List Placed) (octets : List ℕ) (frames : List Frame) (rest : List ℕ) → ClientStands self.old asks octets frames rest
-            → IfOk result (λ asked. ClientStands self.new (asks ++ (length octets, Call asked.id) ∷ []) octets frames rest) }
+        ensures calls { (asks : List Placed) (octets : List ℕ) (frames : List Frame) (rest : List ℕ)
+            → ClientStands self.old asks octets frames rest
+            → IfOk result (λ asked. IsCalled (received frames) (asked_in asks) (client_next self.old) body.now asked.id
+            asked.octets.items (client_next self.new)) }
+        ensures stands { (asks : List Placed) (octets : List ℕ) (frames : List Frame) (rest : List ℕ)
+            → ClientStands self.old asks octets frames rest
+            → IfOk result (λ asked. ClientStands self.new (asks ++ (length octets, Call asked.id) ∷ []) octets frames
+            rest) }
 
         // After a fault the channel is in the state before, and sends next what it would have sent.
-        ensures kept { (asks : List Placed) (octets : List ℕ) (frames : List Frame) (rest : List ℕ) → ClientStands self.old asks octets frames rest
+        ensures kept { (asks : List Placed) (octets : List ℕ) (frames : List Frame) (rest : List ℕ)
+            → ClientStands self.old asks octets frames rest
             → OnErr result (ClientStands self.new asks octets frames rest) }
         ensures next { OnErr result (client_next self.new ≡ client_next self.old) }
         ensures done { IsClientDone self.old → (result ≡ Err NotOpen) × (self.new ≡ self.old) }
@@ -168,17 +187,23 @@ impl ClientChannel {
     pub fn ask(&mut self, body: &[u8]) -> Result<(u32, Vec<u8>), AskFault>
         requires { 0 < length body.now }
         ensures answers { AnswersFor (call_refused self.old 0 body.now) result }
-        ensures sent { IfOk result (λ r. SendsCall self.old (client_next self.old) body.now r.0 r.1.items (client_next self.new)) }
+        ensures sent { IfOk result (λ r. SendsCall self.old (client_next self.old) body.now r.0 r.1.items
+            (client_next self.new)) }
         // The same by what was received and sent, also inside a frame or a message.
-        ensures refuses { (asks : List Placed) (octets : List ℕ) (frames : List Frame) (rest : List ℕ) → ClientStands self.old asks octets frames rest
+        ensures refuses { (asks : List Placed) (octets : List ℕ) (frames : List Frame) (rest : List ℕ)
+            → ClientStands self.old asks octets frames rest
             → AnswersFor (first_reason (call_reasons (received frames) (asked_in asks) 0 body.now)) result }
-        ensures calls { (asks : List Placed) (octets : List ℕ) (frames : List Frame) (rest : List ℕ) → ClientStands self.old asks octets frames rest
-            → IfOk result (λ r. IsCalled (received frames) (asked_in asks) (client_next self.old) body.now r.0 r.1.items (client_next self.new)) }
-        ensures stands { (asks : List Placed) (octets : List ℕ) (frames : List Frame) (rest : List ℕ) → ClientStands self.old asks octets frames rest
+        ensures calls { (asks : List Placed) (octets : List ℕ) (frames : List Frame) (rest : List ℕ)
+            → ClientStands self.old asks octets frames rest
+            → IfOk result (λ r. IsCalled (received frames) (asked_in asks) (client_next self.old) body.now r.0 r.1.items
+            (client_next self.new)) }
+        ensures stands { (asks : List Placed) (octets : List ℕ) (frames : List Frame) (rest : List ℕ)
+            → ClientStands self.old asks octets frames rest
             → IfOk result (λ r. ClientStands self.new (asks ++ (length octets, Call r.0) ∷ []) octets frames rest) }
 
         // After a fault the channel is in the state before, and sends next what it would have sent.
-        ensures kept { (asks : List Placed) (octets : List ℕ) (frames : List Frame) (rest : List ℕ) → ClientStands self.old asks octets frames rest
+        ensures kept { (asks : List Placed) (octets : List ℕ) (frames : List Frame) (rest : List ℕ)
+            → ClientStands self.old asks octets frames rest
             → OnErr result (ClientStands self.new asks octets frames rest) }
         ensures next { OnErr result (client_next self.new ≡ client_next self.old) }
         ensures done { IsClientDone self.old → (result ≡ Err NotOpen) × (self.new ≡ self.old) }
@@ -195,13 +220,18 @@ impl ClientChannel {
     /// `moment`.
     pub fn renew(&mut self, moment: DateTime) -> Result<(u32, Vec<u8>), AskFault>
         ensures answers { AnswersFor (renewal_refused self.old) result }
-        ensures sent { IfOk result (λ r. SendsRenewal self.old (client_next self.old) moment r.0 r.1.items (client_next self.new)) }
+        ensures sent { IfOk result (λ r. SendsRenewal self.old (client_next self.old) moment r.0 r.1.items
+            (client_next self.new)) }
         // The same by what was received and sent.
-        ensures refuses { (asks : List Placed) (octets : List ℕ) (frames : List Frame) (rest : List ℕ) → ClientStands self.old asks octets frames rest
+        ensures refuses { (asks : List Placed) (octets : List ℕ) (frames : List Frame) (rest : List ℕ)
+            → ClientStands self.old asks octets frames rest
             → AnswersFor (first_reason (renewing_reasons (received frames) (asked_in asks))) result }
-        ensures renews { (asks : List Placed) (octets : List ℕ) (frames : List Frame) (rest : List ℕ) → ClientStands self.old asks octets frames rest
-            → IfOk result (λ r. IsRenewed (received frames) (asked_in asks) (client_next self.old) moment r.0 r.1.items (client_next self.new)) }
-        ensures stands { (asks : List Placed) (octets : List ℕ) (frames : List Frame) (rest : List ℕ) → ClientStands self.old asks octets frames rest
+        ensures renews { (asks : List Placed) (octets : List ℕ) (frames : List Frame) (rest : List ℕ)
+            → ClientStands self.old asks octets frames rest
+            → IfOk result (λ r. IsRenewed (received frames) (asked_in asks) (client_next self.old) moment r.0 r.1.items
+            (client_next self.new)) }
+        ensures stands { (asks : List Placed) (octets : List ℕ) (frames : List Frame) (rest : List ℕ)
+            → ClientStands self.old asks octets frames rest
             → IfOk result (λ r. ClientStands self.new (asks ++ (length octets, Renewal r.0) ∷ []) octets frames rest) }
         ensures unchanged { OnErr result (self.new ≡ self.old) }
         ensures same { SameClient self.old self.new }
@@ -218,9 +248,11 @@ impl ClientChannel {
         ensures answers { AnswersFor (closing_refused self.old) result }
         ensures sent { IfOk result (λ out. SendsClosing self.old (client_next self.old) moment out.items) }
         // The same by what was received and sent.
-        ensures refuses { (asks : List Placed) (octets : List ℕ) (frames : List Frame) (rest : List ℕ) → ClientStands self.old asks octets frames rest
+        ensures refuses { (asks : List Placed) (octets : List ℕ) (frames : List Frame) (rest : List ℕ)
+            → ClientStands self.old asks octets frames rest
             → AnswersFor (first_reason (closing_reasons (received frames))) result }
-        ensures closes { (asks : List Placed) (octets : List ℕ) (frames : List Frame) (rest : List ℕ) → ClientStands self.old asks octets frames rest
+        ensures closes { (asks : List Placed) (octets : List ℕ) (frames : List Frame) (rest : List ℕ)
+            → ClientStands self.old asks octets frames rest
             → IfOk result (λ out. IsClosed (received frames) (asked_in asks) (client_next self.old) moment out.items) }
         ensures done { OnOk result (IsClientDone self.new) }
         ensures unchanged { OnErr result (self.new ≡ self.old) }
@@ -235,9 +267,11 @@ impl ClientChannel {
     fn closing(&self, moment: DateTime) -> Result<Vec<u8>, AskFault>
         ensures answers { AnswersFor (closing_refused self.now) result }
         ensures sent { IfOk result (λ out. SendsClosing self.now (client_next self.now) moment out.items) }
-        ensures refuses { (asks : List Placed) (octets : List ℕ) (frames : List Frame) (rest : List ℕ) → ClientStands self.now asks octets frames rest
+        ensures refuses { (asks : List Placed) (octets : List ℕ) (frames : List Frame) (rest : List ℕ)
+            → ClientStands self.now asks octets frames rest
             → AnswersFor (first_reason (closing_reasons (received frames))) result }
-        ensures closes { (asks : List Placed) (octets : List ℕ) (frames : List Frame) (rest : List ℕ) → ClientStands self.now asks octets frames rest
+        ensures closes { (asks : List Placed) (octets : List ℕ) (frames : List Frame) (rest : List ℕ)
+            → ClientStands self.now asks octets frames rest
             → IfOk result (λ out. IsClosed (received frames) (asked_in asks) (client_next self.now) moment out.items) }
     {
         match &self.end.phase {
@@ -261,9 +295,11 @@ impl ClientChannel {
 
     /// The event that is returned. `moment` is the timestamp of an OPN request.
     fn answer(&mut self, event: Event, moment: DateTime) -> Result<ClientEvent, ClientTakeFault>
-        ensures answers { (asks : List Placed) (octets : List ℕ) (told : List ClientTold) → ComesTo event self.old asks octets told
+        ensures answers { (asks : List Placed) (octets : List ℕ) (told : List ClientTold)
+            → ComesTo event self.old asks octets told
             → AnswersEvent moment result self.new asks octets told }
-        ensures parts { (asks : List Placed) (octets : List ℕ) (told : List ClientTold) → ComesTo event self.old asks octets told
+        ensures parts { (asks : List Placed) (octets : List ℕ) (told : List ClientTold)
+            → ComesTo event self.old asks octets told
             → IfOk result (λ e. ComesInParts (parts_handed e) self.new asks octets) }
         ensures same { SameClient self.old self.new }
         ensures next { client_next self.new ≡ client_next self.old }
@@ -291,13 +327,16 @@ impl ClientChannel {
         piece: &[u8],
         moment: DateTime,
     ) -> (usize, Result<ClientEvent, ClientTakeFault>)
-        ensures answers { (asks : List Placed) (octets : List ℕ) (told : List ClientTold) → ClientGoes self.old asks octets told
+        ensures answers { (asks : List Placed) (octets : List ℕ) (told : List ClientTold)
+            → ClientGoes self.old asks octets told
             → ClientAnswers moment piece.now (counted result.0 result.1) self.new asks octets told }
-        ensures parts { (asks : List Placed) (octets : List ℕ) (told : List ClientTold) → ClientGoes self.old asks octets told
+        ensures parts { (asks : List Placed) (octets : List ℕ) (told : List ClientTold)
+            → ClientGoes self.old asks octets told
             → IfOk result.1 (λ e. ComesInParts (parts_handed e) self.new asks (octets ++ take result.0 piece.now)) }
         ensures progress { ClientProgress piece.now (counted result.0 result.1) }
         ensures within { result.0 ≤ length piece.now }
-        ensures starves { (asks : List Placed) (octets : List ℕ) (told : List ClientTold) → ClientGoes self.old asks octets told → IsErrOf result.1 OutOfMemory
+        ensures starves { (asks : List Placed) (octets : List ℕ) (told : List ClientTold)
+            → ClientGoes self.old asks octets told → IsErrOf result.1 OutOfMemory
             → ClientStarvedAt self.new asks (octets ++ take result.0 piece.now) told }
         ensures same { SameClient self.old self.new }
         ensures next { client_next self.new ≡ client_next self.old }
@@ -319,15 +358,18 @@ impl ClientChannel {
         piece: &[u8],
         moment: DateTime,
     ) -> Result<(usize, ClientEvent), ClientTakeFault>
-        ensures answers { (asks : List Placed) (octets : List ℕ) (told : List ClientTold) → ClientGoes self.old asks octets told
+        ensures answers { (asks : List Placed) (octets : List ℕ) (told : List ClientTold)
+            → ClientGoes self.old asks octets told
             → ClientAnswers moment piece.now result self.new asks octets told }
         // A message that is returned is the bodies of its chunks, which are not joined.
-        ensures parts { (asks : List Placed) (octets : List ℕ) (told : List ClientTold) → ClientGoes self.old asks octets told
+        ensures parts { (asks : List Placed) (octets : List ℕ) (told : List ClientTold)
+            → ClientGoes self.old asks octets told
             → IfOk result (λ r. ComesInParts (parts_handed r.1) self.new asks (octets ++ take r.0 piece.now)) }
         ensures progress { ClientProgress piece.now result }
         ensures closed { IsClientDone self.old → (result ≡ Err Closed) × (self.new ≡ self.old) }
         // Where an allocation fails, it is within a frame whose header is complete and valid.
-        ensures starves { (asks : List Placed) (octets : List ℕ) (told : List ClientTold) → ClientGoes self.old asks octets told → IsErrOf result OutOfMemory
+        ensures starves { (asks : List Placed) (octets : List ℕ) (told : List ClientTold)
+            → ClientGoes self.old asks octets told → IsErrOf result OutOfMemory
             → (n : ℕ) × (n ≤ length piece.now) × ClientStarvedAt self.new asks (octets ++ take n piece.now) told }
         // After `OutOfMemory` the bound is what it was before the call.
         ensures starved { IsErrOf result OutOfMemory → client_bound self.new ≡ client_bound self.old }

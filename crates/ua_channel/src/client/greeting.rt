@@ -68,7 +68,8 @@ fn judge_ack(alloc: Global, limits: &Limits, body: &[u8]) -> Result<Agreed, Step
 /// The agreement on the first frame of a server that received only a HEL.
 pub fn greet(alloc: Global, limits: &Limits, frame: Frame) -> Result<Agreed, StepFault>
     ensures { LetsIn ack_gate frame
-        → Judged (client_reasons limits.now nothing_received [] (content frame)) (λ a. content frame ≡ Acks (Some a.ack)) result }
+        → Judged (client_reasons limits.now nothing_received [] (content frame))
+        (λ a. content frame ≡ Acks (Some a.ack)) result }
 {
     match frame.kind {
         Kind::Ack => judge_ack(alloc, limits, &frame.body),

@@ -7,7 +7,8 @@ ghost use Rattle.ua_frame.specs.Frames.{frame_octets};
 ghost use Rattle.ua_frame.specs.Messages.{hello};
 ghost use Rattle.ua_opening.specs.Message.{message};
 ghost use Rattle.ua_opening.specs.SecureChannel.{open_request};
-ghost use Rattle.ua_channel.specs.ClientSends.{hello_to, hello_frame, open_frame, close_frame, first_open, renewal_frame};
+ghost use Rattle.ua_channel.specs.ClientSends.{hello_to, hello_frame, open_frame};
+ghost use Rattle.ua_channel.specs.ClientSends.{close_frame, first_open, renewal_frame};
 ghost use Rattle.ua_channel.specs.inside.ClientAsking.{closing_front};
 
 use crate::sending::append_opening;

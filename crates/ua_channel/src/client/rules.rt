@@ -38,8 +38,10 @@ impl ClientRules {
         frame: Frame,
     ) -> Result<Option<Event>, StepFault>
         requires shape { HasShape frame }
-        ensures judges { (before : Received) (asked : List Asking) → InPhase self.now.limits phase.old before asked → bound.old ≡ client_bound_behind self.now.limits before.ack
-            → LetsIn (client_gate before) frame → Judged (client_reasons self.now.limits before asked (content frame)) (TookFrame self.now.limits before asked (content frame) phase.new bound.new) result }
+        ensures judges { (before : Received) (asked : List Asking) → InPhase self.now.limits phase.old before asked
+            → bound.old ≡ client_bound_behind self.now.limits before.ack
+            → LetsIn (client_gate before) frame → Judged (client_reasons self.now.limits before asked (content frame))
+            (TookFrame self.now.limits before asked (content frame) phase.new bound.new) result }
         ensures failed { OnErr result (bound.new ≡ bound.old) }
     {
         match phase {

@@ -10,7 +10,11 @@ ghost use Rattle.ua_channel.specs.Asks.{Asking};
 ghost use Rattle.ua_channel.specs.Asks.Asking.{Call, Renewal};
 ghost use Rattle.ua_channel.specs.ClientAsks.{Talks, call_lane, renew_reasons, is_too_large, Calls, Renews, AnswersFor};
 ghost use Rattle.ua_channel.specs.inside.ClientAsking.{more_reasons, AnswersCall, JudgesCall, AsBefore};
-ghost use Rattle.ua_channel.specs.inside.ClientParts.{Judged, greeted, first_reasons, IsOpenedWith, IsOpenedBy, renewal_reasons, IsRenewedWith, TellsRenewal, token_reasons, chunk_reasons, refused_reasons, unasked_reasons, known_reasons, any_event, drops_first, left_behind, IsAccepted, IsDeliveredWith, IsTakenWith, TakesFrame, DeliversEvent};
+ghost use Rattle.ua_channel.specs.inside.ClientParts.{Judged, greeted, first_reasons, IsOpenedWith, IsOpenedBy};
+ghost use Rattle.ua_channel.specs.inside.ClientParts.{renewal_reasons, IsRenewedWith, TellsRenewal, token_reasons};
+ghost use Rattle.ua_channel.specs.inside.ClientParts.{chunk_reasons, refused_reasons, unasked_reasons, known_reasons};
+ghost use Rattle.ua_channel.specs.inside.ClientParts.{any_event, drops_first, left_behind, IsAccepted};
+ghost use Rattle.ua_channel.specs.inside.ClientParts.{IsDeliveredWith, IsTakenWith, TakesFrame, DeliversEvent};
 ghost use Rattle.ua_channel.specs.ClientSends.{AreFramesOf};
 ghost use Rattle.ua_channel.specs.ClientTable.{client_reasons, answer_gate, reply_gate};
 ghost use Rattle.ua_channel.specs.ClientTokens.{from_last};
@@ -139,7 +143,8 @@ impl Talking {
         frame: Frame,
     ) -> Result<Talking, StepFault>
         ensures { LetsIn (answer_gate agreed.ack.send_buffer_size) frame
-            → Judged (client_reasons limits.now (greeted agreed) [] (content frame)) (IsOpenedBy limits.now agreed (content frame)) result }
+            → Judged (client_reasons limits.now (greeted agreed) [] (content frame))
+            (IsOpenedBy limits.now agreed (content frame)) result }
     {
         match frame.kind {
             Kind::Opn => match judge_answer(alloc, frame) {
@@ -155,7 +160,8 @@ impl Talking {
 
     /// Takes the answer to a renewal.
     fn on_answer(&mut self, answer: Answer) -> Result<(), StepFault>
-        ensures { (cs : List Chunk) → Stands self.old.assembler cs → Judged (renewal_reasons self.old answer) (λ _. IsRenewedWith self.old answer cs self.new) result }
+        ensures { (cs : List Chunk) → Stands self.old.assembler cs
+            → Judged (renewal_reasons self.old answer) (λ _. IsRenewedWith self.old answer cs self.new) result }
     {
         if answer.channel != self.channel {
             return Err(StepFault::Refused(StatusCode::BAD_TCP_SECURE_CHANNEL_UNKNOWN));
@@ -179,7 +185,8 @@ impl Talking {
 
     /// Takes the response to a renewal, and returns the token as an event.
     fn on_renewed(&mut self, answer: Answer) -> Result<Option<Event>, StepFault>
-        ensures { (cs : List Chunk) → Stands self.old.assembler cs → Judged (renewal_reasons self.old answer) (TellsRenewal self.old answer cs self.new) result }
+        ensures { (cs : List Chunk) → Stands self.old.assembler cs
+            → Judged (renewal_reasons self.old answer) (TellsRenewal self.old answer cs self.new) result }
     {
         match self.on_answer(answer) {
             Ok(()) => Ok(Some(Event::Renewed(answer.token))),
@@ -202,7 +209,8 @@ impl Talking {
 
     /// Takes what the assembler makes of a chunk.
     fn accept(&mut self, chunk: Chunk) -> Result<Option<Delivered>, StepFault>
-        ensures { (cs : List Chunk) → Stands self.old.assembler cs → Judged (refused_reasons self.old cs chunk) (IsAccepted self.old cs chunk self.new) result }
+        ensures { (cs : List Chunk) → Stands self.old.assembler cs
+            → Judged (refused_reasons self.old cs chunk) (IsAccepted self.old cs chunk self.new) result }
     {
         match self.assembler.accept(chunk) {
             Ok(delivered) => Ok(delivered),
@@ -218,7 +226,8 @@ impl Talking {
         ends: bool,
         delivered: Option<Delivered>,
     ) -> Result<Option<Event>, StepFault>
-        ensures { Judged (unasked_reasons self.old request) (IsDeliveredWith self.old request token ends delivered self.new) result }
+        ensures { Judged (unasked_reasons self.old request)
+            (IsDeliveredWith self.old request token ends delivered self.new) result }
     {
         if !self.pending.contains(&request) {
             drop(delivered);
@@ -233,7 +242,8 @@ impl Talking {
 
     /// Takes a chunk of this channel under a token that is held.
     fn on_known(&mut self, chunk: Chunk) -> Result<Option<Event>, StepFault>
-        ensures { (cs : List Chunk) → Stands self.old.assembler cs → Judged (known_reasons self.old cs chunk) (IsTakenWith self.old cs chunk self.new) result }
+        ensures { (cs : List Chunk) → Stands self.old.assembler cs
+            → Judged (known_reasons self.old cs chunk) (IsTakenWith self.old cs chunk self.new) result }
     {
         let (request, token, ends) = (chunk.request, chunk.token, !chunk.flag.is_more());
         match self.accept(chunk) {
@@ -244,7 +254,8 @@ impl Talking {
 
     /// Takes a chunk of a message.
     fn on_chunk(&mut self, chunk: Chunk) -> Result<Option<Event>, StepFault>
-        ensures { (cs : List Chunk) → Stands self.old.assembler cs → Judged (chunk_reasons self.old cs chunk) (IsTakenWith self.old cs chunk self.new) result }
+        ensures { (cs : List Chunk) → Stands self.old.assembler cs
+            → Judged (chunk_reasons self.old cs chunk) (IsTakenWith self.old cs chunk self.new) result }
     {
         match self.judge_chunk(&chunk) {
             Ok(()) => self.on_known(chunk),
@@ -257,7 +268,8 @@ impl Talking {
         requires { HasShape frame }
         ensures { (limits : Limits) (before : Received) (asked : List Asking) → Talks limits self.old before asked
             → LetsIn (reply_gate self.old.agreed.ack.send_buffer_size) frame
-            → Judged (client_reasons limits before asked (content frame)) (TakesFrame limits before asked (content frame) self.new) result }
+            → Judged (client_reasons limits before asked (content frame))
+            (TakesFrame limits before asked (content frame) self.new) result }
     {
         match frame.kind {
             Kind::Msg => self.on_chunk(read_chunk(frame)),
@@ -331,7 +343,8 @@ impl Talking {
     ) -> Result<AskedCall, AskFault>
         requires { 0 < length body.now }
         ensures answers { AnswersCall self.old body.now result }
-        ensures asked { IfOk result (λ asked. Calls self.old numbers.old.next body.now asked.id asked.octets.items numbers.new.next) }
+        ensures asked { IfOk result
+            (λ asked. Calls self.old numbers.old.next body.now asked.id asked.octets.items numbers.new.next) }
         ensures frames { IfOk result (λ asked. AreFramesOf asked.frame_len asked.octets.items) }
         ensures talks { (limits : Limits) (before : Received) (asked : List Asking) → Talks limits self.old before asked
             → IfOk result (λ call. Talks limits self.new before (asked ++ Call call.id ∷ [])) }

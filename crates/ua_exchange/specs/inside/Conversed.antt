@@ -26,15 +26,18 @@ beginning_by limits first moment = record { limits = limits; channel = channel; 
 
 -- what an exchange needs of the clauses of `converse` for the transcript of these operations, of
 -- both ends with these limits, for this address, over services in this state
-pub record ConversesBy (limits : Limits) (address : Option (List ℕ)) (first : State) (moment : DateTime) (turns : List Turn) (t : ConversationLog) : Type 0 where
+pub record ConversesBy (limits : Limits) (address : Option (List ℕ)) (first : State) (moment : DateTime) (turns : List Turn) (t : ConversationLog) : Type
+    0 where
   pub down : t.down.items ≡ server_output (beginning_by limits first moment) t.up.items
   pub closed : OnOk t.outcome (t.stage ≡ Ended Closed)
   pub sent : OnOk t.outcome (t.up.items ≡ conversation_octets limits limits address channel moment (served_turns turns))
   pub heard : OnOk t.outcome (ServerCloses limits channel t.up.items (conversation_told limits limits address (served_turns turns)))
-  pub replied : OnOk t.outcome (map (λ (r : Reply). Some r) t.replies.items ≡ turns_replies (beginning_by limits first moment) limits address first 1 (served_turns turns))
+  pub replied : OnOk t.outcome (map (λ (r : Reply). Some r) t.replies.items ≡ turns_replies (beginning_by limits first moment) limits address first 1
+      (served_turns turns))
   pub state : OnOk t.outcome (t.services ≡ turns_state first moment (served_turns turns))
   pub accepted : OnOk t.outcome (judged.AreAccepted (judged.acknowledged limits limits address) (served_turns turns))
-  pub refused : IfErr t.outcome (λ fault. judged.IsTurnFault fault → judged.FirstRefused (judged.acknowledged limits limits address) (served_turns turns) t.taken fault)
+  pub refused : IfErr t.outcome (λ fault. judged.IsTurnFault fault
+      → judged.FirstRefused (judged.acknowledged limits limits address) (served_turns turns) t.taken fault)
   pub fails : IfErr t.outcome (λ fault. url_length address ≤ 4095 → FailsAt t.stage fault)
 
 -- the same with the limits and the address of the program

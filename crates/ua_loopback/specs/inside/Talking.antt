@@ -74,11 +74,13 @@ pub record CanOpen (b : Beginning) (limits : Limits) (url : Option (List ℕ)) (
 
 -- a client did these operations over a transport to such a server, all at this time, and both are
 -- in step after them
-pub record StaysTalking (b : Beginning) (limits : Limits) (url : Option (List ℕ)) (moment : DateTime) (opened : ClientPlace) (turns : List (Option (List Request))) (x : Connection) (first now : Option Traffic) (replies : List Reply) : Type 0 where
+pub record StaysTalking (b : Beginning) (limits : Limits) (url : Option (List ℕ)) (moment : DateTime) (opened : ClientPlace)
+    (turns : List (Option (List Request))) (x : Connection) (first now : Option Traffic) (replies : List Reply) : Type 0 where
   pub stays : Stays moment (opening_octets limits url moment) opened turns x first now replies
   pub sent_is : stays.sent ≡ turns_octets (acknowledged b.limits limits url) b.channel moment 1 2 2 turns
   pub replied : map (λ (r : Reply). Some r) replies ≡ turns_replies b limits url b.first 1 turns
-  pub talks : TalksAt (record { server = b; limits = limits; url = url; turns = turns; octets = opening_octets limits url moment ++ stays.sent }) stays.site x now
+  pub talks : TalksAt (record { server = b; limits = limits; url = url; turns = turns; octets = opening_octets limits url moment ++ stays.sent }) stays.site x
+      now
 
 -- a client opened its channel over a transport to such a server
 pub record Went (b : Beginning) (limits : Limits) (url : Option (List ℕ)) (moment : DateTime) (x : Connection) (first now : Option Traffic) : Type 0 where
@@ -89,7 +91,8 @@ pub record Went (b : Beginning) (limits : Limits) (url : Option (List ℕ)) (mom
   pub stays : StaysTalking b limits url moment opened [] x first now []
 
 -- it did these operations, and closed after them
-pub record Talked (b : Beginning) (limits : Limits) (url : Option (List ℕ)) (moment : DateTime) (turns : List (Option (List Request))) (first now : Option Traffic) (replies : List Reply) : Type 0 where
+pub record Talked (b : Beginning) (limits : Limits) (url : Option (List ℕ)) (moment : DateTime) (turns : List (Option (List Request)))
+    (first now : Option Traffic) (replies : List Reply) : Type 0 where
   pub channel : ClientChannel
   pub opened : ClientPlace
   pub opens : IsOpened channel opened.octets
@@ -104,23 +107,27 @@ pub record Talked (b : Beginning) (limits : Limits) (url : Option (List ℕ)) (m
   pub replied : map (λ (r : Reply). Some r) replies ≡ turns_replies b limits url b.first 1 turns
   pub state_is : state_told b (opening_told b.limits limits url ++ turns_told 1 2 turns) ≡ turns_state b.first b.moment turns
   pub took : last.octets ≡ server_output b (opening_octets limits url moment ++ (sent ++ closing_at last moment))
-  pub closes : ServerCloses b.limits b.channel (opening_octets limits url moment ++ (sent ++ closing_at last moment)) (conversation_told b.limits limits url turns)
+  pub closes : ServerCloses b.limits b.channel (opening_octets limits url moment ++ (sent ++ closing_at last moment))
+      (conversation_told b.limits limits url turns)
 
 -- it did the operations before the one at this place, which is refused, and both are in step after
 -- that
-pub record StaysBefore (b : Beginning) (limits : Limits) (url : Option (List ℕ)) (moment : DateTime) (opened : ClientPlace) (turns : List (Option (List Request))) (place : ℕ) (x : Connection) (first now : Option Traffic) (replies : List Reply) : Type 0 where
+pub record StaysBefore (b : Beginning) (limits : Limits) (url : Option (List ℕ)) (moment : DateTime) (opened : ClientPlace)
+    (turns : List (Option (List Request))) (place : ℕ) (x : Connection) (first now : Option Traffic) (replies : List Reply) : Type 0 where
   pub done : List (Option (List Request))
   pub done_is : DoneBefore turns place done
   pub stays : StaysTalking b limits url moment opened done x first now replies
 
 -- the same for one operation after others
-pub record StaysBehind (b : Beginning) (limits : Limits) (url : Option (List ℕ)) (moment : DateTime) (opened : ClientPlace) (before : List (Option (List Request))) (turn : Option (List Request)) (x : Connection) (first now : Option Traffic) (replies : List Reply) : Type 0 where
+pub record StaysBehind (b : Beginning) (limits : Limits) (url : Option (List ℕ)) (moment : DateTime) (opened : ClientPlace)
+    (before : List (Option (List Request))) (turn : Option (List Request)) (x : Connection) (first now : Option Traffic) (replies : List Reply) : Type 0 where
   pub done : List (Option (List Request))
   pub done_is : IsDoneOf before turn done
   pub stays : StaysTalking b limits url moment opened done x first now replies
 
 -- the same for a client that opened its channel before
-pub record WentBefore (b : Beginning) (limits : Limits) (url : Option (List ℕ)) (moment : DateTime) (turns : List (Option (List Request))) (place : ℕ) (first now : Option Traffic) (replies : List Reply) : Type 0 where
+pub record WentBefore (b : Beginning) (limits : Limits) (url : Option (List ℕ)) (moment : DateTime) (turns : List (Option (List Request))) (place : ℕ)
+    (first now : Option Traffic) (replies : List Reply) : Type 0 where
   pub opened : ClientPlace
   pub connection : Connection
   pub stays : StaysBefore b limits url moment opened turns place connection first now replies

@@ -16,7 +16,8 @@ fn push_elements<T: Lines>(
     place: Place<'_>,
     items: &[T],
 ) -> Result<(), AllocError>
-    ensures { OnOk result (AreElementsBehind place.entry.style place.entry.margin.now place.entry.path.now 0 (string_bytes out.old) (elements_of (map T.tree items.now)) (string_bytes out.new)) }
+    ensures { OnOk result (AreElementsBehind place.entry.style place.entry.margin.now place.entry.path.now 0
+        (string_bytes out.old) (elements_of (map T.tree items.now)) (string_bytes out.new)) }
 {
     for (index, item) in items.iter().enumerate() {
         place.push_element(alloc, out, index, item)?;
@@ -27,7 +28,9 @@ fn push_elements<T: Lines>(
 /// Appends the line with the count of an array.
 #[tactic(auto, unfolding(crate::specs::Tree::line))]
 fn push_count(out: &mut String, place: Place<'_>, count: usize) -> Result<(), AllocError>
-    ensures { OnOk result (string_bytes out.new ≡ string_bytes out.old ++ line place.entry.margin.now place.entry.path.now (decimal count)) }
+    ensures { OnOk result
+        (string_bytes out.new ≡ string_bytes out.old ++ line place.entry.margin.now place.entry.path.now
+        (decimal count)) }
 {
     push_start(out, place)?;
     writeln!(out, "{count}")
@@ -40,7 +43,8 @@ fn push_items<T: Lines>(
     place: Place<'_>,
     items: &[T],
 ) -> Result<(), AllocError>
-    ensures { OnOk result (IsBehind place.entry.style place.entry.margin.now place.entry.path.now (string_bytes out.old) (array (elements (elements_of (map T.tree items.now)))) (string_bytes out.new)) }
+    ensures { OnOk result (IsBehind place.entry.style place.entry.margin.now place.entry.path.now (string_bytes out.old)
+        (array (elements (elements_of (map T.tree items.now)))) (string_bytes out.new)) }
 {
     push_count(out, place, items.len())?;
     let margin = deeper_margin(alloc, place.margin)?;

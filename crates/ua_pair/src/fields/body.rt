@@ -143,7 +143,8 @@ fn push_found<T: Lines + Drop>(
     style: FieldStyle,
     out: &mut String,
 ) -> Result<(), AllocError>
-    ensures { Adds result (string_bytes out.old) (string_bytes out.new) (IsFound (λ m. AreMessageLines style (T.tree m)) found) }
+    ensures { Adds result (string_bytes out.old) (string_bytes out.new)
+        (IsFound (λ m. AreMessageLines style (T.tree m)) found) }
 {
     match found {
         Some(message) => push_message(alloc, &message, style, out),
@@ -183,7 +184,8 @@ pub fn push_body_fields<S: Source>(
     src: &mut S,
     out: &mut String,
 ) -> Result<(), AllocError>
-    ensures fields { OnOk result (string_bytes out.new ≡ string_bytes out.old ++ body_fields names kind (S.octets src.old)) }
+    ensures fields { OnOk result (string_bytes out.new ≡ string_bytes out.old ++ body_fields names kind
+        (S.octets src.old)) }
     ensures told { AreBodyFields names kind (S.octets src.old) (body_fields names kind (S.octets src.old)) }
 {
     push_body_text(alloc, kind, FieldStyle::exact(names), src, out)

@@ -42,7 +42,8 @@ fn push_text_line<T: Text>(
     place: Place<'_>,
     value: &T,
 ) -> Result<(), AllocError>
-    ensures { OnOk result (IsBehind place.entry.style place.entry.margin.now place.entry.path.now (string_bytes out.old) (text (T.leaf value.now)) (string_bytes out.new)) }
+    ensures { OnOk result (IsBehind place.entry.style place.entry.margin.now place.entry.path.now (string_bytes out.old)
+        (text (T.leaf value.now)) (string_bytes out.new)) }
 {
     push_start(out, place)?;
     value.push_text(alloc, out, place.style)?;

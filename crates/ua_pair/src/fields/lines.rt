@@ -25,12 +25,15 @@ pub(crate) trait Lines {
 
     /// Appends the lines of the value.
     fn push_lines(&self, alloc: Global, out: &mut String, place: Place) -> Result<(), AllocError>
-        ensures { OnOk result (IsBehind place.entry.style place.entry.margin.now place.entry.path.now (string_bytes out.old) (tree self.now) (string_bytes out.new)) };
+        ensures { OnOk result (IsBehind place.entry.style place.entry.margin.now place.entry.path.now
+            (string_bytes out.old) (tree self.now) (string_bytes out.new)) };
 }
 
 /// Appends what comes before the text of a line.
 pub(crate) fn push_start(out: &mut String, place: Place<'_>) -> Result<(), AllocError>
-    ensures { OnOk result (string_bytes out.new ≡ string_bytes out.old ++ (place.entry.margin.now ++ (place.entry.path.now ++ codes " "))) }
+    ensures { OnOk result
+        (string_bytes out.new ≡ string_bytes out.old
+        ++ (place.entry.margin.now ++ (place.entry.path.now ++ codes " "))) }
 {
     out.push_str(place.margin)?;
     out.push_str(place.path)?;
@@ -40,7 +43,8 @@ pub(crate) fn push_start(out: &mut String, place: Place<'_>) -> Result<(), Alloc
 /// Appends a line with this text.
 #[tactic(auto, unfolding(crate::specs::Tree::line))]
 pub(crate) fn push_line(out: &mut String, place: Place<'_>, text: &str) -> Result<(), AllocError>
-    ensures { OnOk result (string_bytes out.new ≡ string_bytes out.old ++ line place.entry.margin.now place.entry.path.now text.now) }
+    ensures { OnOk result
+        (string_bytes out.new ≡ string_bytes out.old ++ line place.entry.margin.now place.entry.path.now text.now) }
 {
     push_start(out, place)?;
     out.push_str(text)?;
@@ -89,7 +93,8 @@ impl<'a> Place<'a> {
         name: &str,
         value: &T,
     ) -> Result<(), AllocError>
-        ensures { OnOk result (IsBehind self.entry.style self.entry.margin.now (field_path self.entry.path.now name.now) (string_bytes out.old) (T.tree value.now) (string_bytes out.new)) }
+        ensures { OnOk result (IsBehind self.entry.style self.entry.margin.now (field_path self.entry.path.now name.now)
+            (string_bytes out.old) (T.tree value.now) (string_bytes out.new)) }
     {
         let path = path_of_field(alloc, self.path, name)?;
         let inner = Place {
@@ -108,7 +113,9 @@ impl<'a> Place<'a> {
         name: &str,
         value: &T,
     ) -> Result<(), AllocError>
-        ensures { OnOk result (IsBehind self.entry.style (deeper self.entry.margin.now) (field_path self.entry.path.now name.now) (string_bytes out.old) (T.tree value.now) (string_bytes out.new)) }
+        ensures { OnOk result
+            (IsBehind self.entry.style (deeper self.entry.margin.now) (field_path self.entry.path.now name.now)
+            (string_bytes out.old) (T.tree value.now) (string_bytes out.new)) }
     {
         let margin = deeper_margin(alloc, self.margin)?;
         let inner = Place {
@@ -127,7 +134,8 @@ impl<'a> Place<'a> {
         index: usize,
         value: &T,
     ) -> Result<(), AllocError>
-        ensures { OnOk result (IsBehind self.entry.style self.entry.margin.now (element_path self.entry.path.now index) (string_bytes out.old) (T.tree value.now) (string_bytes out.new)) }
+        ensures { OnOk result (IsBehind self.entry.style self.entry.margin.now (element_path self.entry.path.now index)
+            (string_bytes out.old) (T.tree value.now) (string_bytes out.new)) }
     {
         let path = path_of_element(alloc, self.path, index)?;
         let inner = Place {

@@ -2,7 +2,8 @@
 
 ghost use Rattle.std.specs.Prelude.{◌≡◌, ◌++◌, string_bytes, OnOk};
 ghost use Rattle.ua_texts.specs.PlainLeaf.{Adds};
-ghost use Rattle.ua_pair.specs.Messages.{AreMessageLines, close_request_fields, message_lines, open_answer_fields, open_request_fields, open_response_fields, request_fields, response_fields};
+ghost use Rattle.ua_pair.specs.Messages.{AreMessageLines, close_request_fields, message_lines, open_answer_fields};
+ghost use Rattle.ua_pair.specs.Messages.{open_request_fields, open_response_fields, request_fields, response_fields};
 
 use crate::fields::lines::{Lines, Place};
 use crate::options::FieldStyle;
@@ -109,7 +110,8 @@ pub fn push_open_request_fields(
     names: bool,
     out: &mut String,
 ) -> Result<(), AllocError>
-    ensures fields { OnOk result (string_bytes out.new ≡ string_bytes out.old ++ open_request_fields names request.now) }
+    ensures fields { OnOk result
+        (string_bytes out.new ≡ string_bytes out.old ++ open_request_fields names request.now) }
 {
     push_exact(alloc, request, names, out)
 }
@@ -121,7 +123,8 @@ pub fn push_open_response_fields(
     names: bool,
     out: &mut String,
 ) -> Result<(), AllocError>
-    ensures fields { OnOk result (string_bytes out.new ≡ string_bytes out.old ++ open_response_fields names response.now) }
+    ensures fields { OnOk result
+        (string_bytes out.new ≡ string_bytes out.old ++ open_response_fields names response.now) }
 {
     push_exact(alloc, response, names, out)
 }
@@ -146,7 +149,8 @@ pub fn push_close_request_fields(
     names: bool,
     out: &mut String,
 ) -> Result<(), AllocError>
-    ensures fields { OnOk result (string_bytes out.new ≡ string_bytes out.old ++ close_request_fields names request.now) }
+    ensures fields { OnOk result
+        (string_bytes out.new ≡ string_bytes out.old ++ close_request_fields names request.now) }
 {
     push_exact(alloc, request, names, out)
 }

@@ -2,7 +2,9 @@
 
 ghost use Rattle.std.specs.Prelude.{◌≡◌};
 ghost use Rattle.ua_diagnostic.specs.View.{diagnostic_fields_of, diagnostic_of};
-ghost use Rattle.ua_pair.specs.Leaves.{is_null_localized, is_null_name as is_no_name, is_null_id as is_no_id, is_null_object as is_no_object, is_empty as says_nothing, has_no_id as names_nothing};
+ghost use Rattle.ua_pair.specs.Leaves.{is_null_localized, is_null_name as is_no_name};
+ghost use Rattle.ua_pair.specs.Leaves.{is_null_id as is_no_id, is_null_object as is_no_object};
+ghost use Rattle.ua_pair.specs.Leaves.{is_empty as says_nothing, has_no_id as names_nothing};
 
 use ua_builtin::{
     ExtensionBody, ExtensionObject, Identifier, LocalizedText, NodeId, QualifiedName,

@@ -24,7 +24,8 @@ pub(crate) fn push_encoded_or_null<T: Wire>(
     is_null: bool,
     value: &T,
 ) -> Result<(), AllocError>
-    ensures { OnOk result (string_bytes out.new ≡ string_bytes out.old ++ cond is_null (codes "null") (written_text (T.format.encodable value.now) (T.format.canonical value.now))) }
+    ensures { OnOk result (string_bytes out.new ≡ string_bytes out.old ++ cond is_null (codes "null")
+        (written_text (T.format.encodable value.now) (T.format.canonical value.now))) }
 {
     if is_null {
         return out.push_str("null");

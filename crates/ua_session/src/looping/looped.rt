@@ -7,7 +7,8 @@ ghost use Rattle.ua_exchange.specs.Exchanged.{IsRefusedFor, down_octets};
 ghost use Rattle.ua_exchange.specs.Turns.{up_octets};
 ghost use Rattle.ua_session.specs.Conversed.{Converses};
 ghost use Rattle.ua_session.specs.ScriptFaults.{Stops, place_in};
-ghost use Rattle.ua_session.specs.ScriptPrinted.{AreLoopLines, IsTextOf, told_fault, is_bad_reply, script_has_bad, script_told};
+ghost use Rattle.ua_session.specs.ScriptPrinted.{AreLoopLines, IsTextOf, told_fault};
+ghost use Rattle.ua_session.specs.ScriptPrinted.{is_bad_reply, script_has_bad, script_told};
 ghost use Rattle.ua_session.specs.Script.{script_moment, script_turns as turns_of_script};
 ghost use Rattle.ua_nodes.specs.Sound.{IsSound};
 

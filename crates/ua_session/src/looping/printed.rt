@@ -1,10 +1,12 @@
 //! The output for the replies to a script.
 
-ghost use Rattle.std.specs.Prelude.{◌≡◌, ◌++◌, ◌∷◌, [], ℕ, Bool, List, Option, Some, Ok, Err, drop, length, map, string_bytes, IfOk, IfErr, OnOk};
+ghost use Rattle.std.specs.Prelude.{◌≡◌, ◌++◌, ◌∷◌, [], ℕ, Bool, List, Option, Some, Ok};
+ghost use Rattle.std.specs.Prelude.{Err, drop, length, map, string_bytes, IfOk, IfErr, OnOk};
 ghost use Rattle.std.specs.List.{slice_get};
 ghost use Rattle.ua_client.specs.declared.reply.Reply.TheVariants as reply;
 ghost use Rattle.ua_session.specs.ScriptFaults.{of_line_answer};
-ghost use Rattle.ua_session.specs.ScriptPrinted.{AddsAll, AddsTold, asked_behind, asked_for, end_text, replies_told, reply_told, response_told, said, totals_line};
+ghost use Rattle.ua_session.specs.ScriptPrinted.{AddsAll, AddsTold, asked_behind, asked_for, end_text};
+ghost use Rattle.ua_session.specs.ScriptPrinted.{replies_told, reply_told, response_told, said, totals_line};
 ghost use Rattle.ua_texts.specs.declared.script.Step.{Step};
 
 use crate::looping::fault::LoopFault;
@@ -26,7 +28,8 @@ const FIRST_REPLY: usize = 2;
 /// The response at an index among replies.
 fn response_at(replies: &[Reply], place: usize) -> Result<&Response, LoopFault>
     ensures found { IfOk result (λ response. slice_get replies.now place ≡ Some (reply.Response response.now)) }
-    ensures failed { IfErr result (λ fault. (names : Bool) (step : Option Step) → reply_told names step (slice_get replies.now place) ≡ Err fault) }
+    ensures failed { IfErr result (λ fault. (names : Bool) (step : Option Step)
+        → reply_told names step (slice_get replies.now place) ≡ Err fault) }
 {
     match replies.get(place) {
         Some(Reply::Response(response)) => Ok(response),
@@ -38,7 +41,8 @@ fn response_at(replies: &[Reply], place: usize) -> Result<&Response, LoopFault>
 
 /// Checks that a service of the session succeeded, by the reply at an index.
 fn expect_done(replies: &[Reply], place: usize) -> Result<(), LoopFault>
-    ensures { (people names : Bool) (text : List ℕ) → AddsTold people names (reply_told names None (slice_get replies.now place)) result text text }
+    ensures { (people names : Bool) (text : List ℕ)
+        → AddsTold people names (reply_told names None (slice_get replies.now place)) result text text }
 {
     match response_at(replies, place)? {
         Response::ServiceFault(fault) => {
@@ -57,7 +61,8 @@ fn push_step(
     names: bool,
     plain: bool,
 ) -> Result<(), LoopFault>
-    ensures { AddsTold plain names (reply_told names (Some step.now) (Some (reply.Response response.now))) result (string_bytes out.old) (string_bytes out.new) }
+    ensures { AddsTold plain names (reply_told names (Some step.now) (Some (reply.Response response.now))) result
+        (string_bytes out.old) (string_bytes out.new) }
 {
     let lines = LineStyle::plain(names);
     let style = AnswerStyle { lines, plain };
@@ -83,7 +88,8 @@ fn push_answers(
     names: bool,
     plain: bool,
 ) -> Result<(), LoopFault>
-    ensures { AddsAll plain names (replies_told names (asked_behind lines.now) (drop 2 (map Some replies.now))) result (string_bytes out.old) (string_bytes out.new) }
+    ensures { AddsAll plain names (replies_told names (asked_behind lines.now) (drop 2 (map Some replies.now))) result
+        (string_bytes out.old) (string_bytes out.new) }
 {
     let mut place = FIRST_REPLY;
     for line in lines {
@@ -115,7 +121,9 @@ pub fn push_end(out: &mut String, end: End, names: bool) -> Result<(), AllocErro
 /// Appends the number of bytes in each direction, and how the connection ended.
 #[tactic(auto, unfolding(crate::specs::ScriptPrinted::totals_line))]
 fn push_totals(out: &mut String, transcript: &Transcript, names: bool) -> Result<(), AllocError>
-    ensures { OnOk result (string_bytes out.new ≡ string_bytes out.old ++ totals_line names (length transcript.now.up.items) (length transcript.now.down.items) transcript.now.end) }
+    ensures { OnOk result
+        (string_bytes out.new ≡ string_bytes out.old ++ totals_line names (length transcript.now.up.items)
+        (length transcript.now.down.items) transcript.now.end) }
 {
     let up = transcript.up.len();
     let down = transcript.down.len();
@@ -135,7 +143,10 @@ pub fn push_transcript(
     names: bool,
     plain: bool,
 ) -> Result<(), LoopFault>
-    ensures { AddsAll plain names (replies_told names (asked_for lines.now) (map Some transcript.now.replies.items) ++ Ok (said (totals_line names (length transcript.now.up.items) (length transcript.now.down.items) transcript.now.end)) ∷ []) result (string_bytes out.old) (string_bytes out.new) }
+    ensures { AddsAll plain names (replies_told names (asked_for lines.now) (map Some transcript.now.replies.items)
+        ++ Ok (said
+        (totals_line names (length transcript.now.up.items) (length transcript.now.down.items) transcript.now.end))
+        ∷ []) result (string_bytes out.old) (string_bytes out.new) }
 {
     expect_done(&transcript.replies, 0)?;
     expect_done(&transcript.replies, 1)?;

@@ -4,7 +4,8 @@ ghost use Rattle.std.specs.Prelude.{◌≡◌, ◌+◌, ◌∷◌, [], min, IfOk
 ghost use Rattle.ua_channel.specs.ClientAsks.{no_id};
 ghost use Rattle.ua_exchange.specs.declared.turn.Turn.TheVariants.{Ask};
 ghost use Rattle.ua_session.specs.ScriptFaults.{Unread};
-ghost use Rattle.ua_session.specs.Script.{opening, read_of_node, script_turns as turns_of_script, step_turn as turn_of_step, token as own_token, write_to_node};
+ghost use Rattle.ua_session.specs.Script.{opening, read_of_node, script_turns as turns_of_script};
+ghost use Rattle.ua_session.specs.Script.{step_turn as turn_of_step, token as own_token, write_to_node};
 ghost use Rattle.ua_texts.specs.Script.{AsksFor};
 
 use crate::looping::fault::LoopFault;

@@ -6,7 +6,8 @@ use Rattle.example_callers.proofs.talk.write_and_read.Goals as goal
 
 pub returns-clause-talks : goal.returns-clause-talks
 returns-clause-talks g c =
-    let begun : OpensClient c.args.limits c.args.url c.args.moment (g.L.Line.traffic c.args.line.now) (g.L.Line.traffic c.open.new.line) (Ok c.in_ok-client.client) =
+    let begun : OpensClient c.args.limits c.args.url c.args.moment (g.L.Line.traffic c.args.line.now) (g.L.Line.traffic c.open.new.line)
+    (Ok c.in_ok-client.client) =
     elim c.in_ok-client.ensures.opens [
       | inl h ↦ absurd cc
       | inr o ↦ o

@@ -10,13 +10,20 @@ use Rattle.test_determinism.specs.Pinned.{HadMemory, SameBy}
 use Rattle.test_determinism.proofs.AsksAlike.{SamePhase, alike_phases, same_closing, same_closing_refusal, closings_alike, closed_alike}
 use Rattle.test_determinism.proofs.clients.client_close_twice.Goals as goal
 
-phases : (c : goal.After-close-second) (asks : List Placed) (octets : List ℕ) (told : List ClientTold) → ClientsAlike c.args.one.now c.args.two.now asks octets told → SamePhase (phase_of c.args.one.now) (phase_of c.args.two.now)
-phases c asks octets told s = alike_phases (λ frames. responses (received frames).openings ≡ []) _ _ asks octets told s (λ z frames rest stands. c.client_is_open.ensures.stands z asks octets frames rest stands)
+phases : (c : goal.After-close-second) (asks : List Placed) (octets : List ℕ) (told : List ClientTold)
+    → ClientsAlike c.args.one.now c.args.two.now asks octets told → SamePhase (phase_of c.args.one.now) (phase_of c.args.two.now)
+phases c asks octets told s = alike_phases (λ frames. responses (received frames).openings ≡ []) _ _ asks octets told s
+    (λ z frames rest stands. c.client_is_open.ensures.stands z asks octets frames rest stands)
 
-closed : (c : goal.After-close-second) (asks : List Placed) (octets : List ℕ) (told : List ClientTold) → ClientsAlike c.args.one.now c.args.two.now asks octets told → HadMemory OutOfMemory c.close-first.result c.close-second.result → SameBy (λ out. out.items) c.close-first.result c.close-second.result
+closed : (c : goal.After-close-second) (asks : List Placed) (octets : List ℕ) (told : List ClientTold)
+    → ClientsAlike c.args.one.now c.args.two.now asks octets told → HadMemory OutOfMemory c.close-first.result c.close-second.result
+    → SameBy (λ out. out.items) c.close-first.result c.close-second.result
 closed c asks octets told s had =
-    closings_alike (λ out. out.items) (λ out. SendsClosing c.args.one.now (client_next c.args.one.now) c.args.moment out) (λ out. SendsClosing c.args.two.now (client_next c.args.two.now) c.args.moment out) (closing_refused c.args.one.now) (closing_refused c.args.two.now)
-    (λ out also p q. same_closing _ _ _ _ c.args.moment out also (phases c asks octets told s) s.next p q) (same_closing_refusal _ _ (phases c asks octets told s)) c.close-first.result c.close-second.result c.close-first.ensures.answers c.close-second.ensures.answers c.close-first.ensures.sent c.close-second.ensures.sent had
+    closings_alike (λ out. out.items) (λ out. SendsClosing c.args.one.now (client_next c.args.one.now) c.args.moment out)
+    (λ out. SendsClosing c.args.two.now (client_next c.args.two.now) c.args.moment out) (closing_refused c.args.one.now) (closing_refused c.args.two.now)
+    (λ out also p q. same_closing _ _ _ _ c.args.moment out also (phases c asks octets told s) s.next p q)
+    (same_closing_refusal _ _ (phases c asks octets told s)) c.close-first.result c.close-second.result c.close-first.ensures.answers
+    c.close-second.ensures.answers c.close-first.ensures.sent c.close-second.ensures.sent had
 
 pub returns-clause-answers : goal.returns-clause-answers
 returns-clause-answers c = λ asks octets told s had. closed c asks octets told s had

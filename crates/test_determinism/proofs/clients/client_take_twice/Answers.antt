@@ -7,11 +7,25 @@ use Rattle.test_determinism.specs.Pinned.{HadMemory}
 use Rattle.test_determinism.proofs.ClientsAlike.{Both, alike}
 use Rattle.test_determinism.proofs.clients.client_take_twice.Goals as goal
 
-both : (c : goal.After-take-second) (asks : List Placed) (octets : List ℕ) (told : List ClientTold) → ClientsAlike c.args.one.now c.args.two.now asks octets told → HadMemory OutOfMemory c.take-first.result c.take-second.result → Both c.take-first.result c.take-second.result c.take-first.new.self c.take-second.new.self asks octets c.args.piece.now told
+both : (c : goal.After-take-second) (asks : List Placed) (octets : List ℕ) (told : List ClientTold)
+    → ClientsAlike c.args.one.now c.args.two.now asks octets told → HadMemory OutOfMemory c.take-first.result c.take-second.result
+    → Both c.take-first.result c.take-second.result c.take-first.new.self c.take-second.new.self asks octets c.args.piece.now told
 both c asks octets told s had =
     alike _ _ _ _ c.args.moment c.args.piece.now octets asks told _ _ s
-    (record { answers = c.take-first.ensures.answers asks octets told s.first; parts = c.take-first.ensures.parts asks octets told s.first; progress = c.take-first.ensures.progress; same = c.take-first.ensures.same; next = c.take-first.ensures.next })
-    (record { answers = c.take-second.ensures.answers asks octets told s.second; parts = c.take-second.ensures.parts asks octets told s.second; progress = c.take-second.ensures.progress; same = c.take-second.ensures.same; next = c.take-second.ensures.next })
+    (record {
+      answers = c.take-first.ensures.answers asks octets told s.first;
+      parts = c.take-first.ensures.parts asks octets told s.first;
+      progress = c.take-first.ensures.progress;
+      same = c.take-first.ensures.same;
+      next = c.take-first.ensures.next;
+    })
+    (record {
+      answers = c.take-second.ensures.answers asks octets told s.second;
+      parts = c.take-second.ensures.parts asks octets told s.second;
+      progress = c.take-second.ensures.progress;
+      same = c.take-second.ensures.same;
+      next = c.take-second.ensures.next;
+    })
     had
 
 pub returns-clause-answers : goal.returns-clause-answers

@@ -5,6 +5,7 @@ use Rattle.test_determinism.proofs.dissecting.dissect_twice.Goals as goal
 
 pub returns : goal.returns
 returns c = record {
-  text = both_ok c.dissect-first.result c.dissect-second.result (dissected_once (plain c.args.side) c.args.octets.now _ _ _ _ c.one_reading.ensures refl c.requires.same)
+  text = both_ok c.dissect-first.result c.dissect-second.result
+      (dissected_once (plain c.args.side) c.args.octets.now _ _ _ _ c.one_reading.ensures refl c.requires.same)
       c.dissect-first.ensures.lines c.dissect-second.ensures.lines;
 }

@@ -13,4 +13,5 @@ returns-clause-left c = λ options octets told none s.
     (c.take-first.ensures.told options octets told s.first) (c.take-second.ensures.told options octets told s.second)
 
 pub returns-clause-closed : goal.returns-clause-closed
-returns-clause-closed c = both_err c.take-first.result c.take-second.result (λ p q. record { first = p; second = q }) c.take-first.ensures.failed c.take-second.ensures.failed
+returns-clause-closed c = both_err c.take-first.result c.take-second.result (λ p q. record { first = p; second = q }) c.take-first.ensures.failed
+    c.take-second.ensures.failed

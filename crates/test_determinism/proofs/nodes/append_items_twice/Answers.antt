@@ -6,6 +6,8 @@ use Rattle.test_determinism.proofs.nodes.append_items_twice.Goals as goal
 
 pub returns : goal.returns
 returns c = record {
-  octets = both_within c.args.most (answer_octets c.args.one.now c.args.stamps c.args.moment) (answer_octets c.args.two.now c.args.stamps c.args.moment) c.args.items.now _ _ _ _
-      (ap (λ (nodes : Nodes). answer_octets nodes c.args.stamps c.args.moment) c.requires.same) c.requires.octets c.append_items-first.result c.append_items-second.result c.append_items-first.ensures.ok c.append_items-second.ensures.ok;
+  octets = both_within c.args.most (answer_octets c.args.one.now c.args.stamps c.args.moment) (answer_octets c.args.two.now c.args.stamps c.args.moment)
+      c.args.items.now _ _ _ _
+      (ap (λ (nodes : Nodes). answer_octets nodes c.args.stamps c.args.moment) c.requires.same) c.requires.octets c.append_items-first.result
+      c.append_items-second.result c.append_items-first.ensures.ok c.append_items-second.ensures.ok;
 }

@@ -6,12 +6,24 @@ use Rattle.ua_channel.specs.declared.server_fault.ChannelFault.TheVariants.{OutO
 use Rattle.test_determinism.proofs.ServersAlike.{Both, alike}
 use Rattle.test_determinism.proofs.servers.server_advance_twice.Goals as goal
 
-both : (c : goal.After-advance-second) (octets : List ℕ) (told : List Told) → ServersAlike c.args.one.now c.args.two.now octets told → HadMemory OutOfMemory c.advance-first.result.1 c.advance-second.result.1
-    → Both c.advance-first.result.0 c.advance-second.result.0 c.advance-first.result.1 c.advance-second.result.1 c.advance-first.new.self c.advance-second.new.self octets c.args.piece.now told
+both : (c : goal.After-advance-second) (octets : List ℕ) (told : List Told) → ServersAlike c.args.one.now c.args.two.now octets told
+    → HadMemory OutOfMemory c.advance-first.result.1 c.advance-second.result.1
+    → Both c.advance-first.result.0 c.advance-second.result.0 c.advance-first.result.1 c.advance-second.result.1 c.advance-first.new.self
+    c.advance-second.new.self octets c.args.piece.now told
 both c octets told s had =
     alike _ _ _ _ c.args.moment c.args.piece.now octets told _ _ _ _ s
-    (record { answers = c.advance-first.ensures.answers octets told s.first; parts = c.advance-first.ensures.parts octets told s.first; limits = c.advance-first.ensures.limits; channel = c.advance-first.ensures.channel })
-    (record { answers = c.advance-second.ensures.answers octets told s.second; parts = c.advance-second.ensures.parts octets told s.second; limits = c.advance-second.ensures.limits; channel = c.advance-second.ensures.channel })
+    (record {
+      answers = c.advance-first.ensures.answers octets told s.first;
+      parts = c.advance-first.ensures.parts octets told s.first;
+      limits = c.advance-first.ensures.limits;
+      channel = c.advance-first.ensures.channel;
+    })
+    (record {
+      answers = c.advance-second.ensures.answers octets told s.second;
+      parts = c.advance-second.ensures.parts octets told s.second;
+      limits = c.advance-second.ensures.limits;
+      channel = c.advance-second.ensures.channel;
+    })
     had
 
 pub returns-clause-taken : goal.returns-clause-taken

@@ -6,11 +6,23 @@ use Rattle.ua_channel.specs.declared.server_fault.ChannelFault.TheVariants.{OutO
 use Rattle.test_determinism.proofs.ServersAlike.{BothTaken, taken_alike}
 use Rattle.test_determinism.proofs.servers.server_take_twice.Goals as goal
 
-both : (c : goal.After-take-second) (octets : List ℕ) (told : List Told) → ServersAlike c.args.one.now c.args.two.now octets told → HadMemory OutOfMemory c.take-first.result c.take-second.result → BothTaken c.take-first.result c.take-second.result c.take-first.new.self c.take-second.new.self octets c.args.piece.now told
+both : (c : goal.After-take-second) (octets : List ℕ) (told : List Told) → ServersAlike c.args.one.now c.args.two.now octets told
+    → HadMemory OutOfMemory c.take-first.result c.take-second.result
+    → BothTaken c.take-first.result c.take-second.result c.take-first.new.self c.take-second.new.self octets c.args.piece.now told
 both c octets told s had =
     taken_alike _ _ _ _ c.args.moment c.args.piece.now octets told _ _ s
-    (record { answers = c.take-first.ensures.answers octets told s.first; parts = c.take-first.ensures.parts octets told s.first; limits = c.take-first.ensures.limits; channel = c.take-first.ensures.channel })
-    (record { answers = c.take-second.ensures.answers octets told s.second; parts = c.take-second.ensures.parts octets told s.second; limits = c.take-second.ensures.limits; channel = c.take-second.ensures.channel })
+    (record {
+      answers = c.take-first.ensures.answers octets told s.first;
+      parts = c.take-first.ensures.parts octets told s.first;
+      limits = c.take-first.ensures.limits;
+      channel = c.take-first.ensures.channel;
+    })
+    (record {
+      answers = c.take-second.ensures.answers octets told s.second;
+      parts = c.take-second.ensures.parts octets told s.second;
+      limits = c.take-second.ensures.limits;
+      channel = c.take-second.ensures.channel;
+    })
     had
 
 pub returns-clause-answers : goal.returns-clause-answers

@@ -7,12 +7,16 @@ use Rattle.test_determinism.proofs.ServedAlike.{ServedOnce, served_alike}
 use Rattle.test_determinism.proofs.serving.serve_twice.Goals as goal
 use Rattle.test_determinism.proofs.serving.serve_twice.Given.{Over as Given}
 
-once : (g : Given) (c : goal.After-serve-second g) (coming : List ℕ) → LinesAlike (g.L.Line.traffic c.args.line.now) (g.K.Line.traffic c.args.other.now) coming → HadMemory OutOfMemory c.serve-first.result c.serve-second.result
-    → ServesAlike c.serve-first.result c.serve-second.result (g.L.Line.traffic c.args.line.now) (g.L.Line.traffic c.serve-first.new.line) (g.K.Line.traffic c.args.other.now) (g.K.Line.traffic c.serve-second.new.line)
-    → ServedOnce c.serve-first.result c.serve-second.result (g.L.Line.traffic c.args.line.now) (g.L.Line.traffic c.serve-first.new.line) (g.K.Line.traffic c.args.other.now) (g.K.Line.traffic c.serve-second.new.line) c.serve-first.new.services c.serve-second.new.services
+once : (g : Given) (c : goal.After-serve-second g) (coming : List ℕ) → LinesAlike (g.L.Line.traffic c.args.line.now) (g.K.Line.traffic c.args.other.now) coming
+    → HadMemory OutOfMemory c.serve-first.result c.serve-second.result
+    → ServesAlike c.serve-first.result c.serve-second.result (g.L.Line.traffic c.args.line.now) (g.L.Line.traffic c.serve-first.new.line)
+    (g.K.Line.traffic c.args.other.now) (g.K.Line.traffic c.serve-second.new.line)
+    → ServedOnce c.serve-first.result c.serve-second.result (g.L.Line.traffic c.args.line.now) (g.L.Line.traffic c.serve-first.new.line)
+    (g.K.Line.traffic c.args.other.now) (g.K.Line.traffic c.serve-second.new.line) c.serve-first.new.services c.serve-second.new.services
     × (c.serve-first.new.moments ≡ c.serve-second.new.moments)
 once g c coming lines had faults =
-    served_alike g.M.Moments.gives c.requires.once c.args.limits c.args.channel_id c.args.services.now c.args.others.now c.args.moments.now c.args.again.now _ _ _ _ _ _ _ _ _ _ coming
+    served_alike g.M.Moments.gives c.requires.once c.args.limits c.args.channel_id c.args.services.now c.args.others.now c.args.moments.now c.args.again.now _ _
+    _ _ _ _ _ _ _ _ coming
     c.requires.same c.requires.moments lines had faults c.serve-first.ensures.serves c.serve-second.ensures.serves
 
 pub returns-clause-answers : goal.returns-clause-answers

@@ -7,14 +7,21 @@ use Rattle.test_determinism.proofs.ServedAlike.{ServedOnce, watched_alike}
 use Rattle.test_determinism.proofs.serving.serve_watched_twice.Goals as goal
 use Rattle.test_determinism.proofs.serving.serve_watched_twice.Given.{Over as Given}
 
-once : (g : Given) (c : goal.After-serve_watched-second g) (coming : List ℕ) → LinesAlike (g.L.Line.traffic c.args.line.now) (g.K.Line.traffic c.args.other.now) coming → HadMemory OutOfMemory c.serve_watched-first.result c.serve_watched-second.result
-    → ServesAlike c.serve_watched-first.result c.serve_watched-second.result (g.L.Line.traffic c.args.line.now) (g.L.Line.traffic c.serve_watched-first.new.line) (g.K.Line.traffic c.args.other.now) (g.K.Line.traffic c.serve_watched-second.new.line)
-    → ServedOnce c.serve_watched-first.result c.serve_watched-second.result (g.L.Line.traffic c.args.line.now) (g.L.Line.traffic c.serve_watched-first.new.line) (g.K.Line.traffic c.args.other.now) (g.K.Line.traffic c.serve_watched-second.new.line) c.serve_watched-first.new.services c.serve_watched-second.new.services
+once : (g : Given) (c : goal.After-serve_watched-second g) (coming : List ℕ)
+    → LinesAlike (g.L.Line.traffic c.args.line.now) (g.K.Line.traffic c.args.other.now) coming
+    → HadMemory OutOfMemory c.serve_watched-first.result c.serve_watched-second.result
+    → ServesAlike c.serve_watched-first.result c.serve_watched-second.result (g.L.Line.traffic c.args.line.now)
+    (g.L.Line.traffic c.serve_watched-first.new.line) (g.K.Line.traffic c.args.other.now) (g.K.Line.traffic c.serve_watched-second.new.line)
+    → ServedOnce c.serve_watched-first.result c.serve_watched-second.result (g.L.Line.traffic c.args.line.now) (g.L.Line.traffic c.serve_watched-first.new.line)
+    (g.K.Line.traffic c.args.other.now) (g.K.Line.traffic c.serve_watched-second.new.line) c.serve_watched-first.new.services
+    c.serve_watched-second.new.services
     × (c.serve_watched-first.new.moments ≡ c.serve_watched-second.new.moments)
     × ToldAlike g.W.Watch.notes g.V.Watch.notes c.args.watch.now c.serve_watched-first.new.watch c.args.beside.now c.serve_watched-second.new.watch
 once g c coming lines had faults =
-    watched_alike g.M.Moments.gives c.requires.once c.args.limits c.args.channel_id c.args.services.now c.args.others.now c.args.moments.now c.args.again.now _ _ _ _ _ _ _ _ _ _ coming
-    c.requires.same c.requires.moments lines had faults g.W.Watch.notes g.V.Watch.notes _ _ _ _ c.serve_watched-first.ensures.serves c.serve_watched-second.ensures.serves
+    watched_alike g.M.Moments.gives c.requires.once c.args.limits c.args.channel_id c.args.services.now c.args.others.now c.args.moments.now c.args.again.now _
+    _ _ _ _ _ _ _ _ _ coming
+    c.requires.same c.requires.moments lines had faults g.W.Watch.notes g.V.Watch.notes _ _ _ _ c.serve_watched-first.ensures.serves
+    c.serve_watched-second.ensures.serves
 
 pub returns-clause-answers : goal.returns-clause-answers
 returns-clause-answers g c = λ coming lines had faults. (once g c coming lines had faults).0.answers

@@ -9,12 +9,24 @@ use Rattle.test_determinism.specs.Steps.{StepsAlike}
 use Rattle.test_determinism.proofs.StepsAlike.{Both, alike}
 use Rattle.test_determinism.proofs.steps.step_server_twice.Goals as goal
 
-both : (c : goal.After-step-second) (octets : List ℕ) (told : List Told) (begun : State) (moments : List DateTime) → StepsAlike (channel_in c.args.one.now) (channel_in c.args.two.now) octets told begun moments c.args.services.now c.args.others.now → HadMemory OutOfMemory c.step-first.result c.step-second.result
-    → Both c.step-first.result c.step-second.result (channel_in c.step-first.new.self) (channel_in c.step-second.new.self) octets c.args.piece.now told begun moments c.step-first.new.services c.step-second.new.services
+both : (c : goal.After-step-second) (octets : List ℕ) (told : List Told) (begun : State) (moments : List DateTime)
+    → StepsAlike (channel_in c.args.one.now) (channel_in c.args.two.now) octets told begun moments c.args.services.now c.args.others.now
+    → HadMemory OutOfMemory c.step-first.result c.step-second.result
+    → Both c.step-first.result c.step-second.result (channel_in c.step-first.new.self) (channel_in c.step-second.new.self) octets c.args.piece.now told begun
+    moments c.step-first.new.services c.step-second.new.services
 both c octets told begun moments s had =
-    alike (channel_in c.args.one.now) (channel_in c.args.two.now) _ _ c.args.moment c.args.piece.now octets told begun moments c.args.services.now c.args.others.now _ _ _ _ s
-    (record { answers = c.step-first.ensures.answers octets told begun moments s.first; limits = c.step-first.ensures.limits; channel = c.step-first.ensures.channel })
-    (record { answers = c.step-second.ensures.answers octets told begun moments s.second; limits = c.step-second.ensures.limits; channel = c.step-second.ensures.channel })
+    alike (channel_in c.args.one.now) (channel_in c.args.two.now) _ _ c.args.moment c.args.piece.now octets told begun moments c.args.services.now
+    c.args.others.now _ _ _ _ s
+    (record {
+      answers = c.step-first.ensures.answers octets told begun moments s.first;
+      limits = c.step-first.ensures.limits;
+      channel = c.step-first.ensures.channel;
+    })
+    (record {
+      answers = c.step-second.ensures.answers octets told begun moments s.second;
+      limits = c.step-second.ensures.limits;
+      channel = c.step-second.ensures.channel;
+    })
     had
 
 pub returns-clause-answers : goal.returns-clause-answers

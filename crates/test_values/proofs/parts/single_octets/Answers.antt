@@ -11,4 +11,11 @@ loop-i-preserved c =
     let is : part ≡ take (c.loop-i.i + 1 - c.loop-i.i) (drop c.loop-i.i c.args.body.now) = c.in_ok-slice.ensures.ok in
     let one : length part ≤ 1 = omega (arith, ap length is, length-take (c.loop-i.i + 1 - c.loop-i.i) (drop c.loop-i.i c.args.body.now)) in
     let added : c.push.new.self.items ≡ parts ++ part ∷ [] = c.in_ok-push.ensures.items in
-    omega (arith, one, ap (λ (t : List (List ℕ)). length (concat t)) added, ap length (concat-append parts (part ∷ [])), length-append (concat parts) (concat (part ∷ [])), length-append part [])
+    omega (
+      arith,
+      one,
+      ap (λ (t : List (List ℕ)). length (concat t)) added,
+      ap length (concat-append parts (part ∷ [])),
+      length-append (concat parts) (concat (part ∷ [])),
+      length-append part [],
+    )

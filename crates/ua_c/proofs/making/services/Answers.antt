@@ -5,4 +5,5 @@ use Rattle.ua_c.proofs.making.services.Goals as goal
 
 -- the texts of the endpoint can be written
 pub new-requires-clause-fits : goal.new-requires-clause-fits
-new-requires-clause-fits c = subst (λ e. Fits e) (sym c.in_ok-endpoint.ensures) (record { url = c.requires.writable; application_uri = server_uri_fits; name = name_fits })
+new-requires-clause-fits c = subst (λ e. Fits e) (sym c.in_ok-endpoint.ensures)
+    (record { url = c.requires.writable; application_uri = server_uri_fits; name = name_fits })

@@ -8,7 +8,8 @@ pub returns-in-Ok : goal.returns-in-Ok
 returns-in-Ok c = record {
   made = Ok c.in-Ok.made.items;
   is = c.in-Ok.ensures.readings;
-  puts = subst (λ (rs : List UaReading). PutsReadings rs c.args.readings.now c.put_readings.new.buffer c.put_readings.new.count c.put_readings.result) c.as_slice.ensures.value c.put_readings.ensures;
+  puts = subst (λ (rs : List UaReading). PutsReadings rs c.args.readings.now c.put_readings.new.buffer c.put_readings.new.count c.put_readings.result)
+      c.as_slice.ensures.value c.put_readings.ensures;
 }
 
 -- why there are none

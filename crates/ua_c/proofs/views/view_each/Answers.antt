@@ -12,7 +12,8 @@ loop-init c = record { seen = seen_none _ _ _ _ _ (omega arith) c.new-readings.e
 -- one more was seen
 pub loop-preserved : goal.loop-preserved
 loop-preserved c = record {
-  seen = seen_pushed c.args.body.now c.args.source.now c.loop.source c.view_value.new.source c.args.count c.loop.counter c.loop.readings.items c.push.new.self.items c.in_ok-reading.reading
+  seen = seen_pushed c.args.body.now c.args.source.now c.loop.source c.view_value.new.source c.args.count c.loop.counter c.loop.readings.items
+      c.push.new.self.items c.in_ok-reading.reading
       c.loop-test.true c.loop.invariant.seen c.in_ok-reading.ensures.sees c.in_ok-push.ensures.items;
   behind = c.in_ok-reading.ensures.behind;
 }
@@ -21,9 +22,12 @@ loop-preserved c = record {
 pub returns-in_err-reading-clause-sees : goal.returns-in_err-reading-clause-sees
 returns-in_err-reading-clause-sees c =
     let p = err_from_is_err_and c.from_residual.result c.from_residual.ensures.1 in
-    rw (p.1, p.2) (seen_fault {X = UaReading} {Y = Vec UaReading Global} (λ reading d. IsView c.args.body.now d reading) (λ readings ds. AreViews c.args.body.now ds readings.items) c.args.body.now c.args.source.now c.loop.source
-    c.view_value.new.source c.view_value.new.source c.args.count c.loop.counter c.loop.readings.items c.in_err-reading.field-0.0 c.loop-test.true c.loop.invariant.seen c.in_err-reading.ensures.sees)
+    rw (p.1, p.2) (seen_fault {X = UaReading} {Y = Vec UaReading Global} (λ reading d. IsView c.args.body.now d reading)
+    (λ readings ds. AreViews c.args.body.now ds readings.items) c.args.body.now c.args.source.now c.loop.source
+    c.view_value.new.source c.view_value.new.source c.args.count c.loop.counter c.loop.readings.items c.in_err-reading.field-0.0 c.loop-test.true
+    c.loop.invariant.seen c.in_err-reading.ensures.sees)
 
 -- all were seen
 pub returns-clause-sees : goal.returns-clause-sees
-returns-clause-sees c = seen_all c.args.body.now c.args.source.now c.loop.source c.args.count c.loop.counter c.loop.readings.items c.loop-test.false c.loop.invariant.seen
+returns-clause-sees c = seen_all c.args.body.now c.args.source.now c.loop.source c.args.count c.loop.counter c.loop.readings.items c.loop-test.false
+    c.loop.invariant.seen

@@ -13,5 +13,7 @@ returns-in-Ok c =
     let o = c.args.opening.now in
     c.in-Ok.ensures.ok
     ∙ (ap (λ (r : OpenResponse). c.append_opening.new.out.items ++ (message 449 open_response).canonical r) c.new-response.ensures.value
-    ∙ (c.in_ok-append_opening.ensures ((message 449 open_response).canonical (open_response_of c.args.moment o.handle o.channel o.token o.lifetime)) (open_response_length c.args.moment o.handle o.channel o.token o.lifetime)
-    ∙ ap (λ (t : List ℕ). t ++ frame_octets (opened_frame o.channel c.args.sequence o.request o.handle o.token o.lifetime c.args.moment)) c.new-out.ensures.items))
+    ∙ (c.in_ok-append_opening.ensures ((message 449 open_response).canonical (open_response_of c.args.moment o.handle o.channel o.token o.lifetime))
+    (open_response_length c.args.moment o.handle o.channel o.token o.lifetime)
+    ∙ ap (λ (t : List ℕ). t ++ frame_octets (opened_frame o.channel c.args.sequence o.request o.handle o.token o.lifetime c.args.moment))
+    c.new-out.ensures.items))

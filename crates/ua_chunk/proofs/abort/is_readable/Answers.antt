@@ -12,7 +12,8 @@ pub returns-in_default : goal.returns-in_default
 returns-in_default c = unreadable_code c.args.body.now c.in_default.ensures
 
 pub returns-in_default-split_counted : goal.returns-in_default-split_counted
-returns-in_default-split_counted c = unreadable_reason c.args.body.now c.in-Some.rest.now c.in-Some.field-0-0 c.in-Some.ensures c.in_default-split_counted.ensures
+returns-in_default-split_counted c = unreadable_reason c.args.body.now c.in-Some.rest.now c.in-Some.field-0-0 c.in-Some.ensures
+    c.in_default-split_counted.ensures
 
 pub returns-then-is_empty : goal.returns-then-is_empty
 returns-then-is_empty c =

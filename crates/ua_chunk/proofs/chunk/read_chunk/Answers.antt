@@ -6,13 +6,15 @@ use Rattle.ua_chunk.proofs.chunk.read_chunk.Goals as goal
 
 pub returns-clause-chunk : goal.returns-clause-chunk
 returns-clause-chunk c =
-    chunk_is c.args.frame c.from_octet.result c.front_number-channel.result.1.now c.front_number-token.result.1.now c.front_number-sequence.result.1.now c.front_number-request.result.1.now c.advance.new.self _ _ _ _ c.from_octet.ensures
+    chunk_is c.args.frame c.from_octet.result c.front_number-channel.result.1.now c.front_number-token.result.1.now c.front_number-sequence.result.1.now
+    c.front_number-request.result.1.now c.advance.new.self _ _ _ _ c.from_octet.ensures
     (ap (number_at 4) (sym c.deref.ensures) ∙ c.front_number-channel.ensures.value)
     c.front_number-token.ensures.value
     c.front_number-sequence.ensures.value
     c.front_number-request.ensures.value
     (c.advance.ensures
-    ∙ sixteen c.args.frame.body c.front_number-channel.result.1.now c.front_number-token.result.1.now c.front_number-sequence.result.1.now c.front_number-request.result.1.now
+    ∙ sixteen c.args.frame.body c.front_number-channel.result.1.now c.front_number-token.result.1.now c.front_number-sequence.result.1.now
+    c.front_number-request.result.1.now
     (c.front_number-channel.ensures.rest ∙ ap (drop 4) c.deref.ensures)
     c.front_number-token.ensures.rest
     c.front_number-sequence.ensures.rest

@@ -5,7 +5,8 @@ use Rattle.ua_chunk.proofs.Once.{once}
 use Rattle.ua_chunk.proofs.laws.merged.Goals as goal
 
 pub returns-clause-taken : goal.returns-clause-taken
-returns-clause-taken c = λ octets chunks last ms cs own within merge order few. takes_behind octets chunks ms last [] cs within (merge_by_id ms cs own merge) order few
+returns-clause-taken c = λ octets chunks last ms cs own within merge order few. takes_behind octets chunks ms last [] cs within (merge_by_id ms cs own merge)
+    order few
 
 pub returns-clause-messages : goal.returns-clause-messages
 returns-clause-messages c = λ octets chunks ms cs own within merge few. messages_behind octets chunks ms [] cs within (merge_by_id ms cs own merge) few

@@ -14,6 +14,7 @@ loop-slots-preserved c =
     let empty : Option Reply = None in
     let sum = length-append c.loop-slots.slots.items (empty ∷ []) in
     record {
-      none = subst (λ (slots : List (Option Reply)). slots ≡ none_for (take (length slots) c.args.requests.now)) (sym more) (slot-more c.args.requests.now c.loop-slots.slots.items c.loop-slots.invariant.none few);
+      none = subst (λ (slots : List (Option Reply)). slots ≡ none_for (take (length slots) c.args.requests.now)) (sym more)
+          (slot-more c.args.requests.now c.loop-slots.slots.items c.loop-slots.invariant.none few);
       within = omega (arith, count, sum, few);
     }

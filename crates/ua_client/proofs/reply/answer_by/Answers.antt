@@ -9,10 +9,12 @@ returns-in_default-clause-placed c =
 
 pub returns-in-Ok-clause-placed : goal.returns-in-Ok-clause-placed
 returns-in-Ok-clause-placed c =
-    answered_at c.args.requests.now c.args.first c.args.id (concat c.args.message.now) c.in-Some.place c.index-requests-place.result _ c.kind.result c.in-Ok.response
+    answered_at c.args.requests.now c.args.first c.args.id (concat c.args.message.now) c.in-Some.place c.index-requests-place.result _ c.kind.result
+    c.in-Ok.response
     c.in-Some.ensures c.index-requests-place.is c.kind.ensures c.in-Ok.ensures.reads
 
 pub returns-in-Err-clause-placed : goal.returns-in-Err-clause-placed
 returns-in-Err-clause-placed c =
-    misanswered_by c.args.requests.now c.args.first c.args.id (concat c.args.message.now) c.in-Some.place c.index-requests-place.result _ c.kind.result c.in-Err.fault
+    misanswered_by c.args.requests.now c.args.first c.args.id (concat c.args.message.now) c.in-Some.place c.index-requests-place.result _ c.kind.result
+    c.in-Err.fault
     c.in-Some.ensures c.index-requests-place.is c.kind.ensures c.in-Err.ensures.reads

@@ -10,5 +10,6 @@ returns-in-None-clause-placed c =
 
 pub returns-in-Some-clause-placed : goal.returns-in-Some-clause-placed
 returns-in-Some-clause-placed c =
-    placed_aborted c.args.requests.now c.args.first c.in-Aborted.id c.in-Aborted.code c.args.event.now (Ok (Some (c.in-Some.place, Aborted c.in-Aborted.code))) c.in-Aborted.is
+    placed_aborted c.args.requests.now c.args.first c.in-Aborted.id c.in-Aborted.code c.args.event.now (Ok (Some (c.in-Some.place, Aborted c.in-Aborted.code)))
+    c.in-Aborted.is
     (gave_up_at c.args.requests.now c.args.first c.in-Aborted.id c.in-Aborted.code c.in-Some.place c.in-Some.ensures)

@@ -18,8 +18,10 @@ loop-call-preserved g c =
     record {
       written = carried-as [] _ [] _ (g.L.Line.traffic c.args.line.now) (g.L.Line.traffic c.write_frames.new.line) refl
           (asked-octets-push (take c.loop-call.call-index c.args.calls.now) c.call-item.result ∙ ap asked_octets all)
-          (carried-then [] before [] here (g.L.Line.traffic c.args.line.now) (g.L.Line.traffic c.loop-call.line) (g.L.Line.traffic c.write_frames.new.line) c.loop-call.invariant.written
-          (subst (λ (o : List ℕ). IfTrafficKnown (Carries [] o) (g.L.Line.traffic c.loop-call.line) (g.L.Line.traffic c.write_frames.new.line)) c.deref.ensures.value c.in-Ok.ensures.written));
+          (carried-then [] before [] here (g.L.Line.traffic c.args.line.now) (g.L.Line.traffic c.loop-call.line) (g.L.Line.traffic c.write_frames.new.line)
+          c.loop-call.invariant.written
+          (subst (λ (o : List ℕ). IfTrafficKnown (Carries [] o) (g.L.Line.traffic c.loop-call.line) (g.L.Line.traffic c.write_frames.new.line))
+          c.deref.ensures.value c.in-Ok.ensures.written));
       same = c.in-Ok.ensures.failed ∙ c.loop-call.invariant.same;
     }
 
@@ -30,9 +32,11 @@ returns-in-Err-clause-written g c =
     let behind = asked_octets (drop (suc c.loop-call.call-index) c.args.calls.now) in
     subst (λ (o : List ℕ). IfTrafficKnown (WritesFront o) (g.L.Line.traffic c.args.line.now) (g.L.Line.traffic c.write_frames.new.line))
     (sym (asked-octets-at c.args.calls.now c.loop-call.call-index c.call-item.result _ c.loop-call-test.true c.call-item.is))
-    (joined-front before here behind (g.L.Line.traffic c.args.line.now) (g.L.Line.traffic c.loop-call.line) (g.L.Line.traffic c.write_frames.new.line) c.loop-call.invariant.written
+    (joined-front before here behind (g.L.Line.traffic c.args.line.now) (g.L.Line.traffic c.loop-call.line) (g.L.Line.traffic c.write_frames.new.line)
+    c.loop-call.invariant.written
     (subst (λ (o : List ℕ). 0 < length o) c.deref.ensures.value c.in-Err.ensures.some)
-    (subst (λ (o : List ℕ). IfTrafficKnown (WritesFront o) (g.L.Line.traffic c.loop-call.line) (g.L.Line.traffic c.write_frames.new.line)) c.deref.ensures.value c.in-Err.ensures.written))
+    (subst (λ (o : List ℕ). IfTrafficKnown (WritesFront o) (g.L.Line.traffic c.loop-call.line) (g.L.Line.traffic c.write_frames.new.line)) c.deref.ensures.value
+    c.in-Err.ensures.written))
 
 pub returns-in-Err-clause-some : goal.returns-in-Err-clause-some
 returns-in-Err-clause-some g c =

@@ -10,4 +10,6 @@ read_diagnostic-returns-then-depth-eq0-clause-exact g t c = diagnostic_none c.ar
 
 pub read_diagnostic-returns-clause-exact : goal.read_diagnostic-returns-clause-exact
 read_diagnostic-returns-clause-exact g t c =
-    gives_same diagnostic_of (diagnostic_at c.args.depth) (diagnostic_step (diagnostic_at (c.args.depth - 1))) (g.S.Source.octets c.args.src.now) (g.S.Source.octets c.read_level.new.src) c.read_level.result (diagnostic_level c.args.depth (g.S.Source.octets c.args.src.now) (omega arith)) c.read_level.ensures.exact
+    gives_same diagnostic_of (diagnostic_at c.args.depth) (diagnostic_step (diagnostic_at (c.args.depth - 1))) (g.S.Source.octets c.args.src.now)
+    (g.S.Source.octets c.read_level.new.src) c.read_level.result (diagnostic_level c.args.depth (g.S.Source.octets c.args.src.now) (omega arith))
+    c.read_level.ensures.exact

@@ -10,4 +10,6 @@ skip_diagnostic-returns-then-depth-eq0-clause-exact g t c = ap rest (diagnostic_
 
 pub skip_diagnostic-returns-clause-exact : goal.skip_diagnostic-returns-clause-exact
 skip_diagnostic-returns-clause-exact g t c =
-    gives_on (skipped (diagnostic_at c.args.depth)) (skipped (diagnostic_step (diagnostic_at (c.args.depth - 1)))) (g.S.Source.octets c.args.src.now) (g.S.Source.octets c.args.src.now) (g.S.Source.octets c.skip_level.new.src) c.skip_level.result (ap rest (diagnostic_level c.args.depth (g.S.Source.octets c.args.src.now) (omega arith))) c.skip_level.ensures.exact
+    gives_on (skipped (diagnostic_at c.args.depth)) (skipped (diagnostic_step (diagnostic_at (c.args.depth - 1)))) (g.S.Source.octets c.args.src.now)
+    (g.S.Source.octets c.args.src.now) (g.S.Source.octets c.skip_level.new.src) c.skip_level.result
+    (ap rest (diagnostic_level c.args.depth (g.S.Source.octets c.args.src.now) (omega arith))) c.skip_level.ensures.exact

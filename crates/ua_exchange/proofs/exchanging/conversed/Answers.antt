@@ -14,7 +14,20 @@ pub returns : goal.returns
 returns c =
     let e = c.converse.ensures in
     let by : ConversesBy c.limits.result c.in_ok-address.address c.new-services.result c.args.moment c.args.turns.now c.converse.result =
-    record { down = e.down; closed = e.closed; sent = e.sent; heard = e.heard; replied = e.replied; state = e.state; accepted = e.accepted; refused = e.refused; fails = e.fails } in
-    subst (λ (l : Limits). ConversesBy l (Some url) (begun_over c.args.table) c.args.moment c.args.turns.now c.converse.result) (limits_are c.limits.result c.limits.ensures)
-    (subst (λ (u : Option (List ℕ)). ConversesBy c.limits.result u (begun_over c.args.table) c.args.moment c.args.turns.now c.converse.result) c.in_ok-address.ensures
-    (subst (λ (s : State). ConversesBy c.limits.result c.in_ok-address.address s c.args.moment c.args.turns.now c.converse.result) (c.new-services.ensures ∙ ap (fresh c.args.table) c.in_ok-about.ensures) by))
+    record {
+      down = e.down;
+      closed = e.closed;
+      sent = e.sent;
+      heard = e.heard;
+      replied = e.replied;
+      state = e.state;
+      accepted = e.accepted;
+      refused = e.refused;
+      fails = e.fails;
+    } in
+    subst (λ (l : Limits). ConversesBy l (Some url) (begun_over c.args.table) c.args.moment c.args.turns.now c.converse.result)
+    (limits_are c.limits.result c.limits.ensures)
+    (subst (λ (u : Option (List ℕ)). ConversesBy c.limits.result u (begun_over c.args.table) c.args.moment c.args.turns.now c.converse.result)
+    c.in_ok-address.ensures
+    (subst (λ (s : State). ConversesBy c.limits.result c.in_ok-address.address s c.args.moment c.args.turns.now c.converse.result) (c.new-services.ensures
+    ∙ ap (fresh c.args.table) c.in_ok-about.ensures) by))

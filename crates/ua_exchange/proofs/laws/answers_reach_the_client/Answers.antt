@@ -8,4 +8,5 @@ use Rattle.ua_exchange.proofs.laws.answers_reach_the_client.Goals as goal
 
 pub returns : goal.returns
 returns c = λ limits first moment groups ours fits ends accepted.
-    subst (λ (l : Limits). TellsClient l (asks_of first moment groups) (all_said first moment (in_order groups)) (all_heard first moment (in_order groups))) (sym (limits_are limits ours)) (tells-client first moment fits groups ends accepted)
+    subst (λ (l : Limits). TellsClient l (asks_of first moment groups) (all_said first moment (in_order groups)) (all_heard first moment (in_order groups)))
+    (sym (limits_are limits ours)) (tells-client first moment fits groups ends accepted)

@@ -8,4 +8,5 @@ use Rattle.ua_exchange.proofs.Words.{limits_are}
 use Rattle.ua_exchange.proofs.laws.turns_reach_the_server.Goals as goal
 
 pub returns : goal.returns
-returns c = λ limits moment turns ours fits accepted. subst (λ (l : Limits). ServerCloses l channel (up_octets moment turns) (all_told turns)) (sym (limits_are limits ours)) (turns-closed moment turns fits accepted)
+returns c = λ limits moment turns ours fits accepted. subst (λ (l : Limits). ServerCloses l channel (up_octets moment turns) (all_told turns))
+    (sym (limits_are limits ours)) (turns-closed moment turns fits accepted)

@@ -8,7 +8,13 @@ use Rattle.ua_judge.proofs.client_judge.judge_client.Goals as goal
 pub loop-at-init : goal.loop-at-init
 loop-at-init c = record {
   within = omega arith;
-  follows = record { limits_are = c.new-server.ensures.limits; channel_is = c.new-server.ensures.channel; frames = []; rest = []; stands = c.new-server.ensures.stands };
+  follows = record {
+    limits_are = c.new-server.ensures.limits;
+    channel_is = c.new-server.ensures.channel;
+    frames = [];
+    rest = [];
+    stands = c.new-server.ensures.stands;
+  };
 }
 
 pub loop-at-preserved : goal.loop-at-preserved
@@ -24,7 +30,8 @@ loop-at-smaller c = omega (arith, c.in_ok-taken.ensures.further c.in_default.is,
 
 pub returns-in-Some : goal.returns-in-Some
 returns-in-Some c =
-    server_decides c.args.limits c.args.channel c.args.octets.now c.in_ok-taken.taken.at c.take_next.new.server c.in_ok-taken.taken.verdict c.in-Some.verdict c.in-Some.is
+    server_decides c.args.limits c.args.channel c.args.octets.now c.in_ok-taken.taken.at c.take_next.new.server c.in_ok-taken.taken.verdict c.in-Some.verdict
+    c.in-Some.is
     (c.in_ok-taken.ensures.takes c.args.limits c.args.channel c.loop-at.invariant.follows)
 
 pub returns : goal.returns

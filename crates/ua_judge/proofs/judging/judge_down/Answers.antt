@@ -19,7 +19,8 @@ returns c =
       limits = c.in_ok-limits.limits;
       limits_are = c.in_ok-limits.ensures;
       octets = c.in_ok-octets.octets.items;
-      renumbered = subst (λ (ns : List Named). IsRenumbered Request ns c.args.down.now c.in_ok-octets.octets.items) (c.as_slice-2.ensures.value ∙ names) c.in_ok-octets.ensures;
+      renumbered = subst (λ (ns : List Named). IsRenumbered Request ns c.args.down.now c.in_ok-octets.octets.items) (c.as_slice-2.ensures.value
+          ∙ names) c.in_ok-octets.ensures;
       is =
           subst (λ (ns : List Named). IsServerVerdict c.in_ok-limits.limits ns c.in_ok-octets.octets.items verdict) later
           (subst (λ (o : List ℕ). IsServerVerdict c.in_ok-limits.limits c.later.result.now o verdict) c.as_slice-4.ensures.value is);

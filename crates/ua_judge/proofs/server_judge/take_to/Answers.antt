@@ -12,7 +12,8 @@ pub loop-at-preserved : goal.loop-at-preserved
 loop-at-preserved c = record {
   within = omega (arith, c.in_ok-taken.ensures.within, c.min-end.ensures);
   follows = λ asks s.
-      follows_on (client_limits c.loop-at.client) asks c.args.octets.now c.in_ok-taken.taken.at c.take_next.new.client c.in_ok-taken.taken.verdict (sym c.has_verdict.ensures ∙ c.if-has_verdict.false)
+      follows_on (client_limits c.loop-at.client) asks c.args.octets.now c.in_ok-taken.taken.at c.take_next.new.client c.in_ok-taken.taken.verdict
+      (sym c.has_verdict.ensures ∙ c.if-has_verdict.false)
       (c.in_ok-taken.ensures.takes asks (c.loop-at.invariant.follows asks s));
   limits = c.in_ok-taken.ensures.limits ∙ c.loop-at.invariant.limits;
 }
@@ -22,8 +23,10 @@ loop-at-smaller c = omega (arith, c.in_ok-taken.ensures.further, c.in_ok-taken.e
 
 pub returns-then-has_verdict-clause-takes : goal.returns-then-has_verdict-clause-takes
 returns-then-has_verdict-clause-takes c = λ asks s.
-    up_to_verdict (client_limits c.args.client.now) asks c.args.octets.now c.args.place c.in_ok-taken.taken.at c.take_next.new.client c.in_ok-taken.taken.verdict (sym c.has_verdict.ensures ∙ c.if-has_verdict.true)
-    (subst (λ (l : Limits). TakesTo l asks c.args.octets.now c.in_ok-taken.taken.at c.take_next.new.client c.in_ok-taken.taken.verdict) c.loop-at.invariant.limits (c.in_ok-taken.ensures.takes asks (c.loop-at.invariant.follows asks s)))
+    up_to_verdict (client_limits c.args.client.now) asks c.args.octets.now c.args.place c.in_ok-taken.taken.at c.take_next.new.client
+    c.in_ok-taken.taken.verdict (sym c.has_verdict.ensures ∙ c.if-has_verdict.true)
+    (subst (λ (l : Limits). TakesTo l asks c.args.octets.now c.in_ok-taken.taken.at c.take_next.new.client c.in_ok-taken.taken.verdict)
+    c.loop-at.invariant.limits (c.in_ok-taken.ensures.takes asks (c.loop-at.invariant.follows asks s)))
 
 pub returns-then-has_verdict-clause-within : goal.returns-then-has_verdict-clause-within
 returns-then-has_verdict-clause-within c = omega (arith, c.in_ok-taken.ensures.within, c.min-end.ensures)

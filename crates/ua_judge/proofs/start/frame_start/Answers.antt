@@ -7,7 +7,8 @@ loop-more-init c = ends_none c.args.octets.now c.args.place
 
 pub loop-more-preserved : goal.loop-more-preserved
 loop-more-preserved c =
-    ends_more c.args.octets.now c.loop-more.rest.now _ c.in-Some.more.now c.args.place c.loop-more.start _ c.loop-more.invariant c.in-Some.ensures.0 c.in-Some.ensures.1 c.later_end-start.ensures
+    ends_more c.args.octets.now c.loop-more.rest.now _ c.in-Some.more.now c.args.place c.loop-more.start _ c.loop-more.invariant c.in-Some.ensures.0
+    c.in-Some.ensures.1 c.later_end-start.ensures
 
 pub returns : goal.returns
 returns c = ends_all c.args.octets.now c.loop-more.rest.now c.args.place c.loop-more.start c.loop-more.invariant c.in_default.ensures

@@ -12,10 +12,12 @@ returns-in-Ok-close-clause-talked g c = λ b able line.
     let w = c.in-Ok.ensures.went b able line in
     let t0 = g.L.Line.traffic c.args.line.now in
     let t1 = g.L.Line.traffic c.begin.new.line in
-    talked_all b c.args.limits c.args.url c.args.moment (map g.T.AsOperation.turn c.args.turns.now) (connection_of c.in-Ok.client) t0 t1 (g.L.Line.traffic c.close.new.line) c.take_turns.new.replies.items w
+    talked_all b c.args.limits c.args.url c.args.moment (map g.T.AsOperation.turn c.args.turns.now) (connection_of c.in-Ok.client) t0 t1
+    (g.L.Line.traffic c.close.new.line) c.take_turns.new.replies.items w
     (connection_of c.take_turns.new.client) (g.L.Line.traffic c.take_turns.new.line) c.in-Ok-close.field-0
     (c.in-Ok-take_turns.ensures.stays b c.args.limits c.args.url w.opened t0
-    (subst (λ (rs : List Reply). StaysTalking b c.args.limits c.args.url c.args.moment w.opened [] (connection_of c.in-Ok.client) t0 t1 rs) (sym c.requires.none) w.stays))
+    (subst (λ (rs : List Reply). StaysTalking b c.args.limits c.args.url c.args.moment w.opened [] (connection_of c.in-Ok.client) t0 t1 rs)
+    (sym c.requires.none) w.stays))
     (c.in-Ok-close.ensures.closes c.in-Ok-take_turns.ensures.ready)
 
 pub returns-in-Err-clause-refused : goal.returns-in-Err-clause-refused
@@ -27,7 +29,8 @@ returns-in-Err-take_turns-clause-refused g c = λ reason b able line.
     let t0 = g.L.Line.traffic c.args.line.now in
     let t1 = g.L.Line.traffic c.begin.new.line in
     c.in-Err-take_turns.ensures.refused reason b c.args.limits c.args.url w.opened t0
-    (subst (λ (rs : List Reply). StaysTalking b c.args.limits c.args.url c.args.moment w.opened [] (connection_of c.in-Ok.client) t0 t1 rs) (sym c.requires.none) w.stays)
+    (subst (λ (rs : List Reply). StaysTalking b c.args.limits c.args.url c.args.moment w.opened [] (connection_of c.in-Ok.client) t0 t1 rs)
+    (sym c.requires.none) w.stays)
 
 pub returns-clause-refused : goal.returns-clause-refused
 returns-clause-refused g c = λ reason b able line.
@@ -36,7 +39,8 @@ returns-clause-refused g c = λ reason b able line.
     let t1 = g.L.Line.traffic c.begin.new.line in
     let s =
     c.in-Ok-take_turns.ensures.stays b c.args.limits c.args.url w.opened t0
-    (subst (λ (rs : List Reply). StaysTalking b c.args.limits c.args.url c.args.moment w.opened [] (connection_of c.in-Ok.client) t0 t1 rs) (sym c.requires.none) w.stays) in
+    (subst (λ (rs : List Reply). StaysTalking b c.args.limits c.args.url c.args.moment w.opened [] (connection_of c.in-Ok.client) t0 t1 rs)
+    (sym c.requires.none) w.stays) in
     let closes = c.in-Err-close.ensures.closes c.in-Ok-take_turns.ensures.ready in
     absurd (closes_by s.stays.site c.args.moment closes.sent c.in-Err-close.fault reason (closes.answers s.stays.site s.stays.at))
 
@@ -50,7 +54,8 @@ returns-in-Err-take_turns-clause-fails g c = λ b able line short.
     let t0 = g.L.Line.traffic c.args.line.now in
     let t1 = g.L.Line.traffic c.begin.new.line in
     c.in-Err-take_turns.ensures.fails b c.args.limits c.args.url w.opened t0
-    (subst (λ (rs : List Reply). StaysTalking b c.args.limits c.args.url c.args.moment w.opened [] (connection_of c.in-Ok.client) t0 t1 rs) (sym c.requires.none) w.stays)
+    (subst (λ (rs : List Reply). StaysTalking b c.args.limits c.args.url c.args.moment w.opened [] (connection_of c.in-Ok.client) t0 t1 rs)
+    (sym c.requires.none) w.stays)
 
 pub returns-clause-fails : goal.returns-clause-fails
 returns-clause-fails g c = λ b able line short.
@@ -59,7 +64,8 @@ returns-clause-fails g c = λ b able line short.
     let t1 = g.L.Line.traffic c.begin.new.line in
     let s =
     c.in-Ok-take_turns.ensures.stays b c.args.limits c.args.url w.opened t0
-    (subst (λ (rs : List Reply). StaysTalking b c.args.limits c.args.url c.args.moment w.opened [] (connection_of c.in-Ok.client) t0 t1 rs) (sym c.requires.none) w.stays) in
+    (subst (λ (rs : List Reply). StaysTalking b c.args.limits c.args.url c.args.moment w.opened [] (connection_of c.in-Ok.client) t0 t1 rs)
+    (sym c.requires.none) w.stays) in
     let closes = c.in-Err-close.ensures.closes c.in-Ok-take_turns.ensures.ready in
     outside_fails (HaveMisanswers b.first b.moment (map g.T.AsOperation.turn c.args.turns.now)) c.in-Err-close.fault
     (close_fails (Unit {0}) s.stays.site c.args.moment closes.sent c.in-Err-close.fault (closes.answers s.stays.site s.stays.at))
@@ -76,7 +82,8 @@ returns-in-Err-take_turns-clause-before g c = λ reason b able line.
       opened = w.opened;
       connection = connection_of c.take_turns.new.client;
       stays = c.in-Err-take_turns.ensures.before reason b c.args.limits c.args.url w.opened t0
-          (subst (λ (rs : List Reply). StaysTalking b c.args.limits c.args.url c.args.moment w.opened [] (connection_of c.in-Ok.client) t0 t1 rs) (sym c.requires.none) w.stays);
+          (subst (λ (rs : List Reply). StaysTalking b c.args.limits c.args.url c.args.moment w.opened [] (connection_of c.in-Ok.client) t0 t1 rs)
+          (sym c.requires.none) w.stays);
     }
 
 pub returns-clause-before : goal.returns-clause-before
@@ -86,7 +93,8 @@ returns-clause-before g c = λ reason b able line.
     let t1 = g.L.Line.traffic c.begin.new.line in
     let s =
     c.in-Ok-take_turns.ensures.stays b c.args.limits c.args.url w.opened t0
-    (subst (λ (rs : List Reply). StaysTalking b c.args.limits c.args.url c.args.moment w.opened [] (connection_of c.in-Ok.client) t0 t1 rs) (sym c.requires.none) w.stays) in
+    (subst (λ (rs : List Reply). StaysTalking b c.args.limits c.args.url c.args.moment w.opened [] (connection_of c.in-Ok.client) t0 t1 rs)
+    (sym c.requires.none) w.stays) in
     let closes = c.in-Err-close.ensures.closes c.in-Ok-take_turns.ensures.ready in
     absurd (closes_by s.stays.site c.args.moment closes.sent c.in-Err-close.fault reason (closes.answers s.stays.site s.stays.at))
 
@@ -99,7 +107,8 @@ returns-in-Err-take_turns-clause-stops g c = λ b able line short.
     let t0 = g.L.Line.traffic c.args.line.now in
     let t1 = g.L.Line.traffic c.begin.new.line in
     c.in-Err-take_turns.ensures.stops b c.args.limits c.args.url w.opened t0
-    (subst (λ (rs : List Reply). StaysTalking b c.args.limits c.args.url c.args.moment w.opened [] (connection_of c.in-Ok.client) t0 t1 rs) (sym c.requires.none) w.stays)
+    (subst (λ (rs : List Reply). StaysTalking b c.args.limits c.args.url c.args.moment w.opened [] (connection_of c.in-Ok.client) t0 t1 rs)
+    (sym c.requires.none) w.stays)
 
 pub returns-clause-stops : goal.returns-clause-stops
 returns-clause-stops g c = λ b able line short.
@@ -108,6 +117,8 @@ returns-clause-stops g c = λ b able line short.
     let t1 = g.L.Line.traffic c.begin.new.line in
     let s =
     c.in-Ok-take_turns.ensures.stays b c.args.limits c.args.url w.opened t0
-    (subst (λ (rs : List Reply). StaysTalking b c.args.limits c.args.url c.args.moment w.opened [] (connection_of c.in-Ok.client) t0 t1 rs) (sym c.requires.none) w.stays) in
-    asked_stops b c.args.limits c.args.url c.args.moment w.opened (map g.T.AsOperation.turn c.args.turns.now) c.take_turns.new.client t0 (g.L.Line.traffic c.take_turns.new.line) (g.L.Line.traffic c.close.new.line) c.take_turns.new.replies.items s
+    (subst (λ (rs : List Reply). StaysTalking b c.args.limits c.args.url c.args.moment w.opened [] (connection_of c.in-Ok.client) t0 t1 rs)
+    (sym c.requires.none) w.stays) in
+    asked_stops b c.args.limits c.args.url c.args.moment w.opened (map g.T.AsOperation.turn c.args.turns.now) c.take_turns.new.client t0
+    (g.L.Line.traffic c.take_turns.new.line) (g.L.Line.traffic c.close.new.line) c.take_turns.new.replies.items s
     c.in-Ok-take_turns.ensures.ready c.in-Err-close.fault c.in-Err-close.ensures.stops

@@ -8,21 +8,25 @@ returns-in-Ok-clause-stays g c = λ t k.
     let before = g.L.Line.traffic c.args.line.now in
     let after = g.L.Line.traffic c.call_into.new.line in
     let calls = c.in-Ok.ensures.calls k.ready in
-    asks_on t c.args.client.now before k c.call_into.new.self after c.clients_are_settled.ensures.none_pending c.args.moment c.args.requests.now calls.sent calls.moves calls.same
+    asks_on t c.args.client.now before k c.call_into.new.self after c.clients_are_settled.ensures.none_pending c.args.moment c.args.requests.now calls.sent
+    calls.moves calls.same
     calls.added (calls.answers k.site (stands_there t c.args.client.now before k)) (c.in-Ok.ensures.left k.ready)
 
 pub returns-in-Ok-clause-reaches : goal.returns-in-Ok-clause-reaches
-returns-in-Ok-clause-reaches g c = λ t k. reads_turn t c.args.moment (Some c.args.requests.now) c.call_into.new.self (g.L.Line.traffic c.call_into.new.line) (returns-in-Ok-clause-stays g c t k)
+returns-in-Ok-clause-reaches g c = λ t k. reads_turn t c.args.moment (Some c.args.requests.now) c.call_into.new.self (g.L.Line.traffic c.call_into.new.line)
+    (returns-in-Ok-clause-stays g c t k)
 
 pub returns-in-Ok-clause-state : goal.returns-in-Ok-clause-state
-returns-in-Ok-clause-state g c = λ t k. leaves_turn t c.args.moment (Some c.args.requests.now) c.call_into.new.self (g.L.Line.traffic c.call_into.new.line) (returns-in-Ok-clause-stays g c t k)
+returns-in-Ok-clause-state g c = λ t k. leaves_turn t c.args.moment (Some c.args.requests.now) c.call_into.new.self (g.L.Line.traffic c.call_into.new.line)
+    (returns-in-Ok-clause-stays g c t k)
 
 pub returns-in-Ok-clause-replied : goal.returns-in-Ok-clause-replied
 returns-in-Ok-clause-replied g c = λ t k.
     let before = g.L.Line.traffic c.args.line.now in
     let after = g.L.Line.traffic c.call_into.new.line in
     let calls = c.in-Ok.ensures.calls k.ready in
-    asks_added t c.args.client.now before k c.call_into.new.self after c.clients_are_settled.ensures.none_pending c.args.moment c.args.requests.now calls.sent calls.moves calls.same
+    asks_added t c.args.client.now before k c.call_into.new.self after c.clients_are_settled.ensures.none_pending c.args.moment c.args.requests.now calls.sent
+    calls.moves calls.same
     calls.added (calls.answers k.site (stands_there t c.args.client.now before k)) c.args.replies.now.items c.call_into.new.replies.items calls.have_is
 
 pub returns-in-Err-clause-refused : goal.returns-in-Err-clause-refused
@@ -30,7 +34,8 @@ returns-in-Err-clause-refused g c = λ reason t k.
     let before = g.L.Line.traffic c.args.line.now in
     let after = g.L.Line.traffic c.call_into.new.line in
     let calls = c.in-Err.ensures.calls k.ready in
-    asks_refused t c.args.client.now before k c.call_into.new.self after c.clients_are_settled.ensures.none_pending c.args.moment c.args.requests.now calls.sent calls.moves calls.same
+    asks_refused t c.args.client.now before k c.call_into.new.self after c.clients_are_settled.ensures.none_pending c.args.moment c.args.requests.now calls.sent
+    calls.moves calls.same
     c.in-Err.calls.fault reason (calls.answers k.site (stands_there t c.args.client.now before k)).broken
 
 pub returns-in-Err-clause-before : goal.returns-in-Err-clause-before
@@ -38,7 +43,8 @@ returns-in-Err-clause-before g c = λ reason t k.
     let before = g.L.Line.traffic c.args.line.now in
     let after = g.L.Line.traffic c.call_into.new.line in
     let calls = c.in-Err.ensures.calls k.ready in
-    asks_first t c.args.client.now before k c.call_into.new.self after c.clients_are_settled.ensures.none_pending c.args.moment c.args.requests.now calls.sent calls.moves calls.same
+    asks_first t c.args.client.now before k c.call_into.new.self after c.clients_are_settled.ensures.none_pending c.args.moment c.args.requests.now calls.sent
+    calls.moves calls.same
     c.in-Err.calls.fault reason (calls.answers k.site (stands_there t c.args.client.now before k)).broken (c.in-Err.ensures.left k.ready)
 
 pub returns-in-Ok-clause-sends : goal.returns-in-Ok-clause-sends
@@ -46,18 +52,22 @@ returns-in-Ok-clause-sends g c = λ t k.
     let before = g.L.Line.traffic c.args.line.now in
     let after = g.L.Line.traffic c.call_into.new.line in
     let calls = c.in-Ok.ensures.calls k.ready in
-    asks_sent t c.args.client.now before k c.call_into.new.self after c.clients_are_settled.ensures.none_pending c.args.moment c.args.requests.now calls.sent calls.moves calls.same
+    asks_sent t c.args.client.now before k c.call_into.new.self after c.clients_are_settled.ensures.none_pending c.args.moment c.args.requests.now calls.sent
+    calls.moves calls.same
     calls.added (calls.answers k.site (stands_there t c.args.client.now before k))
 
 pub returns-in-Err-clause-fails : goal.returns-in-Err-clause-fails
 returns-in-Err-clause-fails g c = λ t k.
-    into_fails t c.args.client.now (g.L.Line.traffic c.args.line.now) k c.call_into.new.self (g.L.Line.traffic c.call_into.new.line) c.clients_are_settled.ensures.none_pending c.args.moment c.args.requests.now
+    into_fails t c.args.client.now (g.L.Line.traffic c.args.line.now) k c.call_into.new.self (g.L.Line.traffic c.call_into.new.line)
+    c.clients_are_settled.ensures.none_pending c.args.moment c.args.requests.now
     c.calls_are_told_behind.ensures c.in-Err.calls c.args.replies.now.items c.call_into.new.replies.items (c.in-Err.ensures.calls k.ready)
 
 pub returns-in-Err-clause-stops : goal.returns-in-Err-clause-stops
 returns-in-Err-clause-stops g c = λ t k.
-    into_stops t c.args.client.now (g.L.Line.traffic c.args.line.now) k c.call_into.new.self (g.L.Line.traffic c.call_into.new.line) c.clients_are_settled.ensures.none_pending c.args.moment c.args.requests.now
+    into_stops t c.args.client.now (g.L.Line.traffic c.args.line.now) k c.call_into.new.self (g.L.Line.traffic c.call_into.new.line)
+    c.clients_are_settled.ensures.none_pending c.args.moment c.args.requests.now
     c.calls_are_told_behind.ensures c.in-Err.calls c.args.replies.now.items c.call_into.new.replies.items (c.in-Err.ensures.calls k.ready)
 
 pub returns-in-Err-clause-answered : goal.returns-in-Err-clause-answered
-returns-in-Err-clause-answered g c = λ t k sound is. always_answered t c.args.requests.now c.in-Err.calls.fault sound k.talks.dated (returns-in-Err-clause-fails g c t k) is
+returns-in-Err-clause-answered g c = λ t k sound is. always_answered t c.args.requests.now c.in-Err.calls.fault sound k.talks.dated
+    (returns-in-Err-clause-fails g c t k) is

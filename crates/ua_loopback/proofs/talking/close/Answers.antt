@@ -12,12 +12,15 @@ returns-in-Ok-clause-state g c = λ t k. left_there t c.args.client.now (g.L.Lin
 
 pub returns-in-Ok-clause-sends : goal.returns-in-Ok-clause-sends
 returns-in-Ok-clause-sends g c = λ t k.
-    closes_sent t c.args.client.now (g.L.Line.traffic c.args.line.now) k c.args.moment (g.L.Line.traffic c.close.new.line) c.in-Ok.field-0 (c.in-Ok.ensures.closes k.ready)
+    closes_sent t c.args.client.now (g.L.Line.traffic c.args.line.now) k c.args.moment (g.L.Line.traffic c.close.new.line) c.in-Ok.field-0
+    (c.in-Ok.ensures.closes k.ready)
 
 pub returns-in-Err-clause-fails : goal.returns-in-Err-clause-fails
 returns-in-Err-clause-fails g c = λ t k.
-    closes_fails t c.args.client.now (g.L.Line.traffic c.args.line.now) k c.args.moment (g.L.Line.traffic c.close.new.line) c.in-Err.fault (c.in-Err.ensures.closes k.ready)
+    closes_fails t c.args.client.now (g.L.Line.traffic c.args.line.now) k c.args.moment (g.L.Line.traffic c.close.new.line) c.in-Err.fault
+    (c.in-Err.ensures.closes k.ready)
 
 pub returns-in-Err-clause-stops : goal.returns-in-Err-clause-stops
 returns-in-Err-clause-stops g c = λ t k.
-    closes_stop t c.args.client.now (g.L.Line.traffic c.args.line.now) k c.args.moment (g.L.Line.traffic c.close.new.line) c.in-Err.fault (c.in-Err.ensures.closes k.ready)
+    closes_stop t c.args.client.now (g.L.Line.traffic c.args.line.now) k c.args.moment (g.L.Line.traffic c.close.new.line) c.in-Err.fault
+    (c.in-Err.ensures.closes k.ready)

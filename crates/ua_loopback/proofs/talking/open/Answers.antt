@@ -11,7 +11,8 @@ returns-in-Ok-clause-begins g c = λ b can line.
     let send : Fits w32 c.args.limits.send_buffer_size = search rules in
     let octets : Fits w32 c.args.limits.max_message_size = search rules in
     let chunks : Fits w32 c.args.limits.max_chunk_count = search rules in
-    opens_talk c.args.limits c.args.url c.args.moment (g.L.Line.traffic c.args.line.now) (g.L.Line.traffic c.open.new.line) c.in-Ok.client c.clients_are_settled.ensures.opened c.in-Ok.ensures.opens b
+    opens_talk c.args.limits c.args.url c.args.moment (g.L.Line.traffic c.args.line.now) (g.L.Line.traffic c.open.new.line) c.in-Ok.client
+    c.clients_are_settled.ensures.opened c.in-Ok.ensures.opens b
     (can_open_to b c.args.limits c.args.url c.args.moment can receive send octets chunks dated c.requires) line
 
 pub returns-in-Err-clause-fails : goal.returns-in-Err-clause-fails
@@ -21,7 +22,8 @@ returns-in-Err-clause-fails g c = λ b can line short.
     let send : Fits w32 c.args.limits.send_buffer_size = search rules in
     let octets : Fits w32 c.args.limits.max_message_size = search rules in
     let chunks : Fits w32 c.args.limits.max_chunk_count = search rules in
-    open_fails b c.args.limits c.args.url c.args.moment (g.L.Line.traffic c.args.line.now) (g.L.Line.traffic c.open.new.line) c.in-Err.fault c.in-Err.ensures.opens
+    open_fails b c.args.limits c.args.url c.args.moment (g.L.Line.traffic c.args.line.now) (g.L.Line.traffic c.open.new.line) c.in-Err.fault
+    c.in-Err.ensures.opens
     (can_open_to b c.args.limits c.args.url c.args.moment can receive send octets chunks dated c.requires) short line
 
 pub returns-in-Err-clause-stops : goal.returns-in-Err-clause-stops
@@ -31,5 +33,6 @@ returns-in-Err-clause-stops g c = λ b can line short.
     let send : Fits w32 c.args.limits.send_buffer_size = search rules in
     let octets : Fits w32 c.args.limits.max_message_size = search rules in
     let chunks : Fits w32 c.args.limits.max_chunk_count = search rules in
-    open_stops b c.args.limits c.args.url c.args.moment (g.L.Line.traffic c.args.line.now) (g.L.Line.traffic c.open.new.line) c.in-Err.fault c.in-Err.ensures.opens
+    open_stops b c.args.limits c.args.url c.args.moment (g.L.Line.traffic c.args.line.now) (g.L.Line.traffic c.open.new.line) c.in-Err.fault
+    c.in-Err.ensures.opens
     (can_open_to b c.args.limits c.args.url c.args.moment can receive send octets chunks dated c.requires) short line

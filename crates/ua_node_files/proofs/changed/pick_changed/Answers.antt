@@ -10,12 +10,14 @@ texts lines = map (λ (line : Bor (List ℕ)). line.now) lines
 pub returns-clause-picked : goal.returns-clause-picked
 returns-clause-picked c =
     IfOk-weaker c.copy_new.result _ _
-    (λ changed e. e ∙ by_texts _ c.args.last.now c.args.text.now _ _ c.args.nodes.now c.in_ok-known.ensures (ap texts c.deref.ensures.value ∙ c.in_ok-before.ensures) (ap texts c.deref-2.ensures.value ∙ c.in_ok-lines.ensures))
+    (λ changed e. e ∙ by_texts _ c.args.last.now c.args.text.now _ _ c.args.nodes.now c.in_ok-known.ensures (ap texts c.deref.ensures.value
+    ∙ c.in_ok-before.ensures) (ap texts c.deref-2.ensures.value ∙ c.in_ok-lines.ensures))
     c.copy_new.ensures
 
 pub returns-clause-sound : goal.returns-clause-sound
 returns-clause-sound c =
     IfOk-weaker c.copy_new.result _ _
     (λ changed e. sound_so c.args.last.now c.args.text.now _ c.args.nodes.now c.requires
-    (e ∙ by_texts _ c.args.last.now c.args.text.now _ _ c.args.nodes.now c.in_ok-known.ensures (ap texts c.deref.ensures.value ∙ c.in_ok-before.ensures) (ap texts c.deref-2.ensures.value ∙ c.in_ok-lines.ensures)))
+    (e ∙ by_texts _ c.args.last.now c.args.text.now _ _ c.args.nodes.now c.in_ok-known.ensures (ap texts c.deref.ensures.value ∙ c.in_ok-before.ensures)
+    (ap texts c.deref-2.ensures.value ∙ c.in_ok-lines.ensures)))
     c.copy_new.ensures

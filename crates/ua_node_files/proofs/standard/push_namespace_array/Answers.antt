@@ -14,4 +14,5 @@ returns c =
     let new = string_bytes c.push_uris.new.out in
     let front = (namespace_array []).text in
     added_so r old (10 ∷ line.text) (added_line c.args.nodes.now line) new (lacking c.args.nodes.now line (sym c.lacks.ensures ∙ c.if-not-lacks.false))
-    (then_more r old (10 ∷ []) (front ++ more_uris uris) one new c.in_ok-push_str.ensures.bytes (then_more r one front (more_uris uris) two new c.in_ok-push_str-2.ensures.bytes c.push_uris.ensures))
+    (then_more r old (10 ∷ []) (front ++ more_uris uris) one new c.in_ok-push_str.ensures.bytes
+    (then_more r one front (more_uris uris) two new c.in_ok-push_str-2.ensures.bytes c.push_uris.ensures))

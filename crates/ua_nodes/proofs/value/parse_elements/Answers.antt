@@ -10,7 +10,11 @@ use Rattle.ua_nodes.proofs.Elements.{element_ok, element_none, element_last, fau
 use Rattle.ua_nodes.proofs.value.parse_elements.Goals as goal
 
 pub elements-init : goal.elements-init
-elements-init c = (search rules, elements_start c.args.kind c.args.text.now (map scalar_of c.new-items.result.items) (ap (map scalar_of) c.new-items.ensures.items) (not_empty (length c.args.text.now) c.if-is_empty.ensures))
+elements-init c = (
+  search rules,
+  elements_start c.args.kind c.args.text.now (map scalar_of c.new-items.result.items) (ap (map scalar_of) c.new-items.ensures.items)
+      (not_empty (length c.args.text.now) c.if-is_empty.ensures),
+)
 
 pub returns-in_err-parse_scalar : goal.returns-in_err-parse_scalar
 returns-in_err-parse_scalar c =
@@ -19,8 +23,10 @@ returns-in_err-parse_scalar c =
     let first : pieces 44 c.elements.rest.now ≡ c.in-Some.element.now ∷ pieces 44 c.in-Some.more.now = rw c.in-Some.is at h in
     let front = map scalar_of c.elements.items.items in
     let split = c.elements.invariant.1 ∙ ap (λ (t : List (List ℕ)). in_front front (leaves_denoted c.args.kind t)) first in
-    rw (p.1, p.2) (fault_of scalar_of (λ (v : Vec Scalar Global). map scalar_of v.items) (option_map leaf (leaf_denoted c.args.kind c.in-Some.element.now)) (leaves_denoted c.args.kind (elements c.args.text.now)) c.in_err-parse_scalar.field-0.0
-    (λ d. element_none c.args.kind (leaves_denoted c.args.kind (elements c.args.text.now)) front c.in-Some.element.now (pieces 44 c.in-Some.more.now) split d) c.in_err-parse_scalar.ensures)
+    rw (p.1, p.2) (fault_of scalar_of (λ (v : Vec Scalar Global). map scalar_of v.items) (option_map leaf (leaf_denoted c.args.kind c.in-Some.element.now))
+    (leaves_denoted c.args.kind (elements c.args.text.now)) c.in_err-parse_scalar.field-0.0
+    (λ d. element_none c.args.kind (leaves_denoted c.args.kind (elements c.args.text.now)) front c.in-Some.element.now (pieces 44 c.in-Some.more.now) split d)
+    c.in_err-parse_scalar.ensures)
 
 pub elements-preserved : goal.elements-preserved
 elements-preserved c =
@@ -30,7 +36,8 @@ elements-preserved c =
     let split = c.elements.invariant.1 ∙ ap (λ (t : List (List ℕ)). in_front front (leaves_denoted c.args.kind t)) first in
     let grown = map_push scalar_of c.elements.items.items c.push.new.self.items c.in_ok-parse_scalar.field-0 c.in_ok-push.ensures.items in (
       search rules,
-      element_ok c.args.kind (leaves_denoted c.args.kind (elements c.args.text.now)) front c.in-Some.element.now (pieces 44 c.in-Some.more.now) (scalar_of c.in_ok-parse_scalar.field-0) split c.in_ok-parse_scalar.ensures
+      element_ok c.args.kind (leaves_denoted c.args.kind (elements c.args.text.now)) front c.in-Some.element.now (pieces 44 c.in-Some.more.now)
+          (scalar_of c.in_ok-parse_scalar.field-0) split c.in_ok-parse_scalar.ensures
           ∙ ap (λ (t : List ScalarData). in_front t (leaves_denoted c.args.kind (pieces 44 c.in-Some.more.now))) (sym grown),
     )
 
@@ -41,8 +48,10 @@ returns-in_err-parse_scalar-2 c =
     let last : pieces 44 c.elements.rest.now ≡ c.elements.rest.now ∷ [] = rw c.in_default.is at h in
     let front = map scalar_of c.elements.items.items in
     let split = c.elements.invariant.1 ∙ ap (λ (t : List (List ℕ)). in_front front (leaves_denoted c.args.kind t)) last in
-    rw (p.1, p.2) (fault_of scalar_of (λ (v : Vec Scalar Global). map scalar_of v.items) (option_map leaf (leaf_denoted c.args.kind c.elements.rest.now)) (leaves_denoted c.args.kind (elements c.args.text.now)) c.in_err-parse_scalar-2.field-0.0
-    (λ d. element_none c.args.kind (leaves_denoted c.args.kind (elements c.args.text.now)) front c.elements.rest.now [] split d) c.in_err-parse_scalar-2.ensures)
+    rw (p.1, p.2) (fault_of scalar_of (λ (v : Vec Scalar Global). map scalar_of v.items) (option_map leaf (leaf_denoted c.args.kind c.elements.rest.now))
+    (leaves_denoted c.args.kind (elements c.args.text.now)) c.in_err-parse_scalar-2.field-0.0
+    (λ d. element_none c.args.kind (leaves_denoted c.args.kind (elements c.args.text.now)) front c.elements.rest.now [] split d)
+    c.in_err-parse_scalar-2.ensures)
 
 pub returns : goal.returns
 returns c =
@@ -51,5 +60,6 @@ returns c =
     let front = map scalar_of c.elements.items.items in
     let split = c.elements.invariant.1 ∙ ap (λ (t : List (List ℕ)). in_front front (leaves_denoted c.args.kind t)) last in
     let grown = map_push scalar_of c.elements.items.items c.push-2.new.self.items c.in_ok-parse_scalar-2.field-0 c.in_ok-push-2.ensures.items in
-    element_last c.args.kind (leaves_denoted c.args.kind (elements c.args.text.now)) front c.elements.rest.now (scalar_of c.in_ok-parse_scalar-2.field-0) split c.in_ok-parse_scalar-2.ensures
+    element_last c.args.kind (leaves_denoted c.args.kind (elements c.args.text.now)) front c.elements.rest.now (scalar_of c.in_ok-parse_scalar-2.field-0) split
+    c.in_ok-parse_scalar-2.ensures
     ∙ ap (λ (t : List ScalarData). Some t) (sym grown)

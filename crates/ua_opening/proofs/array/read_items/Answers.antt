@@ -6,13 +6,18 @@ use Rattle.ua_opening.proofs.array.read_items.Goals as goal
 pub returns-in_err-item-clause-exact : goal.returns-in_err-item-clause-exact
 returns-in_err-item-clause-exact g c =
     let p = err_from_is_err_and c.from_residual.result c.from_residual.ensures.1 in
-    rw (p.1, p.2) (fault_ends (λ (v : Vec g.row.T.Denot Global). v.items) (g.T.Wire.format.decode c.args.depth) c.in_err-item.field-0.0 c.loop.items.items c.args.count c.loop.counter (g.S.Source.octets c.args.src.now) (g.S.Source.octets c.loop.src) (g.S.Source.octets c.read_value.new.src) c.loop-test.true c.in_err-item.ensures.exact c.loop.invariant.so_far)
+    rw (p.1, p.2) (fault_ends (λ (v : Vec g.row.T.Denot Global). v.items) (g.T.Wire.format.decode c.args.depth) c.in_err-item.field-0.0 c.loop.items.items
+    c.args.count c.loop.counter (g.S.Source.octets c.args.src.now) (g.S.Source.octets c.loop.src) (g.S.Source.octets c.read_value.new.src) c.loop-test.true
+    c.in_err-item.ensures.exact c.loop.invariant.so_far)
 
 pub loop-preserved : goal.loop-preserved
 loop-preserved g c = record {
-  so_far = rw c.in_ok-push.ensures.items (goes_on (g.T.Wire.format.decode c.args.depth) c.loop.items.items c.args.count c.loop.counter (g.S.Source.octets c.loop.src) c.in_ok-item.item (g.S.Source.octets c.read_value.new.src) _ c.loop-test.true c.in_ok-item.ensures.exact c.loop.invariant.so_far);
+  so_far =
+      rw c.in_ok-push.ensures.items (goes_on (g.T.Wire.format.decode c.args.depth) c.loop.items.items c.args.count c.loop.counter (g.S.Source.octets c.loop.src)
+      c.in_ok-item.item (g.S.Source.octets c.read_value.new.src) _ c.loop-test.true c.in_ok-item.ensures.exact c.loop.invariant.so_far);
   behind = λ start h. c.in_ok-item.ensures.behind start (c.loop.invariant.behind start h);
 }
 
 pub returns-clause-exact : goal.returns-clause-exact
-returns-clause-exact g c = is_done (g.T.Wire.format.decode c.args.depth) c.loop.items.items c.args.count c.loop.counter (g.S.Source.octets c.loop.src) _ c.loop-test.false c.loop.invariant.so_far
+returns-clause-exact g c = is_done (g.T.Wire.format.decode c.args.depth) c.loop.items.items c.args.count c.loop.counter (g.S.Source.octets c.loop.src) _
+    c.loop-test.false c.loop.invariant.so_far

@@ -18,23 +18,28 @@ pub returns-in_err-read_whole-in-Some-eq449-clause-none : goal.returns-in_err-re
 returns-in_err-read_whole-in-Some-eq449-clause-none g c =
     let p = err_from_is_err_and c.from_residual-in_err-read_whole-in-Some-eq449.result c.from_residual-in_err-read_whole-in-Some-eq449.ensures.1 in
     let is : standard_number c.in_ok-id.id ≡ Some 449 = cc in
-    rw (p.1, p.2) (no_open (g.S.Source.octets c.args.src.now) (g.S.Source.octets c.read_value.new.src) c.in_ok-id.id c.in_err-read_whole-in-Some-eq449.field-0.0 c.in_ok-id.ensures.exact is c.in_err-read_whole-in-Some-eq449.ensures.none)
+    rw (p.1, p.2) (no_open (g.S.Source.octets c.args.src.now) (g.S.Source.octets c.read_value.new.src) c.in_ok-id.id c.in_err-read_whole-in-Some-eq449.field-0.0
+    c.in_ok-id.ensures.exact is c.in_err-read_whole-in-Some-eq449.ensures.none)
 
 pub returns-in-Some-eq449-clause-found : goal.returns-in-Some-eq449-clause-found
 returns-in-Some-eq449-clause-found g c =
     let is : standard_number c.in_ok-id.id ≡ Some 449 = cc in
-    message_found 449 open_response lawful_open_response (g.S.Source.octets c.args.src.now) (g.S.Source.octets c.read_value.new.src) c.in_ok-id.id 449 (Ok c.in_ok-read_whole-in-Some-eq449.field-0) c.in_ok-id.ensures.exact is refl c.in_ok-read_whole-in-Some-eq449.ensures.found
+    message_found 449 open_response lawful_open_response (g.S.Source.octets c.args.src.now) (g.S.Source.octets c.read_value.new.src) c.in_ok-id.id 449
+    (Ok c.in_ok-read_whole-in-Some-eq449.field-0) c.in_ok-id.ensures.exact is refl c.in_ok-read_whole-in-Some-eq449.ensures.found
 
 pub returns-in_err-read_whole-in-Some-eq397-clause-none : goal.returns-in_err-read_whole-in-Some-eq397-clause-none
 returns-in_err-read_whole-in-Some-eq397-clause-none g c =
     let p = err_from_is_err_and c.from_residual-in_err-read_whole-in-Some-eq397.result c.from_residual-in_err-read_whole-in-Some-eq397.ensures.1 in
     let is : standard_number c.in_ok-id.id ≡ Some 397 = cc in
-    rw (p.1, p.2) (no_fault_answer (g.S.Source.octets c.args.src.now) (g.S.Source.octets c.read_value.new.src) c.in_ok-id.id c.in_err-read_whole-in-Some-eq397.field-0.0 c.in_ok-id.ensures.exact is c.in_err-read_whole-in-Some-eq397.ensures.none)
+    rw (p.1, p.2)
+    (no_fault_answer (g.S.Source.octets c.args.src.now) (g.S.Source.octets c.read_value.new.src) c.in_ok-id.id c.in_err-read_whole-in-Some-eq397.field-0.0
+    c.in_ok-id.ensures.exact is c.in_err-read_whole-in-Some-eq397.ensures.none)
 
 pub returns-in-Some-eq397-clause-found : goal.returns-in-Some-eq397-clause-found
 returns-in-Some-eq397-clause-found g c =
     let is : standard_number c.in_ok-id.id ≡ Some 397 = cc in
-    message_found 397 service_fault sound_service_fault.lawful (g.S.Source.octets c.args.src.now) (g.S.Source.octets c.read_value.new.src) c.in_ok-id.id 397 (Ok c.in_ok-read_whole-in-Some-eq397.field-0) c.in_ok-id.ensures.exact is refl c.in_ok-read_whole-in-Some-eq397.ensures.found
+    message_found 397 service_fault sound_service_fault.lawful (g.S.Source.octets c.args.src.now) (g.S.Source.octets c.read_value.new.src) c.in_ok-id.id 397
+    (Ok c.in_ok-read_whole-in-Some-eq397.field-0) c.in_ok-id.ensures.exact is refl c.in_ok-read_whole-in-Some-eq397.ensures.found
 
 pub returns-clause-none : goal.returns-clause-none
 returns-clause-none g c = λ e. no_answer (g.S.Source.octets c.args.src.now) (g.S.Source.octets c.read_value.new.src) c.in_ok-id.id c.in_ok-id.ensures.exact

@@ -11,7 +11,8 @@ numbers_rise = rising 0 encodings encodings_rise
 pub returns-in-Ok : goal.returns-in-Ok
 returns-in-Ok c =
     let found = searched _ c.args.number (Ok c.in-Ok.place) c.in-Ok.ensures.position (rw c.known_numbers.ensures numbers_rise) in
-    c.name_at.ensures ∙ sym (named_at 0 encodings c.args.number encodings_rise c.in-Ok.place (rw c.known_numbers.ensures at found.0) (rw c.known_numbers.ensures at found.1))
+    c.name_at.ensures
+    ∙ sym (named_at 0 encodings c.args.number encodings_rise c.in-Ok.place (rw c.known_numbers.ensures at found.0) (rw c.known_numbers.ensures at found.1))
 
 pub returns-in-Err : goal.returns-in-Err
 returns-in-Err c =

@@ -23,7 +23,9 @@ returns c =
     let header : Adds c.push_header.result (string_bytes c.push_fields.new.lines) (string_bytes c.push_header.new.lines) Header =
     rw c.in_ok-title.ensures.unsupported at c.push_header.ensures in
     let both : Adds c.push_header.result (string_bytes c.push_message_line.new.lines) (string_bytes c.push_header.new.lines) Parts =
-    adds_both c.push_header.result (string_bytes c.push_message_line.new.lines) (string_bytes c.push_fields.new.lines) (string_bytes c.push_header.new.lines) Fields Header Parts
+    adds_both c.push_header.result (string_bytes c.push_message_line.new.lines) (string_bytes c.push_fields.new.lines) (string_bytes c.push_header.new.lines)
+    Fields Header Parts
     fields header (λ a b x y. (a, b, refl, x, y)) in
-    adds_behind c.push_header.result (string_bytes c.args.lines.now) (string_bytes c.push_message_line.new.lines) (string_bytes c.push_header.new.lines) front Parts (IsMessageText options c.args.request octets)
+    adds_behind c.push_header.result (string_bytes c.args.lines.now) (string_bytes c.push_message_line.new.lines) (string_bytes c.push_header.new.lines) front
+    Parts (IsMessageText options c.args.request octets)
     line (λ text h. (h.0, h.1, ap (λ (t : List ℕ). front ++ t) h.2, h.3, h.4)) both

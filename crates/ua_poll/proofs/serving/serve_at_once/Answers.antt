@@ -18,14 +18,16 @@ returns-then-watched-clause-told g c =
     let total = c.round.ensures.total ∙ c.loop-rounds.invariant.total in
     let within = c.round.ensures.within in
     let reached = c.if-watched.true in
-    told_all (notes_of g.E.Endings.notes g.E.Application.acts) 0 c.round.new.self.over c.args.asked.total _ _ refl (omega (arith, total, within)) (omega (arith, total, reached)) told
+    told_all (notes_of g.E.Endings.notes g.E.Application.acts) 0 c.round.new.self.over c.args.asked.total _ _ refl (omega (arith, total, within))
+    (omega (arith, total, reached)) told
 
 pub loop-rounds-init : goal.loop-rounds-init
 loop-rounds-init g c =
     let none = c.in-Ok-new.ensures.1 in
     record {
       stand = record { more = []; stand = c.in-Ok.ensures.stand c.args.services.now };
-      told = subst (λ (n : ℕ). Tells (notes_of g.E.Endings.notes g.E.Application.acts) 0 n c.args.endings.now c.args.endings.now) (sym none) (tells_none (notes_of g.E.Endings.notes g.E.Application.acts) 0 c.args.endings.now);
+      told = subst (λ (n : ℕ). Tells (notes_of g.E.Endings.notes g.E.Application.acts) 0 n c.args.endings.now c.args.endings.now) (sym none)
+          (tells_none (notes_of g.E.Endings.notes g.E.Application.acts) 0 c.args.endings.now);
       within = omega (arith, none);
       total = c.in-Ok-new.ensures.0;
     }
@@ -42,4 +44,5 @@ pub returns-clause-told : goal.returns-clause-told
 returns-clause-told g c =
     let total = c.loop-rounds.invariant.total in
     let within = c.loop-rounds.invariant.within in
-    told_some (notes_of g.E.Endings.notes g.E.Application.acts) 0 c.loop-rounds.watched.over c.args.asked.total _ _ refl (omega (arith, total, within)) c.loop-rounds.invariant.told
+    told_some (notes_of g.E.Endings.notes g.E.Application.acts) 0 c.loop-rounds.watched.over c.args.asked.total _ _ refl (omega (arith, total, within))
+    c.loop-rounds.invariant.told

@@ -6,4 +6,5 @@ pub returns-in_err-repeated-in-Rounds-clause-stopped : goal.returns-in_err-repea
 returns-in_err-repeated-in-Rounds-clause-stopped g c = none_stops StopsWriting c.args.asked.now.style (g.O.Write.contents c.args.out.now) c.from_residual.result
 
 pub returns-in_err-opened-in-Script-2-clause-stopped : goal.returns-in_err-opened-in-Script-2-clause-stopped
-returns-in_err-opened-in-Script-2-clause-stopped g c = none_stops StopsWriting c.args.asked.now.style (g.O.Write.contents c.args.out.now) c.from_residual-in_err-opened-in-Script-2.result
+returns-in_err-opened-in-Script-2-clause-stopped g c = none_stops StopsWriting c.args.asked.now.style (g.O.Write.contents c.args.out.now)
+    c.from_residual-in_err-opened-in-Script-2.result

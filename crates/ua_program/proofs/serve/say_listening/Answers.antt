@@ -8,4 +8,5 @@ pub returns-clause-said : goal.returns-clause-said
 unfolding listening_line
 returns-clause-said g c =
     let same : c.deref.result.now ≡ listening_line c.args.port = search (rules, append_assoc) in
-    IfOk-weaker c.say.result _ _ (λ x added. subst (λ t. Appends (g.O.Write.contents c.args.out.now) (g.O.Write.contents c.say.new.out) t) same added) c.say.ensures.said
+    IfOk-weaker c.say.result _ _ (λ x added. subst (λ t. Appends (g.O.Write.contents c.args.out.now) (g.O.Write.contents c.say.new.out) t) same added)
+    c.say.ensures.said

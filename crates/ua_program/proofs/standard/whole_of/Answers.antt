@@ -11,4 +11,5 @@ returns-in_err-nodes-clause-faults c = at_fault _ _ c.in_err-nodes.field-0.0 c.f
 
 pub returns-clause-whole : goal.returns-clause-whole
 returns-clause-whole c =
-    whole_so _ _ _ _ _ _ c.in_ok-nodes.ensures.nodes c.in_ok-uris.ensures.named c.in_ok-text.ensures (ap (map (λ (uri : Bor (List ℕ)). uri.now)) c.deref.ensures.value) c.lacks_current_time-keeps_time.ensures
+    whole_so _ _ _ _ _ _ c.in_ok-nodes.ensures.nodes c.in_ok-uris.ensures.named c.in_ok-text.ensures
+    (ap (map (λ (uri : Bor (List ℕ)). uri.now)) c.deref.ensures.value) c.lacks_current_time-keeps_time.ensures

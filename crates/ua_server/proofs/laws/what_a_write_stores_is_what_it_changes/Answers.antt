@@ -9,4 +9,5 @@ use Rattle.ua_server.proofs.laws.what_a_write_stores_is_what_it_changes.Goals as
 pub returns : goal.returns
 returns c = λ most items moment nodes id.
     let roomy = roomy_items most nodes items in
-    node_after (stored_items most nodes items) moment nodes id ∙ (stored-leave nodes id roomy moment (node_at nodes id) refl ∙ sym (node_after roomy moment nodes id))
+    node_after (stored_items most nodes items) moment nodes id
+    ∙ (stored-leave nodes id roomy moment (node_at nodes id) refl ∙ sym (node_after roomy moment nodes id))

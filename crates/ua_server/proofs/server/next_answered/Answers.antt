@@ -8,29 +8,36 @@ pub loop-taken-init : goal.loop-taken-init
 loop-taken-init c =
     let given : is_given_up c.advance-n.result.1 ≡ true = search rules in
     first-passed c.args.channel.now c.advance-n.new.self c.args.moment c.args.piece.now c.advance-n.result.0 c.advance-n.result.1
-    c.advance-n.ensures.answers c.advance-n.ensures.progress (λ d. (c.advance-n.ensures.closed d).1) c.advance-n.ensures.limits c.advance-n.ensures.channel given
+    c.advance-n.ensures.answers c.advance-n.ensures.progress (λ d. (c.advance-n.ensures.closed d).1) c.advance-n.ensures.limits c.advance-n.ensures.channel
+    given
 
 pub returns-then-not-is_given_up-2-clause-answers : goal.returns-then-not-is_given_up-2-clause-answers
 returns-then-not-is_given_up-2-clause-answers c =
-    at-last c.args.channel.now c.loop-taken.channel c.advance-n-in-loop-taken.new.self c.args.moment c.args.piece.now c.loop-taken.taken c.advance-n-in-loop-taken.result.0 c.advance-n-in-loop-taken.result.1
+    at-last c.args.channel.now c.loop-taken.channel c.advance-n-in-loop-taken.new.self c.args.moment c.args.piece.now c.loop-taken.taken
+    c.advance-n-in-loop-taken.result.0 c.advance-n-in-loop-taken.result.1
     c.loop-taken.invariant c.advance-n-in-loop-taken.ensures.answers
 
 pub loop-taken-preserved : goal.loop-taken-preserved
 loop-taken-preserved c =
     let given : is_given_up c.advance-n-in-loop-taken.result.1 ≡ true = search rules in
-    next-passed c.args.channel.now c.loop-taken.channel c.advance-n-in-loop-taken.new.self c.args.moment c.args.piece.now c.loop-taken.taken c.advance-n-in-loop-taken.result.0 c.advance-n-in-loop-taken.result.1
-    c.loop-taken.invariant c.advance-n-in-loop-taken.ensures.answers c.advance-n-in-loop-taken.ensures.progress c.advance-n-in-loop-taken.ensures.limits c.advance-n-in-loop-taken.ensures.channel given
+    next-passed c.args.channel.now c.loop-taken.channel c.advance-n-in-loop-taken.new.self c.args.moment c.args.piece.now c.loop-taken.taken
+    c.advance-n-in-loop-taken.result.0 c.advance-n-in-loop-taken.result.1
+    c.loop-taken.invariant c.advance-n-in-loop-taken.ensures.answers c.advance-n-in-loop-taken.ensures.progress c.advance-n-in-loop-taken.ensures.limits
+    c.advance-n-in-loop-taken.ensures.channel given
 
 pub returns-clause-answers : goal.returns-clause-answers
-returns-clause-answers c = all-passed c.args.channel.now c.loop-taken.channel c.args.moment c.args.piece.now c.loop-taken.taken c.loop-taken.invariant c.loop-taken-test.false
+returns-clause-answers c = all-passed c.args.channel.now c.loop-taken.channel c.args.moment c.args.piece.now c.loop-taken.taken c.loop-taken.invariant
+    c.loop-taken-test.false
 
 pub returns-then-not-is_given_up-2-clause-progress : goal.returns-then-not-is_given_up-2-clause-progress
 returns-then-not-is_given_up-2-clause-progress c =
-    progress-on c.args.channel.now c.loop-taken.channel c.args.piece.now c.loop-taken.taken c.advance-n-in-loop-taken.result.0 c.advance-n-in-loop-taken.result.1 c.loop-taken.invariant c.advance-n-in-loop-taken.ensures.progress
+    progress-on c.args.channel.now c.loop-taken.channel c.args.piece.now c.loop-taken.taken c.advance-n-in-loop-taken.result.0
+    c.advance-n-in-loop-taken.result.1 c.loop-taken.invariant c.advance-n-in-loop-taken.ensures.progress
 
 pub returns-clause-progress : goal.returns-clause-progress
 returns-clause-progress c = all-progress c.args.channel.now c.loop-taken.channel c.args.piece.now c.loop-taken.taken c.loop-taken.invariant
 
 pub returns-then-not-is_given_up-2-clause-starved : goal.returns-then-not-is_given_up-2-clause-starved
 returns-then-not-is_given_up-2-clause-starved c = λ octets told g fails.
-    c.advance-n-in-loop-taken.ensures.starved fails ∙ passed-bound c.args.channel.now c.loop-taken.channel c.args.piece.now c.loop-taken.taken octets told c.loop-taken.invariant g
+    c.advance-n-in-loop-taken.ensures.starved fails ∙ passed-bound c.args.channel.now c.loop-taken.channel c.args.piece.now c.loop-taken.taken octets told
+    c.loop-taken.invariant g

@@ -7,8 +7,10 @@ use Rattle.ua_server.proofs.server.refusal.Goals as goal
 
 pub returns-in-Ok-clause-stands : goal.returns-in-Ok-clause-stands
 returns-in-Ok-clause-stands c = λ old mid moment piece octets told b.
-    stands-refused (channel_of old) (next_of old) moment piece c.args.taken mid octets told c.in-Refused.code c.in-Refused.err_frame c.extend_from_slice.new.self.items
-    (fault-as (channel_of old) (next_of old) moment piece c.args.taken mid octets told c.args.fault (channel_fault.Refused c.in-Refused.code c.in-Refused.err_frame) c.in-Refused.is b)
+    stands-refused (channel_of old) (next_of old) moment piece c.args.taken mid octets told c.in-Refused.code c.in-Refused.err_frame
+    c.extend_from_slice.new.self.items
+    (fault-as (channel_of old) (next_of old) moment piece c.args.taken mid octets told c.args.fault
+    (channel_fault.Refused c.in-Refused.code c.in-Refused.err_frame) c.in-Refused.is b)
 
 pub returns-in-Ok-clause-now : goal.returns-in-Ok-clause-now
 returns-in-Ok-clause-now c = λ old mid moment piece octets told before b.

@@ -18,28 +18,35 @@ pub returns-in-Ok-respond-clause-sent : goal.returns-in-Ok-respond-clause-sent
 returns-in-Ok-respond-clause-sent c = λ octets before token g.
     let whole = response.canonical (answered c.args.services.now c.args.moment (concat c.args.message)).1 in
     let sent = c.in-Ok-respond.ensures.sent octets (g.frames ++ g.frame ∷ []) [] g.stands in
-    let limit = c.most_octets-most.ensures.most octets (g.frames ++ g.frame ∷ []) [] g.stands (server_asked c.args.channel.now octets before c.args.id token (concat c.args.message) g) sent.0 sent.1 in
+    let limit = c.most_octets-most.ensures.most octets (g.frames ++ g.frame ∷ []) [] g.stands
+    (server_asked c.args.channel.now octets before c.args.id token (concat c.args.message) g) sent.0 sent.1 in
     let within : IsBodyWithin c.most_octets-most.result whole c.deref.result.now = search rules in (
-      telling-on c.args.channel.now c.respond.new.self octets before (Asked c.args.id token (concat c.args.message)) g c.respond.ensures.limits c.respond.ensures.channel (c.in-Ok-respond.ensures.stands octets (g.frames ++ g.frame ∷ []) [] g.stands),
-      replied-there c.args.channel.now octets before c.args.id token (concat c.args.message) g sent.0 whole c.in-Ok-respond.sent.octets.items (next_of c.respond.new.self) sent.1
-          (same_reply sent.0 c.most_octets-most.result whole c.deref.result.now (next_of c.args.channel.now) c.args.id c.in-Ok-respond.sent.octets.items (next_of c.respond.new.self) limit within sent.2),
+      telling-on c.args.channel.now c.respond.new.self octets before (Asked c.args.id token (concat c.args.message)) g c.respond.ensures.limits
+          c.respond.ensures.channel (c.in-Ok-respond.ensures.stands octets (g.frames ++ g.frame ∷ []) [] g.stands),
+      replied-there c.args.channel.now octets before c.args.id token (concat c.args.message) g sent.0 whole c.in-Ok-respond.sent.octets.items
+          (next_of c.respond.new.self) sent.1
+          (same_reply sent.0 c.most_octets-most.result whole c.deref.result.now (next_of c.args.channel.now) c.args.id c.in-Ok-respond.sent.octets.items
+          (next_of c.respond.new.self) limit within sent.2),
     )
 
 pub returns-in-Ok-respond-clause-noted : goal.returns-in-Ok-respond-clause-noted
 returns-in-Ok-respond-clause-noted c = λ octets before token g.
     let whole = response.canonical (answered c.args.services.now c.args.moment (concat c.args.message)).1 in
     let sent = c.in-Ok-respond.ensures.sent octets (g.frames ++ g.frame ∷ []) [] g.stands in
-    let limit = c.most_octets-most.ensures.most octets (g.frames ++ g.frame ∷ []) [] g.stands (server_asked c.args.channel.now octets before c.args.id token (concat c.args.message) g) sent.0 sent.1 in
+    let limit = c.most_octets-most.ensures.most octets (g.frames ++ g.frame ∷ []) [] g.stands
+    (server_asked c.args.channel.now octets before c.args.id token (concat c.args.message) g) sent.0 sent.1 in
     let within : IsBodyWithin c.most_octets-most.result whole c.deref.result.now = search rules in
     let request : c.in-Ok.told.1 ≡ request_answered None c.args.services.now c.args.moment (concat c.args.message) = search rules in
-    noted-there c.args.channel.now octets before c.args.id token (concat c.args.message) g sent.0 c.args.services.now c.args.moment c.deref.result.now c.in-Ok.told.1 c.sent_as-request.result sent.1
+    noted-there c.args.channel.now octets before c.args.id token (concat c.args.message) g sent.0 c.args.services.now c.args.moment c.deref.result.now
+    c.in-Ok.told.1 c.sent_as-request.result sent.1
     (λ code. same_code sent.0 c.most_octets-most.result whole c.deref.result.now code limit within) request
     (c.sent_as-request.ensures sent.0 c.deref.result.now sent.3)
 
 pub returns-clause-failed : goal.returns-clause-failed
 returns-clause-failed c = λ octets before token g.
     let not_open : ReplyFault → Result SentReply ReplyFault = λ f. Err f in
-    absurd (server_asked c.args.channel.now octets before c.args.id token (concat c.args.message) g (c.in-Err-NotOpen.ensures.not_open.0 (ap not_open c.in-Err-NotOpen.field-0-is)))
+    absurd (server_asked c.args.channel.now octets before c.args.id token (concat c.args.message) g
+    (c.in-Err-NotOpen.ensures.not_open.0 (ap not_open c.in-Err-NotOpen.field-0-is)))
 
 pub returns-in-Ok-respond-clause-stored : goal.returns-in-Ok-respond-clause-stored
 returns-in-Ok-respond-clause-stored c =

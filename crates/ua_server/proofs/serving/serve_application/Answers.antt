@@ -14,17 +14,22 @@ run-requires g c =
 pub returns-in-Ok-clause-serves : goal.returns-in-Ok-clause-serves
 returns-in-Ok-clause-serves g c =
     c.run.ensures.serves c.args.limits c.args.channel_id (begun c.args.services.now, c.args.application.now)
-    (subst (λ (s : State). Keeps g.A.Application.changes c.new-serving.result c.args.limits c.args.channel_id (begun c.args.services.now, c.args.application.now) [] [] [] (s, c.args.application.now)) (sym c.begin.ensures)
-    (keeps-first g.A.Application.changes c.new-serving.result c.args.limits c.args.channel_id (begun c.args.services.now, c.args.application.now) c.new-serving.ensures))
+    (subst (λ (s : State). Keeps g.A.Application.changes c.new-serving.result c.args.limits c.args.channel_id
+    (begun c.args.services.now, c.args.application.now) [] [] [] (s, c.args.application.now)) (sym c.begin.ensures)
+    (keeps-first g.A.Application.changes c.new-serving.result c.args.limits c.args.channel_id (begun c.args.services.now, c.args.application.now)
+    c.new-serving.ensures))
 
 pub returns-in-Ok-clause-failed : goal.returns-in-Ok-clause-failed
 returns-in-Ok-clause-failed g c = c.run.ensures.failed
 
 pub returns-clause-serves : goal.returns-clause-serves
 returns-clause-serves g c =
-    serves-nothing g.A.Application.changes c.args.limits c.args.channel_id (begun c.args.services.now, c.args.application.now) g.M.Moments.gives g.W.Watch.notes (c.args.moments.now, c.args.watch.now) (g.L.Line.traffic c.args.line.now) c.new-serving.result (c.begin.new.self, c.args.application.now)
-    (subst (λ (s : State). Keeps g.A.Application.changes c.new-serving.result c.args.limits c.args.channel_id (begun c.args.services.now, c.args.application.now) [] [] [] (s, c.args.application.now)) (sym c.begin.ensures)
-    (keeps-first g.A.Application.changes c.new-serving.result c.args.limits c.args.channel_id (begun c.args.services.now, c.args.application.now) c.new-serving.ensures))
+    serves-nothing g.A.Application.changes c.args.limits c.args.channel_id (begun c.args.services.now, c.args.application.now) g.M.Moments.gives g.W.Watch.notes
+    (c.args.moments.now, c.args.watch.now) (g.L.Line.traffic c.args.line.now) c.new-serving.result (c.begin.new.self, c.args.application.now)
+    (subst (λ (s : State). Keeps g.A.Application.changes c.new-serving.result c.args.limits c.args.channel_id
+    (begun c.args.services.now, c.args.application.now) [] [] [] (s, c.args.application.now)) (sym c.begin.ensures)
+    (keeps-first g.A.Application.changes c.new-serving.result c.args.limits c.args.channel_id (begun c.args.services.now, c.args.application.now)
+    c.new-serving.ensures))
 
 pub returns-clause-failed : goal.returns-clause-failed
 returns-clause-failed g c = refl

@@ -15,7 +15,8 @@ loop-item-preserved c =
     let rest = into_iter_items c.next.new.self in
     let item = c.in-Some.item in
     let steps : into_iter_items at.item-iterator ≡ item ∷ rest = c.in-Some.ensures.steps.0 in (
-      kept-on at.good.items c.push_if.new.good.items rest item at.codes.now c.first_code-is_good.result.1.now c.first_code-is_good.result.0 c.in_ok-push_if.ensures c.first_code-is_good.ensures.good c.first_code-is_good.ensures.rest
+      kept-on at.good.items c.push_if.new.good.items rest item at.codes.now c.first_code-is_good.result.1.now c.first_code-is_good.result.0
+          c.in_ok-push_if.ensures c.first_code-is_good.ensures.good c.first_code-is_good.ensures.rest
           ∙ (ap (λ (is : List WriteValue). at.good.items ++ good_items is at.codes.now) (sym steps) ∙ at.invariant.0),
       (let was = at.invariant.1 in let gone = c.in-Some.ensures.steps.1 in let short = ap length steps in omega arith),
     )

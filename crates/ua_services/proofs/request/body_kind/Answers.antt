@@ -9,9 +9,11 @@ returns-in-Err-clause-refused g c =
     (id_fails (g.S.Source.octets c.args.src.now) (g.S.Source.octets c.read_value.new.src) c.in-Err.fault c.in-Err.ensures.exact))
 
 pub returns-in-Some-clause-found : goal.returns-in-Some-clause-found
-returns-in-Some-clause-found g c = read-kind (g.S.Source.octets c.args.src.now) (g.S.Source.octets c.read_value.new.src) c.in-Ok.id (Some c.in-Some.kind) c.in-Ok.ensures.exact (sym c.in-Some.ensures)
+returns-in-Some-clause-found g c = read-kind (g.S.Source.octets c.args.src.now) (g.S.Source.octets c.read_value.new.src) c.in-Ok.id
+    (Some c.in-Some.kind) c.in-Ok.ensures.exact (sym c.in-Some.ensures)
 
 pub returns-clause-refused : goal.returns-clause-refused
 returns-clause-refused g c =
     refused_by c.unsupported.result (request_read (g.S.Source.octets c.args.src.now))
-    (not_supported (g.S.Source.octets c.args.src.now) (g.S.Source.octets c.read_value.new.src) c.in-Ok.id c.unsupported.result c.in-Ok.ensures.exact (sym c.in-None.ensures) c.unsupported.ensures)
+    (not_supported (g.S.Source.octets c.args.src.now) (g.S.Source.octets c.read_value.new.src) c.in-Ok.id c.unsupported.result c.in-Ok.ensures.exact
+    (sym c.in-None.ensures) c.unsupported.ensures)

@@ -14,7 +14,8 @@ returns-in_err-kind g c =
     let p = err_from_is_err_and c.from_residual.result c.from_residual.ensures.1 in
     let takes = g.T.TakesTypes.takes c.args.types.now in
     let octets = g.S.Source.octets c.args.src.now in
-    let read = thin_fault takes c.in_err-kind.field-0.0 (request_read octets) (failed c.in_err-kind.field-0.0 (request_read octets) c.in_err-kind.ensures.refused) in
+    let read = thin_fault takes c.in_err-kind.field-0.0 (request_read octets)
+    (failed c.in_err-kind.field-0.0 (request_read octets) c.in_err-kind.ensures.refused) in
     rw (p.1, p.2) (record { read = read; counted = thin_counted takes octets (Err c.in_err-kind.field-0.0) read })
 
 pub returns-in-Read : goal.returns-in-Read
@@ -39,5 +40,6 @@ pub returns-in_default : goal.returns-in_default
 returns-in_default g c =
     let takes = g.T.TakesTypes.takes c.args.types.now in
     let octets = g.S.Source.octets c.args.src.now in
-    let read = whole_is takes c.in_ok-kind.kind octets (g.S.Source.octets c.body_kind.new.src) c.read_other.result c.in_ok-kind.ensures.found c.in_default.not-Write c.read_other.ensures in
+    let read = whole_is takes c.in_ok-kind.kind octets (g.S.Source.octets c.body_kind.new.src) c.read_other.result c.in_ok-kind.ensures.found
+    c.in_default.not-Write c.read_other.ensures in
     record { read = read; counted = thin_counted takes octets c.read_other.result read }

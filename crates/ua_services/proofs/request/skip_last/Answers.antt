@@ -3,10 +3,14 @@ use Rattle.ua_services.proofs.RequestSkipped.{skip_fails, skip_left, skip_whole}
 use Rattle.ua_services.proofs.request.skip_last.Goals as goal
 
 pub returns-in-Err : goal.returns-in-Err
-returns-in-Err g c = skip_fails c.args.kind (g.S.Source.octets c.fork-head.result) (g.S.Source.octets c.args.src.now) (g.S.Source.octets c.skip_kind.new.src) c.in-Err.fault c.unreadable.result c.fork-head.ensures c.in-Err.ensures.exact c.unreadable.ensures
+returns-in-Err g c = skip_fails c.args.kind (g.S.Source.octets c.fork-head.result) (g.S.Source.octets c.args.src.now) (g.S.Source.octets c.skip_kind.new.src)
+    c.in-Err.fault c.unreadable.result c.fork-head.ensures c.in-Err.ensures.exact c.unreadable.ensures
 
 pub returns-then-left-gt0 : goal.returns-then-left-gt0
-returns-then-left-gt0 g c = skip_left c.args.kind (g.S.Source.octets c.fork-head.result) (g.S.Source.octets c.args.src.now) (g.S.Source.octets c.skip_kind.new.src) c.unreadable-then-left-gt0.result c.fork-head.ensures c.in_default.ensures.exact (omega (arith, c.if-left-gt0.true, c.left.ensures)) c.unreadable-then-left-gt0.ensures
+returns-then-left-gt0 g c = skip_left c.args.kind (g.S.Source.octets c.fork-head.result) (g.S.Source.octets c.args.src.now)
+    (g.S.Source.octets c.skip_kind.new.src) c.unreadable-then-left-gt0.result c.fork-head.ensures c.in_default.ensures.exact
+    (omega (arith, c.if-left-gt0.true, c.left.ensures)) c.unreadable-then-left-gt0.ensures
 
 pub returns : goal.returns
-returns g c = skip_whole c.args.kind (g.S.Source.octets c.args.src.now) (g.S.Source.octets c.skip_kind.new.src) c.in_default.ensures.exact (omega (arith, c.if-left-gt0.false, c.left.ensures))
+returns g c = skip_whole c.args.kind (g.S.Source.octets c.args.src.now) (g.S.Source.octets c.skip_kind.new.src) c.in_default.ensures.exact
+    (omega (arith, c.if-left-gt0.false, c.left.ensures))

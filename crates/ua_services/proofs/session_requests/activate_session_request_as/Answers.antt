@@ -18,7 +18,8 @@ returns-in-Err-clause-unwritable c = λ refused.
 pub returns-clause-value : goal.returns-clause-value
 returns-clause-value c =
     ap ActivateSession (c.new.ensures.value ∙ ap (λ h. activate_session_of h c.in-Ok.identity) c.new-header.ensures.value
-    ∙ ap (activate_session_of (request_header_of c.args.token c.args.moment c.args.handle)) (c.in-Ok.ensures.ok ∙ identity_named _ c.anonymous_token.result c.anonymous_token.ensures.named))
+    ∙ ap (activate_session_of (request_header_of c.args.token c.args.moment c.args.handle)) (c.in-Ok.ensures.ok
+    ∙ identity_named _ c.anonymous_token.result c.anonymous_token.ensures.named))
 
 pub returns-clause-encodable : goal.returns-clause-encodable
 returns-clause-encodable c = λ h fits.

@@ -9,4 +9,5 @@ pub returns-in-Ok-clause-answered : goal.returns-in-Ok-clause-answered
 returns-in-Ok-clause-answered g c = question_answers _ _ _ _ _ _ _ _ _ _ _ _ _ _ _ _ _ c.ask_by_policy-asked.ensures c.first_of.ensures
 
 pub returns-in-Ok-clause-failed : goal.returns-in-Ok-clause-failed
-returns-in-Ok-clause-failed g c = question_failed _ _ _ _ _ _ _ _ _ _ _ _ _ _ _ _ _ _ _ _ _ _ c.in-Ok.ensures.opens c.in-Ok.ensures.ready c.ask_by_policy-asked.ensures c.close-closed.ensures c.first_of.ensures
+returns-in-Ok-clause-failed g c = question_failed _ _ _ _ _ _ _ _ _ _ _ _ _ _ _ _ _ _ _ _ _ _ c.in-Ok.ensures.opens c.in-Ok.ensures.ready
+    c.ask_by_policy-asked.ensures c.close-closed.ensures c.first_of.ensures

@@ -7,6 +7,7 @@ use Rattle.ua_structures.proofs.data_values.read_each.Given as goal
 
 abbrev pub invariant-loop : goal.invariant-loop
 invariant-loop g l = record {
-  so_far : with_front l.items.items (items_at (data_value_format.decode l.depth) (l.count - l.counter) (g.S.Source.octets l.src)) ≡ items_at (data_value_format.decode l.depth) l.count (g.S.Source.octets l.fn.src);
+  so_far : with_front l.items.items (items_at (data_value_format.decode l.depth) (l.count - l.counter) (g.S.Source.octets l.src))
+      ≡ items_at (data_value_format.decode l.depth) l.count (g.S.Source.octets l.fn.src);
   behind : StaysBehind (g.S.Source.octets l.fn.src) (g.S.Source.octets l.src);
 }

@@ -9,7 +9,8 @@ use Rattle.ua_structures.proofs.thin.read_items.Given as goal
 
 abbrev pub invariant-loop : goal.invariant-loop
 invariant-loop g l = record {
-  so_far : with_front l.items.items (items_at (image_read (thinned (g.T.TakesTypes.takes l.types)) (write_value.decode l.depth)) (l.count - l.counter) (g.S.Source.octets l.src))
+  so_far : with_front l.items.items (items_at (image_read (thinned (g.T.TakesTypes.takes l.types)) (write_value.decode l.depth)) (l.count - l.counter)
+      (g.S.Source.octets l.src))
       ≡ items_at (image_read (thinned (g.T.TakesTypes.takes l.types)) (write_value.decode l.depth)) l.count (g.S.Source.octets l.fn.src);
   behind : StaysBehind (g.S.Source.octets l.fn.src) (g.S.Source.octets l.src);
 }

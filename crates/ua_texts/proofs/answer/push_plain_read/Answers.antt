@@ -7,6 +7,8 @@ use Rattle.ua_texts.proofs.answer.push_plain_read.Goals as goal
 pub returns : goal.returns
 unfolding plain_read
 returns c =
-    let code : c.unwrap_or.result.code ≡ number_of c.args.answer.now.status = ap (λ s. s.code) c.unwrap_or.ensures ∙ status_number c.args.answer.now.status _ refl in
-    then_three _ _ _ _ _ _ _ _ _ _ (c.in_ok-push_status.ensures ∙ ap (λ k. string_bytes c.args.out.now ++ status_text c.args.style.names c.args.node.now k) code) c.in_ok-push_value_part.ensures
+    let code : c.unwrap_or.result.code ≡ number_of c.args.answer.now.status = ap (λ s. s.code) c.unwrap_or.ensures
+    ∙ status_number c.args.answer.now.status _ refl in
+    then_three _ _ _ _ _ _ _ _ _ _ (c.in_ok-push_status.ensures
+    ∙ ap (λ k. string_bytes c.args.out.now ++ status_text c.args.style.names c.args.node.now k) code) c.in_ok-push_value_part.ensures
     c.in_ok-push_times_part.ensures c.push_str.ensures.bytes

@@ -10,7 +10,8 @@ codes_rise = rising 0 status_codes table_rises
 pub returns-in-Ok : goal.returns-in-Ok
 returns-in-Ok c =
     let found = searched _ c.args.status.code (Ok c.in-Ok.place) c.in-Ok.ensures.position (rw c.known_codes.ensures codes_rise) in
-    c.name_at.ensures ∙ sym (named_at 0 status_codes c.args.status.code table_rises c.in-Ok.place (rw c.known_codes.ensures at found.0) (rw c.known_codes.ensures at found.1))
+    c.name_at.ensures
+    ∙ sym (named_at 0 status_codes c.args.status.code table_rises c.in-Ok.place (rw c.known_codes.ensures at found.0) (rw c.known_codes.ensures at found.1))
 
 pub returns-in-Err : goal.returns-in-Err
 returns-in-Err c =

@@ -18,9 +18,12 @@ returns c =
     let was = c.in_ok-put_status.ensures in
     let first : (c.put_status.new.line.before ≡ c.in_ok-line.line.before) × (c.put_status.new.line.tokens ≡ c.in_ok-line.line.tokens ++ fields_tokens status) =
     (was.0, was.1 ∙ ap (λ (k : ℕ). c.in_ok-line.line.tokens ++ fields_tokens (status_fields c.args.style.names c.args.node.now k)) code) in
-    let rest = put_then c.put_status.new.line c.put_value.new.line c.put_times.new.line (fields_tokens value) (fields_tokens times) c.in_ok-put_value.ensures c.in_ok-put_times.ensures in
-    let put = put_then c.in_ok-line.line c.put_status.new.line c.put_times.new.line (fields_tokens status) (fields_tokens value ++ fields_tokens times) first rest in
+    let rest = put_then c.put_status.new.line c.put_value.new.line c.put_times.new.line (fields_tokens value) (fields_tokens times) c.in_ok-put_value.ensures
+    c.in_ok-put_times.ensures in
+    let put = put_then c.in_ok-line.line c.put_status.new.line c.put_times.new.line (fields_tokens status) (fields_tokens value ++ fields_tokens times) first
+    rest in
     let parts = fields-append status (value ++ times) ∙ ap (λ (t : List Token). fields_tokens status ++ t) (fields-append value times) in
     line_is c.end_line.result (string_bytes c.args.out.now) (string_bytes c.end_line.new.out) c.put_times.new.line.tokens (status ++ (value ++ times))
-    (put.1 ∙ ap (λ (t : List Token). t ++ (fields_tokens status ++ (fields_tokens value ++ fields_tokens times))) c.in_ok-line.ensures.1 ∙ ap (λ (t : List Token). begin_object ∷ t) (sym parts))
+    (put.1 ∙ ap (λ (t : List Token). t ++ (fields_tokens status ++ (fields_tokens value ++ fields_tokens times))) c.in_ok-line.ensures.1
+    ∙ ap (λ (t : List Token). begin_object ∷ t) (sym parts))
     c.end_line.ensures

@@ -6,4 +6,5 @@ use Rattle.ua_texts.proofs.object.put_each_policy.Given as goal
 
 -- the policies so far were put
 abbrev pub invariant-loop-policy : goal.invariant-loop-policy
-invariant-loop-policy l = (l.line.before ≡ l.fn.line.before) × (l.line.tokens ≡ l.fn.line.tokens ++ flat_map (λ p. json_tokens (policy_json p)) (take l.policy-index l.policies))
+invariant-loop-policy l = (l.line.before ≡ l.fn.line.before)
+    × (l.line.tokens ≡ l.fn.line.tokens ++ flat_map (λ p. json_tokens (policy_json p)) (take l.policy-index l.policies))

@@ -7,4 +7,5 @@ use Rattle.ua_texts.proofs.object.put_packed.Given as goal
 
 -- the elements so far were put
 abbrev pub invariant-loop-index : goal.invariant-loop-index
-invariant-loop-index l = (l.line.before ≡ l.fn.line.before) × (l.line.tokens ≡ l.fn.line.tokens ++ flat_map element_tokens (take l.index (map leaf (packed_leaves l.packed))))
+invariant-loop-index l = (l.line.before ≡ l.fn.line.before)
+    × (l.line.tokens ≡ l.fn.line.tokens ++ flat_map element_tokens (take l.index (map leaf (packed_leaves l.packed))))

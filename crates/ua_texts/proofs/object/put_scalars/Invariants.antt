@@ -6,4 +6,5 @@ use Rattle.ua_texts.proofs.object.put_scalars.Given as goal
 
 -- the elements so far were put
 abbrev pub invariant-loop-scalar : goal.invariant-loop-scalar
-invariant-loop-scalar l = (l.line.before ≡ l.fn.line.before) × (l.line.tokens ≡ l.fn.line.tokens ++ flat_map element_tokens (take l.scalar-index (map scalar_of l.scalars)))
+invariant-loop-scalar l = (l.line.before ≡ l.fn.line.before)
+    × (l.line.tokens ≡ l.fn.line.tokens ++ flat_map element_tokens (take l.scalar-index (map scalar_of l.scalars)))

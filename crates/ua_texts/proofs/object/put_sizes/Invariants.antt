@@ -6,4 +6,5 @@ use Rattle.ua_texts.proofs.object.put_sizes.Given as goal
 
 -- the sizes so far were put
 abbrev pub invariant-loop-dim : goal.invariant-loop-dim
-invariant-loop-dim l = (l.line.before ≡ l.fn.line.before) × (l.line.tokens ≡ l.fn.line.tokens ++ flat_map (λ n. json_tokens (signed_json n)) (take l.dim-index l.dims))
+invariant-loop-dim l = (l.line.before ≡ l.fn.line.before)
+    × (l.line.tokens ≡ l.fn.line.tokens ++ flat_map (λ n. json_tokens (signed_json n)) (take l.dim-index l.dims))

@@ -19,4 +19,5 @@ pub returns : goal.returns
 returns c =
     let h = pieces_once 9 c.fields.rest.now c.split_once.result (lit< tt) c.split_once.ensures.cases in
     let last : pieces 9 c.fields.rest.now ≡ c.fields.rest.now ∷ [] = rw c.in_default.is at h in
-    fields_last c.push_exact_typed.result (string_bytes c.args.out.now) c.args.line.now _ _ c.fields.kind.now c.fields.rest.now c.fields.invariant.2 last c.push_exact_typed.ensures
+    fields_last c.push_exact_typed.result (string_bytes c.args.out.now) c.args.line.now _ _ c.fields.kind.now c.fields.rest.now c.fields.invariant.2 last
+    c.push_exact_typed.ensures

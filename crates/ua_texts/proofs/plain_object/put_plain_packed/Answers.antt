@@ -9,5 +9,6 @@ loop-index-init c = json_none c.args.names c.args.line.now
 
 pub loop-index-preserved : goal.loop-index-preserved
 loop-index-preserved c =
-    json_next c.args.names leaf (packed_leaves c.args.packed.now) c.loop-index.index (scalar_of c.in-Some.scalar) c.args.line.now c.loop-index.line c.put_plain_scalar.new.line c.in-Some.ensures c.loop-index.invariant
+    json_next c.args.names leaf (packed_leaves c.args.packed.now) c.loop-index.index (scalar_of c.in-Some.scalar) c.args.line.now c.loop-index.line
+    c.put_plain_scalar.new.line c.in-Some.ensures c.loop-index.invariant
     c.in_ok-put_plain_scalar.ensures

@@ -8,5 +8,7 @@ loop-scalar-init c = json_none c.args.names c.args.line.now
 
 pub loop-scalar-preserved : goal.loop-scalar-preserved
 loop-scalar-preserved c =
-    json_next c.args.names scalar_of c.args.scalars.now c.loop-scalar.scalar-index (scalar_of c.scalar-item.result) c.args.line.now c.loop-scalar.line c.put_plain_scalar.new.line
-    (at_index scalar_of c.args.scalars.now c.loop-scalar.scalar-index c.scalar-item.result c.loop-scalar-test.true c.scalar-item.is) c.loop-scalar.invariant c.in_ok-put_plain_scalar.ensures
+    json_next c.args.names scalar_of c.args.scalars.now c.loop-scalar.scalar-index (scalar_of c.scalar-item.result) c.args.line.now c.loop-scalar.line
+    c.put_plain_scalar.new.line
+    (at_index scalar_of c.args.scalars.now c.loop-scalar.scalar-index c.scalar-item.result c.loop-scalar-test.true c.scalar-item.is) c.loop-scalar.invariant
+    c.in_ok-put_plain_scalar.ensures

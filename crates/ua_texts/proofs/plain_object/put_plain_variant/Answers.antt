@@ -14,4 +14,5 @@ returns-in-Null c =
 
 pub returns-in-Many : goal.returns-in-Many
 returns-in-Many c =
-    subst (λ (v : Variant). PutsFields c.put_plain_array.result c.args.line.now c.put_plain_array.new.line (AreVariantFields c.args.names (variant_of v))) (sym c.in-Many.is) c.put_plain_array.ensures
+    subst (λ (v : Variant). PutsFields c.put_plain_array.result c.args.line.now c.put_plain_array.new.line (AreVariantFields c.args.names (variant_of v)))
+    (sym c.in-Many.is) c.put_plain_array.ensures

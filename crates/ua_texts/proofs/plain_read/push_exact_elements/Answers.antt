@@ -10,13 +10,16 @@ use Rattle.ua_texts.proofs.plain_read.push_exact_elements.Goals as goal
 pub loop-element-preserved : goal.loop-element-preserved
 loop-element-preserved c =
     let at = c.loop-element in
-    let t = YieldsList-turn (YieldsList-from_str_split 44 c.args.text.now (lit< tt) (cc) (cc) (cc)) at.yielded _ at.yielded_by _ _ c.in-Some.element c.in-Some.is c.next.ensures.steps in (
+    let t = YieldsList-turn (YieldsList-from_str_split 44 c.args.text.now (lit< tt) (cc) (cc) (cc)) at.yielded _ at.yielded_by _ _ c.in-Some.element
+    c.in-Some.is c.next.ensures.steps in (
       (let long = length_push at.yielded c.in-Some.element in let was = at.invariant.0 in omega arith),
-      texts_next (exact_element c.args.kind) (slice_split (λ b. nat_eq b 44) c.args.text.now) at.index (length at.yielded) c.in-Some.element.now _ _ _ at.invariant.0 t at.invariant.1 c.in_ok-push_exact_item.ensures,
+      texts_next (exact_element c.args.kind) (slice_split (λ b. nat_eq b 44) c.args.text.now) at.index (length at.yielded) c.in-Some.element.now _ _ _
+          at.invariant.0 t at.invariant.1 c.in_ok-push_exact_item.ensures,
     )
 
 pub returns : goal.returns
 returns c =
     let at = c.loop-element in
-    let t = YieldsList-end (YieldsList-from_str_split 44 c.args.text.now (lit< tt) (cc) (cc) (cc)) at.yielded _ at.yielded_by _ _ c.in-None.is c.next.ensures.steps in
+    let t = YieldsList-end (YieldsList-from_str_split 44 c.args.text.now (lit< tt) (cc) (cc) (cc)) at.yielded _ at.yielded_by _ _ c.in-None.is
+    c.next.ensures.steps in
     texts_all (exact_element c.args.kind) (slice_split (λ b. nat_eq b 44) c.args.text.now) at.index (length at.yielded) _ _ at.invariant.0 t.1 at.invariant.1

@@ -7,4 +7,5 @@ use Rattle.ua_texts.proofs.plain_read.push_exact_elements.Given as goal
 -- the elements so far were added
 abbrev pub invariant-loop-element : goal.invariant-loop-element
 invariant-loop-element l =
-    (l.index ≡ length l.yielded) × (string_bytes l.out ≡ string_bytes l.fn.out ++ parted (map (exact_element l.kind) (take l.index (slice_split (λ b. nat_eq b 44) l.text))))
+    (l.index ≡ length l.yielded)
+    × (string_bytes l.out ≡ string_bytes l.fn.out ++ parted (map (exact_element l.kind) (take l.index (slice_split (λ b. nat_eq b 44) l.text))))

@@ -9,5 +9,6 @@ loop-index-init c = pairs_none (IsPlainRead c.args.style) (take 0 c.args.answers
 pub loop-index-preserved : goal.loop-index-preserved
 loop-index-preserved c =
     let within : c.loop-index.index < length c.args.nodes.now = omega arith in
-    pairs_next (IsPlainRead c.args.style) c.args.nodes.now c.args.answers.now c.loop-index.index c.index-nodes-index.result c.index-answers-index.result _ _ _ within c.index-nodes-index.is c.loop-index-test.true
+    pairs_next (IsPlainRead c.args.style) c.args.nodes.now c.args.answers.now c.loop-index.index c.index-nodes-index.result c.index-answers-index.result _ _ _
+    within c.index-nodes-index.is c.loop-index-test.true
     c.index-answers-index.is c.loop-index.invariant c.in_ok-push_plain_read_line.ensures

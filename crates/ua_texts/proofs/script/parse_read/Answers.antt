@@ -20,7 +20,8 @@ returns-then-range-gt-MOST_OCTETS c =
 pub returns-in_err-node : goal.returns-in_err-node
 returns-in_err-node c =
     let p = err_from_is_err_and c.from_residual.result c.from_residual.ensures.1 in
-    rw (p.1, p.2) (read_refused c.args.rest.now c.split_range.result.0.now c.split_range.result.1.now c.in_err-node.field-0.0 c.split_range.ensures c.in_err-node.ensures)
+    rw (p.1, p.2) (read_refused c.args.rest.now c.split_range.result.0.now c.split_range.result.1.now c.in_err-node.field-0.0 c.split_range.ensures
+    c.in_err-node.ensures)
 
 pub returns : goal.returns
 returns c =

@@ -12,7 +12,8 @@ pub returns-then-c-eq92 : goal.returns-then-c-eq92
 returns-then-c-eq92 c = rw (c.if-c-eq92.true, shown-backslash) (grows _ _ _ _ c.push_str.ensures.bytes)
 
 pub returns-else-is_ascii_control : goal.returns-else-is_ascii_control
-returns-else-is_ascii_control c = rw (shown-plain c.args.c c.if-c-eq92.false (sym c.is_ascii_control.ensures.value ∙ c.if-is_ascii_control.false)) (grows _ _ _ _ c.push.ensures.bytes)
+returns-else-is_ascii_control c = rw (shown-plain c.args.c c.if-c-eq92.false (sym c.is_ascii_control.ensures.value ∙ c.if-is_ascii_control.false))
+    (grows _ _ _ _ c.push.ensures.bytes)
 
 pub returns-then-is_ascii_control : goal.returns-then-is_ascii_control
 returns-then-is_ascii_control c =

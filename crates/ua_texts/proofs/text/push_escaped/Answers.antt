@@ -8,5 +8,6 @@ use Rattle.ua_texts.proofs.text.push_escaped.Goals as goal
 pub returns : goal.returns
 unfolding escaped
 returns c =
-    let done = YieldsList-end (YieldsList-from_chars c.args.text.now c.utf8.text cc) c.loop-c.yielded _ c.loop-c.yielded_by _ _ c.in-None.is c.next.ensures.steps in
+    let done = YieldsList-end (YieldsList-from_chars c.args.text.now c.utf8.text cc) c.loop-c.yielded _ c.loop-c.yielded_by _ _ c.in-None.is
+    c.next.ensures.steps in
     c.loop-c.invariant ∙ ap (λ cs. string_bytes c.args.out.now ++ flat_map escaped_char cs) (sym (map-id c.loop-c.yielded) ∙ done.0)

@@ -19,7 +19,9 @@ returns-in_err-read_part-clause-exact g c =
     let whole : n + more ≡ c.args.count - c.loop-done.done = omega arith in
     let a = map leaf (map f c.loop-done.items.items) in
     let old = g.S.Source.octets c.loop-done.src in
-    rw (c.requires.own, fault.1, fault.2) (fault_goes (Unit {0}) (λ (q : Packed). row (map leaf (packed_leaves q))) (row_at c.args.count p) (row_behind a (n + more) p old) (row_behind (map leaf (map f c.read_part.new.items.items)) more p (g.S.Source.octets c.read_part.new.src)) (g.S.Source.octets c.args.src.now) (g.S.Source.octets c.read_part.new.src) c.in_err-read_part.field-0.0
+    rw (c.requires.own, fault.1, fault.2) (fault_goes (Unit {0}) (λ (q : Packed). row (map leaf (packed_leaves q))) (row_at c.args.count p)
+    (row_behind a (n + more) p old) (row_behind (map leaf (map f c.read_part.new.items.items)) more p (g.S.Source.octets c.read_part.new.src))
+    (g.S.Source.octets c.args.src.now) (g.S.Source.octets c.read_part.new.src) c.in_err-read_part.field-0.0
     (λ none. sym c.loop-done.invariant.so_far ∙ sym (ap (λ k. row_behind a k p old) whole) ∙ none)
     (c.in_err-read_part.ensures.exact more))
 
@@ -28,4 +30,6 @@ returns-clause-exact g c =
     let p = leaves_at g.T.Leaf.kind in
     let a = map leaf (map g.T.Leaf.as_leaf c.loop-done.items.items) in
     let rest : c.args.count - c.loop-done.done ≡ 0 = omega arith in
-    rw (c.requires.own, c.pack.ensures.leaves) (leaf_ends p a (c.args.count - c.loop-done.done) (g.S.Source.octets c.loop-done.src) (row_at c.args.count p (g.S.Source.octets c.args.src.now)) rest c.loop-done.invariant.so_far)
+    rw (c.requires.own, c.pack.ensures.leaves)
+    (leaf_ends p a (c.args.count - c.loop-done.done) (g.S.Source.octets c.loop-done.src) (row_at c.args.count p (g.S.Source.octets c.args.src.now)) rest
+    c.loop-done.invariant.so_far)

@@ -23,5 +23,6 @@ numbers-preserved g c =
 pub returns-clause-read : goal.returns-clause-read
 returns-clause-read g c =
     let count : c.args.count ≡ length c.numbers.numbers = sym (c.numbers.invariant.same ∙ c.requires.room) in
-    rw (← c.requires.room) (numbers_end g.T.Leaf.as_leaf (leaves_at g.T.Leaf.kind) _ (least_octets g.T.Leaf.kind) c.numbers.i c.args.octets.now c.numbers.numbers (omega (arith, count))
+    rw (← c.requires.room) (numbers_end g.T.Leaf.as_leaf (leaves_at g.T.Leaf.kind) _ (least_octets g.T.Leaf.kind) c.numbers.i c.args.octets.now
+    c.numbers.numbers (omega (arith, count))
     (c.requires.whole ∙ ap (λ n. n * least_octets g.T.Leaf.kind) count) c.numbers.invariant.so_far)

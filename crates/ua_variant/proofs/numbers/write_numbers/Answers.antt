@@ -16,5 +16,15 @@ numbers-preserved g c =
     let len = c.numbers.auto.octets in
     let room : w * i + w ≤ length dst = room_for w i (length c.args.numbers.now) (length dst) c.numbers-test.true (len ∙ c.requires.whole) in
     let written = rw (c.width-width.ensures.octets, take_rest dst (w * i)) at c.put.ensures.written in
-    let width : length bs ≡ w = omega (arith, room, ap length written, length-append bs (drop w (drop (w * i) dst)), length-drop w (drop (w * i) dst), length-drop (w * i) dst, ap length (take_rest dst (w * i)), rw (c.width-width.ensures.octets) at c.put.auto.octets) in
-    rw (c.width-width.ensures.octets, written) (write_more f w i dst bs _ _ c.args.numbers.now x (omega (arith, room)) (omega arith) c.index-numbers-i.is width refl c.numbers.invariant)
+    let width : length bs ≡ w = omega (
+      arith,
+      room,
+      ap length written,
+      length-append bs (drop w (drop (w * i) dst)),
+      length-drop w (drop (w * i) dst),
+      length-drop (w * i) dst,
+      ap length (take_rest dst (w * i)),
+      rw (c.width-width.ensures.octets) at c.put.auto.octets,
+    ) in
+    rw (c.width-width.ensures.octets, written)
+    (write_more f w i dst bs _ _ c.args.numbers.now x (omega (arith, room)) (omega arith) c.index-numbers-i.is width refl c.numbers.invariant)

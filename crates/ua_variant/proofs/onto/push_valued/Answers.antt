@@ -13,5 +13,7 @@ pub returns-clause-exact : goal.returns-clause-exact
 returns-clause-exact g c =
     let items = c.args.items.now.items in
     let old = g.S.Source.octets c.args.src.now in
-    gives_same (λ _. c.push_stepped.new.items.items) (image_read (with_last items) (valued_at c.args.mask (variant_at c.args.depth))) (image_read (with_last items) (valued_at c.args.mask (variant_step (scalars_at (c.args.depth - 1))))) old (g.S.Source.octets c.push_stepped.new.src) c.push_stepped.result
+    gives_same (λ _. c.push_stepped.new.items.items) (image_read (with_last items) (valued_at c.args.mask (variant_at c.args.depth)))
+    (image_read (with_last items) (valued_at c.args.mask (variant_step (scalars_at (c.args.depth - 1))))) old (g.S.Source.octets c.push_stepped.new.src)
+    c.push_stepped.result
     (valued_level items c.args.mask c.args.depth old (omega arith)) c.push_stepped.ensures.exact

@@ -12,7 +12,16 @@ loop-done-preserved g c =
     let part : c.loop-done.done + n - c.loop-done.done ≡ n = omega arith in
     record {
       so_far = c.in_ok-extend_from_slice.ensures.items
-          ∙ numbers_after f c.args.out.now.items c.loop-done.out.items c.write_numbers.new.octets c.loop-done.done n c.args.items.now c.loop-done.invariant.so_far (rw (part) at c.write_numbers.ensures.written);
+          ∙ numbers_after f c.args.out.now.items c.loop-done.out.items c.write_numbers.new.octets c.loop-done.done n c.args.items.now
+          c.loop-done.invariant.so_far (rw (part) at c.write_numbers.ensures.written);
       done = omega arith;
-      block = omega (arith, room, c.loop-done.invariant.block, length-append c.write_numbers.new.octets (drop (n * w) c.loop-done.block), length-drop (n * w) c.loop-done.block, length-take-le (n * w) c.loop-done.block (omega (arith, room, c.loop-done.invariant.block)), c.write_numbers.auto.octets);
+      block = omega (
+        arith,
+        room,
+        c.loop-done.invariant.block,
+        length-append c.write_numbers.new.octets (drop (n * w) c.loop-done.block),
+        length-drop (n * w) c.loop-done.block,
+        length-take-le (n * w) c.loop-done.block (omega (arith, room, c.loop-done.invariant.block)),
+        c.write_numbers.auto.octets,
+      );
     }

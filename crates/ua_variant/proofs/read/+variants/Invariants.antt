@@ -55,12 +55,14 @@ decreases-read_boxed_variant g l = 10 * l.depth + 3
 
 abbrev pub invariant-read_data_values-loop : goal.invariant-read_data_values-loop
 invariant-read_data_values-loop g l = record {
-  so_far : with_front (map scalar_of l.items.items) (row_at (l.count - l.counter) (scalars_at l.depth 23) (g.S.Source.octets l.src)) ≡ row_at l.count (scalars_at l.depth 23) (g.S.Source.octets l.fn.src);
+  so_far : with_front (map scalar_of l.items.items) (row_at (l.count - l.counter) (scalars_at l.depth 23) (g.S.Source.octets l.src))
+      ≡ row_at l.count (scalars_at l.depth 23) (g.S.Source.octets l.fn.src);
   behind : StaysBehind (g.S.Source.octets l.fn.src) (g.S.Source.octets l.src);
 }
 
 abbrev pub invariant-read_variants-loop : goal.invariant-read_variants-loop
 invariant-read_variants-loop g l = record {
-  so_far : with_front (map scalar_of l.items.items) (row_at (l.count - l.counter) (scalars_at l.depth 24) (g.S.Source.octets l.src)) ≡ row_at l.count (scalars_at l.depth 24) (g.S.Source.octets l.fn.src);
+  so_far : with_front (map scalar_of l.items.items) (row_at (l.count - l.counter) (scalars_at l.depth 24) (g.S.Source.octets l.src))
+      ≡ row_at l.count (scalars_at l.depth 24) (g.S.Source.octets l.fn.src);
   behind : StaysBehind (g.S.Source.octets l.fn.src) (g.S.Source.octets l.src);
 }

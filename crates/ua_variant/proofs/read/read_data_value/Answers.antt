@@ -10,4 +10,6 @@ returns-then-depth-eq0-clause-exact g c = data_value_none c.args.depth (g.S.Sour
 
 pub returns-clause-exact : goal.returns-clause-exact
 returns-clause-exact g c =
-    gives_same data_value_of (data_value_at c.args.depth) (data_value_step (variant_at (c.args.depth - 1))) (g.S.Source.octets c.args.src.now) (g.S.Source.octets c.read_data_value_level.new.src) c.read_data_value_level.result (data_value_level c.args.depth (g.S.Source.octets c.args.src.now) (omega arith)) c.read_data_value_level.ensures.exact
+    gives_same data_value_of (data_value_at c.args.depth) (data_value_step (variant_at (c.args.depth - 1))) (g.S.Source.octets c.args.src.now)
+    (g.S.Source.octets c.read_data_value_level.new.src) c.read_data_value_level.result
+    (data_value_level c.args.depth (g.S.Source.octets c.args.src.now) (omega arith)) c.read_data_value_level.ensures.exact

@@ -10,4 +10,6 @@ returns-then-depth-eq0-clause-exact g c = variant_none c.args.depth (g.S.Source.
 
 pub returns-clause-exact : goal.returns-clause-exact
 returns-clause-exact g c =
-    gives_same variant_of (variant_at c.args.depth) (variant_step (scalars_at (c.args.depth - 1))) (g.S.Source.octets c.args.src.now) (g.S.Source.octets c.read_variant_level.new.src) c.read_variant_level.result (variant_level c.args.depth (g.S.Source.octets c.args.src.now) (omega arith)) c.read_variant_level.ensures.exact
+    gives_same variant_of (variant_at c.args.depth) (variant_step (scalars_at (c.args.depth - 1))) (g.S.Source.octets c.args.src.now)
+    (g.S.Source.octets c.read_variant_level.new.src) c.read_variant_level.result
+    (variant_level c.args.depth (g.S.Source.octets c.args.src.now) (omega arith)) c.read_variant_level.ensures.exact

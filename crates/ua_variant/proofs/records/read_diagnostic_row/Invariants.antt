@@ -7,6 +7,7 @@ use Rattle.ua_variant.proofs.records.read_diagnostic_row.Given as goal
 
 abbrev pub invariant-loop : goal.invariant-loop
 invariant-loop g l = record {
-  so_far : with_front (map scalar_of l.items.items) (row_at (l.count - l.counter) (scalars_at l.depth 25) (g.S.Source.octets l.src)) ≡ row_at l.count (scalars_at l.depth 25) (g.S.Source.octets l.fn.src);
+  so_far : with_front (map scalar_of l.items.items) (row_at (l.count - l.counter) (scalars_at l.depth 25) (g.S.Source.octets l.src))
+      ≡ row_at l.count (scalars_at l.depth 25) (g.S.Source.octets l.fn.src);
   behind : StaysBehind (g.S.Source.octets l.fn.src) (g.S.Source.octets l.src);
 }

@@ -8,6 +8,7 @@ use Rattle.ua_variant.proofs.records.read_held_row.Given as goal
 
 abbrev pub invariant-loop : goal.invariant-loop
 invariant-loop g l = record {
-  so_far : with_front (map scalar_of l.items.items) (row_at (l.count - l.counter) (leaves_at g.T.Leaf.kind) (g.S.Source.octets l.src)) ≡ row_at l.count (leaves_at g.T.Leaf.kind) (g.S.Source.octets l.fn.src);
+  so_far : with_front (map scalar_of l.items.items) (row_at (l.count - l.counter) (leaves_at g.T.Leaf.kind) (g.S.Source.octets l.src))
+      ≡ row_at l.count (leaves_at g.T.Leaf.kind) (g.S.Source.octets l.fn.src);
   behind : StaysBehind (g.S.Source.octets l.fn.src) (g.S.Source.octets l.src);
 }

@@ -36,6 +36,7 @@ decreases-skip_data_value_level g l = 10 * l.depth + 9
 
 abbrev pub invariant-skip_row-loop : goal.invariant-skip_row-loop
 invariant-skip_row-loop g l = record {
-  so_far : skipped (row_at (l.count - l.counter) (scalars_at l.depth l.kind)) (g.S.Source.octets l.src) ≡ skipped (row_at l.count (scalars_at l.depth l.kind)) (g.S.Source.octets l.fn.src);
+  so_far : skipped (row_at (l.count - l.counter) (scalars_at l.depth l.kind)) (g.S.Source.octets l.src) ≡ skipped (row_at l.count (scalars_at l.depth l.kind))
+      (g.S.Source.octets l.fn.src);
   behind : StaysBehind (g.S.Source.octets l.fn.src) (g.S.Source.octets l.src);
 }

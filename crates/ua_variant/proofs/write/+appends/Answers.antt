@@ -11,8 +11,13 @@ use Rattle.ua_variant.proofs.write.+appends.Goals as goal
 
 pub append_row-append_scalar-requires : goal.append_row-append_scalar-requires
 append_row-append_scalar-requires t c = (
-  omega (arith, count_below c.deref-s-items.result.now c.loop-s.s-index c.s-item.result c.args.items.now (ap (map scalar_of) c.deref-s-items.ensures.value ∙ ap elements_of (sym c.in-Mixed.is) ∙ c.elements.ensures) (omega arith) c.s-item.is),
-  fits_within c.args.kind c.deref-s-items.result.now c.loop-s.s-index c.s-item.result c.args.items.now (ap (map scalar_of) c.deref-s-items.ensures.value ∙ ap elements_of (sym c.in-Mixed.is) ∙ c.elements.ensures) (omega arith) c.s-item.is c.requires,
+  omega (
+    arith,
+    count_below c.deref-s-items.result.now c.loop-s.s-index c.s-item.result c.args.items.now (ap (map scalar_of) c.deref-s-items.ensures.value
+        ∙ ap elements_of (sym c.in-Mixed.is) ∙ c.elements.ensures) (omega arith) c.s-item.is,
+  ),
+  fits_within c.args.kind c.deref-s-items.result.now c.loop-s.s-index c.s-item.result c.args.items.now (ap (map scalar_of) c.deref-s-items.ensures.value
+      ∙ ap elements_of (sym c.in-Mixed.is) ∙ c.elements.ensures) (omega arith) c.s-item.is c.requires,
 )
 
 pub append_row-loop-s-preserved : goal.append_row-loop-s-preserved

@@ -8,4 +8,7 @@ pub returns-then-not-is_utf8 : goal.returns-then-not-is_utf8
 returns-then-not-is_utf8 c = rw c.deref.ensures.value at (not_utf8 c.deref.result.now (λ u. not_false (c.if-not-is_utf8.ensures.1 u)))
 
 pub returns : goal.returns
-returns c = (rw c.deref.ensures.value at (is_utf8-from_IsUtf8 c.deref.result.now (c.if-not-is_utf8.ensures.0 refl)), ap (λ v. v.items) c.from_utf8_unchecked.ensures.value)
+returns c = (
+  rw c.deref.ensures.value at (is_utf8-from_IsUtf8 c.deref.result.now (c.if-not-is_utf8.ensures.0 refl)),
+  ap (λ v. v.items) c.from_utf8_unchecked.ensures.value,
+)

@@ -7,4 +7,5 @@ returns-then-rest-count c = counted_short c.args.octets.now c.in_ok-count.rest.n
 
 pub returns : goal.returns
 returns c =
-    rw (c.split_at.ensures.front, c.split_at.ensures.back) (counted_there c.args.octets.now c.in_ok-count.rest.now c.in_ok-count.count c.in_ok-count.ensures (omega arith) (omega arith))
+    rw (c.split_at.ensures.front, c.split_at.ensures.back) (counted_there c.args.octets.now c.in_ok-count.rest.now c.in_ok-count.count c.in_ok-count.ensures
+    (omega arith) (omega arith))

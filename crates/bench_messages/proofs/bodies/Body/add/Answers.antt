@@ -10,4 +10,11 @@ length_part parts part =
 
 pub invariant_of-self : goal.invariant_of-self
 invariant_of-self c =
-    omega (arith, c.in-Some.ensures, c.self.invariant, c.len.ensures.value, ap (λ (t : List (List ℕ)). length (concat t)) c.in-Ok.ensures.items, length_part c.self.inside.parts.items c.args.part)
+    omega (
+      arith,
+      c.in-Some.ensures,
+      c.self.invariant,
+      c.len.ensures.value,
+      ap (λ (t : List (List ℕ)). length (concat t)) c.in-Ok.ensures.items,
+      length_part c.self.inside.parts.items c.args.part,
+    )

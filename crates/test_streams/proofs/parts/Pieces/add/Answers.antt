@@ -8,4 +8,12 @@ invariant_of-self c =
     let parts : List (List ℕ) = c.self.inside.parts.items in
     let part : List ℕ = c.args.part in
     let added : c.push.new.self.items ≡ parts ++ part ∷ [] = c.in-Ok.ensures.items in
-    omega (arith, c.self.invariant, c.len-more.ensures.value, ap (λ (t : List (List ℕ)). length (concat t)) added, ap length (concat-append parts (part ∷ [])), length-append (concat parts) (concat (part ∷ [])), length-append part [])
+    omega (
+      arith,
+      c.self.invariant,
+      c.len-more.ensures.value,
+      ap (λ (t : List (List ℕ)). length (concat t)) added,
+      ap length (concat-append parts (part ∷ [])),
+      length-append (concat parts) (concat (part ∷ [])),
+      length-append part [],
+    )

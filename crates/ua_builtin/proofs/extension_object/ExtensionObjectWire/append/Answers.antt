@@ -4,4 +4,5 @@ use Rattle.ua_builtin.proofs.extension_object.ExtensionObjectWire.append.Goals a
 
 pub returns-then-is_null-clause-ok : goal.returns-then-is_null-clause-ok
 returns-then-is_null-clause-ok c =
-    c.in_ok-extend_from_slice.ensures.items ∙ ap (λ (t : List ℕ). c.args.out.now.items ++ t) (sym (null_written c.args.self.now (c.is_null.ensures.0 c.if-is_null.true)))
+    c.in_ok-extend_from_slice.ensures.items
+    ∙ ap (λ (t : List ℕ). c.args.out.now.items ++ t) (sym (null_written c.args.self.now (c.is_null.ensures.0 c.if-is_null.true)))

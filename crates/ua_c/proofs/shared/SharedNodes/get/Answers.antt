@@ -9,5 +9,6 @@ returns-in-Err c =
     let node = c.in-Some.node.now in
     let at = sym c.in-Some.ensures.node in
     gets_none (node_at_index c.args.self.now c.args.index) node c.args.buffer.now c.args.buffer.now 0 c.nothing.result c.in-Err.status at
-    (only_memory c.get.result.now node.value c.in-Err.status c.get.ensures (encodes_at_index c.args.self.now c.args.index node c.in-Some.ensures.sound at) c.in-Err.ensures.fault)
+    (only_memory c.get.result.now node.value c.in-Err.status c.get.ensures (encodes_at_index c.args.self.now c.args.index node c.in-Some.ensures.sound at)
+    c.in-Err.ensures.fault)
     (search rules)

@@ -8,15 +8,35 @@ pub returns-then-len-gt0 : goal.returns-then-len-gt0
 returns-then-len-gt0 c =
     let a = c.len.ensures in
     let b = c.if-len-gt0.true in
-    λ others. steps_waiting _ _ (record { machine = machine.Nodes c.args.self.now; waiting = others }) _ c.args.piece.now c.args.moment c.only.result c.args.served.now c.args.self.now refl refl
+    λ others. steps_waiting _ _ (record { machine = machine.Nodes c.args.self.now; waiting = others }) _ c.args.piece.now c.args.moment c.only.result
+    c.args.served.now c.args.self.now refl refl
     (omega (a, b, arith)) refl refl c.only.ensures
 
 -- where nothing waits
 pub returns : goal.returns
 returns c =
     let by = c.step_telling-answer.ensures in
-    λ others. steps_shared (record { machine = machine.Connection c.args.served.now; waiting = c.args.waiting.now }) _ (record { machine = machine.Nodes c.args.self.now; waiting = others }) _ c.args.piece.now c.args.moment c.of_stored.result
+    λ others. steps_shared (record { machine = machine.Connection c.args.served.now; waiting = c.args.waiting.now }) _
+    (record { machine = machine.Nodes c.args.self.now; waiting = others }) _ c.args.piece.now c.args.moment c.of_stored.result
     c.args.served.now (record { connection = c.step_telling-answer.new.self; written = c.of_stored.new.left }) c.args.self.now
-    (record { services = c.step_telling-answer.new.services }) c.step_telling-answer.result c.step_telling-answer.new.written refl refl (λ some. let a = c.len.ensures in let b = c.if-len-gt0.false in omega (some, a, b, arith))
-    (record { among = by.among; now = by.now; history = by.history; stands = by.stands; stores = by.stores; failed = by.failed; apart = by.apart; endpoint = by.endpoint; memory_limit = by.memory_limit; ids = by.ids; progress = by.progress; starved = by.starved; closed = by.closed; limits = by.limits; channel = by.channel })
+    (record { services = c.step_telling-answer.new.services }) c.step_telling-answer.result c.step_telling-answer.new.written refl refl
+    (λ some. let a = c.len.ensures in let b = c.if-len-gt0.false in omega (some, a, b, arith))
+    (record {
+      among = by.among;
+      now = by.now;
+      history = by.history;
+      stands = by.stands;
+      stores = by.stores;
+      failed = by.failed;
+      apart = by.apart;
+      endpoint = by.endpoint;
+      memory_limit = by.memory_limit;
+      ids = by.ids;
+      progress = by.progress;
+      starved = by.starved;
+      closed = by.closed;
+      limits =
+          by.limits;
+      channel = by.channel;
+    })
     refl refl c.of_stored.ensures.shows c.of_stored.ensures.stored

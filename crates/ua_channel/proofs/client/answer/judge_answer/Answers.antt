@@ -10,10 +10,13 @@ returns-in-Err c = judges_headers c.args.frame.body c.in-Err.fault c.of_open.res
 
 pub returns-in-Ok-judge_body : goal.returns-in-Ok-judge_body
 returns-in-Ok-judge_body c =
-    judges_good c.in-Ok.opening.channel c.in-Ok.opening.sequence c.in-Ok.opening.request c.args.frame.body c.in-Ok.opening.body (has_headers c.args.frame c.in-Ok.opening c.in-Ok.ensures.found) _ refl refl
-    (subst (λ (t : List ℕ). Judged (body_reasons (answer_read t)) (IsAnsweredBy (answer_read t)) (Ok (c.in-Ok-judge_body.channel, c.in-Ok-judge_body.token))) c.deref.ensures c.in-Ok-judge_body.ensures)
+    judges_good c.in-Ok.opening.channel c.in-Ok.opening.sequence c.in-Ok.opening.request c.args.frame.body c.in-Ok.opening.body
+    (has_headers c.args.frame c.in-Ok.opening c.in-Ok.ensures.found) _ refl refl
+    (subst (λ (t : List ℕ). Judged (body_reasons (answer_read t)) (IsAnsweredBy (answer_read t)) (Ok (c.in-Ok-judge_body.channel, c.in-Ok-judge_body.token)))
+    c.deref.ensures c.in-Ok-judge_body.ensures)
 
 pub returns : goal.returns
 returns c =
-    judges_body c.in-Ok.opening.channel c.in-Ok.opening.sequence c.in-Ok.opening.request c.args.frame.body c.in-Ok.opening.body (has_headers c.args.frame c.in-Ok.opening c.in-Ok.ensures.found) c.in-Err-judge_body.fault
+    judges_body c.in-Ok.opening.channel c.in-Ok.opening.sequence c.in-Ok.opening.request c.args.frame.body c.in-Ok.opening.body
+    (has_headers c.args.frame c.in-Ok.opening c.in-Ok.ensures.found) c.in-Err-judge_body.fault
     (subst (λ (t : List ℕ). IsStopFor (body_reasons (answer_read t)) c.in-Err-judge_body.fault) c.deref.ensures c.in-Err-judge_body.ensures)

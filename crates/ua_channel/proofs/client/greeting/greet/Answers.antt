@@ -7,4 +7,5 @@ pub returns-in-Ack : goal.returns-in-Ack
 returns-in-Ack c = λ let_in. judged_ack c.args.limits.now c.args.frame c.deref.result.now c.judge_ack.result c.in-Ack.is c.deref.ensures c.judge_ack.ensures
 
 pub returns-in-Err : goal.returns-in-Err
-returns-in-Err c = λ let_in. stopped_err c.args.limits.now nothing_received [] c.args.frame c.deref-in-Err.result.now c.stop_of_error.result c.in-Err.is c.deref-in-Err.ensures c.stop_of_error.ensures
+returns-in-Err c = λ let_in. stopped_err c.args.limits.now nothing_received [] c.args.frame c.deref-in-Err.result.now c.stop_of_error.result c.in-Err.is
+    c.deref-in-Err.ensures c.stop_of_error.ensures

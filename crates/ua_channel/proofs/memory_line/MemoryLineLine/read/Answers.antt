@@ -15,5 +15,6 @@ returns-in-Ok-clause-octets c =
     let room : length (c.copy_from_slice.new.self ++ drop c.in-Ok.n c.args.buffer.now) ≡ length c.args.buffer.now = search rules in
     let from : c.args.self.now.traffic.coming ≡ drop i.read i.octets.items = search rules in
     let kept : i.written.items ≡ c.args.self.now.traffic.written = search rules in
-    let whole = from ∙ (a ∙ ap (λ (t : List ℕ). take c.in-Ok.n (t ++ drop c.in-Ok.n c.args.buffer.now) ++ drop (i.read + c.in-Ok.n) i.octets.items) (sym put)) in
+    let whole = from ∙ (a ∙ ap (λ (t : List ℕ). take c.in-Ok.n (t ++ drop c.in-Ok.n c.args.buffer.now) ++ drop (i.read + c.in-Ok.n) i.octets.items) (sym put))
+    in
     (λ more. whole, kept, λ z r. from ∙ b z (subst (λ (k : ℕ). 0 < k) room r))

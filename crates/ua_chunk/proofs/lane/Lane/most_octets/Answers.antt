@@ -12,4 +12,5 @@ returns-clause-most c =
 
 pub returns-clause-cut : goal.returns-clause-cut
 returns-clause-cut c = λ body pos.
-    subst (λ (o : Option ℕ). (cut_refusal c.args.self.now body ≡ None) ↔ IsAtMost (length body) o) (sym (returns-clause-most c)) (most_is c.args.self.now body pos)
+    subst (λ (o : Option ℕ). (cut_refusal c.args.self.now body ≡ None) ↔ IsAtMost (length body) o) (sym (returns-clause-most c))
+    (most_is c.args.self.now body pos)

@@ -15,12 +15,15 @@ returns-in_default-clause-taken c =
     ∙ sym ((missing (is_under c.args.request) (nothing_of c.args.request) c.args.self.now (sym c.place.ensures ∙ c.in_default.is)).1)
 
 pub returns-in_default-clause-rest : goal.returns-in_default-clause-rest
-returns-in_default-clause-rest c = sym ((missing (is_under c.args.request) (nothing_of c.args.request) c.args.self.now (sym c.place.ensures ∙ c.in_default.is)).0)
+returns-in_default-clause-rest c =
+    sym ((missing (is_under c.args.request) (nothing_of c.args.request) c.args.self.now (sym c.place.ensures ∙ c.in_default.is)).0)
 
 pub returns-clause-taken : goal.returns-clause-taken
 returns-clause-taken c =
-    let read : c.remove-pending.result ≡ slice_index_or c.args.self.now c.in-Some.place c.remove-pending.result = c.remove-pending.ensures.value ∙ ap (λ (ms : List Pending). slice_index_or ms c.in-Some.place c.remove-pending.result) c.self.view_is in
-    found_value (is_under c.args.request) (nothing_of c.args.request) c.remove-pending.result c.args.self.now c.in-Some.place (sym c.place.ensures ∙ c.in-Some.is) read
+    let read : c.remove-pending.result ≡ slice_index_or c.args.self.now c.in-Some.place c.remove-pending.result = c.remove-pending.ensures.value
+    ∙ ap (λ (ms : List Pending). slice_index_or ms c.in-Some.place c.remove-pending.result) c.self.view_is in
+    found_value (is_under c.args.request) (nothing_of c.args.request) c.remove-pending.result c.args.self.now c.in-Some.place (sym c.place.ensures
+    ∙ c.in-Some.is) read
 
 pub returns-clause-rest : goal.returns-clause-rest
 returns-clause-rest c =

@@ -6,7 +6,8 @@ use Rattle.ua_client.proofs.client.Client.call.Goals as goal
 
 pub returns-in-Ok-clause-calls : goal.returns-in-Ok-clause-calls
 returns-in-Ok-clause-calls g c = λ ready.
-    calls-one (λ replies. replies.items) c.from_ref.result.now c.args.request.now c.args.self.now.connection c.call_all.new.self.connection (g.L.Line.traffic c.args.line.now) (g.L.Line.traffic c.call_all.new.line) c.in-Ok.replies c.only_reply.result
+    calls-one (λ replies. replies.items) c.from_ref.result.now c.args.request.now c.args.self.now.connection c.call_all.new.self.connection
+    (g.L.Line.traffic c.args.line.now) (g.L.Line.traffic c.call_all.new.line) c.in-Ok.replies c.only_reply.result
     c.from_ref.ensures.value c.only_reply.ensures (c.in-Ok.ensures.calls ready)
 
 pub returns-in-Ok-clause-closed : goal.returns-in-Ok-clause-closed
@@ -14,7 +15,8 @@ returns-in-Ok-clause-closed g c = λ done. found-none c.in-Ok.replies Closed (c.
 
 pub returns-in-Err-clause-calls : goal.returns-in-Err-clause-calls
 returns-in-Err-clause-calls g c = λ ready.
-    breaks-one (λ replies. replies.items) (λ (reply : Reply). reply ∷ []) c.from_ref.result.now c.args.request.now c.args.self.now.connection c.call_all.new.self.connection (g.L.Line.traffic c.args.line.now) (g.L.Line.traffic c.call_all.new.line) c.in-Err.fault
+    breaks-one (λ replies. replies.items) (λ (reply : Reply). reply ∷ []) c.from_ref.result.now c.args.request.now c.args.self.now.connection
+    c.call_all.new.self.connection (g.L.Line.traffic c.args.line.now) (g.L.Line.traffic c.call_all.new.line) c.in-Err.fault
     c.from_ref.ensures.value (c.in-Err.ensures.calls ready)
 
 pub returns-in-Err-clause-closed : goal.returns-in-Err-clause-closed

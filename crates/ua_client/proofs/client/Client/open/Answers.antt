@@ -16,9 +16,16 @@ pub returns-in-Ok-open-clause-opens : goal.returns-in-Ok-open-clause-opens
 returns-in-Ok-open-clause-opens g c =
     inr (record {
       begun = c.in-Ok.connection;
-      fresh = record { goes = fresh-goes c.in-Ok.connection.channel c.in-Ok.ensures.stands; untaken = c.in-Ok.ensures.untaken; limits_are = c.in-Ok.ensures.limits; url_is = c.in-Ok.ensures.url; next_is = c.in-Ok.ensures.next };
+      fresh = record {
+        goes = fresh-goes c.in-Ok.connection.channel c.in-Ok.ensures.stands;
+        untaken = c.in-Ok.ensures.untaken;
+        limits_are = c.in-Ok.ensures.limits;
+        url_is = c.in-Ok.ensures.url;
+        next_is = c.in-Ok.ensures.next;
+      };
       last = c.open.new.self;
-      opens = opens-as c.args.moment c.in-Ok.connection c.open.new.self (g.L.Line.traffic c.args.line.now) (g.L.Line.traffic c.open.new.line) c.in-Ok-open.field-0 _ c.in-Ok-open.ensures.opens;
+      opens = opens-as c.args.moment c.in-Ok.connection c.open.new.self (g.L.Line.traffic c.args.line.now) (g.L.Line.traffic c.open.new.line)
+          c.in-Ok-open.field-0 _ c.in-Ok-open.ensures.opens;
       over = (refl, refl);
     })
 
@@ -26,14 +33,22 @@ pub returns-in-Err-open-clause-opens : goal.returns-in-Err-open-clause-opens
 returns-in-Err-open-clause-opens g c =
     inr (record {
       begun = c.in-Ok.connection;
-      fresh = record { goes = fresh-goes c.in-Ok.connection.channel c.in-Ok.ensures.stands; untaken = c.in-Ok.ensures.untaken; limits_are = c.in-Ok.ensures.limits; url_is = c.in-Ok.ensures.url; next_is = c.in-Ok.ensures.next };
+      fresh = record {
+        goes = fresh-goes c.in-Ok.connection.channel c.in-Ok.ensures.stands;
+        untaken = c.in-Ok.ensures.untaken;
+        limits_are = c.in-Ok.ensures.limits;
+        url_is = c.in-Ok.ensures.url;
+        next_is = c.in-Ok.ensures.next;
+      };
       last = c.open.new.self;
-      opens = breaks-as c.args.moment c.in-Ok.connection c.open.new.self (g.L.Line.traffic c.args.line.now) (g.L.Line.traffic c.open.new.line) c.in-Err-open.fault c.in-Err-open.ensures.opens;
+      opens = breaks-as c.args.moment c.in-Ok.connection c.open.new.self (g.L.Line.traffic c.args.line.now) (g.L.Line.traffic c.open.new.line)
+          c.in-Err-open.fault c.in-Err-open.ensures.opens;
       over = tt;
     })
 
 pub invariant_of-result : goal.invariant_of-result
 invariant_of-result g c = record {
-  settled = λ ready. stands-opened c.clients_are_settled.ensures.opened c.args.moment c.in-Ok.connection c.open.new.self (g.L.Line.traffic c.args.line.now) (g.L.Line.traffic c.open.new.line) tt
+  settled = λ ready. stands-opened c.clients_are_settled.ensures.opened c.args.moment c.in-Ok.connection c.open.new.self (g.L.Line.traffic c.args.line.now)
+      (g.L.Line.traffic c.open.new.line) tt
       (fresh-goes c.in-Ok.connection.channel c.in-Ok.ensures.stands) c.in-Ok-open.ensures.opens;
 }

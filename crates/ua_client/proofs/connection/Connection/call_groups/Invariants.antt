@@ -6,7 +6,8 @@ abbrev pub invariant-loop-start : goal.invariant-loop-start
 invariant-loop-start g l = record {
   within : l.start ≤ length l.requests;
   count : length l.replies.items ≡ length l.fn.replies.items + l.start;
-  called : Called (take l.start l.requests) (l.start < length l.requests) l.fn.self l.self (g.L.Line.traffic l.fn.line) (g.L.Line.traffic l.line) l.reads l.fn.replies.items l.replies.items;
+  called : Called (take l.start l.requests) (l.start < length l.requests) l.fn.self l.self (g.L.Line.traffic l.fn.line) (g.L.Line.traffic l.line) l.reads
+      l.fn.replies.items l.replies.items;
   same : g.L.Line.failures l.line ≡ g.L.Line.failures l.fn.line;
 }
 

@@ -9,10 +9,12 @@ returns-in_default-clause-creates g c =
 
 pub returns-in-Ok-serve-clause-creates : goal.returns-in-Ok-serve-clause-creates
 returns-in-Ok-serve-clause-creates g c =
-    created (url_of c.args.self.now.channel) c.args.moment c.in-Ok.request c.args.self.now c.serve.new.self (g.L.Line.traffic c.args.line.now) (g.L.Line.traffic c.serve.new.line) c.args.reads.now c.serve.new.reads
+    created (url_of c.args.self.now.channel) c.args.moment c.in-Ok.request c.args.self.now c.serve.new.self (g.L.Line.traffic c.args.line.now)
+    (g.L.Line.traffic c.serve.new.line) c.args.reads.now c.serve.new.reads
     c.in-Ok.ensures c.in-Ok-serve.reply c.in-Ok-serve.ensures.serves c.token_of.result c.token_of.ensures.token c.token_of.ensures.fault
 
 pub returns-in-Err-clause-creates : goal.returns-in-Err-clause-creates
 returns-in-Err-clause-creates g c =
-    made-broken c.in-Ok.request c.args.self.now c.serve.new.self (g.L.Line.traffic c.args.line.now) (g.L.Line.traffic c.serve.new.line) c.args.reads.now c.serve.new.reads
+    made-broken c.in-Ok.request c.args.self.now c.serve.new.self (g.L.Line.traffic c.args.line.now) (g.L.Line.traffic c.serve.new.line) c.args.reads.now
+    c.serve.new.reads
     (creating_at (url_of c.args.self.now.channel) c.args.moment) c.in-Ok.ensures brings_token c.in-Err.fault c.in-Err.ensures.serves

@@ -21,5 +21,7 @@ fits xs d n h = let l = length-take d xs in omega (arith, l, h)
 pub returns : goal.returns
 returns c =
     let i = c.self.inside in
-    let few : c.args.count ≤ length (take (i.end - i.start) (drop i.start i.octets.items)) = subst (λ (xs : List ℕ). c.args.count ≤ length xs) (sym c.self.view_is) c.requires in
-    skipped i.octets.items i.start i.end c.args.count (fits (drop i.start i.octets.items) (i.end - i.start) c.args.count few) ∙ ap (drop c.args.count) c.self.view_is
+    let few : c.args.count ≤ length (take (i.end - i.start) (drop i.start i.octets.items)) =
+    subst (λ (xs : List ℕ). c.args.count ≤ length xs) (sym c.self.view_is) c.requires in
+    skipped i.octets.items i.start i.end c.args.count (fits (drop i.start i.octets.items) (i.end - i.start) c.args.count few)
+    ∙ ap (drop c.args.count) c.self.view_is

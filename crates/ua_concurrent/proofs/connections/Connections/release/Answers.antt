@@ -11,7 +11,8 @@ returns-then-not-is_over-clause-released g c = none_over _ (sym c.is_over.ensure
 
 pub index_mut-requires : goal.index_mut-requires
 index_mut-requires g c =
-    let less : c.args.place < length c.args.self.now.places.items = over_within c.args.self.now.places.items c.args.place (sym c.is_over.ensures ∙ c.if-not-is_over.false) in
+    let less : c.args.place < length c.args.self.now.places.items = over_within c.args.self.now.places.items c.args.place (sym c.is_over.ensures
+    ∙ c.if-not-is_over.false) in
     search rules
 
 pub returns-in-Some-clause-released : goal.returns-in-Some-clause-released
@@ -34,5 +35,6 @@ returns-in-Some-clause-kept g c =
 
 pub returns-in-Some-clause-stand : goal.returns-in-Some-clause-stand
 returns-in-Some-clause-stand g c = λ es first now s.
-    subst (λ (gone : Option (Talk _)). StandTogether g.S.Socket.heard es first now c.args.self.now.opened (slice_set c.args.self.now.places.items c.args.place gone)) (sym c.replace.ensures.after)
+    subst (λ (gone : Option (Talk _)). StandTogether g.S.Socket.heard es first now c.args.self.now.opened
+    (slice_set c.args.self.now.places.items c.args.place gone)) (sym c.replace.ensures.after)
     (together_freed g.S.Socket.heard es first now c.args.self.now.opened c.args.place c.args.self.now.places.items s)

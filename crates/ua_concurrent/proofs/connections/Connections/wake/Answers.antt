@@ -10,4 +10,5 @@ returns-in-Some-clause-stand g c = λ es first now s.
     let within : c.args.place < length places = omega (arith, c.if-place-len.true, c.len.ensures) in
     let here : IsAt places c.args.place c.in-Some.conversation =
     slice_get_read places _ c.args.place _ refl within c.index_mut.ensures.value ∙ ap Some c.in-Some.is in
-    together_woken g.S.Socket.heard es first now c.args.self.now.opened c.args.place c.in-Some.conversation c.wake.new.self places within here c.wake.ensures.same c.wake.ensures.heard s
+    together_woken g.S.Socket.heard es first now c.args.self.now.opened c.args.place c.in-Some.conversation c.wake.new.self places within here
+    c.wake.ensures.same c.wake.ensures.heard s

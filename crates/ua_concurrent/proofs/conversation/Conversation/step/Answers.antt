@@ -15,8 +15,11 @@ returns-in-Ok-clause-went g c = λ es first. rw (← c.self.view_is) (λ s.
     } in
     let going = ap (λ (t : Talk _). t.phase) c.self.view_is ∙ c.requires.going in
     let nodes = c.before_step-moment.new.services.nodes in
-    let here = behind_change g.S.Socket.heard laws es first c.args.services.now nodes _ going s c.before_step-moment.new.services c.before_step-moment.ensures.nodes in
-    went_stepped g.S.Socket.heard laws es first c.args.services.now nodes _ going s c.before_step-moment.new.services c.before_step-moment.ensures.nodes _ c.before_step-moment.result _ (rest_of c.self.inside.stepped _ _ (ap (take c.self.inside.filled) c.deref.ensures.value)) c.step_telling.new.self c.step_telling.new.services c.in-Ok.step c.keep.new.self
+    let here = behind_change g.S.Socket.heard laws es first c.args.services.now nodes _ going s c.before_step-moment.new.services
+    c.before_step-moment.ensures.nodes in
+    went_stepped g.S.Socket.heard laws es first c.args.services.now nodes _ going s c.before_step-moment.new.services c.before_step-moment.ensures.nodes _
+    c.before_step-moment.result _ (rest_of c.self.inside.stepped _ _ (ap (take c.self.inside.filled) c.deref.ensures.value)) c.step_telling.new.self
+    c.step_telling.new.services c.in-Ok.step c.keep.new.self
     (c.in-Ok.ensures.among _ _ _ _ _ here.0) c.keep.ensures)
 
 pub returns-clause-went : goal.returns-clause-went
@@ -29,13 +32,17 @@ returns-clause-went g c = λ es first. rw (← c.self.view_is) (λ s.
     } in
     let going = ap (λ (t : Talk _). t.phase) c.self.view_is ∙ c.requires.going in
     let nodes = c.before_step-moment.new.services.nodes in
-    let here = behind_change g.S.Socket.heard laws es first c.args.services.now nodes _ going s c.before_step-moment.new.services c.before_step-moment.ensures.nodes in
-    went_starved g.S.Socket.heard laws es first c.args.services.now nodes _ going s c.before_step-moment.new.services c.before_step-moment.ensures.nodes _ c.before_step-moment.result _ (rest_of c.self.inside.stepped _ _ (ap (take c.self.inside.filled) c.deref.ensures.value)) c.step_telling.new.self c.step_telling.new.services c.in-Err.field-0
+    let here = behind_change g.S.Socket.heard laws es first c.args.services.now nodes _ going s c.before_step-moment.new.services
+    c.before_step-moment.ensures.nodes in
+    went_starved g.S.Socket.heard laws es first c.args.services.now nodes _ going s c.before_step-moment.new.services c.before_step-moment.ensures.nodes _
+    c.before_step-moment.result _ (rest_of c.self.inside.stepped _ _ (ap (take c.self.inside.filled) c.deref.ensures.value)) c.step_telling.new.self
+    c.step_telling.new.services c.in-Err.field-0
     (c.in-Err.ensures.among _ _ _ _ _ here.0))
 
 pub returns-in-Ok-clause-acted : goal.returns-in-Ok-clause-acted
 returns-in-Ok-clause-acted g c =
-    acted_twice g.A.Application.acts (Acted c.args.services.now c.before_step-moment.new.services c.before_step-moment.result) (Told c.self.inside.number c.step_telling.new.written)
+    acted_twice g.A.Application.acts (Acted c.args.services.now c.before_step-moment.new.services c.before_step-moment.result)
+    (Told c.self.inside.number c.step_telling.new.written)
     c.args.application.now c.before_step-moment.new.self c.after_step.new.self c.before_step-moment.ensures.acts c.after_step.ensures
 
 pub returns-clause-acted : goal.returns-clause-acted

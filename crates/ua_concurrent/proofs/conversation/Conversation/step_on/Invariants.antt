@@ -10,5 +10,6 @@ abbrev pub invariant-loop : goal.invariant-loop
 invariant-loop g l = record {
   stepped : Stepped l.fn.self l.self;
   acted : HasActed g.A.Application.acts l.fn.application l.application;
-  went : (es : List SharedEvent) (first : State) → Stands g.S.Socket.heard es first l.fn.services l.fn.self → Went g.S.Socket.heard es first l.fn.services l.services l.self;
+  went : (es : List SharedEvent) (first : State) → Stands g.S.Socket.heard es first l.fn.services l.fn.self
+      → Went g.S.Socket.heard es first l.fn.services l.services l.self;
 }

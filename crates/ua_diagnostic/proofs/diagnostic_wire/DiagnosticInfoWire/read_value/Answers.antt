@@ -9,4 +9,5 @@ use Rattle.ua_diagnostic.proofs.diagnostic_wire.DiagnosticInfoWire.read_value.Go
 pub returns-clause-exact : goal.returns-clause-exact
 unfolding diagnostic_format
 returns-clause-exact g c =
-    gives_made diagnostic_of diagnostic_value (diagnostic_at c.args.depth) diagnostic_value_of (g.S.Source.octets c.args.src.now) (g.S.Source.octets c.read_diagnostic.new.src) c.read_diagnostic.result c.read_diagnostic.ensures.exact
+    gives_made diagnostic_of diagnostic_value (diagnostic_at c.args.depth) diagnostic_value_of (g.S.Source.octets c.args.src.now)
+    (g.S.Source.octets c.read_diagnostic.new.src) c.read_diagnostic.result c.read_diagnostic.ensures.exact

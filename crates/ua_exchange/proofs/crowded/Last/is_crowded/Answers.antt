@@ -5,7 +5,8 @@ use Rattle.ua_exchange.proofs.Counting.{crowded-few, crowded-many}
 use Rattle.ua_exchange.proofs.crowded.Last.is_crowded.Goals as goal
 
 pub returns-then-self-le-MOST_CALLS : goal.returns-then-self-le-MOST_CALLS
-returns-then-self-le-MOST_CALLS c = λ before k. sym (crowded-few before c.args.self.renewals c.args.self.calls k c.if-self-le-MOST_CALLS.true) ∙ ap (is_crowded before) (sym c.in-Renew.is)
+returns-then-self-le-MOST_CALLS c = λ before k. sym (crowded-few before c.args.self.renewals c.args.self.calls k c.if-self-le-MOST_CALLS.true)
+    ∙ ap (is_crowded before) (sym c.in-Renew.is)
 
 pub returns-else-self-le-MOST_CALLS : goal.returns-else-self-le-MOST_CALLS
 returns-else-self-le-MOST_CALLS c = λ before k.

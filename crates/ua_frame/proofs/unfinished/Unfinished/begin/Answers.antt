@@ -6,8 +6,12 @@ use Rattle.ua_frame.proofs.unfinished.Unfinished.begin.Goals as goal
 pub returns-in-Some-clause-makes : goal.returns-in-Some-clause-makes
 returns-in-Some-clause-makes c =
     let u = c.args.self.now in
-    let none = c.requires.kept.short c.requires.header in
-    (refused u.header c.fill-n.new.header u.body.items c.args.piece.now u.have c.fill-n.result c.requires.kept.eight (c.fill-n.auto.header ∙ c.requires.kept.eight) none c.requires.header c.fill-n.ensures.count c.fill-n.ensures.filled c.if-self-lt-HEADER_LEN.false u.gate c.in-Some.fault (sym c.judge.ensures ∙ c.in-Some.is), none)
+    let none = c.requires.kept.short c.requires.header in (
+      refused u.header c.fill-n.new.header u.body.items c.args.piece.now u.have c.fill-n.result c.requires.kept.eight (c.fill-n.auto.header
+          ∙ c.requires.kept.eight) none c.requires.header c.fill-n.ensures.count c.fill-n.ensures.filled c.if-self-lt-HEADER_LEN.false u.gate c.in-Some.fault
+          (sym c.judge.ensures ∙ c.in-Some.is),
+      none,
+    )
 
 pub go_on-requires-clause-kept : goal.go_on-requires-clause-kept
 go_on-requires-clause-kept c =
@@ -25,5 +29,6 @@ pub returns-clause-makes : goal.returns-clause-makes
 returns-clause-makes c =
     let u = c.args.self.now in
     let none = c.requires.kept.short c.requires.header in
-    let mid = header_then u.header c.fill-n.new.header u.body.items c.args.piece.now u.have c.fill-n.result c.requires.kept.eight (c.fill-n.auto.header ∙ c.requires.kept.eight) none c.requires.header c.fill-n.ensures.count c.fill-n.ensures.filled c.if-self-lt-HEADER_LEN.false in
+    let mid = header_then u.header c.fill-n.new.header u.body.items c.args.piece.now u.have c.fill-n.result c.requires.kept.eight (c.fill-n.auto.header
+    ∙ c.requires.kept.eight) none c.requires.header c.fill-n.ensures.count c.fill-n.ensures.filled c.if-self-lt-HEADER_LEN.false in
     makes_more u.gate _ _ c.args.piece.now c.fill-n.result (omega (arith, c.fill-n.ensures.count)) mid c.in_ok-m.m c.in_ok-m.frame _ c.in_ok-m.ensures.makes

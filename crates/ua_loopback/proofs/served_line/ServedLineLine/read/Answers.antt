@@ -25,5 +25,6 @@ returns-clause-octets g c =
           ap (λ (k : ℕ). drop k (server_output b (c.args.self.now.up ++ []))) (sym read)
           ∙ (ap (λ (o : List ℕ). drop i.read (server_output b (o ++ []))) (sym up)
           ∙ read_none b i.up.items i.down.items i.read c.self.invariant.0.down_is
-          (none_left i.down.items i.read (length c.args.buffer.now) n (subst (λ (k : ℕ). 0 < k → 0 < n) least c.front-n.ensures.some) none (subst (λ (k : ℕ). 0 < k) room roomy))),
+          (none_left i.down.items i.read (length c.args.buffer.now) n (subst (λ (k : ℕ). 0 < k → 0 < n) least c.front-n.ensures.some) none
+          (subst (λ (k : ℕ). 0 < k) room roomy))),
     )

@@ -24,16 +24,20 @@ returns-then-is_none-clause-whole c = λ none.
     let v = c.args.self.now in
     let item = c.args.item.now in
     let value : item.attribute_id ≡ 13 = search rules in
-    let granted : ◌≡◌ {A = Result (Attribute × Option IndexRange) StatusCode} (judged (first_reason (read_item_reasons v item)) (attribute_of item.attribute_id) (asked_range item.index_range)) (Ok (c.in-Ok.asked.0, None)) = search rules in
+    let granted : ◌≡◌ {A = Result (Attribute × Option IndexRange) StatusCode}
+    (judged (first_reason (read_item_reasons v item)) (attribute_of item.attribute_id) (asked_range item.index_range)) (Ok (c.in-Ok.asked.0, None)) =
+    search rules in
     whole_is item v c.in-Ok.asked.0 c.args.stamps c.args.moment value granted
 
 pub returns-clause-made : goal.returns-clause-made
 returns-clause-made c =
     let v = c.args.self.now in
     let item = c.args.item.now in
-    let ok = judged_ok (first_reason (read_item_reasons v item)) (attribute_of item.attribute_id) (asked_range item.index_range) c.in-Ok.asked.0 c.in-Ok.asked.1 (sym c.in-Ok.is ∙ c.judge_read.ensures) in
+    let ok = judged_ok (first_reason (read_item_reasons v item)) (attribute_of item.attribute_id) (asked_range item.index_range) c.in-Ok.asked.0 c.in-Ok.asked.1
+    (sym c.in-Ok.is ∙ c.judge_read.ensures) in
     let value = c.new-value.ensures ∙ c.in_ok-value_read.ensures ∙ ap (value_read item.node_id v c.in-Ok.asked.0) ok.2 in
     c.stamped.ensures
     ∙ ap (λ (x : VariantData). valued x (stamps_of v (nat_eq item.attribute_id 13) c.args.stamps c.args.moment)) value
-    ∙ ap (λ (a : Option Attribute). with_stamps (option_map (λ b. value_read item.node_id v b (asked_range item.index_range)) a) (stamps_of v (nat_eq item.attribute_id 13) c.args.stamps c.args.moment)) ok.1
+    ∙ ap (λ (a : Option Attribute). with_stamps (option_map (λ b. value_read item.node_id v b (asked_range item.index_range)) a)
+    (stamps_of v (nat_eq item.attribute_id 13) c.args.stamps c.args.moment)) ok.1
     ∙ ap (λ (o : Option StatusCode). read_by o v item c.args.stamps c.args.moment) ok.0

@@ -26,5 +26,6 @@ pub append_value-requires : goal.append_value-requires
 append_value-requires c =
     let item = c.args.item.now in
     let there : node_at c.args.self.now item.node_id ≡ Some c.in-Some.variable.now = search rules in
-    ap data_value_encodable (sym (ap (λ (o : Option Variable). read_answer o item c.args.stamps c.args.moment) there ∙ c.in_ok-answer.ensures.whole c.in-None.is))
+    ap data_value_encodable
+    (sym (ap (λ (o : Option Variable). read_answer o item c.args.stamps c.args.moment) there ∙ c.in_ok-answer.ensures.whole c.in-None.is))
     ∙ read_sound c.args.self.now item c.args.stamps c.args.moment c.moment_is_encodable.ensures c.requires.sound

@@ -6,4 +6,6 @@ use Rattle.ua_nodes.proofs.table.NodeTable.append_items.Goals as goal
 
 pub returns-in_err-append_item-clause-err : goal.returns-in_err-append_item-clause-err
 returns-in_err-append_item-clause-err c =
-    extends_behind c.args.out.now.items c.loop-item.out.items c.append_item.new.out.items (flat_map (answer_octets c.args.self.now c.args.stamps c.args.moment) (take c.loop-item.item-index c.args.items.now)) c.from_residual.result c.loop-item.invariant.are c.in_err-append_item.ensures.err
+    extends_behind c.args.out.now.items c.loop-item.out.items c.append_item.new.out.items
+    (flat_map (answer_octets c.args.self.now c.args.stamps c.args.moment) (take c.loop-item.item-index c.args.items.now)) c.from_residual.result
+    c.loop-item.invariant.are c.in_err-append_item.ensures.err

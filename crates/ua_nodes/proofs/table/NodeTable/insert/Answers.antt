@@ -26,4 +26,5 @@ returns-clause-ok c =
     ∙ ap (λ (p : NodeId × Variable). c.args.self.now ++ p ∷ []) e
 
 pub returns-clause-sound : goal.returns-clause-sound
-returns-clause-sound c = λ before node. subst IsSound (sym (returns-clause-ok c)) (sound_with c.args.self.now c.args.node.id (variable_of c.args.node) before node)
+returns-clause-sound c = λ before node.
+    subst IsSound (sym (returns-clause-ok c)) (sound_with c.args.self.now c.args.node.id (variable_of c.args.node) before node)

@@ -15,7 +15,9 @@ loop-item-preserved c =
     let steps : drop at.item-index c.args.items.now ≡ item ∷ rest =
     drop_more c.args.items.now at.item-index item c.loop-item-test.true ∙ ap (λ (x : WriteValue). x ∷ rest) (sym c.item-item.is) in (
       at.invariant.0 ∙ ap (λ (is : List WriteValue). at.statuses.items ++ answers_within at.left c.args.self.now is) steps
-          ∙ judged_on at.statuses.items c.push.new.self.items (answers_within (room_after at.left (node_at c.args.self.now item.node_id) item) c.args.self.now rest) (answers_within c.judge_item-rest.result.1 c.args.self.now rest)
+          ∙ judged_on at.statuses.items c.push.new.self.items
+          (answers_within (room_after at.left (node_at c.args.self.now item.node_id) item) c.args.self.now rest)
+          (answers_within c.judge_item-rest.result.1 c.args.self.now rest)
           c.judge_item-rest.result.0 (answer_within at.left (node_at c.args.self.now item.node_id) item) c.in-Ok.ensures.items c.judge_item-rest.ensures.answer
           (ap (λ (n : ℕ). answers_within n c.args.self.now rest) c.judge_item-rest.ensures.rest),
       (let was = at.invariant.1 in let short = ap length steps in let len = c.in-Ok.ensures.len in let room = c.in-Ok.ensures.capacity in omega arith),

@@ -10,7 +10,8 @@ use Rattle.ua_nodes.proofs.SoundRead.{code_fits, read_sound}
 use Rattle.ua_nodes.proofs.table.NodeTable.read_item.Goals as goal
 
 -- an answer that can be written
-can_write : {E : Type 0} (r : Result DataValue E) (answer : DataValueData) → data_value_encodable answer ≡ true → IfOk r (λ d. data_value_of d ≡ answer) → IfOk r (λ d. data_value_encodable (data_value_of d) ≡ true)
+can_write : {E : Type 0} (r : Result DataValue E) (answer : DataValueData) → data_value_encodable answer ≡ true → IfOk r (λ d. data_value_of d ≡ answer)
+    → IfOk r (λ d. data_value_encodable (data_value_of d) ≡ true)
 can_write (Ok d) answer h e = ap data_value_encodable e ∙ h
 can_write (Err x) answer h e = tt
 

@@ -34,14 +34,18 @@ returns-clause-answer c =
     elim c.match-get_index_mut.branch [
       | in-Some w ↦
           let v = w.in-Some.variable.now in
-          let e : set_refusal (Some v) r ≡ refusal c.args.self.now = sym (refusal_placed nodes index v r (placed nodes index v w.in-Some.ensures.unique (sym w.in-Some.ensures.value))) ∙ ap refusal c.self.view_is in
+          let e : set_refusal (Some v) r ≡ refusal c.args.self.now =
+          sym (refusal_placed nodes index v r (placed nodes index v w.in-Some.ensures.unique (sym w.in-Some.ensures.value))) ∙ ap refusal c.self.view_is in
           rw w.result-is (subst (λ (o : Option SetFault). MatchResult w.set.result (λ _. o ≡ None) (λ fault. o ≡ Some fault)) e w.set.ensures.answer)
-      | in-None w ↦ rw w.result-is (sym (ap refusal c.self.view_is) ∙ ap (λ (o : Option NodeId). set_refusal_at o r nodes) (none_at nodes index (sym w.in-None.ensures.value)))
+      | in-None w ↦ rw w.result-is (sym (ap refusal c.self.view_is)
+          ∙ ap (λ (o : Option NodeId). set_refusal_at o r nodes) (none_at nodes index (sym w.in-None.ensures.value)))
     ]
 
 pub returns-clause-sound : goal.returns-clause-sound
-returns-clause-sound c = λ before. subst IsSound (sym (returns-clause-nodes c)) (set_at_sound (id_at c.args.self.now c.args.index) c.args.reading c.args.self.now before)
+returns-clause-sound c = λ before.
+    subst IsSound (sym (returns-clause-nodes c)) (set_at_sound (id_at c.args.self.now c.args.index) c.args.reading c.args.self.now before)
 
 pub returns-clause-kept : goal.returns-clause-kept
 returns-clause-kept c =
-    kept_at_place (id_at c.args.self.now c.args.index) c.args.reading c.args.self.now _ c.match-get_index_mut.result (returns-clause-nodes c) (returns-clause-answer c)
+    kept_at_place (id_at c.args.self.now c.args.index) c.args.reading c.args.self.now _ c.match-get_index_mut.result (returns-clause-nodes c)
+    (returns-clause-answer c)

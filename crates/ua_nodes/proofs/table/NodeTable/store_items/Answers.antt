@@ -27,4 +27,5 @@ pub returns : goal.returns
 returns c =
     let at = c.loop-item in
     let empty : into_iter_items at.item-iterator ≡ [] = nothing_left (into_iter_items at.item-iterator) (sym at.invariant.1 ∙ c.in-None.ensures.steps.0) in
-    sym (at.invariant.0 ∙ ap (λ (is : List WriteValue). after_write (items_left is at.rest.now) c.args.moment at.self) empty ∙ after_nothing c.args.moment at.self)
+    sym (at.invariant.0 ∙ ap (λ (is : List WriteValue). after_write (items_left is at.rest.now) c.args.moment at.self) empty
+    ∙ after_nothing c.args.moment at.self)

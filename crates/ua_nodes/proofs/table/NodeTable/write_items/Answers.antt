@@ -44,4 +44,5 @@ returns-clause-nodes c =
     sym (at.invariant.0 ∙ ap (λ (is : List WriteValue). after_write is c.args.moment at.self) empty ∙ after_nothing c.args.moment at.self)
 
 pub returns-clause-sound : goal.returns-clause-sound
-returns-clause-sound c = λ before. subst IsSound (sym (returns-clause-nodes c)) (write_sound c.args.items.items c.args.moment c.args.self.now c.moment_is_encodable.ensures before)
+returns-clause-sound c = λ before.
+    subst IsSound (sym (returns-clause-nodes c)) (write_sound c.args.items.items c.args.moment c.args.self.now c.moment_is_encodable.ensures before)

@@ -12,8 +12,10 @@ use Rattle.ua_nodes.proofs.table.NodeTable.write_items_within.Goals as goal
 pub returns-clause-answers : goal.returns-clause-answers
 returns-clause-answers c =
     let nodes = c.args.self.now in
-    let room : c.saturating_sub-room.result ≡ room_of c.args.most nodes = c.saturating_sub-room.ensures ∙ ap (λ (n : ℕ). c.args.most - n) c.memory.ensures ∙ room_is c.args.most (nodes_memory nodes) (omega arith) in
-    c.judge_items.ensures ∙ ap (λ (is : List WriteValue). c.args.statuses.now.items ++ answers_within c.saturating_sub-room.result nodes is) c.as_slice.ensures.value
+    let room : c.saturating_sub-room.result ≡ room_of c.args.most nodes = c.saturating_sub-room.ensures ∙ ap (λ (n : ℕ). c.args.most - n) c.memory.ensures
+    ∙ room_is c.args.most (nodes_memory nodes) (omega arith) in
+    c.judge_items.ensures ∙ ap (λ (is : List WriteValue). c.args.statuses.now.items ++ answers_within c.saturating_sub-room.result nodes is)
+    c.as_slice.ensures.value
     ∙ ap (λ (r : ℕ). c.args.statuses.now.items ++ answers_within r nodes c.args.items.items) room
 
 pub returns-clause-nodes : goal.returns-clause-nodes
@@ -24,9 +26,13 @@ returns-clause-nodes c =
     let all = answers_within (room_of c.args.most nodes) nodes items in
     let first = length c.as_slice-first.result.now in
     let codes : c.codes_from-codes.result.now ≡ all =
-    c.codes_from-codes.ensures ∙ ap (drop first) (c.as_slice-2.ensures.value ∙ returns-clause-answers c) ∙ drop_at old all first (sym (ap length c.as_slice-first.ensures.value)) in
+    c.codes_from-codes.ensures ∙ ap (drop first) (c.as_slice-2.ensures.value ∙ returns-clause-answers c)
+    ∙ drop_at old all first (sym (ap length c.as_slice-first.ensures.value)) in
     c.store_items.ensures ∙ ap (λ (is : List StatusCode). after_write (items_left items is) c.args.moment nodes) codes
     ∙ ap (λ (is : List WriteValue). after_write is c.args.moment nodes) (left_within (room_of c.args.most nodes) nodes items)
 
 pub returns-clause-sound : goal.returns-clause-sound
-returns-clause-sound c = λ before. subst IsSound (sym (returns-clause-nodes c)) (write_sound (items_within (room_of c.args.most c.args.self.now) c.args.self.now c.args.items.items) c.args.moment c.args.self.now c.moment_is_encodable.ensures before)
+returns-clause-sound c = λ before.
+    subst IsSound (sym (returns-clause-nodes c))
+    (write_sound (items_within (room_of c.args.most c.args.self.now) c.args.self.now c.args.items.items) c.args.moment c.args.self.now
+    c.moment_is_encodable.ensures before)

@@ -11,7 +11,8 @@ truncate-requires c = λ fits.
     (cut_back c.args.out.now c.take_all-taken.new.out (on_err c.take_all-taken.result c.if-is_err.ensures.value c.take_all-taken.ensures.err))
 
 pub returns-else-is_err-clause-told : goal.returns-else-is_err-clause-told
-returns-else-is_err-clause-told c = takes_tells c.take_all-taken.result c.args.self.now c.take_all-taken.new.self c.args.piece.now _ _ c.take_all-taken.ensures.takes
+returns-else-is_err-clause-told c = takes_tells c.take_all-taken.result c.args.self.now c.take_all-taken.new.self c.args.piece.now _ _
+    c.take_all-taken.ensures.takes
 
 pub returns-then-is_refused-clause-told : goal.returns-then-is_refused-clause-told
 returns-then-is_refused-clause-told c = λ options octets told s.

@@ -9,7 +9,8 @@ loop-lines-init c = so_far_first c.args.self.now c.args.piece.now (string_bytes 
 pub loop-lines-preserved : goal.loop-lines-preserved
 loop-lines-preserved c =
     so_far_more c.args.self.now c.loop-lines.self c.take_next.new.self c.args.piece.now c.loop-lines.at c.in-Some.taken _ _ _ _ _ _
-    c.loop-lines.invariant (take_rest c.args.piece.now c.loop-lines.at) (rw c.in-Some.is at c.in_ok-taken.ensures) c.deref.ensures c.in_ok-push_str.ensures.bytes
+    c.loop-lines.invariant (take_rest c.args.piece.now c.loop-lines.at) (rw c.in-Some.is at c.in_ok-taken.ensures) c.deref.ensures
+    c.in_ok-push_str.ensures.bytes
 
 pub returns : goal.returns
 returns c = record {

@@ -10,15 +10,18 @@ tell-requires-clause-let_in c = rw c.in-Ok-default-Some.field-0-1-is at c.in-Ok-
 pub returns-in_ok-tell-in-Ok-default-Some : goal.returns-in_ok-tell-in-Ok-default-Some
 returns-in_ok-tell-in-Ok-default-Some c =
     let goes : is_going c.args.self.now.state ≡ true = sym c.goes_on.ensures ∙ c.if-not-goes_on.false in
-    let taken : TakesFrame c.args.self.now.reader c.args.octets.now c.in-Ok-default-Some.size c.in-Ok-default-Some.frame c.take.new.self = rw c.in-Ok-default-Some.field-0-1-is at c.in-Ok-default-Some.ensures.takes in
-    takes_frame c.args.self.now c.tell.new.self c.args.octets.now c.in-Ok-default-Some.size c.in-Ok-default-Some.frame c.take.new.self (string_bytes c.tell.new.lines)
+    let taken : TakesFrame c.args.self.now.reader c.args.octets.now c.in-Ok-default-Some.size c.in-Ok-default-Some.frame c.take.new.self =
+    rw c.in-Ok-default-Some.field-0-1-is at c.in-Ok-default-Some.ensures.takes in
+    takes_frame c.args.self.now c.tell.new.self c.args.octets.now c.in-Ok-default-Some.size c.in-Ok-default-Some.frame c.take.new.self
+    (string_bytes c.tell.new.lines)
     goes taken c.in_ok-tell-in-Ok-default-Some.ensures
 
 pub returns-in-Ok-default-None : goal.returns-in-Ok-default-None
 returns-in-Ok-default-None c =
     let goes : is_going c.args.self.now.state ≡ true = sym c.goes_on.ensures ∙ c.if-not-goes_on.false in
     let some : 0 < length c.args.octets.now = search rules in
-    let taken : TakesAll c.args.self.now.reader c.args.octets.now c.in-Ok-default-None.size c.take.new.self = rw c.in-Ok-default-None.field-0-1-is at c.in-Ok-default-None.ensures.takes in
+    let taken : TakesAll c.args.self.now.reader c.args.octets.now c.in-Ok-default-None.size c.take.new.self =
+    rw c.in-Ok-default-None.field-0-1-is at c.in-Ok-default-None.ensures.takes in
     takes_part c.args.self.now (record c.args.self.now { reader = c.take.new.self }) c.args.octets.now goes some c.take.new.self c.in-Ok-default-None.size _
     taken refl c.clear.ensures.bytes
 
@@ -27,4 +30,6 @@ returns-in-Some c =
     let goes : is_going c.args.self.now.state ≡ true = sym c.goes_on.ensures ∙ c.if-not-goes_on.false in
     let some : 0 < length c.args.octets.now = search rules in
     takes_header c.args.self.now c.stop.new.self c.args.octets.now goes some c.in-Err.fault c.take.new.self c.in-Some.code _
-    c.in-Err.ensures.takes (sym c.in-Some.ensures) (record { state = c.stop.ensures.state; options_are = c.stop.ensures.options; nothing = c.stop.ensures.nothing }) c.stop.ensures.place c.clear.ensures.bytes
+    c.in-Err.ensures.takes (sym c.in-Some.ensures)
+    (record { state = c.stop.ensures.state; options_are = c.stop.ensures.options; nothing = c.stop.ensures.nothing }) c.stop.ensures.place
+    c.clear.ensures.bytes

@@ -4,4 +4,5 @@ use Rattle.ua_pair.proofs.fields.array.push_elements.Given as goal
 
 -- the lines of the elements so far were added
 abbrev pub invariant-loop-index : goal.invariant-loop-index
-invariant-loop-index g l = AreElementsBehind l.place.style l.place.margin.now l.place.path.now 0 (string_bytes l.fn.out) (elements_of (map g.T.Lines.tree (take l.index l.items))) (string_bytes l.out)
+invariant-loop-index g l = AreElementsBehind l.place.style l.place.margin.now l.place.path.now 0 (string_bytes l.fn.out)
+    (elements_of (map g.T.Lines.tree (take l.index l.items))) (string_bytes l.out)

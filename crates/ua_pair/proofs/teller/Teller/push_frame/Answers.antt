@@ -18,7 +18,8 @@ returns-in-Ack-clause-judged c = λ before s place.
 pub returns-in-Err-clause-judged : goal.returns-in-Err-clause-judged
 returns-in-Err-clause-judged c = λ before s place.
     judged_kind kind.Err c.args.self.now.options before c.args.place c.args.frame _ _ _ c.in-Err.is place
-    (greeting_judged error (error_line c.args.self.now.options.names c.args.place) _ c.args.frame.body _ _ _ _ _ c.deref-in-Err.ensures c.frame_size-size.ensures c.push_greeting-in-Err.ensures)
+    (greeting_judged error (error_line c.args.self.now.options.names c.args.place) _ c.args.frame.body _ _ _ _ _ c.deref-in-Err.ensures
+    c.frame_size-size.ensures c.push_greeting-in-Err.ensures)
 
 pub returns-in-Msg-clause-judged : goal.returns-in-Msg-clause-judged
 returns-in-Msg-clause-judged c = λ before s place.

@@ -8,7 +8,8 @@ use Rattle.ua_pair.proofs.teller.Teller.push_message.Goals as goal
 
 pub returns-in_ok-push_delivered-in-Ok-Some-clause-judged : goal.returns-in_ok-push_delivered-in-Ok-Some-clause-judged
 returns-in_ok-push_delivered-in-Ok-Some-clause-judged c = λ before s.
-    let items : given (message_chunks before) c.read_chunk-chunk.result ≡ item_of c.in-Ok-Some.delivered ∷ [] = rw c.in-Ok-Some.field-0-is at (c.in-Ok-Some.ensures.items (message_chunks before) s.messages) in
+    let items : given (message_chunks before) c.read_chunk-chunk.result ≡ item_of c.in-Ok-Some.delivered ∷ [] =
+    rw c.in-Ok-Some.field-0-is at (c.in-Ok-Some.ensures.items (message_chunks before) s.messages) in
     message_delivered c.args.self.now before c.args.place c.frame_size-size.result c.args.frame c.read_chunk-chunk.result _ _
     s c.read_chunk-chunk.ensures.found c.frame_size-size.ensures c.in_ok-push_chunk_line.ensures
     (item_of c.in-Ok-Some.delivered) _ (c.in-Ok-Some.ensures.faults (message_chunks before) s.messages) items c.in_ok-push_delivered-in-Ok-Some.ensures
@@ -16,11 +17,13 @@ returns-in_ok-push_delivered-in-Ok-Some-clause-judged c = λ before s.
 pub returns-in_ok-push_delivered-in-Ok-Some-clause-stands : goal.returns-in_ok-push_delivered-in-Ok-Some-clause-stands
 returns-in_ok-push_delivered-in-Ok-Some-clause-stands c = λ before s.
     stands_message c.args.self.now (record c.args.self.now { assembler = c.accept.new.self }) before c.args.frame c.read_chunk-chunk.result
-    s c.requires.kind c.read_chunk-chunk.ensures.found (c.in-Ok-Some.ensures.stands (message_chunks before) s.messages) c.in-Ok-Some.ensures.last c.in-Ok-Some.ensures.limits
+    s c.requires.kind c.read_chunk-chunk.ensures.found (c.in-Ok-Some.ensures.stands (message_chunks before) s.messages) c.in-Ok-Some.ensures.last
+    c.in-Ok-Some.ensures.limits
 
 pub returns-in-Ok-None-clause-judged : goal.returns-in-Ok-None-clause-judged
 returns-in-Ok-None-clause-judged c = λ before s.
-    let items : given (message_chunks before) c.read_chunk-chunk.result ≡ [] = rw c.in-Ok-None.field-0-is at (c.in-Ok-None.ensures.items (message_chunks before) s.messages) in
+    let items : given (message_chunks before) c.read_chunk-chunk.result ≡ [] =
+    rw c.in-Ok-None.field-0-is at (c.in-Ok-None.ensures.items (message_chunks before) s.messages) in
     message_continued c.args.self.now before c.args.place c.frame_size-size.result c.args.frame c.read_chunk-chunk.result _ _
     s c.read_chunk-chunk.ensures.found c.frame_size-size.ensures c.in_ok-push_chunk_line.ensures
     (c.in-Ok-None.ensures.faults (message_chunks before) s.messages) items
@@ -28,7 +31,8 @@ returns-in-Ok-None-clause-judged c = λ before s.
 pub returns-in-Ok-None-clause-stands : goal.returns-in-Ok-None-clause-stands
 returns-in-Ok-None-clause-stands c = λ before s.
     stands_message c.args.self.now (record c.args.self.now { assembler = c.accept.new.self }) before c.args.frame c.read_chunk-chunk.result
-    s c.requires.kind c.read_chunk-chunk.ensures.found (c.in-Ok-None.ensures.stands (message_chunks before) s.messages) c.in-Ok-None.ensures.last c.in-Ok-None.ensures.limits
+    s c.requires.kind c.read_chunk-chunk.ensures.found (c.in-Ok-None.ensures.stands (message_chunks before) s.messages) c.in-Ok-None.ensures.last
+    c.in-Ok-None.ensures.limits
 
 pub returns-in-Err-clause-judged : goal.returns-in-Err-clause-judged
 returns-in-Err-clause-judged c = λ before s.

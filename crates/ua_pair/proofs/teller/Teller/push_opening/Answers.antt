@@ -12,4 +12,5 @@ returns-clause-judged c = λ before s.
 pub returns-clause-stands : goal.returns-clause-stands
 returns-clause-stands c = λ before s.
     stands_opening c.args.self.now (record c.args.self.now { assembler = c.step.new.self }) before c.args.frame c.in-Ok.chunk
-    s c.requires.kind c.in-Ok.ensures.found (c.in_default.ensures.stands (message_chunks before) s.messages) c.in_default.ensures.last c.in_default.ensures.limits
+    s c.requires.kind c.in-Ok.ensures.found (c.in_default.ensures.stands (message_chunks before) s.messages) c.in_default.ensures.last
+    c.in_default.ensures.limits

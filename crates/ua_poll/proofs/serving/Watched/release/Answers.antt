@@ -4,7 +4,8 @@ use Rattle.ua_poll.proofs.Telling.{tells_both}
 use Rattle.ua_poll.proofs.serving.Watched.release.Goals as goal
 
 pub returns-then-not-release_at-clause-told : goal.returns-then-not-release_at-clause-told
-returns-then-not-release_at-clause-told g c = tells_both (notes_of g.E.Endings.notes g.E.Application.acts) _ _ _ _ _ _ c.loop-place.invariant.told c.release_at.ensures.told
+returns-then-not-release_at-clause-told g c = tells_both (notes_of g.E.Endings.notes g.E.Application.acts) _ _ _ _ _ _ c.loop-place.invariant.told
+    c.release_at.ensures.told
 
 pub loop-place-preserved : goal.loop-place-preserved
 loop-place-preserved g c = record {

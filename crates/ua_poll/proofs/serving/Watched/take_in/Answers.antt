@@ -4,7 +4,8 @@ use Rattle.ua_poll.proofs.Telling.{tells_both}
 use Rattle.ua_poll.proofs.serving.Watched.take_in.Goals as goal
 
 pub returns-then-not-take_next-clause-told : goal.returns-then-not-take_next-clause-told
-returns-then-not-take_next-clause-told g c = tells_both (notes_of g.E.Endings.notes g.E.Application.acts) _ _ _ _ _ _ c.loop-peers.invariant.told c.take_next.ensures.told
+returns-then-not-take_next-clause-told g c = tells_both (notes_of g.E.Endings.notes g.E.Application.acts) _ _ _ _ _ _ c.loop-peers.invariant.told
+    c.take_next.ensures.told
 
 pub loop-peers-preserved : goal.loop-peers-preserved
 loop-peers-preserved g c = record {

@@ -8,4 +8,5 @@ pub returns-in-Err-clause-told : goal.returns-in-Err-clause-told
 returns-in-Err-clause-told g c =
     let same = c.pass_over.ensures.same.0 ∙ c.take.ensures.same.0 in
     subst (λ (n : ℕ). Tells (notes_of g.E.Endings.notes g.E.Application.acts) c.args.self.now.over n c.args.endings.now c.pass_over.new.endings) (sym same)
-    (tells_missed (notes_of g.E.Endings.notes g.E.Application.acts) c.in-Err.why c.args.self.now.over c.args.endings.now c.pass_over.new.endings c.pass_over.ensures.told)
+    (tells_missed (notes_of g.E.Endings.notes g.E.Application.acts) c.in-Err.why c.args.self.now.over c.args.endings.now c.pass_over.new.endings
+    c.pass_over.ensures.told)

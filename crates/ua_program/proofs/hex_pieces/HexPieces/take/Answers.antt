@@ -8,7 +8,8 @@ use Rattle.ua_program.proofs.hex_pieces.HexPieces.take.Goals as goal
 pub returns-clause-octets : goal.returns-clause-octets
 returns-clause-octets c = λ content octets s.
     IfOk-weaker c.decode_digits.result _ _
-    (λ more decoded. hex_more c.args.self.now.half c.split_half-self.result content c.args.piece.now octets more.items c.in_ok-digits.digits.items c.split_half-self.new.digits.items
+    (λ more decoded. hex_more c.args.self.now.half c.split_half-self.result content c.args.piece.now octets more.items c.in_ok-digits.digits.items
+    c.split_half-self.new.digits.items
     s c.in_ok-digits.ensures c.split_half-self.ensures.parts (ap decode_of (sym c.as_slice.ensures.value) ∙ decoded))
     c.decode_digits.ensures.octets
 
@@ -20,8 +21,10 @@ returns-clause-faults c = λ content octets s.
       | inr refused ↦
           inr (
             refused.0,
-            hex_never c.args.self.now.half c.split_half-self.result content c.args.piece.now octets c.in_ok-digits.digits.items c.split_half-self.new.digits.items
-                s c.in_ok-digits.ensures c.split_half-self.ensures.parts c.split_half-self.ensures.pairs (λ y e. refused.1 y (ap decode_of c.as_slice.ensures.value ∙ e)),
+            hex_never c.args.self.now.half c.split_half-self.result content c.args.piece.now octets c.in_ok-digits.digits.items
+                c.split_half-self.new.digits.items
+                s c.in_ok-digits.ensures c.split_half-self.ensures.parts c.split_half-self.ensures.pairs
+                (λ y e. refused.1 y (ap decode_of c.as_slice.ensures.value ∙ e)),
           )
     ])
     c.decode_digits.ensures.faults

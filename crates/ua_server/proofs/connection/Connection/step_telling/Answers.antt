@@ -25,11 +25,14 @@ returns-clause-history c = λ octets hs first h.
 
 pub returns-clause-among : goal.returns-clause-among
 returns-clause-among c = λ channels k octets es first s.
-    step_among channels k (channel_at c.args.self.now) (channel_in c.step_telling-step.new.self) (session_at c.args.self.now) (session_in c.swap_session-2.new.slot) c.args.moment c.args.piece.now octets es first c.args.services.now c.swap_session-2.new.self c.step_telling-step.result s
+    step_among channels k (channel_at c.args.self.now) (channel_in c.step_telling-step.new.self) (session_at c.args.self.now)
+    (session_in c.swap_session-2.new.slot) c.args.moment c.args.piece.now octets es first c.args.services.now c.swap_session-2.new.self
+    c.step_telling-step.result s
     c.step_telling-step.ensures.channel
     (ap (λ (n : State). n.session) c.swap_session-2.ensures.services ∙ c.swap_session.ensures.slot)
     (λ hs begins h. returns-clause-history c octets hs begins h)
 
 pub returns-clause-ids : goal.returns-clause-ids
 returns-clause-ids c =
-    ap (λ (s : State). keys_of s.nodes) c.swap_session-2.ensures.services ∙ (c.step_telling-step.ensures.ids ∙ ap (λ (s : State). keys_of s.nodes) c.swap_session.ensures.services)
+    ap (λ (s : State). keys_of s.nodes) c.swap_session-2.ensures.services
+    ∙ (c.step_telling-step.ensures.ids ∙ ap (λ (s : State). keys_of s.nodes) c.swap_session.ensures.services)

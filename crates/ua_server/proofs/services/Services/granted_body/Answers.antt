@@ -26,10 +26,12 @@ returns-clause-body c =
     let nodes = c.self.inside.nodes in
     let id : c.append_front.new.out.items ≡ node_id.canonical (standard 634) = search rules in
     let adds =
-    subst (λ d. AddsResponse (λ old new. IsWithin c.args.most (answer_octets nodes stamps c.args.moment) items (old ++ number_octets 4 (length items)) new) header d c.append_front.new.out.items c.append_read_response.new.out.items)
+    subst (λ d. AddsResponse (λ old new. IsWithin c.args.most (answer_octets nodes stamps c.args.moment) items (old ++ number_octets 4 (length items)) new)
+    header d c.append_front.new.out.items c.append_read_response.new.out.items)
     c.null.ensures c.in_ok-append_read_response.ensures.ok in
     let parts = written_parts c.args.most header nodes items stamps c.args.moment c.append_front.new.out.items c.append_read_response.new.out.items id adds in
-    let given : values_given c.args.self.now c.args.moment c.args.request.now ≡ ReadMessage (values_of header (read_answers nodes items stamps c.args.moment)) = search rules in
+    let given : values_given c.args.self.now c.args.moment c.args.request.now ≡ ReadMessage (values_of header (read_answers nodes items stamps c.args.moment)) =
+    search rules in
     subst (λ (r : Response). IsBodyWithin c.args.most (response.canonical r) c.append_read_response.new.out.items) (sym given)
     (written_within c.args.most header nodes items stamps c.args.moment parts.0 c.append_read_response.new.out.items parts.1 parts.2)
 
@@ -41,7 +43,8 @@ returns-clause-some c =
     let items = c.unwrap_or-items.result.now in
     let id : c.append_front.new.out.items ≡ node_id.canonical (standard 634) = search rules in
     let adds =
-    subst (λ d. AddsResponse (λ old new. IsWithin c.args.most (answer_octets nodes stamps c.args.moment) items (old ++ number_octets 4 (length items)) new) header d c.append_front.new.out.items c.append_read_response.new.out.items)
+    subst (λ d. AddsResponse (λ old new. IsWithin c.args.most (answer_octets nodes stamps c.args.moment) items (old ++ number_octets 4 (length items)) new)
+    header d c.append_front.new.out.items c.append_read_response.new.out.items)
     c.null.ensures c.in_ok-append_read_response.ensures.ok in
     let parts = written_parts c.args.most header nodes items stamps c.args.moment c.append_front.new.out.items c.append_read_response.new.out.items id adds in
     subst (λ (b : List ℕ). 0 < length b) (sym parts.2) (written_some parts.0)

@@ -13,10 +13,13 @@ returns-clause-answer g c =
     answer_is c.args.self.now (request_read (g.S.Source.octets c.args.src.now)) c.read_request_for.result same c.read_request_for.ensures.read
 
 pub returns-clause-kind : goal.returns-clause-kind
-returns-clause-kind g c = kind_is (takes_now c.args.self.now) (request_read (g.S.Source.octets c.args.src.now)) c.read_request_for.result c.read_request_for.ensures.read
+returns-clause-kind g c = kind_is (takes_now c.args.self.now) (request_read (g.S.Source.octets c.args.src.now)) c.read_request_for.result
+    c.read_request_for.ensures.read
 
 pub returns-clause-items : goal.returns-clause-items
-returns-clause-items g c = items_are (takes_now c.args.self.now) (request_read (g.S.Source.octets c.args.src.now)) c.read_request_for.result c.read_request_for.ensures.read
+returns-clause-items g c = items_are (takes_now c.args.self.now) (request_read (g.S.Source.octets c.args.src.now)) c.read_request_for.result
+    c.read_request_for.ensures.read
 
 pub returns-clause-refused : goal.returns-clause-refused
-returns-clause-refused g c = refused_is (takes_now c.args.self.now) (request_read (g.S.Source.octets c.args.src.now)) c.read_request_for.result c.read_request_for.ensures.read
+returns-clause-refused g c = refused_is (takes_now c.args.self.now) (request_read (g.S.Source.octets c.args.src.now)) c.read_request_for.result
+    c.read_request_for.ensures.read

@@ -10,7 +10,9 @@ use Rattle.ua_server.proofs.serving.Serving.handle.Goals as goal
 pub loop-taken-init : goal.loop-taken-init
 loop-taken-init g c = record {
   within = omega arith;
-  so_far = λ limits channel first read written given k. handled-nothing g.A.Application.changes limits channel first (Happens g.M.Moments.gives g.W.Watch.notes) (c.args.moments.now, c.args.watch.now) (g.L.Line.traffic c.args.line.now) c.args.self.now (c.args.services.now, c.args.application.now) c.args.piece.now read written given k;
+  so_far = λ limits channel first read written given k. handled-nothing g.A.Application.changes limits channel first (Happens g.M.Moments.gives g.W.Watch.notes)
+      (c.args.moments.now, c.args.watch.now) (g.L.Line.traffic c.args.line.now) c.args.self.now (c.args.services.now, c.args.application.now) c.args.piece.now
+      read written given k;
   same = refl;
   told = told-none g.W.Watch.notes c.args.watch.now;
 }
@@ -18,28 +20,45 @@ loop-taken-init g c = record {
 pub returns-in-Err-clause-handles : goal.returns-in-Err-clause-handles
 returns-in-Err-clause-handles g c = λ limits channel first read written given k.
     let so = c.loop-taken.invariant.so_far limits channel first read written given k in
-    handled-fault g.A.Application.changes limits channel first (Happens g.M.Moments.gives g.W.Watch.notes) (c.args.moments.now, c.args.watch.now) (g.L.Line.traffic c.args.line.now) c.args.self.now (c.args.services.now, c.args.application.now) c.args.piece.now c.loop-taken.taken (c.loop-taken.moments, c.loop-taken.watch) (c.turn.new.moments, c.turn.new.watch) (g.L.Line.traffic c.loop-taken.line) (g.L.Line.traffic c.turn.new.line) c.loop-taken.self c.turn.new.self (c.loop-taken.services, c.loop-taken.application) (c.turn.new.services, c.turn.new.application) read written given so c.in-Err.fault (c.in-Err.ensures.turns limits channel first (read ++ take c.loop-taken.taken c.args.piece.now) (written ++ so.written) (given ++ so.ticks) so.holds)
+    handled-fault g.A.Application.changes limits channel first (Happens g.M.Moments.gives g.W.Watch.notes) (c.args.moments.now, c.args.watch.now)
+    (g.L.Line.traffic c.args.line.now) c.args.self.now (c.args.services.now, c.args.application.now) c.args.piece.now c.loop-taken.taken
+    (c.loop-taken.moments, c.loop-taken.watch) (c.turn.new.moments, c.turn.new.watch) (g.L.Line.traffic c.loop-taken.line)
+    (g.L.Line.traffic c.turn.new.line) c.loop-taken.self c.turn.new.self (c.loop-taken.services, c.loop-taken.application)
+    (c.turn.new.services, c.turn.new.application) read written given so c.in-Err.fault
+    (c.in-Err.ensures.turns limits channel first (read ++ take c.loop-taken.taken c.args.piece.now) (written ++ so.written) (given ++ so.ticks) so.holds)
 
 pub returns-in-Err-clause-failed : goal.returns-in-Err-clause-failed
-returns-in-Err-clause-failed g c = subst (λ (n : ℕ). LineFailed {A = Option End} n (Err c.in-Err.fault) (g.L.Line.failures c.turn.new.line)) c.loop-taken.invariant.same c.in-Err.ensures.failed
+returns-in-Err-clause-failed g c = subst (λ (n : ℕ). LineFailed {A = Option End} n (Err c.in-Err.fault) (g.L.Line.failures c.turn.new.line))
+    c.loop-taken.invariant.same c.in-Err.ensures.failed
 
 pub returns-in-Some-clause-handles : goal.returns-in-Some-clause-handles
 returns-in-Some-clause-handles g c = λ limits channel first read written given k.
     let so = c.loop-taken.invariant.so_far limits channel first read written given k in
-    handled-end g.A.Application.changes limits channel first (Happens g.M.Moments.gives g.W.Watch.notes) (c.args.moments.now, c.args.watch.now) (g.L.Line.traffic c.args.line.now) c.args.self.now (c.args.services.now, c.args.application.now) c.args.piece.now c.loop-taken.taken (c.loop-taken.moments, c.loop-taken.watch) (c.turn.new.moments, c.turn.new.watch) (g.L.Line.traffic c.loop-taken.line) (g.L.Line.traffic c.turn.new.line) c.loop-taken.self c.turn.new.self (c.loop-taken.services, c.loop-taken.application) (c.turn.new.services, c.turn.new.application) read written given so c.in-Ok.turn.0 c.in-Ok.turn.1 c.in-Some.end c.in-Some.is (c.in-Ok.ensures.turns limits channel first (read ++ take c.loop-taken.taken c.args.piece.now) (written ++ so.written) (given ++ so.ticks) so.holds)
+    handled-end g.A.Application.changes limits channel first (Happens g.M.Moments.gives g.W.Watch.notes) (c.args.moments.now, c.args.watch.now)
+    (g.L.Line.traffic c.args.line.now) c.args.self.now (c.args.services.now, c.args.application.now) c.args.piece.now c.loop-taken.taken
+    (c.loop-taken.moments, c.loop-taken.watch) (c.turn.new.moments, c.turn.new.watch) (g.L.Line.traffic c.loop-taken.line)
+    (g.L.Line.traffic c.turn.new.line) c.loop-taken.self c.turn.new.self (c.loop-taken.services, c.loop-taken.application)
+    (c.turn.new.services, c.turn.new.application) read written given so c.in-Ok.turn.0 c.in-Ok.turn.1 c.in-Some.end c.in-Some.is
+    (c.in-Ok.ensures.turns limits channel first (read ++ take c.loop-taken.taken c.args.piece.now) (written ++ so.written) (given ++ so.ticks) so.holds)
 
 pub returns-in-Some-clause-failed : goal.returns-in-Some-clause-failed
 returns-in-Some-clause-failed g c = c.in-Ok.ensures.failed ∙ c.loop-taken.invariant.same
 
 pub loop-taken-smaller : goal.loop-taken-smaller
-loop-taken-smaller g c = turns-fewer c.args.piece.now c.loop-taken.taken c.in-Ok.turn.0 c.loop-taken-test.true c.in-Ok.ensures.progress.0 (c.in-Ok.ensures.progress.1 c.in-None.is)
+loop-taken-smaller g c = turns-fewer c.args.piece.now c.loop-taken.taken c.in-Ok.turn.0 c.loop-taken-test.true c.in-Ok.ensures.progress.0
+    (c.in-Ok.ensures.progress.1 c.in-None.is)
 
 pub loop-taken-preserved : goal.loop-taken-preserved
 loop-taken-preserved g c = record {
   within = within-piece c.args.piece.now c.loop-taken.taken c.in-Ok.turn.0 c.loop-taken.invariant.within c.in-Ok.ensures.progress.0;
   so_far = λ limits channel first read written given k.
       let so = c.loop-taken.invariant.so_far limits channel first read written given k in
-      handled-more g.A.Application.changes limits channel first (Happens g.M.Moments.gives g.W.Watch.notes) (c.args.moments.now, c.args.watch.now) (g.L.Line.traffic c.args.line.now) c.args.self.now (c.args.services.now, c.args.application.now) c.args.piece.now c.loop-taken.taken (c.loop-taken.moments, c.loop-taken.watch) (c.turn.new.moments, c.turn.new.watch) (g.L.Line.traffic c.loop-taken.line) (g.L.Line.traffic c.turn.new.line) c.loop-taken.self c.turn.new.self (c.loop-taken.services, c.loop-taken.application) (c.turn.new.services, c.turn.new.application) read written given so c.in-Ok.turn.0 c.in-Ok.turn.1 c.in-None.is (c.in-Ok.ensures.turns limits channel first (read ++ take c.loop-taken.taken c.args.piece.now) (written ++ so.written) (given ++ so.ticks) so.holds);
+      handled-more g.A.Application.changes limits channel first (Happens g.M.Moments.gives g.W.Watch.notes) (c.args.moments.now, c.args.watch.now)
+      (g.L.Line.traffic c.args.line.now) c.args.self.now (c.args.services.now, c.args.application.now) c.args.piece.now c.loop-taken.taken
+      (c.loop-taken.moments, c.loop-taken.watch) (c.turn.new.moments, c.turn.new.watch) (g.L.Line.traffic c.loop-taken.line)
+      (g.L.Line.traffic c.turn.new.line) c.loop-taken.self c.turn.new.self (c.loop-taken.services, c.loop-taken.application)
+      (c.turn.new.services, c.turn.new.application) read written given so c.in-Ok.turn.0 c.in-Ok.turn.1 c.in-None.is
+      (c.in-Ok.ensures.turns limits channel first (read ++ take c.loop-taken.taken c.args.piece.now) (written ++ so.written) (given ++ so.ticks) so.holds);
   same = c.in-Ok.ensures.failed ∙ c.loop-taken.invariant.same;
   told = told-more g.W.Watch.notes c.args.watch.now c.loop-taken.watch c.turn.new.watch c.loop-taken.invariant.told c.in-Ok.ensures.told;
 }
@@ -47,16 +66,22 @@ loop-taken-preserved g c = record {
 pub returns-clause-handles : goal.returns-clause-handles
 returns-clause-handles g c = λ limits channel first read written given k.
     let so = c.loop-taken.invariant.so_far limits channel first read written given k in
-    handled-all g.A.Application.changes limits channel first (Happens g.M.Moments.gives g.W.Watch.notes) (c.args.moments.now, c.args.watch.now) (g.L.Line.traffic c.args.line.now) c.args.self.now (c.args.services.now, c.args.application.now) c.args.piece.now c.loop-taken.taken (c.loop-taken.moments, c.loop-taken.watch) (c.loop-taken.moments, c.loop-taken.watch) (g.L.Line.traffic c.loop-taken.line) (g.L.Line.traffic c.loop-taken.line) c.loop-taken.self c.loop-taken.self (c.loop-taken.services, c.loop-taken.application) (c.loop-taken.services, c.loop-taken.application) read written given so c.loop-taken.invariant.within c.loop-taken-test.false
+    handled-all g.A.Application.changes limits channel first (Happens g.M.Moments.gives g.W.Watch.notes) (c.args.moments.now, c.args.watch.now)
+    (g.L.Line.traffic c.args.line.now) c.args.self.now (c.args.services.now, c.args.application.now) c.args.piece.now c.loop-taken.taken
+    (c.loop-taken.moments, c.loop-taken.watch) (c.loop-taken.moments, c.loop-taken.watch) (g.L.Line.traffic c.loop-taken.line)
+    (g.L.Line.traffic c.loop-taken.line) c.loop-taken.self c.loop-taken.self (c.loop-taken.services, c.loop-taken.application)
+    (c.loop-taken.services, c.loop-taken.application) read written given so c.loop-taken.invariant.within c.loop-taken-test.false
 
 pub returns-clause-failed : goal.returns-clause-failed
 returns-clause-failed g c = c.loop-taken.invariant.same
 
 pub returns-in-Err-clause-told : goal.returns-in-Err-clause-told
-returns-in-Err-clause-told g c = told-more g.W.Watch.notes c.args.watch.now c.loop-taken.watch c.turn.new.watch c.loop-taken.invariant.told c.in-Err.ensures.told
+returns-in-Err-clause-told g c = told-more g.W.Watch.notes c.args.watch.now c.loop-taken.watch c.turn.new.watch c.loop-taken.invariant.told
+    c.in-Err.ensures.told
 
 pub returns-in-Some-clause-told : goal.returns-in-Some-clause-told
-returns-in-Some-clause-told g c = told-more g.W.Watch.notes c.args.watch.now c.loop-taken.watch c.turn.new.watch c.loop-taken.invariant.told c.in-Ok.ensures.told
+returns-in-Some-clause-told g c = told-more g.W.Watch.notes c.args.watch.now c.loop-taken.watch c.turn.new.watch c.loop-taken.invariant.told
+    c.in-Ok.ensures.told
 
 pub returns-clause-told : goal.returns-clause-told
 returns-clause-told g c = c.loop-taken.invariant.told

@@ -14,7 +14,11 @@ returns-in-Some-clause-kept g c = ap (λ (o : Option DateTime). record c.args.se
 pub returns-in-None-clause-asked : goal.returns-in-None-clause-asked
 returns-in-None-clause-asked g c =
     let same : c.next.result ≡ to_z w64 (of_z w64 c.next.result) = grind (arith, to_z-of_z) in
-    record { ticks = c.next.result ∷ []; given = (c.next.new.self, c.next.ensures, refl); holds = ap (λ (o : Option DateTime). listed o ++ moment_of c.next.result ∷ []) c.in-None.is ∙ ap (λ (t : ℤ). moment_of t ∷ []) same }
+    record {
+      ticks = c.next.result ∷ [];
+      given = (c.next.new.self, c.next.ensures, refl);
+      holds = ap (λ (o : Option DateTime). listed o ++ moment_of c.next.result ∷ []) c.in-None.is ∙ ap (λ (t : ℤ). moment_of t ∷ []) same;
+    }
 
 pub returns-in-None-clause-kept : goal.returns-in-None-clause-kept
 returns-in-None-clause-kept g c = refl

@@ -5,7 +5,8 @@ use Rattle.ua_tcp.specs.Lines.{behind_gathered, gathered_in}
 abbrev pub invariant-loop-self : goal.invariant-loop-self
 invariant-loop-self g l = record {
   same : g.L.Line.failures l.self.line ≡ g.L.Line.failures l.fn.self.line;
-  octets : option_map (behind_gathered (gathered_in l.self)) (g.L.Line.traffic l.self.line) ≡ option_map (behind_gathered (gathered_in l.fn.self)) (g.L.Line.traffic l.fn.self.line);
+  octets : option_map (behind_gathered (gathered_in l.self)) (g.L.Line.traffic l.self.line) ≡ option_map (behind_gathered (gathered_in l.fn.self))
+      (g.L.Line.traffic l.fn.self.line);
 }
 
 abbrev pub decreases-loop-self : goal.decreases-loop-self

@@ -4,4 +4,8 @@ use Rattle.ua_variant.proofs.NumbersRead.{numbers_behind}
 use Rattle.ua_variant.proofs.numbers.DateTimeGroup.extend.Goals as goal
 
 pub returns : goal.returns
-returns c = record { read = numbers_behind date_time (leaves_at 13) c.args.count c.args.octets.now c.args.items.now.items c.read_numbers.new.numbers c.extend_from_slice.new.self.items c.in_ok-extend_from_slice.ensures.items c.read_numbers.ensures.read }
+returns c =
+    record {
+      read = numbers_behind date_time (leaves_at 13) c.args.count c.args.octets.now c.args.items.now.items c.read_numbers.new.numbers
+          c.extend_from_slice.new.self.items c.in_ok-extend_from_slice.ensures.items c.read_numbers.ensures.read;
+    }

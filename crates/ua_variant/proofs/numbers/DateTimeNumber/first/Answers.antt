@@ -17,4 +17,8 @@ pub returns : goal.returns
 unfolding leaf_at least_octets date_time_format
 returns c =
     let fits : SFits w64 c.read_i64.result = search rules in
-    record { read = rw (to_z-of_z w64 c.read_i64.result fits) (remade_first 8 (cast_signed w64) of_ticks date_time c.args.octets.now c.read_i64.result c.requires.whole (λ i. omega (arith, c.type_inv.octets i)) c.read_i64.ensures) }
+    record {
+      read = rw (to_z-of_z w64 c.read_i64.result fits)
+          (remade_first 8 (cast_signed w64) of_ticks date_time c.args.octets.now c.read_i64.result c.requires.whole (λ i. omega (arith, c.type_inv.octets i))
+          c.read_i64.ensures);
+    }

@@ -13,4 +13,7 @@ read_u64-requires c = c.requires.whole
 pub returns : goal.returns
 unfolding leaf_at least_octets double_bits
 returns c =
-    record { read = made_first 8 of_bits double c.args.octets.now (of_bits c.read_u64.result) c.requires.whole (λ i. omega (arith, c.type_inv.octets i)) (ap of_bits c.read_u64.ensures) }
+    record {
+      read = made_first 8 of_bits double c.args.octets.now (of_bits c.read_u64.result) c.requires.whole (λ i. omega (arith, c.type_inv.octets i))
+          (ap of_bits c.read_u64.ensures);
+    }

@@ -13,4 +13,7 @@ read_u32-requires c = c.requires.whole
 pub returns : goal.returns
 unfolding leaf_at least_octets float_bits
 returns c =
-    record { read = made_first 4 of_bits float c.args.octets.now (of_bits c.read_u32.result) c.requires.whole (λ i. omega (arith, c.type_inv.octets i)) (ap of_bits c.read_u32.ensures) }
+    record {
+      read = made_first 4 of_bits float c.args.octets.now (of_bits c.read_u32.result) c.requires.whole (λ i. omega (arith, c.type_inv.octets i))
+          (ap of_bits c.read_u32.ensures);
+    }

@@ -16,4 +16,7 @@ pub returns : goal.returns
 unfolding leaf_at least_octets
 returns c =
     let fits : SFits w16 c.read_i16.result = search rules in
-    record { read = rw (to_z-of_z w16 c.read_i16.result fits) (made_first 2 (cast_signed w16) int16 c.args.octets.now c.read_i16.result c.requires.whole (λ i. omega (arith, c.type_inv.octets i)) c.read_i16.ensures) }
+    record {
+      read = rw (to_z-of_z w16 c.read_i16.result fits) (made_first 2 (cast_signed w16) int16 c.args.octets.now c.read_i16.result c.requires.whole
+          (λ i. omega (arith, c.type_inv.octets i)) c.read_i16.ensures);
+    }

@@ -16,4 +16,7 @@ pub returns : goal.returns
 unfolding leaf_at least_octets
 returns c =
     let fits : SFits w32 c.read_i32.result = search rules in
-    record { read = rw (to_z-of_z w32 c.read_i32.result fits) (made_first 4 (cast_signed w32) int32 c.args.octets.now c.read_i32.result c.requires.whole (λ i. omega (arith, c.type_inv.octets i)) c.read_i32.ensures) }
+    record {
+      read = rw (to_z-of_z w32 c.read_i32.result fits) (made_first 4 (cast_signed w32) int32 c.args.octets.now c.read_i32.result c.requires.whole
+          (λ i. omega (arith, c.type_inv.octets i)) c.read_i32.ensures);
+    }

@@ -16,4 +16,7 @@ pub returns : goal.returns
 unfolding leaf_at least_octets
 returns c =
     let fits : SFits w64 c.read_i64.result = search rules in
-    record { read = rw (to_z-of_z w64 c.read_i64.result fits) (made_first 8 (cast_signed w64) int64 c.args.octets.now c.read_i64.result c.requires.whole (λ i. omega (arith, c.type_inv.octets i)) c.read_i64.ensures) }
+    record {
+      read = rw (to_z-of_z w64 c.read_i64.result fits) (made_first 8 (cast_signed w64) int64 c.args.octets.now c.read_i64.result c.requires.whole
+          (λ i. omega (arith, c.type_inv.octets i)) c.read_i64.ensures);
+    }

@@ -13,4 +13,7 @@ read_u32-requires c = c.requires.whole
 pub returns : goal.returns
 unfolding leaf_at least_octets status_code_format
 returns c =
-    record { read = made_first 4 of_code status_code c.args.octets.now (of_code c.read_u32.result) c.requires.whole (λ i. omega (arith, c.type_inv.octets i)) (ap of_code c.read_u32.ensures) }
+    record {
+      read = made_first 4 of_code status_code c.args.octets.now (of_code c.read_u32.result) c.requires.whole (λ i. omega (arith, c.type_inv.octets i))
+          (ap of_code c.read_u32.ensures);
+    }

@@ -8,4 +8,6 @@ use Rattle.ua_variant.proofs.skip.VariantSkip.skip_value.Goals as goal
 pub returns-clause-exact : goal.returns-clause-exact
 unfolding variant_format
 returns-clause-exact g c =
-    gives_on (skipped (image_read variant_value (variant_at c.args.depth))) (skipped (variant_at c.args.depth)) (g.S.Source.octets c.args.src.now) (g.S.Source.octets c.args.src.now) (g.S.Source.octets c.skip_variant.new.src) c.skip_variant.result (skipped_image variant_value (variant_at c.args.depth) (g.S.Source.octets c.args.src.now)) c.skip_variant.ensures.exact
+    gives_on (skipped (image_read variant_value (variant_at c.args.depth))) (skipped (variant_at c.args.depth)) (g.S.Source.octets c.args.src.now)
+    (g.S.Source.octets c.args.src.now) (g.S.Source.octets c.skip_variant.new.src) c.skip_variant.result
+    (skipped_image variant_value (variant_at c.args.depth) (g.S.Source.octets c.args.src.now)) c.skip_variant.ensures.exact

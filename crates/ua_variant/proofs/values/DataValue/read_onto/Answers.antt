@@ -15,5 +15,6 @@ pub returns-clause-exact : goal.returns-clause-exact
 returns-clause-exact g c =
     let items = c.args.items.now.items in
     let old = g.S.Source.octets c.args.src.now in
-    gives_same (λ _. c.push_level.new.items.items) (image_read (λ d. items ++ d ∷ []) (data_value_format.decode c.args.depth)) (image_read (with_last items) (data_value_step (variant_at (c.args.depth - 1)))) old (g.S.Source.octets c.push_level.new.src) c.push_level.result
+    gives_same (λ _. c.push_level.new.items.items) (image_read (λ d. items ++ d ∷ []) (data_value_format.decode c.args.depth))
+    (image_read (with_last items) (data_value_step (variant_at (c.args.depth - 1)))) old (g.S.Source.octets c.push_level.new.src) c.push_level.result
     (onto_level items c.args.depth old (omega arith)) (rw (sym {A = List DataValue} c.reserve.ensures.items) c.push_level.ensures.exact)

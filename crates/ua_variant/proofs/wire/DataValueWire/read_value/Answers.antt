@@ -9,4 +9,5 @@ use Rattle.ua_variant.proofs.wire.DataValueWire.read_value.Goals as goal
 pub returns-clause-exact : goal.returns-clause-exact
 unfolding data_value_format
 returns-clause-exact g c =
-    gives_made data_value_of data_value_value (data_value_at c.args.depth) data_value_value_of (g.S.Source.octets c.args.src.now) (g.S.Source.octets c.read_data_value.new.src) c.read_data_value.result c.read_data_value.ensures.exact
+    gives_made data_value_of data_value_value (data_value_at c.args.depth) data_value_value_of (g.S.Source.octets c.args.src.now)
+    (g.S.Source.octets c.read_data_value.new.src) c.read_data_value.result c.read_data_value.ensures.exact

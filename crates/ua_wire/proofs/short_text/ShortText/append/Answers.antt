@@ -9,4 +9,5 @@ returns-clause-ok c =
     c.in_ok-extend_from_slice.ensures.items
     ∙ ap (λ (t : List ℕ). c.args.out.now.items ++ t)
     (counted_written c.self.inside.len c.write_u32.new.buf _ c.copy_from_slice.new.self c.args.self.now c.self.inside.octets
-    (c.write_u32.ensures ∙ little_bytes-is 4 c.from.result ∙ ap (number_octets 4) c.from.ensures) (omega arith) c.copy_from_slice.ensures.after (omega arith) (sym c.self.view_is))
+    (c.write_u32.ensures ∙ little_bytes-is 4 c.from.result ∙ ap (number_octets 4) c.from.ensures) (omega arith) c.copy_from_slice.ensures.after (omega arith)
+    (sym c.self.view_is))

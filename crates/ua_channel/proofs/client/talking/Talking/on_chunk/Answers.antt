@@ -4,7 +4,10 @@ use Rattle.ua_channel.proofs.client.talking.Talking.on_chunk.Goals as goal
 
 pub returns-in-Ok : goal.returns-in-Ok
 returns-in-Ok c = λ cs s.
-    judged_behind (token_reasons c.args.self.now c.args.chunk) (known_reasons c.args.self.now cs c.args.chunk) (IsTakenWith c.args.self.now cs c.args.chunk c.on_known.new.self) (IsTakenWith c.args.self.now cs c.args.chunk c.on_known.new.self) c.on_known.result c.in-Ok.ensures.0 (λ e w. w) (c.on_known.ensures cs s)
+    judged_behind (token_reasons c.args.self.now c.args.chunk) (known_reasons c.args.self.now cs c.args.chunk)
+    (IsTakenWith c.args.self.now cs c.args.chunk c.on_known.new.self) (IsTakenWith c.args.self.now cs c.args.chunk c.on_known.new.self) c.on_known.result
+    c.in-Ok.ensures.0 (λ e w. w) (c.on_known.ensures cs s)
 
 pub returns-in-Err : goal.returns-in-Err
-returns-in-Err c = λ cs s. stops_among (token_reasons c.args.self.now c.args.chunk) (known_reasons c.args.self.now cs c.args.chunk) c.in-Err.fault c.in-Err.ensures
+returns-in-Err c = λ cs s. stops_among (token_reasons c.args.self.now c.args.chunk) (known_reasons c.args.self.now cs c.args.chunk) c.in-Err.fault
+    c.in-Err.ensures

@@ -4,14 +4,18 @@ use Rattle.ua_channel.proofs.client.talking.Talking.on_frame.Goals as goal
 
 pub returns-in-Msg : goal.returns-in-Msg
 returns-in-Msg c = λ limits before asked h let_in.
-    chunk_judged limits c.args.self.now before asked c.on_chunk.new.self h c.args.frame c.read_chunk.result c.on_chunk.result c.in-Msg.is c.read_chunk.ensures.found (c.on_chunk.ensures before.messages h.assembles)
+    chunk_judged limits c.args.self.now before asked c.on_chunk.new.self h c.args.frame c.read_chunk.result c.on_chunk.result c.in-Msg.is
+    c.read_chunk.ensures.found (c.on_chunk.ensures before.messages h.assembles)
 
 pub returns-in-Ok : goal.returns-in-Ok
 returns-in-Ok c = λ limits before asked h let_in.
-    renewal_judged limits c.args.self.now before asked c.on_renewed.new.self h c.args.frame c.in-Ok.answer c.on_renewed.result c.in-Opn.is c.in-Ok.ensures (c.on_renewed.ensures before.messages h.assembles)
+    renewal_judged limits c.args.self.now before asked c.on_renewed.new.self h c.args.frame c.in-Ok.answer c.on_renewed.result c.in-Opn.is c.in-Ok.ensures
+    (c.on_renewed.ensures before.messages h.assembles)
 
 pub returns-in-Err-judge_answer : goal.returns-in-Err-judge_answer
-returns-in-Err-judge_answer c = λ limits before asked h let_in. stopped_opn limits before asked c.args.frame c.in-Err-judge_answer.fault c.in-Opn.is c.in-Err-judge_answer.ensures
+returns-in-Err-judge_answer c = λ limits before asked h let_in. stopped_opn limits before asked c.args.frame c.in-Err-judge_answer.fault c.in-Opn.is
+    c.in-Err-judge_answer.ensures
 
 pub returns-in-Err : goal.returns-in-Err
-returns-in-Err c = λ limits before asked h let_in. stopped_err limits before asked c.args.frame c.deref.result.now c.stop_of_error.result c.in-Err.is c.deref.ensures c.stop_of_error.ensures
+returns-in-Err c = λ limits before asked h let_in. stopped_err limits before asked c.args.frame c.deref.result.now c.stop_of_error.result c.in-Err.is
+    c.deref.ensures c.stop_of_error.ensures

@@ -5,8 +5,12 @@ use Rattle.ua_channel.proofs.client.talking.Talking.on_known.Goals as goal
 
 pub returns-in-Ok : goal.returns-in-Ok
 returns-in-Ok c = λ cs s.
-    known_judged c.args.self.now c.accept.new.self c.on_delivered.new.self cs c.args.chunk c.in-Ok.delivered (c.in-Ok.ensures cs s).1 c.on_delivered.result (c.in-Ok.ensures cs s).0
-    (subst (λ (b : Bool). Judged (unasked_reasons c.accept.new.self c.args.chunk.request) (IsDeliveredWith c.accept.new.self c.args.chunk.request c.args.chunk.token (not b) c.in-Ok.delivered c.on_delivered.new.self) c.on_delivered.result) c.is_more.ensures c.on_delivered.ensures)
+    known_judged c.args.self.now c.accept.new.self c.on_delivered.new.self cs c.args.chunk c.in-Ok.delivered (c.in-Ok.ensures cs s).1 c.on_delivered.result
+    (c.in-Ok.ensures cs s).0
+    (subst (λ (b : Bool). Judged (unasked_reasons c.accept.new.self c.args.chunk.request)
+    (IsDeliveredWith c.accept.new.self c.args.chunk.request c.args.chunk.token (not b) c.in-Ok.delivered c.on_delivered.new.self) c.on_delivered.result)
+    c.is_more.ensures c.on_delivered.ensures)
 
 pub returns-in-Err : goal.returns-in-Err
-returns-in-Err c = λ cs s. stops_among (refused_reasons c.args.self.now cs c.args.chunk) (unasked_reasons c.args.self.now c.args.chunk.request) c.in-Err.fault (c.in-Err.ensures cs s)
+returns-in-Err c = λ cs s. stops_among (refused_reasons c.args.self.now cs c.args.chunk) (unasked_reasons c.args.self.now c.args.chunk.request) c.in-Err.fault
+    (c.in-Err.ensures cs s)

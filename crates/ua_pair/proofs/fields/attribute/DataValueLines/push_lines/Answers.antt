@@ -4,4 +4,12 @@ use Rattle.ua_pair.proofs.fields.attribute.DataValueLines.push_lines.Goals as go
 
 pub returns : goal.returns
 unfolding data_value_entries
-returns c = (_, c.in_ok-push_field.ensures, (_, c.in_ok-push_field-2.ensures, (_, c.in_ok-push_field-3.ensures, (_, c.in_ok-push_field-4.ensures, (_, c.in_ok-push_field-5.ensures, (_, c.in_ok-push_field-6.ensures, refl))))))
+returns c = (
+  _,
+  c.in_ok-push_field.ensures,
+  (
+    _,
+    c.in_ok-push_field-2.ensures,
+    (_, c.in_ok-push_field-3.ensures, (_, c.in_ok-push_field-4.ensures, (_, c.in_ok-push_field-5.ensures, (_, c.in_ok-push_field-6.ensures, refl)))),
+  ),
+)

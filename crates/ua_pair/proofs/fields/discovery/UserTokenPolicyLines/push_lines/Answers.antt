@@ -4,4 +4,8 @@ use Rattle.ua_pair.proofs.fields.discovery.UserTokenPolicyLines.push_lines.Goals
 
 pub returns : goal.returns
 unfolding user_token_policy_entries
-returns c = (_, c.in_ok-push_field.ensures, (_, c.in_ok-push_field-2.ensures, (_, c.in_ok-push_field-3.ensures, (_, c.in_ok-push_field-4.ensures, (_, c.in_ok-push_field-5.ensures, refl)))))
+returns c = (
+  _,
+  c.in_ok-push_field.ensures,
+  (_, c.in_ok-push_field-2.ensures, (_, c.in_ok-push_field-3.ensures, (_, c.in_ok-push_field-4.ensures, (_, c.in_ok-push_field-5.ensures, refl)))),
+)

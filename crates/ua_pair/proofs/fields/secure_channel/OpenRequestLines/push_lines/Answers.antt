@@ -4,4 +4,12 @@ use Rattle.ua_pair.proofs.fields.secure_channel.OpenRequestLines.push_lines.Goal
 
 pub returns : goal.returns
 unfolding open_request_entries
-returns c = (_, c.in_ok-push_part.ensures, (_, c.in_ok-push_field.ensures, (_, c.in_ok-push_field-2.ensures, (_, c.in_ok-push_field-3.ensures, (_, c.in_ok-push_field-4.ensures, (_, c.in_ok-push_field-5.ensures, refl))))))
+returns c = (
+  _,
+  c.in_ok-push_part.ensures,
+  (
+    _,
+    c.in_ok-push_field.ensures,
+    (_, c.in_ok-push_field-2.ensures, (_, c.in_ok-push_field-3.ensures, (_, c.in_ok-push_field-4.ensures, (_, c.in_ok-push_field-5.ensures, refl)))),
+  ),
+)

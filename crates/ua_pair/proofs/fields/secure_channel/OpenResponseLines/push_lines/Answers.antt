@@ -4,4 +4,8 @@ use Rattle.ua_pair.proofs.fields.secure_channel.OpenResponseLines.push_lines.Goa
 
 pub returns : goal.returns
 unfolding open_response_entries
-returns c = (_, c.in_ok-push_part.ensures, (_, c.in_ok-push_field.ensures, (_, rw c.of.ensures at c.in_ok-push_part-2.ensures, (_, c.in_ok-push_field-2.ensures, refl))))
+returns c = (
+  _,
+  c.in_ok-push_part.ensures,
+  (_, c.in_ok-push_field.ensures, (_, rw c.of.ensures at c.in_ok-push_part-2.ensures, (_, c.in_ok-push_field-2.ensures, refl))),
+)

@@ -4,4 +4,12 @@ use Rattle.ua_pair.proofs.fields.session.ActivateSessionRequestLines.push_lines.
 
 pub returns : goal.returns
 unfolding activate_session_request_entries
-returns c = (_, c.in_ok-push_part.ensures, (_, c.in_ok-push_part-2.ensures, (_, c.in_ok-push_field.ensures, (_, c.in_ok-push_field-2.ensures, (_, c.in_ok-push_field-3.ensures, (_, c.in_ok-push_part-3.ensures, refl))))))
+returns c = (
+  _,
+  c.in_ok-push_part.ensures,
+  (
+    _,
+    c.in_ok-push_part-2.ensures,
+    (_, c.in_ok-push_field.ensures, (_, c.in_ok-push_field-2.ensures, (_, c.in_ok-push_field-3.ensures, (_, c.in_ok-push_part-3.ensures, refl)))),
+  ),
+)

@@ -4,4 +4,24 @@ use Rattle.ua_pair.proofs.fields.session.CreateSessionRequestLines.push_lines.Go
 
 pub returns : goal.returns
 unfolding create_session_request_entries
-returns c = (_, c.in_ok-push_part.ensures, (_, c.in_ok-push_part-2.ensures, (_, c.in_ok-push_field.ensures, (_, c.in_ok-push_field-2.ensures, (_, c.in_ok-push_field-3.ensures, (_, c.in_ok-push_field-4.ensures, (_, c.in_ok-push_field-5.ensures, (_, c.in_ok-push_field-6.ensures, (_, c.in_ok-push_field-7.ensures, refl)))))))))
+returns c = (
+  _,
+  c.in_ok-push_part.ensures,
+  (
+    _,
+    c.in_ok-push_part-2.ensures,
+    (
+      _,
+      c.in_ok-push_field.ensures,
+      (
+        _,
+        c.in_ok-push_field-2.ensures,
+        (
+          _,
+          c.in_ok-push_field-3.ensures,
+          (_, c.in_ok-push_field-4.ensures, (_, c.in_ok-push_field-5.ensures, (_, c.in_ok-push_field-6.ensures, (_, c.in_ok-push_field-7.ensures, refl)))),
+        ),
+      ),
+    ),
+  ),
+)
