@@ -2,9 +2,9 @@
 """Counts what bench_messages does beside plain C that does the same on the same octets.
 
 count_beside_c PROGRAM [ROW..]: PROGRAM is crates/bench_messages/out/bench_messages, as `rt run` builds it. It writes
-the octets, builds tools/plain_c (gcc -O2), runs both under callgrind with two numbers of turns each, and
-prints for each row the difference for one unit: the program's instructions, C's, and their ratio. With
-names of rows, those alone.
+the octets, builds tools/plain_c twice (gcc -O2, and clang -O3 for x86-64-v2, as the program is built), runs all
+under callgrind with two numbers of turns each, and prints for each row the difference for one unit: the
+program's instructions, those of both builds of C, and the ratios to them. With names of rows, those alone.
 """
 from __future__ import annotations
 
@@ -14,6 +14,7 @@ import struct
 import subprocess
 import sys
 import tempfile
+from collections.abc import Callable
 
 MOMENT = 132000000000000000
 URL = b'opc.tcp://localhost:4840'
@@ -60,6 +61,15 @@ def read_response(handle: int, count: int) -> bytes:
     return response_header(634, handle) + struct.pack('<I', count) + values + NULL
 
 
+def write_request(token: bytes, handle: int, count: int) -> bytes:
+    items = b''.join(
+        bytes([3]) + struct.pack('<H', 1) + text(name(i)) + struct.pack('<I', 13) + NULL
+        + bytes([0x01, 6]) + struct.pack('<i', i * 7)
+        for i in range(count)
+    )
+    return request_header(673, token, handle) + struct.pack('<I', count) + items
+
+
 def frame(kind: bytes, body: bytes) -> bytes:
     return kind + struct.pack('<I', len(body) + 8) + body
 
@@ -73,8 +83,8 @@ def opening(channel: int, body: bytes) -> bytes:
     return frame(b'OPNF', headers + body)
 
 
-def client_octets(count: int, nodes: int) -> bytes:
-    """What a client sends: HEL, OPN, CreateSession, ActivateSession and Reads."""
+def client_octets(count: int, nodes: int, request: Callable[[bytes, int, int], bytes] = read_request) -> bytes:
+    """What a client sends: HEL, OPN, CreateSession, ActivateSession and requests, which are Reads or Writes."""
     none, token = bytes(2), bytes([1, 2, 1, 0])
     hello = struct.pack('<IIIII', 0, 65535, 65535, 1048576, 256) + text(URL)
     opens = request_header(446, none, 0) + struct.pack('<III', 0, 0, 1) + NULL
@@ -84,9 +94,9 @@ def client_octets(count: int, nodes: int) -> bytes:
     create += struct.pack('<dI', 120000.0, 0)
     activate = request_header(467, token, 3) + 4 * NULL
     activate += bytes([1, 0, 0x41, 1, 1]) + text(text(b'anonymous')) + 2 * NULL
-    reads = b''.join(chunk(4 + i, read_request(token, 4 + i, nodes)) for i in range(count))
+    requests = b''.join(chunk(4 + i, request(token, 4 + i, nodes)) for i in range(count))
     return (
-        frame(b'HELF', hello) + opening(0, opens) + chunk(2, create) + chunk(3, activate) + reads
+        frame(b'HELF', hello) + opening(0, opens) + chunk(2, create) + chunk(3, activate) + requests
     )
 
 
@@ -121,7 +131,10 @@ def files(count: int) -> dict[str, bytes]:
         'small-response': read_response(5, 1),
         'client': client_octets(count, 1),
         'client-large': client_octets(12, 1000),
+        'client-writes': client_octets(count, 1, write_request),
+        'client-writes-large': client_octets(12, 1000, write_request),
         'server': server_octets(count, 1),
+        'server-large': server_octets(12, 1000),
         'nodes': nodes,
     }
 
@@ -152,12 +165,20 @@ ROWS = [
     ('channel', 'channel client N', 'channel client N 4096', (100, 600, 1), (100, 600, 1)),
     ('step', 'step client N nodes', 'step client N nodes', (100, 600, 1), (100, 600, 1)),
     ('step-large', 'step client-large N nodes', 'step client-large N nodes', (6, 11, 1000), (6, 11, 1000)),
+    ('step-write', 'step client-writes N nodes', 'step client-writes N nodes', (100, 600, 1), (100, 600, 1)),
+    ('step-write-large', 'step client-writes-large N nodes', 'step client-writes-large N nodes', (6, 11, 1000), (6, 11, 1000)),
+    ('connection', 'connection client N nodes', None, (100, 600, 1), (100, 600, 1)),
+    ('set', 'set request N nodes', None, (2, 12, 1000), (2, 12, 1000)),
     ('call', 'call server N small', 'call server N small', (100, 600, 1), (100, 600, 1)),
     ('call-all', 'call-all server N small', 'call_all server N small', (2, 12, 64), (128, 768, 1)),
     ('dissect', 'dissect client N', 'dissect client N client', (1, 3, 800), (1, 3, 800)),
+    ('dissect-server', 'dissect-server server N', 'dissect server N server', (1, 3, 800), (1, 3, 800)),
+    ('dissect-large', 'dissect-server server-large N', 'dissect server-large N server', (1, 3, 12000), (1, 3, 12000)),
 ]
 
 COUNT = 800
+
+COMPILERS = [['gcc', '-O2'], ['clang', '-O3', '-march=x86-64-v2']]
 
 
 def counted(words: list[str]) -> int:
@@ -189,8 +210,9 @@ def main() -> None:
     program, wanted = os.path.abspath(sys.argv[1]), sys.argv[2:]
     here = os.path.dirname(os.path.abspath(__file__))
     with tempfile.TemporaryDirectory() as folder:
-        plain = f'{folder}/plain'
-        subprocess.run(['gcc', '-O2', '-o', plain, f'{here}/plain_c/bench2.c'], check=True)
+        builds = [f'{folder}/{compiler[0]}-built' for compiler in COMPILERS]
+        for compiler, built in zip(COMPILERS, builds):
+            subprocess.run([*compiler, '-o', built, f'{here}/plain_c/bench2.c'], check=True)
         for file, octets in files(COUNT).items():
             with open(f'{folder}/{file}', 'wb') as out:
                 out.write(octets)
@@ -198,8 +220,9 @@ def main() -> None:
             if wanted and row not in wanted:
                 continue
             a = unit(program, ours, turns, folder)
-            b = unit(plain, theirs, their_turns, folder)
-            print(f'{row:22} {a:10.2f} {b:10.2f} {a / b:6.2f}', flush=True)
+            plain = [unit(built, theirs, their_turns, folder) for built in builds if theirs]
+            ratios = [f'{a / b:6.2f}' for b in plain]
+            print(f'{row:22} {a:10.2f}', *(f'{b:10.2f}' for b in plain), *ratios, flush=True)
 
 
 if __name__ == '__main__':

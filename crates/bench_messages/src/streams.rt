@@ -233,13 +233,13 @@ pub fn answer_among(alloc: Global, given: &Given, times: u32) -> Result<u64, Fau
     Ok(sharing.count)
 }
 
-/// Dissects what a client sent this many times; how many bytes the lines have.
-pub fn dissect_octets(alloc: Global, octets: &[u8], times: u32) -> Result<u64, Fault> {
+/// Dissects what a side sent this many times; how many bytes the lines have.
+pub fn dissect_octets(alloc: Global, side: Side, octets: &[u8], times: u32) -> Result<u64, Fault> {
     let mut lines = String::new(alloc);
     let mut sum = 0u64;
     for _ in 0..times {
         lines.clear();
-        let mut dissector = Dissector::new(alloc, DissectOptions::plain(Side::Client));
+        let mut dissector = Dissector::new(alloc, DissectOptions::plain(side));
         dissector.take(octets, &mut lines)?;
         dissector.finish(&mut lines)?;
         sum = sum.wrapping_add(lines.len() as u64);

@@ -8,6 +8,7 @@ use crate::nodes::{load_nodes, read_items, set_items};
 use crate::streams::{answer_among, answer_messages, dissect_octets, read_frames, take_messages};
 use std::alloc::Global;
 use ua_builtin::{MOST_LEVELS, Octets, Source, Wire};
+use ua_pair::Side;
 use ua_services::{ReadRequest, ReadResponse};
 use ua_variant::Variant;
 
@@ -51,7 +52,10 @@ pub enum Work {
     Call,
     /// Calls requests in groups of 64.
     CallAll,
+    /// Dissects what a client sends.
     Dissect,
+    /// Dissects what a server sends.
+    DissectServer,
 }
 
 impl Work {
@@ -81,6 +85,7 @@ impl Work {
             "call" => Some(Work::Call),
             "call-all" => Some(Work::CallAll),
             "dissect" => Some(Work::Dissect),
+            "dissect-server" => Some(Work::DissectServer),
             _ => None,
         }
     }
@@ -111,7 +116,8 @@ impl Work {
             Work::Connection => answer_among(alloc, given, times),
             Work::Call => call(alloc, given, times),
             Work::CallAll => call_groups(alloc, given, times),
-            Work::Dissect => dissect_octets(alloc, octets, times),
+            Work::Dissect => dissect_octets(alloc, Side::Client, octets, times),
+            Work::DissectServer => dissect_octets(alloc, Side::Server, octets, times),
         }
     }
 }
