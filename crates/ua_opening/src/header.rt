@@ -383,6 +383,22 @@ impl Wire for ResponseHeader {
     }
 }
 
+impl Skip for ResponseHeader {
+    #[tactic(auto, unfolding(crate::specs::Header::response_header))]
+    fn skip_value<S: Source>(alloc: Global, src: &mut S, depth: u32) -> Result<(), ReadFault> {
+        DateTime::skip_value(alloc, src, depth)?;
+        u32::skip_value(alloc, src, depth)?;
+        StatusCode::read_value(alloc, src, depth)?;
+        if let Some(texts) = take_nothing_more(alloc, src, depth) {
+            drop(texts);
+            return Ok(());
+        }
+        DiagnosticInfo::skip_value(alloc, src, depth)?;
+        UaArray::<UaString>::skip_value(alloc, src, depth)?;
+        ExtensionObject::skip_value(alloc, src, depth)
+    }
+}
+
 /// The response to a request whose service call failed (OPC 10000-4, 7.35).
 #[derive(Debug, Drop)]
 pub struct ServiceFault {

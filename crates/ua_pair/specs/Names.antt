@@ -8,11 +8,11 @@ use Rattle.ua_opening.specs.declared.secure_channel.OpenRequest.{OpenRequest}
 use Rattle.ua_opening.specs.Message.{message, body_of, id_of, standard_number}
 use Rattle.ua_opening.specs.Open.{answer_read}
 use Rattle.ua_services.specs.Request.{request_kind_name, request_read, kind_alone}
-use Rattle.ua_services.specs.Response.{response_kind_name, response_read, kind_of as response_kind_of}
+use Rattle.ua_services.specs.Response.{response_kind_name, response_kind_alone, response_read}
 use Rattle.ua_opening.specs.declared.open.OpenAnswer.{OpenAnswer}
 use Rattle.ua_opening.specs.declared.open.OpenAnswer.TheVariants.{Open, Fault}
 use Rattle.ua_services.specs.declared.request.RequestKind.{RequestKind}
-use Rattle.ua_services.specs.declared.response.Response.{Response}
+use Rattle.ua_services.specs.declared.response.ResponseKind.{ResponseKind}
 use Rattle.ua_services.specs.declared.fault.RequestFault.{RequestFault}
 use Rattle.ua_services.specs.declared.fault.RequestFault.TheVariants as request_fault
 use Rattle.ua_services.specs.declared.fault.ResponseFault.{ResponseFault}
@@ -51,15 +51,15 @@ request_name octets = request_name_of (kind_alone (request_read octets))
 -- ---- responses
 
 -- the name of what was decoded as a response: its kind, or why there is none
-abbrev pub response_name_of : Result Response ResponseFault → List ℕ
-response_name_of (Ok m) = response_kind_name (response_kind_of m)
+abbrev pub response_name_of : Result ResponseKind ResponseFault → List ℕ
+response_name_of (Ok kind) = response_kind_name kind
 response_name_of (Err response_fault.Unknown) = codes "unsupported"
 response_name_of (Err response_fault.Unreadable) = codes "unreadable"
 response_name_of (Err response_fault.OutOfMemory) = []
 
 -- the name of a message that a server sent
 abbrev pub response_name : List ℕ → List ℕ
-response_name octets = response_name_of (response_read octets)
+response_name octets = response_name_of (response_kind_alone (response_read octets))
 
 -- the name of a message of these bytes
 abbrev pub message_name : Side → List ℕ → List ℕ
@@ -80,15 +80,15 @@ abbrev pub is_unsupported_request : List ℕ → Bool
 is_unsupported_request octets = is_unsupported_kind (kind_alone (request_read octets))
 
 -- whether what was decoded as a response begins with a NodeId of no known kind
-abbrev pub is_unknown : Result Response ResponseFault → Bool
-is_unknown (Ok m) = false
+abbrev pub is_unknown : Result ResponseKind ResponseFault → Bool
+is_unknown (Ok kind) = false
 is_unknown (Err response_fault.Unknown) = true
 is_unknown (Err response_fault.Unreadable) = false
 is_unknown (Err response_fault.OutOfMemory) = false
 
 -- whether a message that a server sent is of no known kind
 abbrev pub is_unsupported_response : List ℕ → Bool
-is_unsupported_response octets = is_unknown (response_read octets)
+is_unsupported_response octets = is_unknown (response_kind_alone (response_read octets))
 
 -- whether a message that this side sent is of no known kind
 abbrev pub is_unsupported : Side → List ℕ → Bool

@@ -14,8 +14,8 @@ use std::alloc::{AllocError, Global};
 use ua_builtin::{Octets, ReadFault, Source};
 use ua_chunk::Message;
 use ua_services::{
-    OpenAnswer, RequestFault, ResponseFault, read_open_request, read_open_response, read_response,
-    skip_request,
+    OpenAnswer, RequestFault, ResponseFault, read_open_request, read_open_response, skip_request,
+    skip_response,
 };
 
 /// The name of a body that its kind does not encode.
@@ -42,12 +42,8 @@ fn response_name<S: Source>(alloc: Global, src: &mut S) -> Result<(&'static str,
     ensures name { IfOk result (λ named. named.0.now ≡ name_of_response (S.octets src.old)) }
     ensures unsupported { IfOk result (λ named. named.1 ≡ is_unsupported_response (S.octets src.old)) }
 {
-    match read_response(alloc, src) {
-        Ok(response) => {
-            let name = response.kind().name();
-            drop(response);
-            Ok((name, false))
-        }
+    match skip_response(alloc, src) {
+        Ok(kind) => Ok((kind.name(), false)),
         Err(ResponseFault::Unknown) => Ok((UNSUPPORTED, true)),
         Err(ResponseFault::Unreadable) => Ok((UNREADABLE, false)),
         Err(ResponseFault::OutOfMemory) => Err(AllocError),

@@ -6,6 +6,7 @@ pub mod RequestRead
 pub mod ResponseRead
 pub mod NoneEmpty
 mod RequestSkipped
+mod ResponseSkipped
 mod RequestThinned
 mod ThinCounted
 pub mod Words

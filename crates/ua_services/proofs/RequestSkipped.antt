@@ -45,13 +45,13 @@ image_err f r old new NoMemory h = tt
 -- ---- a request behind its NodeId
 
 -- the reader of a kind that is passed over is that of its structure
-same_skip : {A : Type 0} (f : A → Request) (o : Option (A × List ℕ))
-    → ◌>>=◌ {B = (Unit {0}) × List ℕ} (◌>>=◌ {B = Request × List ℕ} o (λ x. Some (f x.0, x.1))) (λ x. Some (tt, x.1)) ≡ ◌>>=◌ {B = (Unit {0}) × List ℕ} o
+same_skip : {A M : Type 0} (f : A → M) (o : Option (A × List ℕ))
+    → ◌>>=◌ {B = (Unit {0}) × List ℕ} (◌>>=◌ {B = M × List ℕ} o (λ x. Some (f x.0, x.1))) (λ x. Some (tt, x.1)) ≡ ◌>>=◌ {B = (Unit {0}) × List ℕ} o
     (λ x. Some (tt, x.1))
-same_skip f None = refl
-same_skip f (Some x) = refl
+same_skip {M = M} f None = refl
+same_skip {M = M} f (Some x) = refl
 
-pub skips_made : {A : Type 0} (f : A → Request) (r : List ℕ → Option (A × List ℕ)) (old new : List ℕ) (result : Result (Unit {0}) ReadFault)
+pub skips_made : {A M : Type 0} (f : A → M) (r : List ℕ → Option (A × List ℕ)) (old new : List ℕ) (result : Result (Unit {0}) ReadFault)
     → Gives (skipped r) old new result → Gives (skipped (image_read f r)) old new result
 skips_made f r old new (Ok done) h = same_skip f (r old) ∙ h
 skips_made f r old new (Err NoValue) h = same_skip f (r old) ∙ h

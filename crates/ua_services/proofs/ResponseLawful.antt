@@ -36,7 +36,7 @@ response_written kind.Read = record { lawful = lawful_read_response; back = λ o
 response_written kind.Write = sound_but sound_write_response
 response_written kind.ServiceFault = sound_but sound_service_fault
 
-is_response : (k : ResponseKind) → IsKind responses k
+pub is_response : (k : ResponseKind) → IsKind responses k
 is_response k = record { forth = response_forth k; numbers = response_numbers k; lawful = (response_written k).lawful }
 
 pub are_responses : AreKinds responses

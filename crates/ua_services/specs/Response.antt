@@ -173,6 +173,11 @@ response_read octets = found_or (body_of response octets) (misread_id (id_of oct
 abbrev pub kind_read : (k : ResponseKind) → List ℕ → Result Response ResponseFault
 kind_read k octets = found_or (kind_at responses most_levels (Some k) octets >>= λ x. if_last x.0 x.1) Unreadable
 
+-- of what was decoded, the kind of the response alone, or the error
+abbrev pub response_kind_alone : Result Response ResponseFault → Result ResponseKind ResponseFault
+response_kind_alone (Ok m) = Ok (kind_of m)
+response_kind_alone (Err fault) = Err fault
+
 -- the error of a response, if decoding it failed
 abbrev pub unread_by : ReadFault → ResponseFault
 unread_by NoValue = Unreadable

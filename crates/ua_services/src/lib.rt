@@ -32,7 +32,9 @@ pub use policy::chosen_id;
 pub use request::{
     Request, RequestKind, read_request, read_request_for, request_body, skip_request, write_request,
 };
-pub use response::{Response, ResponseKind, read_response, response_body, write_response};
+pub use response::{
+    Response, ResponseKind, read_response, response_body, skip_response, write_response,
+};
 pub use ua_opening::{
     CloseRequest, OpenAnswer, OpenRequest, OpenResponse, RequestHeader, ResponseHeader,
     ServiceFault, UaArray, empty_body, read_array, read_open_request, read_open_response,

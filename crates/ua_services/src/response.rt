@@ -2,19 +2,19 @@
 
 ghost use Rattle.std.specs.Prelude.{◌≡◌, ◌≤◌, ◌++◌, ◌⊎◌, ℕ, List, length, IfOk};
 ghost use Rattle.std.specs.Prelude.{IfErr, OnOk, OnErr, IsErrOf, IsFalse, ◌↔◌};
-ghost use Rattle.ua_builtin.specs.Exact.{image_read};
+ghost use Rattle.ua_builtin.specs.Exact.{image_read, skipped};
 ghost use Rattle.ua_builtin.specs.Format.{most_levels, Gives, StaysBehind};
 ghost use Rattle.ua_wire.specs.declared.fault.WriteFault.TheVariants.{NotWritable};
-ghost use Rattle.ua_opening.specs.Message.{IsBody};
-ghost use Rattle.ua_services.specs.Response.{response, responses, response_kind, response_of_kind};
-ghost use Rattle.ua_services.specs.Response.{unread_by, kind_read, own_answer, response_read, Misread};
+ghost use Rattle.ua_opening.specs.Message.{IsBody, kind_at};
+ghost use Rattle.ua_services.specs.Response.{response, responses, response_kind, response_of_kind, unread_by};
+ghost use Rattle.ua_services.specs.Response.{kind_read, response_kind_alone, own_answer, response_read, Misread};
 
 use crate::fault::ResponseFault;
 use crate::kinds::{kind_of, message_of_kind, name_of, numbered};
 use crate::request::RequestKind;
 use crate::{by_kind, requests, responses};
 use std::alloc::{AllocError, Global};
-use ua_builtin::{MOST_LEVELS, NodeId, ReadFault, Source, Wire, WriteFault};
+use ua_builtin::{MOST_LEVELS, NodeId, ReadFault, Skip, Source, Wire, WriteFault};
 use ua_opening::{ResponseHeader, ServiceFault, append_message, empty_body, standard_number};
 use ua_structures::{
     ActivateSessionResponse, CloseSessionResponse, CreateSessionResponse, GetEndpointsResponse,
@@ -292,6 +292,64 @@ pub fn read_response<S: Source>(alloc: Global, src: &mut S) -> Result<Response, 
     ensures refused { IfErr result (λ fault. Misread (S.octets src.old) fault) }
 {
     read_body(alloc, src)
+}
+
+// Skips the structure of a response of that kind. Of a Read no result is kept.
+#[tactic(auto, unfolding(crate::specs::Response::response_of_kind))]
+fn skip_kind<S: Source>(
+    alloc: Global,
+    src: &mut S,
+    depth: u32,
+    kind: ResponseKind,
+) -> Result<(), ReadFault>
+    requires levels { depth ≤ most_levels }
+    ensures exact { Gives (skipped (kind_at responses depth (Some kind))) (S.octets src.old) (S.octets src.new) result }
+    ensures behind { StaysBehind (S.octets src.old) (S.octets src.new) }
+{
+    match kind {
+        ResponseKind::Read => ReadResponse::skip_value(alloc, src, depth),
+        _ => {
+            let response = read_kind(alloc, src, depth, kind)?;
+            drop(response);
+            Ok(())
+        }
+    }
+}
+
+// Skips a response of that kind after its NodeId, and nothing after it.
+fn skip_last<S: Source>(
+    alloc: Global,
+    src: &mut S,
+    kind: ResponseKind,
+) -> Result<ResponseKind, ResponseFault>
+    ensures { (result ≡ response_kind_alone (kind_read kind (S.octets src.old)))
+        ⊎ (result ≡ Err ResponseFault.OutOfMemory) }
+{
+    if let Err(fault) = skip_kind(alloc, src, MOST_LEVELS, kind) {
+        return Err(unreadable(fault));
+    }
+    if src.left() > 0 {
+        return Err(ResponseFault::Unreadable);
+    }
+    Ok(kind)
+}
+
+/// The kind of the response that [`read_response`] would decode from this body. No result of a Read
+/// is kept: no more memory is allocated than one field, one scalar of a value, or a part of an array
+/// needs at a time. A response of another kind is decoded and dropped. After an error, discard the
+/// source.
+pub fn skip_response<S: Source>(alloc: Global, src: &mut S) -> Result<ResponseKind, ResponseFault>
+    ensures kind { (result ≡ response_kind_alone (response_read (S.octets src.old)))
+        ⊎ (result ≡ Err ResponseFault.OutOfMemory) }
+{
+    let id = match NodeId::read_value(alloc, src, MOST_LEVELS) {
+        Ok(id) => id,
+        Err(fault) => return Err(unreadable(fault)),
+    };
+    match announced_kind(&id) {
+        Some(kind) => skip_last(alloc, src, kind),
+        None => Err(ResponseFault::Unknown),
+    }
 }
 
 /// Appends the canonical body of a response at the end. On an error the vector is unchanged.

@@ -318,6 +318,15 @@ impl Wire for ReadResponse {
     }
 }
 
+impl Skip for ReadResponse {
+    #[tactic(auto, unfolding(crate::specs::Attribute::read_response))]
+    fn skip_value<S: Source>(alloc: Global, src: &mut S, depth: u32) -> Result<(), ReadFault> {
+        ResponseHeader::skip_value(alloc, src, depth)?;
+        UaArray::<DataValue>::skip_value(alloc, src, depth)?;
+        UaArray::<DiagnosticInfo>::skip_value(alloc, src, depth)
+    }
+}
+
 /// The results of a Read: stored, or made one by one as they are encoded.
 pub trait ReadResults {
     ghost use Rattle.std.specs.Prelude.{ℕ, List, OnOk};
