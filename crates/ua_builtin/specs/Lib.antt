@@ -10,6 +10,7 @@ pub mod ExpandedNodeId
 pub mod QualifiedName
 pub mod LocalizedText
 pub mod ExtensionObject
+pub mod BuiltInType
 pub use Rattle.ua_wire.specs.Boolean
 pub use Rattle.ua_wire.specs.Counted
 pub use Rattle.ua_wire.specs.DoubleBits

@@ -16,6 +16,7 @@
 //! ```
 #![tactic(auto)]
 
+mod built_in_type;
 mod date_time;
 mod expanded_node_id;
 mod extension_object;
@@ -30,6 +31,7 @@ mod qualified_name;
 mod status_code;
 mod xml_element;
 
+pub use built_in_type::BuiltInType;
 pub use date_time::DateTime;
 pub use expanded_node_id::ExpandedNodeId;
 pub use extension_object::{ExtensionBody, ExtensionObject};

@@ -11,7 +11,7 @@ use ua_frame::error_frame;
 #[derive(Clone, Copy, PartialEq, Eq, Debug, Error)]
 pub enum ChannelFault {
     /// The bytes are refused with this StatusCode, and this ERR message is to be sent.
-    #[error("refused")]
+    #[error("refused: {code:08X}", code = .code.code)]
     Refused {
         code: StatusCode,
         err_frame: [u8; 16],

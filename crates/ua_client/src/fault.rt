@@ -18,17 +18,17 @@ pub enum ClientFault {
     #[error("the input ended")]
     Ended,
     /// The server refused the connection by an ERR message with this StatusCode.
-    #[error("the server refused the connection")]
+    #[error("the server refused the connection: {code:08X}", code = .0.code)]
     Peer(StatusCode),
     /// This end refused what the server sent, for the reason of this StatusCode.
-    #[error("what the server sent was refused")]
+    #[error("what the server sent was refused: {code:08X}", code = .0.code)]
     Refused(StatusCode),
     /// A reply is no response, or neither of its request's own kind nor a ServiceFault.
     #[error("the response is unknown")]
     UnknownResponse,
     /// The server did not begin a session: the StatusCode of a ServiceFault, of a reply that it
     /// aborted, or of a bad ServiceResult.
-    #[error("the service failed")]
+    #[error("the service failed: {code:08X}", code = .0.code)]
     Service(StatusCode),
     /// The server does not accept a request of this many bytes or chunks.
     #[error("the request is too large")]

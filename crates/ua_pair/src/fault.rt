@@ -13,7 +13,7 @@ use ua_chunk::{AssembleFault, OpenFault};
 #[derive(Clone, Copy, PartialEq, Eq, Debug, Error)]
 pub enum DissectFault {
     /// The UA TCP message is rejected with this StatusCode.
-    #[error("refused")]
+    #[error("refused: {code:08X}", code = .0.code)]
     Refused(StatusCode),
     /// An allocation failed.
     #[error("out of memory")]

@@ -93,7 +93,7 @@ impl From<AllocError> for ScriptLineFault {
 #[derive(Clone, Copy, PartialEq, Eq, Debug, Error)]
 pub enum AnswerFault {
     /// The service call failed with this StatusCode.
-    #[error("the service failed")]
+    #[error("the service failed: {code:08X}", code = .0.code)]
     Service(StatusCode),
     /// The response is of another service, or has another number of results than the request has
     /// items.
