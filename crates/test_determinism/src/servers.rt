@@ -9,7 +9,7 @@ ghost use Rattle.test_determinism.specs.Servers.{LeftServers, SameServerAnswer};
 ghost use Rattle.test_determinism.specs.Servers.{SameServerOutcome, ServersAlike, counted_with};
 
 use ua_builtin::DateTime;
-use ua_channel::{ChannelFault, ReplyFault, ServerChannel, ServerEvent};
+use ua_channel::{ChannelFault, ReplyFault, ServerChannel, ServerEvent, Taken};
 
 /// Hands the same bytes to two channels that stand alike: the answers are one, with as many bytes
 /// taken, and the channels stand alike after them, or have both ended.
@@ -40,16 +40,17 @@ pub fn server_advance_twice(
     piece: &[u8],
     moment: DateTime,
 ) -> (
-    (usize, Result<ServerEvent, ChannelFault>),
-    (usize, Result<ServerEvent, ChannelFault>),
+    Taken<Result<ServerEvent, ChannelFault>>,
+    Taken<Result<ServerEvent, ChannelFault>>,
 )
     ensures taken { (octets : List ℕ) (told : List Told) → ServersAlike one.old two.old octets told
-        → HadMemory OutOfMemory result.0.1 result.1.1 → result.0.0 ≡ result.1.0 }
+        → HadMemory OutOfMemory result.0.outcome result.1.outcome → result.0.size ≡ result.1.size }
     ensures answers { (octets : List ℕ) (told : List Told) → ServersAlike one.old two.old octets told
-        → HadMemory OutOfMemory result.0.1 result.1.1 → SameServerOutcome result.0.1 result.1.1 }
+        → HadMemory OutOfMemory result.0.outcome result.1.outcome
+        → SameServerOutcome result.0.outcome result.1.outcome }
     ensures left { (octets : List ℕ) (told : List Told) → ServersAlike one.old two.old octets told
-        → HadMemory OutOfMemory result.0.1 result.1.1
-        → LeftServers (counted_with result.0.0 result.0.1) one.new two.new octets told piece.now }
+        → HadMemory OutOfMemory result.0.outcome result.1.outcome
+        → LeftServers (counted_with result.0.size result.0.outcome) one.new two.new octets told piece.now }
 {
     let first = one.advance(piece, moment);
     let second = two.advance(piece, moment);

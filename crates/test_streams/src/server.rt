@@ -4,20 +4,20 @@ use crate::given::{Given, tell_message};
 use crate::taking::{Goes, Takes};
 use crate::told::Told;
 use crate::words::first_number;
-use ua_channel::{ChannelFault, ReplyFault, ServerChannel, ServerEvent};
+use ua_channel::{ChannelFault, ReplyFault, ServerChannel, ServerEvent, Taken};
 
 impl Takes for ServerChannel {
     fn take_one(&mut self, given: &Given, piece: &[u8], told: &mut Told) -> (usize, Goes) {
-        let (taken, answer) = self.advance(piece, given.moment);
-        match answer {
-            Ok(event) => (taken, tell_event(given, event, told)),
+        let Taken { size, outcome } = self.advance(piece, given.moment);
+        match outcome {
+            Ok(event) => (size, tell_event(given, event, told)),
             Err(ChannelFault::Closed) => {
                 told.event("is closed");
                 (piece.len(), Goes::Out)
             }
             Err(fault) => {
                 tell_fault(given, fault, told);
-                (taken, Goes::Out)
+                (size, Goes::Out)
             }
         }
     }

@@ -12,12 +12,12 @@ use Rattle.ua_channel.specs.declared.server_event.ServerEvent.TheVariants.{NeedM
 use Rattle.ua_channel.specs.declared.server_event.ServerEvent.TheVariants as event
 use Rattle.ua_channel.specs.declared.server_fault.ChannelFault.{ChannelFault}
 use Rattle.ua_channel.specs.declared.server_fault.ChannelFault.TheVariants as fault
-use Rattle.ua_channel.specs.declared.step_fault.StepFault.{StepFault}
-use Rattle.ua_channel.specs.declared.step_fault.StepFault.TheVariants as step
+use Rattle.ua_channel.specs.declared.end_fault.EndFault.{EndFault}
+use Rattle.ua_channel.specs.declared.end_fault.EndFault.TheVariants as end_fault
 use Rattle.ua_channel.specs.ServerAnswers.{SendsOctets, AnswersAt}
 use Rattle.ua_channel.specs.inside.ServerSteps.{StandsWith, AnswersTo}
 use Rattle.ua_channel.specs.inside.Ends.{EndNexts}
-use Rattle.ua_channel.specs.inside.StepFaults.{of_step}
+use Rattle.ua_channel.specs.inside.EndFaults.{of_end_fault}
 use Rattle.ua_channel.specs.ServerSends.{opened_frame}
 use Rattle.ua_channel.specs.ServerStands.{server_side, channel_of, limits_of, next_of, Goes, GoesTelling, IsDone, StarvedAt}
 use Rattle.ua_channel.specs.ServerTold.{Told, Told as told}
@@ -80,20 +80,20 @@ pub answers_nothing : (channel number : ℕ) (moment : DateTime) (piece : List �
 answers_nothing channel number moment piece n new octets before h same =
     (h.0, (subst (λ (z : List ℕ). Goes new (octets ++ z) before) (sym (ap (λ (k : ℕ). take k piece) h.0 ∙ take-length piece)) h.1, same))
 
-answers_step : (channel number : ℕ) (moment : DateTime) (piece : List ℕ) (n : ℕ) (s : StepFault) (new : ServerChannel) (octets : List ℕ) (before : List Told)
-    → EndNexts server_side piece n (Err s) new.end tt octets before → AnswersAt channel number moment piece n (Err (of_step s)) new octets before
-answers_step channel number moment piece n (step.Refused code) new octets before h = (h.0, h.1, refl)
-answers_step channel number moment piece n (step.Peer code) new octets before h = absurd h.1
-answers_step channel number moment piece n step.OutOfMemory new octets before h = (h.0, h.1.done)
-answers_step channel number moment piece n step.Closed new octets before h = absurd h.1
+answers_end : (channel number : ℕ) (moment : DateTime) (piece : List ℕ) (n : ℕ) (s : EndFault) (new : ServerChannel) (octets : List ℕ) (before : List Told)
+    → EndNexts server_side piece n (Err s) new.end tt octets before → AnswersAt channel number moment piece n (Err (of_end_fault s)) new octets before
+answers_end channel number moment piece n (end_fault.Refused code) new octets before h = (h.0, h.1, refl)
+answers_end channel number moment piece n (end_fault.Peer code) new octets before h = absurd h.1
+answers_end channel number moment piece n end_fault.OutOfMemory new octets before h = (h.0, h.1.done)
+answers_end channel number moment piece n end_fault.Closed new octets before h = absurd h.1
 
 -- a fault
-pub answers_fault : (channel number : ℕ) (moment : DateTime) (piece : List ℕ) (n : ℕ) (s : StepFault) (f : ChannelFault) (new : ServerChannel) (octets : List ℕ)
-    (before : List Told) → EndNexts server_side piece n (Err s) new.end tt octets before → f ≡ of_step s
+pub answers_fault : (channel number : ℕ) (moment : DateTime) (piece : List ℕ) (n : ℕ) (s : EndFault) (f : ChannelFault) (new : ServerChannel) (octets : List ℕ)
+    (before : List Told) → EndNexts server_side piece n (Err s) new.end tt octets before → f ≡ of_end_fault s
     → AnswersAt channel number moment piece n (Err f) new octets before
 answers_fault channel number moment piece n s f new octets before h is =
     subst (λ (x : ChannelFault). AnswersAt channel number moment piece n (Err x) new octets before) (sym is)
-    (answers_step channel number moment piece n s new octets before h)
+    (answers_end channel number moment piece n s new octets before h)
 
 -- ---- after want of memory
 
@@ -125,20 +125,21 @@ starved_event mid d octets told (inner.Aborted id) answer limits channel done h 
 starved_event mid d octets told inner.Closed answer limits channel done h closes is = let no = sym (closes refl) ∙ is in absurd cc
 
 -- where it stands with a fault
-starved_step : (piece : List ℕ) (n : ℕ) (s : StepFault) (new : ServerChannel) (octets : List ℕ) (told : List Told)
-    → EndNexts server_side piece n (Err s) new.end tt octets told → of_step s ≡ fault.OutOfMemory → StarvedAt new (octets ++ take n piece) told
-starved_step piece n (step.Refused code) new octets told h is = absurd cc
-starved_step piece n (step.Peer code) new octets told h is = absurd h.1
-starved_step piece n step.OutOfMemory new octets told h is = h.1
-starved_step piece n step.Closed new octets told h is = absurd h.1
+starved_end : (piece : List ℕ) (n : ℕ) (s : EndFault) (new : ServerChannel) (octets : List ℕ) (told : List Told)
+    → EndNexts server_side piece n (Err s) new.end tt octets told → of_end_fault s ≡ fault.OutOfMemory → StarvedAt new (octets ++ take n piece) told
+starved_end piece n (end_fault.Refused code) new octets told h is = absurd cc
+starved_end piece n (end_fault.Peer code) new octets told h is = absurd h.1
+starved_end piece n end_fault.OutOfMemory new octets told h is = h.1
+starved_end piece n end_fault.Closed new octets told h is = absurd h.1
 
 err_is : (f g : ChannelFault) → ◌≡◌ {A = Result ServerEvent ChannelFault} (Err f) (Err g) → f ≡ g
 err_is f g e = cc
 
-pub starved_fault : (piece : List ℕ) (n : ℕ) (s : StepFault) (f : ChannelFault) (new : ServerChannel) (octets : List ℕ) (told : List Told)
-    → EndNexts server_side piece n (Err s) new.end tt octets told → f ≡ of_step s → ◌≡◌ {A = Result ServerEvent ChannelFault} (Err f) (Err fault.OutOfMemory)
+pub starved_fault : (piece : List ℕ) (n : ℕ) (s : EndFault) (f : ChannelFault) (new : ServerChannel) (octets : List ℕ) (told : List Told)
+    → EndNexts server_side piece n (Err s) new.end tt octets told → f ≡ of_end_fault s
+    → ◌≡◌ {A = Result ServerEvent ChannelFault} (Err f) (Err fault.OutOfMemory)
     → StarvedAt new (octets ++ take n piece) told
-starved_fault piece n s f new octets told h is failed = starved_step piece n s new octets told h (sym is ∙ err_is f fault.OutOfMemory failed)
+starved_fault piece n s f new octets told h is failed = starved_end piece n s new octets told h (sym is ∙ err_is f fault.OutOfMemory failed)
 
 pub done_by : (channel number : ℕ) (moment : DateTime) (answer : Result ServerEvent ChannelFault) (d : ServerChannel) (octets : List ℕ) (told : List Told)
     → answer ≡ Err fault.OutOfMemory → AnswersTo channel number moment answer d octets told → IsDone d

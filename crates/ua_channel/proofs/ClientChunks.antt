@@ -13,25 +13,25 @@ use Rattle.ua_chunk.specs.declared.fault.AssembleFault.TheVariants.{Sequence, Un
 use Rattle.ua_channel.proofs.MessageParts.{ends_in}
 use Rattle.ua_channel.specs.inside.ClientParts.{IsStopFor, Judged, why_of, refused_reasons, unasked_reasons}
 use Rattle.ua_channel.specs.inside.ClientParts.{known_reasons, IsAccepted, IsDeliveredWith, IsTakenWith, left_behind}
-use Rattle.ua_channel.specs.inside.ClientEvents.{event_parts}
-use Rattle.ua_channel.specs.inside.StepFaults.{of_chunk_fault}
+use Rattle.ua_channel.specs.ClientEvents.{event_parts}
+use Rattle.ua_channel.specs.inside.EndFaults.{of_chunk_fault}
 use Rattle.ua_channel.specs.ClientTokens.{from_last}
 use Rattle.ua_channel.specs.ClientTold.{Why, told_item}
 use Rattle.ua_channel.specs.declared.client.event.Event.{Event}
-use Rattle.ua_channel.specs.declared.step_fault.StepFault.{StepFault}
-use Rattle.ua_channel.specs.declared.step_fault.StepFault.TheVariants as stop
+use Rattle.ua_channel.specs.declared.end_fault.EndFault.{EndFault}
+use Rattle.ua_channel.specs.declared.end_fault.EndFault.TheVariants as stop
 use Rattle.ua_channel.specs.declared.client.talking.Talking.{Talking}
 use Rattle.ua_channel.proofs.ClientGreets.{judged_same}
 
 -- ---- tables one behind the other
 
-pub stops_among : (rs ss : List (Why × Bool)) (s : StepFault) → IsStopFor rs s → IsStopFor (rs ++ ss) s
+pub stops_among : (rs ss : List (Why × Bool)) (s : EndFault) → IsStopFor rs s → IsStopFor (rs ++ ss) s
 stops_among rs ss (stop.Refused code) h = first_among rs ss (record { code = code.code; peer = false }) h
 stops_among rs ss (stop.Peer code) h = first_among rs ss (record { code = code.code; peer = true }) h
 stops_among rs ss stop.OutOfMemory h = tt
 stops_among rs ss stop.Closed h = h
 
-pub judged_behind : {A : Type 0} (rs ss : List (Why × Bool)) (P Q : A → Type 0) (r : Result A StepFault) → first_reason rs ≡ None → ((a : A) → P a → Q a)
+pub judged_behind : {A : Type 0} (rs ss : List (Why × Bool)) (P Q : A → Type 0) (r : Result A EndFault) → first_reason rs ≡ None → ((a : A) → P a → Q a)
     → Judged ss P r → Judged (rs ++ ss) Q r
 judged_behind rs ss P Q r none more h = judged_same ss (rs ++ ss) P Q r (first_behind rs ss none) (λ a first p. more a p) h
 
@@ -72,7 +72,7 @@ module _ (old mid new : Talking) (cs : List Chunk) (c : Chunk) (d : Option Deliv
       parts = ends_in cs c d (event_parts e) h.event_is.parts acc.parts_are;
     }
 
-  pub known_judged : (r : Result (Option Event) StepFault) → first_reason (refused_reasons old cs c) ≡ None
+  pub known_judged : (r : Result (Option Event) EndFault) → first_reason (refused_reasons old cs c) ≡ None
       → Judged (unasked_reasons mid c.request) (IsDeliveredWith mid c.request c.token (ends c) d new) r
       → Judged (known_reasons old cs c) (IsTakenWith old cs c new) r
   known_judged r none j =

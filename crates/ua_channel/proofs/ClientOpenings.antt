@@ -11,7 +11,7 @@ use Rattle.ua_opening.specs.declared.open.OpenAnswer.TheVariants.{Open, Fault}
 use Rattle.ua_opening.specs.declared.secure_channel.OpenResponse.{OpenResponse}
 use Rattle.ua_channel.specs.Asks.{Asking}
 use Rattle.ua_channel.specs.inside.ClientParts.{IsStopFor, Judged, JudgesAnswer, IsAnsweredBy, body_reasons, answer_reasons}
-use Rattle.ua_channel.specs.inside.StepFaults.{of_open_fault}
+use Rattle.ua_channel.specs.inside.EndFaults.{of_open_fault}
 use Rattle.ua_channel.specs.ClientTable.{client_reasons}
 use Rattle.ua_channel.specs.ClientTokens.{answer_in}
 use Rattle.ua_channel.specs.ClientTold.{Why, ours}
@@ -19,8 +19,8 @@ use Rattle.ua_channel.specs.Content.{Opening, opening_numbered, opening_secured,
 use Rattle.ua_channel.specs.Content.Content.{Opens}
 use Rattle.ua_channel.specs.Received.{Received}
 use Rattle.ua_channel.specs.declared.client.answer.Answer.{Answer}
-use Rattle.ua_channel.specs.declared.step_fault.StepFault.{StepFault}
-use Rattle.ua_channel.specs.declared.step_fault.StepFault.TheVariants as stop
+use Rattle.ua_channel.specs.declared.end_fault.EndFault.{EndFault}
+use Rattle.ua_channel.specs.declared.end_fault.EndFault.TheVariants as stop
 use Rattle.ua_channel.proofs.ClientAsking.{first_unset}
 use Rattle.ua_channel.proofs.Openings.{HasHeaders, open_code, refuses_headers}
 
@@ -54,9 +54,9 @@ judges_fault body Policy h = λ limits before asked. headers_refused limits befo
 judges_fault body OutOfMemory h = λ limits before asked. tt
 
 -- what a fault of the headers comes to
-pub judges_headers : (body : List ℕ) (fault : OpenFault) (e : StepFault) → open_refusal body ≡ Some fault → e ≡ of_open_fault fault
+pub judges_headers : (body : List ℕ) (fault : OpenFault) (e : EndFault) → open_refusal body ≡ Some fault → e ≡ of_open_fault fault
     → JudgesAnswer (opening_of body) (Err e)
-judges_headers body fault e h is = subst (λ (x : StepFault). JudgesAnswer (opening_of body) (Err x)) (sym is) (judges_fault body fault h)
+judges_headers body fault e h is = subst (λ (x : EndFault). JudgesAnswer (opening_of body) (Err x)) (sym is) (judges_fault body fault h)
 
 -- ---- what is behind them
 
@@ -83,7 +83,7 @@ module _ (on sequence request : ℕ) (body behind : List ℕ) (h : HasHeaders bo
       is refl first
 
   -- what a fault of the body comes to
-  pub judges_body : (e : StepFault) → IsStopFor (body_reasons (answer_read behind)) e → JudgesAnswer (opening_of body) (Err e)
+  pub judges_body : (e : EndFault) → IsStopFor (body_reasons (answer_read behind)) e → JudgesAnswer (opening_of body) (Err e)
   judges_body (stop.Refused code) r = λ limits before asked. refused_by limits before asked (answer_read behind) (ours code.code) refl r
   judges_body (stop.Peer code) r = λ limits before asked. refused_by limits before asked (answer_read behind) (record { code = code.code; peer = true }) refl r
   judges_body stop.OutOfMemory r = λ limits before asked. tt
@@ -101,15 +101,15 @@ module _ (on sequence request : ℕ) (body behind : List ℕ) (h : HasHeaders bo
 
   -- a good answer
   pub judges_good : (a : Answer) → a.sequence ≡ sequence → a.request ≡ request → Judged (body_reasons (answer_read behind)) (IsAnsweredBy (answer_read behind))
-      (Ok (a.channel, a.token)) → JudgesAnswer (opening_of body) (Ok a)
+      (Ok (record { channel = a.channel; token = a.token })) → JudgesAnswer (opening_of body) (Ok a)
   judges_good a s q found =
       let by = found.1 in
       record {
         response = by.response;
         answer_is = answer_is_read ∙ by.answer_is;
         numbers_are = ap (λ (o : Opening). o.numbers) h.opening_is ∙ (ap (λ (n : ℕ). Some (n, request)) (sym s) ∙ ap (λ (n : ℕ). Some (a.sequence, n)) (sym q));
-        channel_is = by.ids_are.0;
-        token_is = by.ids_are.1;
+        channel_is = by.issues.0;
+        token_is = by.issues.1;
         remain = λ limits before asked. remains limits before asked by.response a by.answer_is
-            (good_bit by.response (ap (λ (o : Option OpenAnswer). first_reason (body_reasons o)) (sym by.answer_is) ∙ found.0)) s q by.ids_are.0 by.ids_are.1;
+            (good_bit by.response (ap (λ (o : Option OpenAnswer). first_reason (body_reasons o)) (sym by.answer_is) ∙ found.0)) s q by.issues.0 by.issues.1;
       }

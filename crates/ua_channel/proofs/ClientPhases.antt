@@ -15,7 +15,7 @@ use Rattle.ua_channel.specs.Received.{Received, after}
 use Rattle.ua_channel.specs.declared.client.agreed.Agreed.{Agreed}
 use Rattle.ua_channel.specs.declared.client.event.Event.{Event}
 use Rattle.ua_channel.specs.declared.client.event.Event.TheVariants as event
-use Rattle.ua_channel.specs.declared.step_fault.StepFault.{StepFault}
+use Rattle.ua_channel.specs.declared.end_fault.EndFault.{EndFault}
 use Rattle.ua_channel.specs.declared.client.phase.Phase.{Phase}
 use Rattle.ua_channel.specs.declared.client.phase.Phase.TheVariants.{Waiting, Agreed as AgreedTo, Open, Done}
 use Rattle.ua_channel.specs.declared.client.talking.Talking.{Talking}
@@ -27,12 +27,12 @@ use Rattle.ua_channel.specs.Asks.{Placed, asked_in, end_of}
 use Rattle.ua_channel.specs.ClientTable.{client_rules}
 use Rattle.ua_channel.specs.Received.{received}
 use Rattle.ua_channel.specs.inside.ClientParts.{told_by_frame}
-use Rattle.ua_channel.specs.inside.ClientEvents.{event_parts}
+use Rattle.ua_channel.specs.ClientEvents.{event_parts}
 use Rattle.ua_channel.specs.Client.{client_side}
 use Rattle.ua_channel.specs.inside.Parts.{MayEndIn}
 use Rattle.ua_channel.specs.inside.Ends.{ComesNext, IsBehind, JudgesNext, closes_by, parts_by, told_if as told_list}
 use Rattle.ua_channel.specs.declared.client.rules.ClientRules.{ClientRules}
-use Rattle.ua_channel.specs.declared.step_fault.StepFault.TheVariants.{Refused, Peer, Closed, OutOfMemory}
+use Rattle.ua_channel.specs.declared.end_fault.EndFault.TheVariants.{Refused, Peer, Closed, OutOfMemory}
 use Rattle.ua_channel.proofs.Askings.{all-weaken, asked_before-all}
 use Rattle.ua_channel.proofs.OneFrameMore.{received-push}
 use Rattle.ua_channel.proofs.ClientGreets.{judged_same}
@@ -64,7 +64,7 @@ let_in_phase : (limits : Limits) (p : Phase) (before : Received) (asked : List A
     → LetsIn (client_gate before) f → LetsIn (client_phase_gate p) f
 let_in_phase limits p before asked f h l = subst (λ (g : Gate). LetsIn g f) (sym (gate_in limits p before asked h)) l
 
-module _ (limits : Limits) (p : Phase) (before : Received) (asked : List Asking) (f : Frame) (q : Phase) (bound : ℕ) (r : Result (Option Event) StepFault)
+module _ (limits : Limits) (p : Phase) (before : Received) (asked : List Asking) (f : Frame) (q : Phase) (bound : ℕ) (r : Result (Option Event) EndFault)
     (in_phase : InPhase limits p before asked) (let_in : LetsIn (client_gate before) f) where
   pub agreed_judged : (g : Agreed) → p ≡ AgreedTo g
       → (client_bound_behind limits before.ack ≡ client_bound_behind limits (Some g.ack) → LetsIn (answer_gate g.ack.send_buffer_size) f
@@ -117,7 +117,7 @@ module _ (r : ClientRules) (asks : List Placed) (frames : List Frame) (f : Frame
   behind_is None h = h
   behind_is (Some e) h = h
 
-  judged_so : (answer : Result (Option Event) StepFault)
+  judged_so : (answer : Result (Option Event) EndFault)
       → refusal (client_rules r.limits asks) frames f ≡ first_reason (client_reasons r.limits (received frames) (asked_in asks) (content f))
       → Judged (client_reasons r.limits (received frames) (asked_in asks) (content f))
       (TookFrame r.limits (received frames) (asked_in asks) (content f) p bound) answer → JudgesNext client_side r asks frames f p bound answer
@@ -135,7 +135,7 @@ module _ (r : ClientRules) (asks : List Placed) (frames : List Frame) (f : Frame
   judged_so (Err Closed) so j = j
 
 -- what is made of a frame that comes next
-pub judged : (r : ClientRules) (old p : Phase) (was bound : ℕ) (f : Frame) (answer : Result (Option Event) StepFault)
+pub judged : (r : ClientRules) (old p : Phase) (was bound : ℕ) (f : Frame) (answer : Result (Option Event) EndFault)
     → ((before : Received) (asked : List Asking) → InPhase r.limits old before asked → was ≡ client_bound_behind r.limits before.ack
     → LetsIn (client_gate before) f
     → Judged (client_reasons r.limits before asked (content f)) (TookFrame r.limits before asked (content f) p bound) answer)

@@ -16,8 +16,8 @@ use Rattle.ua_channel.specs.declared.client.fault.ClientTakeFault.TheVariants as
 use Rattle.ua_channel.specs.declared.client.phase.Phase.{Phase}
 use Rattle.ua_channel.specs.declared.client.rules.ClientRules.{ClientRules}
 use Rattle.ua_channel.specs.declared.end_core.EndCore.{EndCore}
-use Rattle.ua_channel.specs.declared.step_fault.StepFault.{StepFault}
-use Rattle.ua_channel.specs.declared.step_fault.StepFault.TheVariants.{Refused, Peer, Closed, OutOfMemory}
+use Rattle.ua_channel.specs.declared.end_fault.EndFault.{EndFault}
+use Rattle.ua_channel.specs.declared.end_fault.EndFault.TheVariants.{Refused, Peer, Closed, OutOfMemory}
 use Rattle.ua_channel.proofs.Ends.{starved_behind}
 
 abbrev rules_with : Limits → ClientRules
@@ -50,7 +50,7 @@ answers_event moment piece n (Err take_fault.OutOfMemory) new asks octets told h
 answers_event moment piece n (Err take_fault.Closed) new asks octets told h = h
 
 -- a fault
-pub answers_fault : (moment : DateTime) (piece : List ℕ) (n : ℕ) (fault : StepFault) (new : ClientChannel) (asks : List Placed) (octets : List ℕ)
+pub answers_fault : (moment : DateTime) (piece : List ℕ) (n : ℕ) (fault : EndFault) (new : ClientChannel) (asks : List Placed) (octets : List ℕ)
     (told : List ClientTold) → EndNexts client_side piece n (Err fault) new.end asks octets told
     → ClientAnswers moment piece (counted n (failure_of fault)) new asks octets told
 answers_fault moment piece n (Refused code) new asks octets told h = h.1
@@ -58,7 +58,7 @@ answers_fault moment piece n (Peer code) new asks octets told h = h.1
 answers_fault moment piece n OutOfMemory new asks octets told h = h.1.done
 answers_fault moment piece n Closed new asks octets told h = absurd h.1
 
-pub starved_fault : (piece : List ℕ) (n : ℕ) (fault : StepFault) (new : ClientChannel) (asks : List Placed) (octets : List ℕ) (told : List ClientTold)
+pub starved_fault : (piece : List ℕ) (n : ℕ) (fault : EndFault) (new : ClientChannel) (asks : List Placed) (octets : List ℕ) (told : List ClientTold)
     → EndNexts client_side piece n (Err fault) new.end asks octets told → failure_of fault ≡ Err take_fault.OutOfMemory
     → ClientStarvedAt new asks (octets ++ take n piece) told
 starved_fault piece n (Refused code) new asks octets told h is = absurd cc

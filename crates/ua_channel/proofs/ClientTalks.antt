@@ -25,7 +25,7 @@ use Rattle.ua_channel.specs.inside.Parts.{MayEndIn}
 use Rattle.ua_channel.specs.inside.ClientParts.{why_of, IsStopFor, Judged, IsOpenedBy, TellsRenewal, TakesFrame, told_by_frame}
 use Rattle.ua_channel.specs.inside.ClientParts.{IsAnswerOf, IsOpenedWith, IsRenewedWith, IsTakenWith, answer_reasons}
 use Rattle.ua_channel.specs.inside.ClientParts.{first_reasons, renewal_reasons, chunk_reasons, greeted, left_pending}
-use Rattle.ua_channel.specs.inside.ClientEvents.{event_parts}
+use Rattle.ua_channel.specs.ClientEvents.{event_parts}
 use Rattle.ua_channel.specs.ClientTable.{client_reasons, is_awaited}
 use Rattle.ua_channel.specs.ClientTokens.{answer_in, response_listed, id_listed, responses, opened_ids, channel_in, tokens_of, from_last, held_by, held_tokens}
 use Rattle.ua_channel.specs.ClientTold.{ClientTold, ClientTold as told, ours, client_tells, told_response}
@@ -35,7 +35,7 @@ use Rattle.ua_channel.specs.Received.{Received, after, listed, latest, number_or
 use Rattle.ua_channel.specs.declared.client.agreed.Agreed.{Agreed}
 use Rattle.ua_channel.specs.declared.client.answer.Answer.{Answer}
 use Rattle.ua_channel.specs.declared.client.event.Event.{Event}
-use Rattle.ua_channel.specs.declared.step_fault.StepFault.{StepFault}
+use Rattle.ua_channel.specs.declared.end_fault.EndFault.{EndFault}
 use Rattle.ua_channel.specs.declared.client.talking.Talking.{Talking}
 use Rattle.ua_channel.proofs.Carried.{content_opn, content_msg}
 use Rattle.ua_channel.proofs.ClientGreets.{judged_same}
@@ -285,7 +285,7 @@ last_unset : {A : Type 0} (a : A) (b : Bool) (rs : List (A × Bool)) → first_r
 last_unset a b [] e = first_unset a b [] e
 last_unset a b (r ∷ rs) e = last_unset a b rs (first_tail r.0 r.1 (rs ++ (a, b) ∷ []) e)
 
-pub first_judged : (limits : Limits) (g : Agreed) (f : Frame) (a : Answer) (r : Result Talking StepFault) → f.kind ≡ Opn → IsAnswerOf (opening_of f.body) a
+pub first_judged : (limits : Limits) (g : Agreed) (f : Frame) (a : Answer) (r : Result Talking EndFault) → f.kind ≡ Opn → IsAnswerOf (opening_of f.body) a
     → Judged (first_reasons a) (IsOpenedWith limits g a) r
     → Judged (client_reasons limits (greeted g) [] (content f)) (IsOpenedBy limits g (content f)) r
 first_judged limits g f a r is ans h =
@@ -299,7 +299,7 @@ first_judged limits g f a r is ans h =
       ack_is = refl;
     }) h)
 
-pub stopped_opn : (limits : Limits) (before : Received) (asked : List Asking) (f : Frame) (stop : StepFault) → f.kind ≡ Opn
+pub stopped_opn : (limits : Limits) (before : Received) (asked : List Asking) (f : Frame) (stop : EndFault) → f.kind ≡ Opn
     → ((l : Limits) (b : Received) (k : List Asking) → IsStopFor (client_reasons l b k (Opens (opening_of f.body))) stop)
     → IsStopFor (client_reasons limits before asked (content f)) stop
 stopped_opn limits before asked f stop is h = subst (λ (c : Content). IsStopFor (client_reasons limits before asked c) stop) (sym (content_opn f is))
@@ -329,7 +329,7 @@ module _ (limits : Limits) (t : Talking) (before : Received) (asked : List Askin
         ack_is = refl;
       }
 
-  pub renewal_judged : (f : Frame) (a : Answer) (r : Result (Option Event) StepFault) → f.kind ≡ Opn → IsAnswerOf (opening_of f.body) a
+  pub renewal_judged : (f : Frame) (a : Answer) (r : Result (Option Event) EndFault) → f.kind ≡ Opn → IsAnswerOf (opening_of f.body) a
       → Judged (renewal_reasons t a) (TellsRenewal t a before.messages new) r
       → Judged (client_reasons limits before asked (content f)) (TakesFrame limits before asked (content f) new) r
   renewal_judged f a r is ans j =
@@ -358,7 +358,7 @@ module _ (limits : Limits) (t : Talking) (before : Received) (asked : List Askin
         ack_is = refl;
       }
 
-  pub chunk_judged : (f : Frame) (c : Chunk) (r : Result (Option Event) StepFault) → f.kind ≡ Msg → chunk_in f ≡ Some c
+  pub chunk_judged : (f : Frame) (c : Chunk) (r : Result (Option Event) EndFault) → f.kind ≡ Msg → chunk_in f ≡ Some c
       → Judged (chunk_reasons t before.messages c) (IsTakenWith t before.messages c new) r
       → Judged (client_reasons limits before asked (content f)) (TakesFrame limits before asked (content f) new) r
   chunk_judged f c r is found j =

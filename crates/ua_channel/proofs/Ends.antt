@@ -16,13 +16,13 @@ use Rattle.ua_channel.specs.Asks.{end_of}
 use Rattle.ua_channel.specs.Content.{content}
 use Rattle.ua_channel.specs.Received.{received}
 use Rattle.ua_channel.specs.declared.end_core.EndCore.{EndCore}
-use Rattle.ua_channel.specs.declared.step_fault.StepFault.{StepFault}
-use Rattle.ua_channel.specs.declared.step_fault.StepFault.TheVariants.{Refused, Peer, Closed, OutOfMemory}
+use Rattle.ua_channel.specs.declared.end_fault.EndFault.{EndFault}
+use Rattle.ua_channel.specs.declared.end_fault.EndFault.TheVariants.{Refused, Peer, Closed, OutOfMemory}
 use Rattle.ua_channel.specs.Ends.{Side, EndDone, EndGoes, EndStands, EndStarves, EndStops, EndTells, HandsOutParts, rules_by}
 use Rattle.ua_channel.specs.inside.Ends.{ComesBy, ComesNext, EndNexts, EndSteps, EndTook, FailsBy, IsBehind}
 use Rattle.ua_channel.specs.inside.Ends.{JudgesWhole, MovesBy, RefusedBy, SameEnd, TakenBy, TakesWhole, closes_by}
 use Rattle.ua_channel.specs.inside.Parts.{MayEndIn, IsWithinPiece}
-use Rattle.ua_channel.specs.inside.StepFaults.{least_at, of_frame_fault}
+use Rattle.ua_channel.specs.inside.EndFaults.{least_at, of_frame_fault}
 use Rattle.ua_channel.proofs.Stepping.{Breaks, Halts, fault_comes, frame_at, frame_breaks, frame_broken, frame_halts, frame_run, part}
 
 -- an end with another reader, phase and bound
@@ -57,17 +57,17 @@ module _ {R P E : Type 0} (S : Side R P E) where
 
   -- ---- a fault of the reader
 
-  pub step_fault : (x y : EndCore R P) (r : Reader) (piece : List ℕ) (n some : ℕ) (fault : FrameFault) (e : StepFault) → some ≤ 1
+  pub step_fault : (x y : EndCore R P) (r : Reader) (piece : List ℕ) (n some : ℕ) (fault : FrameFault) (e : EndFault) → some ≤ 1
       → n ≡ min (max (8 - length x.reader.held) some) (length piece) → Takes x.reader piece (Err fault) r → e ≡ of_frame_fault fault
       → EndDone S y → y ≡ end_with x y.reader y.phase x.bound → (k : S.Key) (octets : List ℕ) (told : List S.Told) → EndGoes S x k octets told
       → EndSteps S piece n (Err e) y k octets told
   step_fault x y r piece n some fault e least n_is t is done kept k octets told g =
       let now : EndDone S (end_with x y.reader y.phase x.bound) = record { phase = done.phase; empty = done.empty } in
-      subst (λ (s : StepFault). EndSteps S piece n (Err s) y k octets told) (sym is)
+      subst (λ (s : EndFault). EndSteps S piece n (Err s) y k octets told) (sym is)
       (subst (λ (z : EndCore R P). EndSteps S piece n (Err (of_frame_fault fault)) z k octets told) (sym kept)
       (fault_comes S.Told S.Why (rules_by S x k) octets g.rest piece g.frames x.reader r g.stands.run g.stands.reader_is n (omega (arith, n_is))
       (λ few. omega (arith, n_is, few, least)) (λ past. omega (arith, n_is, past, least))
-      (λ (s : StepFault). EndSteps S piece n (Err s) (end_with x y.reader y.phase x.bound) k octets told)
+      (λ (s : EndFault). EndSteps S piece n (Err s) (end_with x y.reader y.phase x.bound) k octets told)
       (λ code h. stopped_by (end_with x y.reader y.phase x.bound) k (octets ++ take n piece) (g.rest ++ take n piece) g.frames told
       ((rules_by S x k).of_header code) now h g.told_is g.stands.bound_is)
       (λ b. starved_by (end_with x y.reader y.phase x.bound) k (octets ++ take n piece) (g.rest ++ take n piece) g.frames told now b g.told_is) fault t))
@@ -163,7 +163,7 @@ module _ {R P E : Type 0} (S : Side R P E) where
         by_peer None is done bound = is
         by_peer (Some why) is done bound = refused why is done bound
 
-        fails : (fault : StepFault) → RefusedBy S x.rules k g.frames f fault → EndDone S (end_with x z p b) → b ≡ S.bound x.rules g.frames
+        fails : (fault : EndFault) → RefusedBy S x.rules k g.frames f fault → EndDone S (end_with x z p b) → b ≡ S.bound x.rules g.frames
             → FailsBy S (end_with x z p b) k (octets ++ take n piece) told fault
         fails (Refused code) is done bound = refused ((rules_by S x k).of_header code.code) is done bound
         fails (Peer code) is done bound = by_peer (S.peer code.code) is done bound
@@ -172,14 +172,14 @@ module _ {R P E : Type 0} (S : Side R P E) where
             (frame_breaks S.Told S.Why (rules_by S x k) octets g.rest piece g.frames x.reader r g.stands.run g.stands.reader_is n f t) g.told_is
         fails Closed is done bound = is
 
-        frame_steps : (answer : Result (Option E) StepFault) → JudgesWhole S (end_with x z p b) k g.frames f answer
+        frame_steps : (answer : Result (Option E) EndFault) → JudgesWhole S (end_with x z p b) k g.frames f answer
             → EndSteps S piece n answer (end_with x z p b) k octets told
         frame_steps (Ok None) j = silent j
         frame_steps (Ok (Some e)) j = telling e j (S.closes e) refl
         frame_steps (Err fault) j = fails fault j.0 j.1 j.2
 
     -- one call of the reader that has one
-    pub step_frame : (x y : EndCore R P) (r : Reader) (piece : List ℕ) (n : ℕ) (f : Frame) (answer : Result (Option E) StepFault)
+    pub step_frame : (x y : EndCore R P) (r : Reader) (piece : List ℕ) (n : ℕ) (f : Frame) (answer : Result (Option E) EndFault)
         → TakesFrame x.reader piece n f r → y ≡ end_with x y.reader y.phase y.bound
         → ((k : S.Key) (frames : List Frame) → ComesNext S x.rules k x.phase x.bound frames f → r ≡ open_reader ((rules_by S x k).gate frames) []
         → JudgesWhole S y k frames f answer)
@@ -206,7 +206,7 @@ module _ {R P E : Type 0} (S : Side R P E) where
       })
 
   -- a whole frame that is refused
-  pub refused_so : (x new : EndCore R P) (k : S.Key) (frames : List Frame) (f : Frame) (fault : StepFault) → new ≡ end_with x new.reader new.phase x.bound
+  pub refused_so : (x new : EndCore R P) (k : S.Key) (frames : List Frame) (f : Frame) (fault : EndFault) → new ≡ end_with x new.reader new.phase x.bound
       → RefusedBy S x.rules k frames f fault → EndDone S new → x.bound ≡ S.bound x.rules frames → JudgesWhole S new k frames f (Err fault)
   refused_so x new k frames f fault new_is why done bound = (
     subst (λ (y : EndCore R P). RefusedBy S y.rules k frames f fault) (sym new_is) why,
@@ -222,13 +222,13 @@ bound_kept (Err f) bound = refl
 
 -- ---- a fault of the reader
 
-pub least_small : (fault : StepFault) (some : ℕ) → some ≡ least_at fault → some ≤ 1
+pub least_small : (fault : EndFault) (some : ℕ) → some ≡ least_at fault → some ≤ 1
 least_small (Refused code) some is = omega (arith, is)
 least_small (Peer code) some is = omega (arith, is)
 least_small OutOfMemory some is = omega (arith, is)
 least_small Closed some is = omega (arith, is)
 
-pub moves_failed : (A : Type 0) (piece : List ℕ) (n past some : ℕ) (fault : StepFault) → some ≡ least_at fault → n ≡ min (max past some) (length piece)
+pub moves_failed : (A : Type 0) (piece : List ℕ) (n past some : ℕ) (fault : EndFault) → some ≡ least_at fault → n ≡ min (max past some) (length piece)
     → MovesBy {A = A} piece n (Err fault)
 moves_failed A piece n past some (Refused code) is n_is = (omega (arith, n_is), λ more. omega (arith, n_is, is, more))
 moves_failed A piece n past some (Peer code) is n_is = (omega (arith, n_is), λ more. omega (arith, n_is, is, more))
@@ -251,17 +251,17 @@ module _ (piece : List ℕ) (taken n : ℕ) (room : taken < length piece) where
   within_there : n ≤ length (take (length piece - taken) (drop taken piece)) → taken + n ≤ length piece
   within_there within = omega (arith, within, rest_length, room)
 
-  moved_there : {A : Type 0} (a : Result A StepFault) → MovesBy (take (length piece - taken) (drop taken piece)) n a → MovesBy piece (taken + n) a
+  moved_there : {A : Type 0} (a : Result A EndFault) → MovesBy (take (length piece - taken) (drop taken piece)) n a → MovesBy piece (taken + n) a
   moved_there (Ok e) m = moves_there m
   moved_there (Err (Refused code)) m = moves_there m
   moved_there (Err (Peer code)) m = moves_there m
   moved_there (Err OutOfMemory) m = within_there m
   moved_there (Err Closed) m = moves_there m
 
-  pub moved_by : {A : Type 0} (a b : Result A StepFault) → a ≡ b → MovesBy (take (length piece - taken) (drop taken piece)) n a → MovesBy piece (taken + n) b
-  moved_by {A = A} a b is m = subst (λ (c : Result A StepFault). MovesBy piece (taken + n) c) is (moved_there a m)
+  pub moved_by : {A : Type 0} (a b : Result A EndFault) → a ≡ b → MovesBy (take (length piece - taken) (drop taken piece)) n a → MovesBy piece (taken + n) b
+  moved_by {A = A} a b is m = subst (λ (c : Result A EndFault). MovesBy piece (taken + n) c) is (moved_there a m)
 
-  fewer_there : (A : Type 0) (fault : StepFault) → MovesBy {A = A} (take (length piece - taken) (drop taken piece)) n (Err fault) → taken + n ≤ length piece
+  fewer_there : (A : Type 0) (fault : EndFault) → MovesBy {A = A} (take (length piece - taken) (drop taken piece)) n (Err fault) → taken + n ≤ length piece
   fewer_there A (Refused code) m = within_there m.0
   fewer_there A (Peer code) m = within_there m.0
   fewer_there A OutOfMemory m = within_there m
@@ -277,18 +277,18 @@ module _ (piece : List ℕ) (taken n : ℕ) (room : taken < length piece) where
       ∙ ap (λ (z : List ℕ). octets ++ z) (sym (take-add taken n piece))))
       h
 
-  module _ {R P E : Type 0} (S : Side R P E) (old now next : EndCore R P) (t : EndTook S old now piece taken) (a : Result (Option E) StepFault)
+  module _ {R P E : Type 0} (S : Side R P E) (old now next : EndCore R P) (t : EndTook S old now piece taken) (a : Result (Option E) EndFault)
       (steps : (k : S.Key) (octets : List ℕ) (told : List S.Told) → EndGoes S now k octets told
       → EndSteps S (take (length piece - taken) (drop taken piece)) n a next k octets told)
       (moves : MovesBy (take (length piece - taken) (drop taken piece)) n a) where
-    there : (b : Result (Option E) StepFault) → a ≡ b → (k : S.Key) (octets : List ℕ) (told : List S.Told) → EndGoes S old k octets told
+    there : (b : Result (Option E) EndFault) → a ≡ b → (k : S.Key) (octets : List ℕ) (told : List S.Told) → EndGoes S old k octets told
         → EndSteps S (take (length piece - taken) (drop taken piece)) n b next k (octets ++ take taken piece) told
     there b is k octets told g =
-        subst (λ (c : Result (Option E) StepFault). EndSteps S (take (length piece - taken) (drop taken piece)) n c next k (octets ++ take taken piece) told) is
+        subst (λ (c : Result (Option E) EndFault). EndSteps S (take (length piece - taken) (drop taken piece)) n c next k (octets ++ take taken piece) told) is
         (steps k (octets ++ take taken piece) told (t.goes k octets told g))
 
-    moved : (b : Result (Option E) StepFault) → a ≡ b → MovesBy (take (length piece - taken) (drop taken piece)) n b
-    moved b is = subst (λ (c : Result (Option E) StepFault). MovesBy (take (length piece - taken) (drop taken piece)) n c) is moves
+    moved : (b : Result (Option E) EndFault) → a ≡ b → MovesBy (take (length piece - taken) (drop taken piece)) n b
+    moved b is = subst (λ (c : Result (Option E) EndFault). MovesBy (take (length piece - taken) (drop taken piece)) n c) is moves
 
     -- a step that tells nothing
     pub took_by : a ≡ Ok None → SameEnd now next → EndTook S old next piece (taken + n)
@@ -311,7 +311,7 @@ module _ (piece : List ℕ) (taken n : ℕ) (room : taken < length piece) where
         )
 
     -- a step that fails
-    pub fails_by : (fault : StepFault) → a ≡ Err fault → (k : S.Key) (octets : List ℕ) (told : List S.Told) → EndGoes S old k octets told
+    pub fails_by : (fault : EndFault) → a ≡ Err fault → (k : S.Key) (octets : List ℕ) (told : List S.Told) → EndGoes S old k octets told
         → EndNexts S piece (taken + n) (Err fault) next k octets told
     fails_by fault is k octets told g = (
       fewer_there (Option E) fault (moved (Err fault) is),
@@ -335,10 +335,10 @@ module _ {R P E : Type 0} (S : Side R P E) where
       (whole, subst (λ (z : List ℕ). EndGoes S now k (octets ++ z) told) (ap (λ (j : ℕ). take j piece) whole ∙ take-length piece) (t.goes k octets told g))
 
   -- what comes of a piece, where that is known
-  pub nexts_as : (old new : EndCore R P) (piece : List ℕ) (n : ℕ) (a b : Result (Option E) StepFault)
+  pub nexts_as : (old new : EndCore R P) (piece : List ℕ) (n : ℕ) (a b : Result (Option E) EndFault)
       → ((k : S.Key) (octets : List ℕ) (told : List S.Told) → EndGoes S old k octets told → EndNexts S piece n a new k octets told) → a ≡ b
       → (k : S.Key) (octets : List ℕ) (told : List S.Told) → EndGoes S old k octets told → EndNexts S piece n b new k octets told
-  nexts_as old new piece n a b nexts is k octets told g = subst (λ (c : Result (Option E) StepFault). EndNexts S piece n c new k octets told) is
+  nexts_as old new piece n a b nexts is k octets told g = subst (λ (c : Result (Option E) EndFault). EndNexts S piece n c new k octets told) is
       (nexts k octets told g)
 
   -- behind the frame of an event, where memory is refused for what is answered

@@ -16,20 +16,20 @@ use Rattle.ua_channel.specs.declared.server.Phase.TheVariants.{Waiting, Greeted,
 use Rattle.ua_channel.specs.declared.server_rules.ServerRules.{ServerRules}
 use Rattle.ua_channel.specs.declared.server_event.Event.{Event}
 use Rattle.ua_channel.specs.declared.server_event.Event.TheVariants as event
-use Rattle.ua_channel.specs.declared.step_fault.StepFault.{StepFault}
-use Rattle.ua_channel.specs.declared.step_fault.StepFault.TheVariants.{Refused, Peer, Closed, OutOfMemory}
+use Rattle.ua_channel.specs.declared.end_fault.EndFault.{EndFault}
+use Rattle.ua_channel.specs.declared.end_fault.EndFault.TheVariants.{Refused, Peer, Closed, OutOfMemory}
 use Rattle.ua_channel.specs.Agreement.{Agreement}
 use Rattle.ua_channel.specs.Content.{Content, content}
 use Rattle.ua_channel.specs.Content.Content.{Greets, Closes}
 use Rattle.ua_channel.specs.Received.{Received, nothing_received, or_before, after}
-use Rattle.ua_channel.specs.inside.ServerParts.{AgreesTo, IsRefusalFor, IsRefused, JudgesHello, Judges, JudgesClose}
+use Rattle.ua_channel.specs.inside.ServerParts.{AgreesTo, IsRefusalFor, IsRefused, JudgesHello, Judges, JudgesClose, told_list}
 use Rattle.ua_channel.specs.ServerStands.{HasGreeted, InServerPhase, bound_behind, bound_after}
 use Rattle.ua_channel.specs.inside.ServerFrames.{phase_gate, PhaseBehindFrame, JudgesFrame, ServerTakesFrame}
 use Rattle.ua_channel.specs.ServerRules.{opening_gate}
 use Rattle.ua_channel.specs.ServerTold.{Told as told, server_tells}
 use Rattle.ua_frame.specs.declared.gate.Gate.{Gate}
 use Rattle.ua_channel.specs.inside.Parts.{MayEndIn}
-use Rattle.ua_channel.specs.inside.ServerEvents.{parts_of, told_list, told_of}
+use Rattle.ua_channel.specs.ServerEvents.{parts_of, told_of}
 use Rattle.ua_channel.specs.ServerStands.{server_side}
 use Rattle.ua_channel.specs.inside.Ends.{ComesNext, IsBehind, JudgesNext, TakenBy, closes_by, parts_by, told_if}
 use Rattle.ua_channel.specs.Received.{received}
@@ -67,11 +67,11 @@ place p q k is h = subst (λ (r : Phase). IsTrue (lets_in (phase_gate r) k)) is 
 
 module _ (limits : Limits) (channel : ℕ) (before : Received) where
   -- what is against what a frame carries is against the frame
-  pub refuses : (f : Frame) (c : Content) (e : StepFault) → content f ≡ c → IsRefusalFor (IsRefused limits channel before c) e
+  pub refuses : (f : Frame) (c : Content) (e : EndFault) → content f ≡ c → IsRefusalFor (IsRefused limits channel before c) e
       → IsRefusalFor (IsRefused limits channel before (content f)) e
   refuses f c e is h = subst (λ (d : Content). IsRefusalFor (IsRefused limits channel before d) e) (sym is) h
 
-  pub refuses_hello : (body : List ℕ) (e : StepFault) → JudgesHello limits body (Err e)
+  pub refuses_hello : (body : List ℕ) (e : EndFault) → JudgesHello limits body (Err e)
       → IsRefusalFor (IsRefused limits channel before (Greets (hello_in body))) e
   refuses_hello body (Refused code) h = h channel before
   refuses_hello body (Peer code) h = h
@@ -82,7 +82,7 @@ module _ (limits : Limits) (channel : ℕ) (before : Received) where
 
 module _ (r : ServerRules) (before : Received) (f : Frame) (bound : ℕ) (bound_is : bound ≡ bound_after r.limits before) where
   -- on an open channel, or by which it opens
-  pub running_judged : (run : Running) (c : Content) (answer : Result (Option Event) StepFault) → content f ≡ c → (after before c).hello ≡ before.hello
+  pub running_judged : (run : Running) (c : Content) (answer : Result (Option Event) EndFault) → content f ≡ c → (after before c).hello ≡ before.hello
       → Judges r.limits r.channel before c answer run → JudgesFrame r before (content f) (Open run) bound answer
   running_judged run c (Ok e) is hello j = subst (λ (d : Content). JudgesFrame r before d (Open run) bound (Ok e)) (sym is) (record {
     takes = j.0;
@@ -166,7 +166,7 @@ module _ (r : ServerRules) (frames : List Frame) (f : Frame) (p : Phase) (bound 
         bound_is = t.bound_is ∙ ap (bound_after r.limits) (sym (received-push frames f));
       }
 
-  judged_so : (answer : Result (Option Event) StepFault) → (received frames).closed ≡ false → JudgesFrame r (received frames) (content f) p bound answer
+  judged_so : (answer : Result (Option Event) EndFault) → (received frames).closed ≡ false → JudgesFrame r (received frames) (content f) p bound answer
       → JudgesNext server_side r tt frames f p bound answer
   judged_so (Ok e) goes j = taken_so e goes j
   judged_so (Err (Refused code)) goes j = j
@@ -175,7 +175,7 @@ module _ (r : ServerRules) (frames : List Frame) (f : Frame) (p : Phase) (bound 
   judged_so (Err Closed) goes j = j
 
 -- what is made of one that comes next
-pub judged : (r : ServerRules) (old p : Phase) (was bound : ℕ) (f : Frame) (answer : Result (Option Event) StepFault)
+pub judged : (r : ServerRules) (old p : Phase) (was bound : ℕ) (f : Frame) (answer : Result (Option Event) EndFault)
     → ((before : Received) → InServerPhase r.limits old before → was ≡ bound_after r.limits before → IsTrue (lets_in (phase_gate old) f.kind)
     → JudgesFrame r before (content f) p bound answer)
     → (k : Unit {0}) (frames : List Frame) → ComesNext server_side r k old was frames f → JudgesNext server_side r k frames f p bound answer

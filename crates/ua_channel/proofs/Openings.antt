@@ -16,13 +16,13 @@ use Rattle.ua_chunk.specs.Layout.{sequence_header}
 use Rattle.ua_chunk.specs.Opening.{SecurityHeader, channel_of, policy_of, policy_header, is_none_policy, opening_behind}
 use Rattle.ua_chunk.specs.Opening.{opening_with, opening_in, sequence_fault, headers_fault, open_refusal}
 use Rattle.ua_chunk.specs.Sequence.{may_follow}
-use Rattle.ua_channel.specs.declared.step_fault.StepFault.{StepFault}
-use Rattle.ua_channel.specs.declared.step_fault.StepFault.TheVariants as step
+use Rattle.ua_channel.specs.declared.end_fault.EndFault.{EndFault}
+use Rattle.ua_channel.specs.declared.end_fault.EndFault.TheVariants as end_fault
 use Rattle.ua_channel.specs.declared.server_opening.Asked.{Asked}
 use Rattle.ua_channel.specs.Content.{Opening, opening_numbered, opening_secured, opening_of}
 use Rattle.ua_channel.specs.Content.Content.{Opens}
 use Rattle.ua_channel.specs.Received.{Received}
-use Rattle.ua_channel.specs.inside.StepFaults.{of_open_fault}
+use Rattle.ua_channel.specs.inside.EndFaults.{of_open_fault}
 use Rattle.ua_channel.specs.inside.ServerParts.{IsAskedIn, ReadsAsked, asked_reasons, OpensSo, JudgesOpening}
 use Rattle.ua_channel.specs.ServerRefusals.{type_wanted, server_reasons}
 use Rattle.ua_channel.specs.ServerTold.{Told as told, request_of, issued, server_tells}
@@ -88,9 +88,9 @@ judges_fault channel count body Policy h = λ limits before same. headers_refuse
 judges_fault channel count body OutOfMemory h = tt
 
 -- what a fault of the headers comes to
-pub judges_headers : (channel count : ℕ) (body : List ℕ) (fault : OpenFault) (e : StepFault) → open_refusal body ≡ Some fault → e ≡ of_open_fault fault
+pub judges_headers : (channel count : ℕ) (body : List ℕ) (fault : OpenFault) (e : EndFault) → open_refusal body ≡ Some fault → e ≡ of_open_fault fault
     → JudgesOpening channel count body (Err e)
-judges_headers channel count body fault e h is = subst (λ (x : StepFault). JudgesOpening channel count body (Err x)) (sym is)
+judges_headers channel count body fault e h is = subst (λ (x : EndFault). JudgesOpening channel count body (Err x)) (sym is)
     (judges_fault channel count body fault h)
 
 -- ---- headers that read
@@ -150,11 +150,11 @@ module _ (channel count on sequence request : ℕ) (body behind : List ℕ) (h :
   refuses_body limits before none = rw (h.opening_is, h.policy, none) refl
 
   -- what a fault of the body comes to
-  pub judges_body : (e : StepFault) → ReadsAsked behind (Err e) → JudgesOpening channel count body (Err e)
-  judges_body (step.Refused code) r = λ limits before same. refuses_body limits before r.1 ∙ ap (λ (n : ℕ). Some n) (sym r.0)
-  judges_body (step.Peer code) r = r
-  judges_body step.OutOfMemory r = tt
-  judges_body step.Closed r = r
+  pub judges_body : (e : EndFault) → ReadsAsked behind (Err e) → JudgesOpening channel count body (Err e)
+  judges_body (end_fault.Refused code) r = λ limits before same. refuses_body limits before r.1 ∙ ap (λ (n : ℕ). Some n) (sym r.0)
+  judges_body (end_fault.Peer code) r = r
+  judges_body end_fault.OutOfMemory r = tt
+  judges_body end_fault.Closed r = r
 
   asked : (limits : Limits) (before : Received) (r : OpenRequest) → issued before ≡ count → body_of (message 446 open_request) behind ≡ Some r
       → first_reason (server_reasons limits channel before (Opens (opening_of body)))

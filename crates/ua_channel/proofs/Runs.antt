@@ -20,17 +20,17 @@ use Rattle.ua_channel.specs.declared.running.Running.{Running}
 use Rattle.ua_chunk.specs.View.{items_of, HasParts}
 use Rattle.ua_channel.specs.declared.server_event.Event.{Event}
 use Rattle.ua_channel.specs.declared.server_event.Event.TheVariants as event
-use Rattle.ua_channel.specs.declared.step_fault.StepFault.{StepFault}
-use Rattle.ua_channel.specs.declared.step_fault.StepFault.TheVariants as step
+use Rattle.ua_channel.specs.declared.end_fault.EndFault.{EndFault}
+use Rattle.ua_channel.specs.declared.end_fault.EndFault.TheVariants as end_fault
 use Rattle.ua_channel.specs.declared.server_opening.Opened.{Opened}
 use Rattle.ua_channel.specs.Agreement.{Agreement}
 use Rattle.ua_channel.specs.Content.{Content, Opening, opening_of}
 use Rattle.ua_channel.specs.Content.Content.{Opens, Sends, Closes}
 use Rattle.ua_channel.specs.Received.{Received, number_or, after}
 use Rattle.ua_channel.specs.inside.Parts.{MayEndIn, parts_in}
-use Rattle.ua_channel.specs.inside.ServerEvents.{told_of, told_list, parts_of}
-use Rattle.ua_channel.specs.inside.StepFaults.{fault_code, of_chunk_fault}
-use Rattle.ua_channel.specs.inside.ServerParts.{IsRefusalFor, IsRefused, JudgesOpening, OpensSo, TakesSo, ids_reasons}
+use Rattle.ua_channel.specs.ServerEvents.{told_of, parts_of}
+use Rattle.ua_channel.specs.inside.EndFaults.{fault_code, of_chunk_fault}
+use Rattle.ua_channel.specs.inside.ServerParts.{IsRefusalFor, IsRefused, JudgesOpening, OpensSo, TakesSo, ids_reasons, told_list}
 use Rattle.ua_channel.specs.ServerStands.{HasGreeted, Stays}
 use Rattle.ua_channel.specs.ServerRefusals.{last_used, or_first, server_reasons}
 use Rattle.ua_channel.specs.ServerTold.{Told, Told as told, told_under, issued}
@@ -116,7 +116,7 @@ module _ (limits : Limits) (r : Running) (before : Received) (channel : ℕ) (c 
   judged_fault Closed ids h = h
 
   -- a chunk that is refused
-  pub refuses_message : (fault : AssembleFault) (e : StepFault) → first_reason (ids_reasons c channel r.used r.issued) ≡ None
+  pub refuses_message : (fault : AssembleFault) (e : EndFault) → first_reason (ids_reasons c channel r.used r.issued) ≡ None
       → IsFor (refusal (octet_limit r.assembler) (chunk_limit r.assembler) (last_number r.assembler) before.messages c) fault
       → e ≡ of_chunk_fault 0x80B8_0000 fault
       → IsRefusalFor (IsRefused limits channel before (Sends c)) e
@@ -135,12 +135,12 @@ opened_in before c (Some (event.Aborted i)) id handle token lifetime is = tt
 opened_in before c (Some event.Closed) id handle token lifetime is = tt
 
 -- what a fault of an OPN comes to
-pub refuses_opening : (limits : Limits) (channel count : ℕ) (before : Received) (body : List ℕ) (e : StepFault) → issued before ≡ count
+pub refuses_opening : (limits : Limits) (channel count : ℕ) (before : Received) (body : List ℕ) (e : EndFault) → issued before ≡ count
     → JudgesOpening channel count body (Err e) → IsRefusalFor (IsRefused limits channel before (Opens (opening_of body))) e
-refuses_opening limits channel count before body (step.Refused code) is h = h limits before is
-refuses_opening limits channel count before body (step.Peer code) is h = h
-refuses_opening limits channel count before body step.OutOfMemory is h = tt
-refuses_opening limits channel count before body step.Closed is h = h
+refuses_opening limits channel count before body (end_fault.Refused code) is h = h limits before is
+refuses_opening limits channel count before body (end_fault.Peer code) is h = h
+refuses_opening limits channel count before body end_fault.OutOfMemory is h = tt
+refuses_opening limits channel count before body end_fault.Closed is h = h
 
 module _ (limits : Limits) (r : Running) (before : Received) (channel : ℕ) (body : List ℕ) (o : Opened) (stays : Stays limits r before)
     (so : OpensSo channel r.issued body o) where
@@ -154,7 +154,7 @@ module _ (limits : Limits) (r : Running) (before : Received) (channel : ℕ) (bo
   refuses_number e = remain ∙ ap (λ (b : Bool). first_reason ((0x8088_0000, not b) ∷ (0x8081_0000, eqb (issued before) 4294967295) ∷ []))
       (ap (λ (n : Option ℕ). may_follow n o.sequence) stays.last_is ∙ e)
 
-  pub refuses_renewal : (fault : AssembleFault) (e : StepFault) → fault ≡ Sequence → IsFalse (may_follow (last_number r.assembler) o.sequence)
+  pub refuses_renewal : (fault : AssembleFault) (e : EndFault) → fault ≡ Sequence → IsFalse (may_follow (last_number r.assembler) o.sequence)
       → e ≡ of_chunk_fault 0x80B8_0000 fault → IsRefusalFor (IsRefused limits channel before (Opens (opening_of body))) e
   refuses_renewal fault e first breaks is =
       subst (IsRefusalFor (IsRefused limits channel before (Opens (opening_of body)))) (sym is)

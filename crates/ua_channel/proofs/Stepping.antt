@@ -15,9 +15,9 @@ use Rattle.ua_frame.proofs.Fronts.{fault_front, fault-from_let_in, length-frame_
 use Rattle.ua_frame.proofs.Streams.{frames_octets-push, run_frame, run_part, run_header}
 use Rattle.ua_builtin.specs.Status.{of_code}
 use Rattle.ua_channel.specs.Stops.{StopsAt}
-use Rattle.ua_channel.specs.inside.StepFaults.{of_frame_fault}
-use Rattle.ua_channel.specs.declared.step_fault.StepFault.{StepFault}
-use Rattle.ua_channel.specs.declared.step_fault.StepFault.TheVariants.{Refused, OutOfMemory}
+use Rattle.ua_channel.specs.inside.EndFaults.{of_frame_fault}
+use Rattle.ua_channel.specs.declared.end_fault.EndFault.{EndFault}
+use Rattle.ua_channel.specs.declared.end_fault.EndFault.TheVariants.{Refused, OutOfMemory}
 
 -- octets stop behind these frames at what is refused for this
 pub record Halts {E X : Type 0} (R : Rules E X) (octets : List ℕ) (frames : List Frame) (rest : List ℕ) (why : X) : Type 0 where
@@ -154,7 +154,7 @@ module _ (E X : Type 0) (R : Rules E X) (octets rest piece : List ℕ) (frames :
     goes_on h = let goes : true ≡ false = sym h.0 ∙ ap (λ (o : Reader). o.failed) reader_is in cc
 
     -- what a fault of the reader comes to
-    pub fault_comes : (Ends : StepFault → Type 0) → ((code : ℕ) → Halts R (octets ++ take n piece) frames (rest ++ take n piece) (R.of_header code)
+    pub fault_comes : (Ends : EndFault → Type 0) → ((code : ℕ) → Halts R (octets ++ take n piece) frames (rest ++ take n piece) (R.of_header code)
         → Ends (Refused (of_code code)))
         → (Breaks R (octets ++ take n piece) frames (rest ++ take n piece) → Ends OutOfMemory) → (fault : FrameFault) → Takes reader piece (Err fault) new
         → Ends (of_frame_fault fault)

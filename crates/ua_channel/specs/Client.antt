@@ -12,8 +12,8 @@ use Rattle.ua_channel.specs.Asks.{Asking, Placed, asked_in}
 use Rattle.ua_channel.specs.ClientAsks.{Talks, ask_reasons, renew_reasons, Calls, JudgesBy, Renews, closing_octets}
 use Rattle.ua_channel.specs.ClientTable.{client_rules}
 use Rattle.ua_channel.specs.ClientTold.{ClientTold, Why, peers}
-use Rattle.ua_channel.specs.Ends.{Side, EndDone, EndGoes, EndMessage, EndStands, EndStarves, EndStops, EndTells}
-use Rattle.ua_channel.specs.inside.ClientEvents.{event_parts, told_by}
+use Rattle.ua_channel.specs.Ends.{Side, EndDone, EndGoes, EndStands, EndStarves, EndStops, EndTells}
+use Rattle.ua_channel.specs.ClientEvents.{event_parts, told_by}
 use Rattle.ua_channel.specs.declared.client.event.Event.{Event}
 use Rattle.ua_channel.specs.declared.client.rules.ClientRules.{ClientRules}
 use Rattle.ua_channel.specs.Received.{Received, received, nothing_received}
@@ -113,11 +113,6 @@ ClientGoes x asks octets told = EndGoes client_side x.end asks octets told
 -- nothing follows it
 abbrev pub ClientGoesTelling : ClientChannel → List Placed → List ℕ → List ClientTold → ClientTold → Type 0
 ClientGoesTelling x asks octets told e = EndTells client_side x.end asks octets told e
-
--- the channel goes on after these operations and bytes, of which the last frame ends a message in
--- these parts
-abbrev pub EndsReply : ClientChannel → List Placed → List ℕ → List (List ℕ) → Type 0
-EndsReply x asks octets parts = EndMessage client_side x.end asks octets parts
 
 -- the channel ended after these operations and bytes, whose good frames told this, and what follows
 -- them is rejected for this reason

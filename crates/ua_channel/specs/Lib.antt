@@ -13,6 +13,7 @@ pub mod Ends
 -- sends; its state, and its responses.
 pub mod Agreement
 pub mod ServerTold
+pub mod ServerEvents
 pub mod ServerRefusals
 pub mod ServerRules
 pub mod ServerSends
@@ -24,6 +25,7 @@ pub mod ServerAnswers
 pub mod Asks
 pub mod ClientTokens
 pub mod ClientTold
+pub mod ClientEvents
 pub mod ClientTable
 pub mod ClientSends
 pub mod ClientAsks

@@ -12,8 +12,8 @@ use Rattle.ua_channel.specs.Agreement.{Agreement, agreement_of}
 use Rattle.ua_channel.specs.Received.{Received, nothing_received, received}
 use Rattle.ua_channel.specs.ServerRules.{receive_size, server_rules}
 use Rattle.ua_channel.specs.ServerTold.{Told, issued}
-use Rattle.ua_channel.specs.Ends.{Side, EndDone, EndGoes, EndMessage, EndOver, EndStands, EndStarves, EndStops, EndTells}
-use Rattle.ua_channel.specs.inside.ServerEvents.{is_closed, parts_of, told_of}
+use Rattle.ua_channel.specs.Ends.{Side, EndDone, EndGoes, EndOver, EndStands, EndStarves, EndStops, EndTells}
+use Rattle.ua_channel.specs.ServerEvents.{is_closed, parts_of, told_of}
 use Rattle.ua_channel.specs.declared.server_event.Event.{Event}
 use Rattle.ua_channel.specs.declared.server_rules.ServerRules.{ServerRules}
 use Rattle.ua_chunk.specs.Assembling.{last_number, octet_limit, chunk_limit}
@@ -136,10 +136,6 @@ Goes x octets told = EndGoes server_side x.end tt octets told
 -- after what the frames before it told
 abbrev pub GoesTelling : ServerChannel → List ℕ → List Told → Told → Type 0
 GoesTelling x octets told e = EndTells server_side x.end tt octets told e
-
--- the channel goes on after these bytes, of which the last frame ends a message in these parts
-abbrev pub EndsMessage : ServerChannel → List ℕ → List (List ℕ) → Type 0
-EndsMessage x octets parts = EndMessage server_side x.end tt octets parts
 
 -- the channel closed at the last byte of these, that of a CLO, and its frames told this
 abbrev pub ClosedAt : ServerChannel → List ℕ → List Told → Type 0

@@ -4,7 +4,7 @@ ghost use Rattle.std.specs.Prelude.{◌≡◌, ◌<◌, ◌+◌, ◌^◌};
 ghost use Rattle.ua_channel.specs.inside.ServerParts.{JudgesHello};
 ghost use Rattle.ua_frame.specs.Limits.{tighter};
 
-use crate::step_fault::StepFault;
+use crate::end_fault::EndFault;
 use std::alloc::Global;
 use std::marker::Model;
 use ua_builtin::{StatusCode, Wire};
@@ -83,11 +83,11 @@ fn tighter(a: u32, b: u32) -> u32
 }
 
 /// The agreement of a server with these limits on the body of a HEL.
-pub fn judge_hello(alloc: Global, limits: &Limits, body: &[u8]) -> Result<Agreement, StepFault>
+pub fn judge_hello(alloc: Global, limits: &Limits, body: &[u8]) -> Result<Agreement, EndFault>
     ensures { JudgesHello limits.now body.now result }
 {
     let Some(hello) = Hello::read_whole(alloc, body)? else {
-        return Err(StepFault::Refused(StatusCode::BAD_DECODING_ERROR));
+        return Err(EndFault::Refused(StatusCode::BAD_DECODING_ERROR));
     };
     match agree(&hello, limits) {
         Ok(ack) => {
@@ -98,6 +98,6 @@ pub fn judge_hello(alloc: Global, limits: &Limits, body: &[u8]) -> Result<Agreem
                 chunks: hello.max_chunk_count,
             })
         }
-        Err(code) => Err(StepFault::Refused(code)),
+        Err(code) => Err(EndFault::Refused(code)),
     }
 }

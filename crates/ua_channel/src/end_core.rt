@@ -9,8 +9,9 @@ ghost use Rattle.ua_channel.specs.inside.Parts.{HasShape};
 ghost use Rattle.ua_channel.specs.Ends.{Side};
 ghost use Rattle.ua_channel.specs.inside.Ends.{ComesNext, JudgesNext};
 
+use crate::end_fault::EndFault;
 use crate::numbers::Numbers;
-use crate::step_fault::StepFault;
+use crate::taken::Taken;
 use std::alloc::Global;
 use ua_frame::{Frame, FrameReader, Gate, HEADER_LEN};
 
@@ -40,7 +41,7 @@ pub trait EndRules<P> {
         phase: &mut P,
         bound: &mut usize,
         frame: Frame,
-    ) -> Result<Option<Self::Event>, StepFault>
+    ) -> Result<Option<Self::Event>, EndFault>
         requires shape { HasShape frame }
         ensures judges { (k : side.Key) (frames : List Frame)
             → ComesNext side self.now k phase.old bound.old frames frame
@@ -88,7 +89,7 @@ impl<R: EndRules<P>, P: Drop> EndCore<R, P> {
     }
 
     /// The event of a complete frame, and the filter for the next one.
-    fn on_whole(&mut self, frame: Frame) -> Result<Option<R::Event>, StepFault>
+    fn on_whole(&mut self, frame: Frame) -> Result<Option<R::Event>, EndFault>
         requires shape { HasShape frame }
         requires empty { self.old.reader.held ≡ [] }
         ensures judges { (k : R.side.Key) (frames : List Frame)
@@ -117,13 +118,12 @@ impl<R: EndRules<P>, P: Drop> EndCore<R, P> {
         }
     }
 
-    /// One call of the reader, and the event of its frame, with the number of bytes that were
-    /// taken.
-    fn step(&mut self, piece: &[u8]) -> (usize, Result<Option<R::Event>, StepFault>)
+    /// One call of the reader, and the event of its frame.
+    fn step(&mut self, piece: &[u8]) -> Taken<Result<Option<R::Event>, EndFault>>
         ensures steps { (k : R.side.Key) (octets : List ℕ) (told : List R.side.Told)
             → EndGoes R.side self.old k octets told
-            → EndSteps R.side piece.now result.0 result.1 self.new k octets told }
-        ensures moves { MovesBy piece.now result.0 result.1 }
+            → EndSteps R.side piece.now result.size result.outcome self.new k octets told }
+        ensures moves { MovesBy piece.now result.size result.outcome }
         ensures kept { self.new ≡ record self.old {
           reader = self.new.reader;
           bound = self.new.bound;
@@ -133,24 +133,32 @@ impl<R: EndRules<P>, P: Drop> EndCore<R, P> {
         R::lawful();
         let held = self.reader.held();
         match self.reader.take(piece) {
-            Ok((n, None)) => (n, Ok(None)),
-            Ok((n, Some(frame))) => (n, self.on_whole(frame)),
+            Ok((size, None)) => Taken {
+                size,
+                outcome: Ok(None),
+            },
+            Ok((size, Some(frame))) => Taken {
+                size,
+                outcome: self.on_whole(frame),
+            },
             Err(fault) => {
                 self.fail();
-                let fault = StepFault::of_frame(fault);
-                let n = HEADER_LEN.saturating_sub(held).max(fault.least());
-                (n.min(piece.len()), Err(fault))
+                let fault = EndFault::of_frame(fault);
+                let size = HEADER_LEN.saturating_sub(held).max(fault.least());
+                Taken {
+                    size: size.min(piece.len()),
+                    outcome: Err(fault),
+                }
             }
         }
     }
 
-    /// Takes bytes up to the end of the first frame that has an event, or else the whole fragment, and
-    /// returns how many it took.
-    pub fn next_event(&mut self, piece: &[u8]) -> (usize, Result<Option<R::Event>, StepFault>)
+    /// Takes bytes up to the end of the first frame that has an event, or else the whole fragment.
+    pub fn next_event(&mut self, piece: &[u8]) -> Taken<Result<Option<R::Event>, EndFault>>
         ensures nexts { (k : R.side.Key) (octets : List ℕ) (told : List R.side.Told)
             → EndGoes R.side self.old k octets told
-            → EndNexts R.side piece.now result.0 result.1 self.new k octets told }
-        ensures moves { MovesBy piece.now result.0 result.1 }
+            → EndNexts R.side piece.now result.size result.outcome self.new k octets told }
+        ensures moves { MovesBy piece.now result.size result.outcome }
         ensures kept { self.new ≡ record self.old {
           reader = self.new.reader;
           bound = self.new.bound;
@@ -159,15 +167,28 @@ impl<R: EndRules<P>, P: Drop> EndCore<R, P> {
     {
         let mut taken = 0;
         while taken < piece.len() {
-            let (n, answer) = self.step(&piece[taken..]);
-            taken += n;
-            match answer {
+            let Taken { size, outcome } = self.step(&piece[taken..]);
+            taken += size;
+            match outcome {
                 Ok(None) => {}
-                Ok(Some(event)) => return (taken, Ok(Some(event))),
-                Err(fault) => return (taken, Err(fault)),
+                Ok(Some(event)) => {
+                    return Taken {
+                        size: taken,
+                        outcome: Ok(Some(event)),
+                    };
+                }
+                Err(fault) => {
+                    return Taken {
+                        size: taken,
+                        outcome: Err(fault),
+                    };
+                }
             }
         }
-        (taken, Ok(None))
+        Taken {
+            size: taken,
+            outcome: Ok(None),
+        }
     }
 
     /// The number of bytes held: those of an incomplete frame, and those of unfinished messages.

@@ -20,6 +20,7 @@
 mod agreement;
 mod client;
 mod end_core;
+mod end_fault;
 mod line;
 mod memory_line;
 mod moments;
@@ -32,7 +33,7 @@ mod server_event;
 mod server_fault;
 mod server_opening;
 mod server_rules;
-mod step_fault;
+mod taken;
 mod writing;
 
 pub use client::{AskFault, AskedCall, ClientChannel, ClientEvent, ClientTakeFault};
@@ -43,4 +44,5 @@ pub use sent_reply::SentReply;
 pub use server::ServerChannel;
 pub use server_event::ServerEvent;
 pub use server_fault::{ChannelFault, ReplyFault};
+pub use taken::Taken;
 pub use writing::write_whole;

@@ -3,9 +3,9 @@
 ghost use Rattle.std.specs.Prelude.{◌≡◌, option_map};
 
 use crate::agreement::Agreement;
+use crate::end_fault::EndFault;
 use crate::server_event::Event;
 use crate::server_opening::judge_opening;
-use crate::step_fault::StepFault;
 use std::alloc::Global;
 use ua_builtin::StatusCode;
 use ua_chunk::{Assembler, Chunk, Lane};
@@ -45,7 +45,7 @@ impl Running {
         agreement: Agreement,
         channel: u32,
         frame: Frame,
-    ) -> Result<(Running, Event), StepFault>
+    ) -> Result<(Running, Event), EndFault>
         ensures { (before : Received) → HasGreeted limits.now agreement before
             → JudgesFirst limits.now channel before (Opens (opening_of frame.body)) result }
     {
@@ -120,12 +120,12 @@ impl Running {
         &mut self,
         channel: u32,
         chunk: Chunk,
-    ) -> Result<Option<Event>, StepFault>
+    ) -> Result<Option<Event>, EndFault>
         ensures { (limits : Limits) (before : Received) → Stays limits self.old before
             → Judges limits channel before (Sends chunk) result self.new }
     {
         if let Some(code) = self.judge_ids(channel, &chunk) {
-            return Err(StepFault::Refused(code));
+            return Err(EndFault::Refused(code));
         }
         let token = chunk.token;
         match self.assembler.accept(chunk) {
@@ -133,21 +133,21 @@ impl Running {
                 self.used = token;
                 Ok(Event::of_delivered(token, delivered))
             }
-            Err(fault) => Err(StepFault::of_chunk(fault, StatusCode::BAD_REQUEST_TOO_LARGE)),
+            Err(fault) => Err(EndFault::of_chunk(fault, StatusCode::BAD_REQUEST_TOO_LARGE)),
         }
     }
 
     /// Takes the chunk of a close, with which the channel ends.
-    pub(crate) fn on_close(&mut self, channel: u32, chunk: Chunk) -> Result<(), StepFault>
+    pub(crate) fn on_close(&mut self, channel: u32, chunk: Chunk) -> Result<(), EndFault>
         ensures { (limits : Limits) (before : Received) → Stays limits self.old before
             → JudgesClose limits channel before (Closes chunk) result }
     {
         if let Some(code) = self.judge_ids(channel, &chunk) {
-            return Err(StepFault::Refused(code));
+            return Err(EndFault::Refused(code));
         }
         match self.assembler.step(chunk.sequence) {
             Ok(()) => Ok(()),
-            Err(fault) => Err(StepFault::of_chunk(fault, StatusCode::BAD_REQUEST_TOO_LARGE)),
+            Err(fault) => Err(EndFault::of_chunk(fault, StatusCode::BAD_REQUEST_TOO_LARGE)),
         }
     }
 
@@ -157,16 +157,16 @@ impl Running {
         alloc: Global,
         channel: u32,
         frame: Frame,
-    ) -> Result<Option<Event>, StepFault>
+    ) -> Result<Option<Event>, EndFault>
         ensures { (limits : Limits) (before : Received) → Stays limits self.old before
             → Judges limits channel before (Opens (opening_of frame.body)) result self.new }
     {
         let opened = judge_opening(alloc, channel, self.issued, frame)?;
         if let Err(fault) = self.assembler.step(opened.sequence) {
-            return Err(StepFault::of_chunk(fault, StatusCode::BAD_REQUEST_TOO_LARGE));
+            return Err(EndFault::of_chunk(fault, StatusCode::BAD_REQUEST_TOO_LARGE));
         }
         if self.issued == u32::MAX {
-            return Err(StepFault::Refused(StatusCode::BAD_TCP_NOT_ENOUGH_RESOURCES));
+            return Err(EndFault::Refused(StatusCode::BAD_TCP_NOT_ENOUGH_RESOURCES));
         }
         self.issued += 1;
         Ok(Some(opened.event(self.issued)))

@@ -11,6 +11,7 @@ use crate::sent_reply::SentReply;
 use crate::server_event::{Event, ServerEvent};
 use crate::server_fault::{ChannelFault, ReplyFault};
 use crate::server_rules::{ServerRules, hello_gate};
+use crate::taken::Taken;
 use std::alloc::{AllocError, Global};
 use ua_builtin::DateTime;
 use ua_chunk::Lane;
@@ -159,30 +160,35 @@ impl ServerChannel {
         }
     }
 
-    /// Takes bytes up to the end of the first frame that has an event, or else the whole fragment, and
-    /// returns how many it took. `moment` is the timestamp of an OPN response.
-    fn go_on(
-        &mut self,
-        piece: &[u8],
-        moment: DateTime,
-    ) -> (usize, Result<ServerEvent, ChannelFault>)
+    /// Takes bytes up to the end of the first frame that has an event, or else the whole fragment.
+    /// `moment` is the timestamp of an OPN response.
+    fn go_on(&mut self, piece: &[u8], moment: DateTime) -> Taken<Result<ServerEvent, ChannelFault>>
         ensures answers { (octets : List ℕ) (told : List Told) → Goes self.old octets told
-            → AnswersAt (channel_of self.old) (next_of self.old) moment piece.now result.0 result.1 self.new octets
-            told }
+            → AnswersAt (channel_of self.old) (next_of self.old) moment piece.now result.size result.outcome self.new
+            octets told }
         ensures parts { (octets : List ℕ) (told : List Told) → Goes self.old octets told
-            → IfOk result.1 (λ e. AsksInParts (parts_asked e) self.new (octets ++ take result.0 piece.now)) }
-        ensures progress { Progress piece.now result.0 result.1 }
+            → IfOk result.outcome (λ e. AsksInParts (parts_asked e) self.new (octets ++ take result.size piece.now)) }
+        ensures progress { Progress piece.now result.size result.outcome }
         ensures starves { (octets : List ℕ) (told : List Told) → Goes self.old octets told
-            → IsErrOf result.1 fault.OutOfMemory
-            → StarvedAt self.new (octets ++ take result.0 piece.now) told }
+            → IsErrOf result.outcome fault.OutOfMemory
+            → StarvedAt self.new (octets ++ take result.size piece.now) told }
         ensures limits { limits_of self.new ≡ limits_of self.old }
         ensures channel { channel_of self.new ≡ channel_of self.old }
     {
-        let (n, outcome) = self.end.next_event(piece);
+        let Taken { size, outcome } = self.end.next_event(piece);
         match outcome {
-            Ok(None) => (n, Ok(ServerEvent::NeedMore)),
-            Ok(Some(event)) => (n, self.answer(event, moment)),
-            Err(fault) => (n, Err(ChannelFault::of_step(fault))),
+            Ok(None) => Taken {
+                size,
+                outcome: Ok(ServerEvent::NeedMore),
+            },
+            Ok(Some(event)) => Taken {
+                size,
+                outcome: self.answer(event, moment),
+            },
+            Err(fault) => Taken {
+                size,
+                outcome: Err(ChannelFault::of_end(fault)),
+            },
         }
     }
 
@@ -192,37 +198,47 @@ impl ServerChannel {
         &mut self,
         piece: &[u8],
         moment: DateTime,
-    ) -> (usize, Result<ServerEvent, ChannelFault>)
+    ) -> Taken<Result<ServerEvent, ChannelFault>>
         ensures answers { (octets : List ℕ) (told : List Told) → Goes self.old octets told
-            → AnswersAt (channel_of self.old) (next_of self.old) moment piece.now result.0 result.1 self.new octets
-            told }
+            → AnswersAt (channel_of self.old) (next_of self.old) moment piece.now result.size result.outcome self.new
+            octets told }
         // A message that is returned is the bodies of its chunks, which are not joined.
         ensures parts { (octets : List ℕ) (told : List Told) → Goes self.old octets told
-            → IfOk result.1 (λ e. AsksInParts (parts_asked e) self.new (octets ++ take result.0 piece.now)) }
-        ensures progress { Progress piece.now result.0 result.1 }
-        ensures closed { IsDone self.old → (result.0 ≡ 0) × (result.1 ≡ Err fault.Closed) × (self.new ≡ self.old) }
+            → IfOk result.outcome (λ e. AsksInParts (parts_asked e) self.new (octets ++ take result.size piece.now)) }
+        ensures progress { Progress piece.now result.size result.outcome }
+        ensures closed { IsDone self.old → (result.size ≡ 0) × (result.outcome ≡ Err fault.Closed)
+            × (self.new ≡ self.old) }
         // Where an allocation fails, the bytes taken end at the eighth byte of a valid header, or
         // within its frame.
         ensures starves { (octets : List ℕ) (told : List Told) → Goes self.old octets told
-            → IsErrOf result.1 fault.OutOfMemory
-            → StarvedAt self.new (octets ++ take result.0 piece.now) told }
+            → IsErrOf result.outcome fault.OutOfMemory
+            → StarvedAt self.new (octets ++ take result.size piece.now) told }
         // After `OutOfMemory` the bound is what it was before the call.
-        ensures starved { IsErrOf result.1 fault.OutOfMemory → bound_of self.new ≡ bound_of self.old }
+        ensures starved { IsErrOf result.outcome fault.OutOfMemory → bound_of self.new ≡ bound_of self.old }
         ensures limits { limits_of self.new ≡ limits_of self.old }
         ensures channel { channel_of self.new ≡ channel_of self.old }
     {
         if self.is_done() {
-            return (0, Err(ChannelFault::Closed));
+            return Taken {
+                size: 0,
+                outcome: Err(ChannelFault::Closed),
+            };
         }
         let bound = self.end.bound;
-        let (n, answer) = self.go_on(piece, moment);
-        match answer {
-            Ok(event) => (n, Ok(event)),
+        let Taken { size, outcome } = self.go_on(piece, moment);
+        match outcome {
+            Ok(event) => Taken {
+                size,
+                outcome: Ok(event),
+            },
             Err(fault) => {
                 if let ChannelFault::OutOfMemory = fault {
                     self.end.bound = bound;
                 }
-                (n, Err(fault))
+                Taken {
+                    size,
+                    outcome: Err(fault),
+                }
             }
         }
     }
@@ -251,9 +267,9 @@ impl ServerChannel {
         ensures limits { limits_of self.new ≡ limits_of self.old }
         ensures channel { channel_of self.new ≡ channel_of self.old }
     {
-        let (n, answer) = self.advance(piece, moment);
-        match answer {
-            Ok(event) => Ok((n, event)),
+        let Taken { size, outcome } = self.advance(piece, moment);
+        match outcome {
+            Ok(event) => Ok((size, event)),
             Err(fault) => Err(fault),
         }
     }

@@ -47,7 +47,8 @@ impl Event {
     ghost use Rattle.ua_chunk.specs.View.{items_of};
     ghost use Rattle.ua_channel.specs.inside.Parts.{parts_in};
     ghost use Rattle.ua_channel.specs.ServerTold.{told_under};
-    ghost use Rattle.ua_channel.specs.inside.ServerEvents.{told_list, parts_of};
+    ghost use Rattle.ua_channel.specs.ServerEvents.{parts_of};
+    ghost use Rattle.ua_channel.specs.inside.ServerParts.{told_list};
 
     /// What a chunk under this token delivers, as an event.
     #[inline(always)]

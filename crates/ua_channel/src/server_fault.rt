@@ -2,7 +2,7 @@
 
 ghost use Rattle.std.specs.Prelude.{◌≡◌};
 
-use crate::step_fault::StepFault;
+use crate::end_fault::EndFault;
 use thiserror::Error;
 use ua_builtin::StatusCode;
 use ua_frame::error_frame;
@@ -36,19 +36,19 @@ pub enum ReplyFault {
 }
 
 impl ChannelFault {
-    ghost use Rattle.ua_channel.specs.inside.StepFaults.{of_step};
+    ghost use Rattle.ua_channel.specs.inside.EndFaults.{of_end_fault};
 
-    /// The fault of a step, as one of the channel.
-    pub(crate) fn of_step(fault: StepFault) -> ChannelFault
-        ensures { result ≡ of_step fault }
+    /// The fault of an end, as one of the channel.
+    pub(crate) fn of_end(fault: EndFault) -> ChannelFault
+        ensures { result ≡ of_end_fault fault }
     {
         match fault {
-            StepFault::Refused(code) | StepFault::Peer(code) => ChannelFault::Refused {
+            EndFault::Refused(code) | EndFault::Peer(code) => ChannelFault::Refused {
                 code,
                 err_frame: error_frame(code),
             },
-            StepFault::Closed => ChannelFault::Closed,
-            StepFault::OutOfMemory => ChannelFault::OutOfMemory,
+            EndFault::Closed => ChannelFault::Closed,
+            EndFault::OutOfMemory => ChannelFault::OutOfMemory,
         }
     }
 }

@@ -4,8 +4,8 @@ ghost use Rattle.std.specs.Prelude.{◌≡◌, option_map};
 ghost use Rattle.ua_builtin.specs.Reasons.{first_reason};
 ghost use Rattle.ua_channel.specs.inside.ServerParts.{AsksFor, ReadsAsked, asked_reasons, JudgesOpening};
 
+use crate::end_fault::EndFault;
 use crate::server_event::Event;
-use crate::step_fault::StepFault;
 use std::alloc::Global;
 use ua_builtin::{Octets, ReadFault, StatusCode};
 use ua_chunk::read_open;
@@ -43,7 +43,7 @@ pub struct Opened {
 }
 
 impl Opened {
-    ghost use Rattle.ua_channel.specs.inside.ServerEvents.{told_of};
+    ghost use Rattle.ua_channel.specs.ServerEvents.{told_of};
     ghost use Rattle.ua_channel.specs.ServerTold.{Told as told};
 
     /// The event of this opening, with the token that it has issued.
@@ -73,7 +73,7 @@ fn asked_by(request: &OpenRequest) -> Asked
 }
 
 /// The content of the request that is exactly these bytes.
-fn read_asked(alloc: Global, octets: &[u8]) -> Result<Asked, StepFault>
+fn read_asked(alloc: Global, octets: &[u8]) -> Result<Asked, EndFault>
     ensures { ReadsAsked octets.now result }
 {
     let mut source = Octets::new(octets);
@@ -83,8 +83,8 @@ fn read_asked(alloc: Global, octets: &[u8]) -> Result<Asked, StepFault>
             drop(request);
             Ok(asked)
         }
-        Err(ReadFault::NoValue) => Err(StepFault::Refused(StatusCode::BAD_DECODING_ERROR)),
-        Err(ReadFault::OutOfMemory) => Err(StepFault::OutOfMemory),
+        Err(ReadFault::NoValue) => Err(EndFault::Refused(StatusCode::BAD_DECODING_ERROR)),
+        Err(ReadFault::OutOfMemory) => Err(EndFault::OutOfMemory),
     }
 }
 
@@ -112,16 +112,16 @@ pub fn judge_opening(
     channel: u32,
     issued: u32,
     frame: Frame,
-) -> Result<Opened, StepFault>
+) -> Result<Opened, EndFault>
     ensures { JudgesOpening channel issued frame.body result }
 {
     let opening = match read_open(frame) {
         Ok(opening) => opening,
-        Err(fault) => return Err(StepFault::of_open(fault)),
+        Err(fault) => return Err(EndFault::of_open(fault)),
     };
     let asked = read_asked(alloc, &opening.body)?;
     match judge_asked(&asked, opening.channel, channel, issued) {
-        Some(code) => Err(StepFault::Refused(code)),
+        Some(code) => Err(EndFault::Refused(code)),
         None => Ok(Opened {
             sequence: opening.sequence,
             request: opening.request,

@@ -14,10 +14,10 @@ ghost use Rattle.ua_channel.specs.ServerStands.{InServerPhase, Stays, bound_afte
 
 use crate::agreement::judge_hello;
 use crate::end_core::EndRules;
+use crate::end_fault::EndFault;
 use crate::running::Running;
 use crate::server::Phase;
 use crate::server_event::Event;
-use crate::step_fault::StepFault;
 use std::alloc::Global;
 use ua_chunk::{MOST_OPEN, read_chunk};
 use ua_frame::{Frame, Gate, Kind, LEAST_BUFFER_SIZE, Limits};
@@ -49,7 +49,7 @@ impl ServerRules {
         alloc: Global,
         running: &mut Running,
         frame: Frame,
-    ) -> Result<Option<Event>, StepFault>
+    ) -> Result<Option<Event>, EndFault>
         requires shape { HasShape frame }
         requires goes_on { frame.kind ≢ Clo }
         ensures { (before : Received) (bound : ℕ) → Stays self.now.limits running.old before
@@ -60,7 +60,7 @@ impl ServerRules {
         match frame.kind {
             Kind::Msg => running.on_message(self.channel, read_chunk(frame)),
             Kind::Opn => running.on_renewal(alloc, self.channel, frame),
-            Kind::Clo | Kind::Hel | Kind::Ack | Kind::Err => Err(StepFault::Closed),
+            Kind::Clo | Kind::Hel | Kind::Ack | Kind::Err => Err(EndFault::Closed),
         }
     }
 
@@ -72,7 +72,7 @@ impl ServerRules {
         phase: &mut Phase,
         bound: &mut usize,
         frame: Frame,
-    ) -> Result<Option<Event>, StepFault>
+    ) -> Result<Option<Event>, EndFault>
         requires shape { HasShape frame }
         ensures judges { (before : Received) → InServerPhase self.now.limits phase.old before
             → bound.old ≡ bound_after self.now.limits before
@@ -110,7 +110,7 @@ impl ServerRules {
                     Err(fault) => Err(fault),
                 }
             }
-            Phase::Done => Err(StepFault::Closed),
+            Phase::Done => Err(EndFault::Closed),
         }
     }
 }
@@ -141,7 +141,7 @@ impl EndRules<Phase> for ServerRules {
         phase: &mut Phase,
         bound: &mut usize,
         frame: Frame,
-    ) -> Result<Option<Event>, StepFault> {
+    ) -> Result<Option<Event>, EndFault> {
         self.judge(alloc, phase, bound, frame)
     }
 

@@ -10,7 +10,7 @@ ghost use Rattle.ua_client.specs.Sent.{bodies_of, group_refusal};
 use crate::collecting::{append_front, empty_slots, make_room};
 use crate::connection::Connection;
 use crate::fault::{CallsFault, ClientFault};
-use crate::group::{Body, ask_group, judge_group};
+use crate::group::{AskedGroup, Body, ask_group, judge_group};
 use crate::laws::{calls_are_told_behind, clients_are_settled};
 use crate::reply::Reply;
 use crate::sending::write_calls;
@@ -64,7 +64,7 @@ impl Connection {
         calls_are_told_behind();
         make_room(replies, requests.len())?;
         let asked = ask_group(alloc, &mut self.channel, bodies)?;
-        let (first, calls) = asked;
+        let AskedGroup { first, calls } = asked;
         let Ok(()) = write_calls(line, &calls) else {
             return Err(ClientFault::Write);
         };

@@ -147,16 +147,25 @@ pub fn judge_group(
     Ok(bodies)
 }
 
-/// A call of each body, in order, and the RequestId of the first.
+/// A call of each body of a group.
+#[derive(Debug, Drop)]
+pub struct AskedGroup {
+    /// The RequestId of the first call; 0 where there is none.
+    pub first: u32,
+    /// The calls, in order.
+    pub calls: Vec<AskedCall>,
+}
+
+/// Sends a call of each body, in order.
 pub fn ask_group(
     alloc: Global,
     channel: &mut ClientChannel,
     bodies: &[Body],
-) -> Result<(u32, Vec<AskedCall>), ClientFault>
+) -> Result<AskedGroup, ClientFault>
     ensures asks { (asks : List Placed) (octets : List ℕ) (frames : List Frame) (rest : List ℕ)
         → ClientStands channel.old asks octets frames rest
         → AsksOr (λ found. AsksFrom bodies.now channel.old channel.new asks octets frames rest
-        (found.0, asked_octets found.1.items)) result }
+        (found.first, asked_octets found.calls.items)) result }
     ensures same { SameClient channel.old channel.new }
     ensures memory { IfErr result (λ fault. fault ≡ OutOfMemory) }
 {
@@ -171,5 +180,8 @@ pub fn ask_group(
             return Err(ClientFault::OutOfMemory);
         };
     }
-    Ok((first.unwrap_or(0), calls))
+    Ok(AskedGroup {
+        first: first.unwrap_or(0),
+        calls,
+    })
 }

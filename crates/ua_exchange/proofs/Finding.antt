@@ -2,7 +2,7 @@
 use Rattle.std.proofs.Common.{◌≡◌, ℕ, ◌+◌, ◌<◌, ◌≤◌, true, false, List, [], ◌∷◌, ◌++◌, get_or, length, take, drop, sym, ◌∙◌, ap, subst, arith, append_assoc}
 use Rattle.std.proofs.lemmas.List.{length-take-le, take-append-drop, take_all, take_more}
 use Rattle.ua_frame.proofs.Afters.{AllAfter-nil, AllAfter-push}
-use Rattle.ua_exchange.specs.Accepted.{is_crowded}
+use Rattle.ua_exchange.specs.inside.Counting.{is_crowded}
 use Rattle.ua_exchange.specs.declared.turn.Turn.{Turn}
 use Rattle.ua_exchange.specs.inside.Counting.{CountsLast, FirstCrowded, HaveRoom}
 use Rattle.ua_exchange.proofs.Counting.{counts-none}

@@ -14,7 +14,7 @@ use Rattle.ua_client.specs.declared.fault.ClientFault.{ClientFault}
 use Rattle.ua_client.specs.declared.fault.ClientFault.TheVariants as client
 use Rattle.ua_loopback.specs.Accepted as judged
 use Rattle.ua_loopback.proofs.Reaching.{none_parts}
-use Rattle.ua_exchange.specs.Accepted.{AreAccepted, FirstRefused, IsAccepted, fault_at, is_crowded, tokens_counted, turn_refusal}
+use Rattle.ua_exchange.specs.Accepted.{AreAccepted, FirstRefused, IsAccepted, fault_at, tokens_counted, turn_refusal}
 use Rattle.ua_exchange.specs.Exchanged.{IsRefusedFor}
 use Rattle.ua_exchange.specs.Programs.{acknowledged}
 use Rattle.ua_exchange.specs.Turns.{id_behind, served_turn, served_turns}
@@ -22,7 +22,7 @@ use Rattle.ua_exchange.specs.declared.fault.PairFault.{PairFault}
 use Rattle.ua_exchange.specs.declared.fault.PairFault.TheVariants.{NotWritable, Request}
 use Rattle.ua_exchange.specs.declared.turn.Turn.{Turn}
 use Rattle.ua_exchange.specs.declared.turn.Turn.TheVariants.{Ask, Renew}
-use Rattle.ua_exchange.specs.inside.Counting.{FirstCrowded, HaveRoom}
+use Rattle.ua_exchange.specs.inside.Counting.{FirstCrowded, HaveRoom, is_crowded}
 use Rattle.ua_exchange.proofs.Counting.{held-within}
 use Rattle.ua_exchange.proofs.Lists.{from-front, from-place}
 use Rattle.ua_exchange.proofs.Words.{served-push}

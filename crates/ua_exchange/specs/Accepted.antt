@@ -1,9 +1,9 @@
 -- Which client operations (turns: a request or a renewal) are accepted, and why one is not.
-use Rattle.std.specs.Prelude.{◌≡◌, ℕ, ◌-◌, min, nat_le, Bool, true, false, length, map, take, List, ◌∷◌, ◌++◌, Option, Some, None}
+use Rattle.std.specs.Prelude.{◌≡◌, ℕ, ◌-◌, min, Bool, true, false, length, map, take, List, ◌∷◌, ◌++◌, Option, Some, None}
 use Rattle.ua_builtin.specs.Reasons.{first_reason, renamed_reason}
 use Rattle.ua_frame.specs.After.{AllAfter}
 use Rattle.ua_chunk.specs.Gathered.{after_last}
-use Rattle.ua_channel.specs.ClientAsks.{most_pending, most_tokens}
+use Rattle.ua_channel.specs.ClientAsks.{most_pending}
 use Rattle.ua_channel.specs.declared.client.fault.AskFault.TheVariants.{TooManyTokens, Exhausted, RequestTooLarge}
 use Rattle.ua_client.specs.declared.fault.ClientFault.{ClientFault}
 use Rattle.ua_client.specs.declared.fault.ClientFault.TheVariants as client
@@ -60,11 +60,6 @@ turn_refusal before turn = first_reason (turn_reasons before turn)
 -- an operation after these is accepted
 abbrev pub IsAccepted : List Turn → Turn → Type 0
 IsAccepted before turn = turn_refusal before turn ≡ None
-
--- the operation is a renewal after these that is refused since too many tokens count as held
-abbrev pub is_crowded : List Turn → Turn → Bool
-is_crowded before (Ask m) = false
-is_crowded before Renew = nat_le most_tokens (tokens_counted before)
 
 -- each of the operations is accepted, after those before it
 abbrev pub AreAccepted : List Turn → Type 0

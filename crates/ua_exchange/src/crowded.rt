@@ -2,7 +2,7 @@
 //! before a renewal were not answered yet.
 
 ghost use Rattle.std.specs.Prelude.{◌≡◌, ◌+◌, ◌≤◌, ◌<◌, ◌^◌, ◌∷◌, ◌++◌, [], List, IfSome};
-ghost use Rattle.ua_exchange.specs.Accepted.{is_crowded};
+ghost use Rattle.ua_exchange.specs.inside.Counting.{is_crowded};
 ghost use Rattle.ua_exchange.specs.declared.turn.Turn.{Turn};
 ghost use Rattle.ua_exchange.specs.inside.Counting.{CountsLast, FindsCrowded};
 

@@ -47,11 +47,14 @@ fn verdict_at(
 }
 
 /// Takes bytes up to the end of the first frame that has an event or is refused, or else all of them.
-fn advance(server: &mut ServerChannel, piece: &[u8]) -> (usize, Result<ServerEvent, ChannelFault>)
+fn advance(
+    server: &mut ServerChannel,
+    piece: &[u8],
+) -> ua_channel::Taken<Result<ServerEvent, ChannelFault>>
     ensures takes { (limits : Limits) (channel : ℕ) (octets : List ℕ) → ServerAt limits channel server.old octets
-        → Advances limits channel server.new piece.now octets result.0 result.1 }
-    ensures within { result.0 ≤ length piece.now }
-    ensures progress { Progress piece.now result.0 result.1 }
+        → Advances limits channel server.new piece.now octets result.size result.outcome }
+    ensures within { result.size ≤ length piece.now }
+    ensures progress { Progress piece.now result.size result.outcome }
 {
     server.advance(piece, DateTime { ticks: 0 })
 }
@@ -65,9 +68,9 @@ fn take_next(server: &mut ServerChannel, octets: &[u8], at: usize) -> Result<Tak
     ensures within { IfOk result (λ r. r.at ≤ length octets.now) }
     ensures further { IfOk result (λ r. r.verdict ≡ None → at < r.at) }
 {
-    let (size, answer) = advance(server, &octets[at..]);
-    let end = at + size;
-    match verdict_at(end, answer) {
+    let taken = advance(server, &octets[at..]);
+    let end = at + taken.size;
+    match verdict_at(end, taken.outcome) {
         Ok(verdict) => Ok(Taken { at: end, verdict }),
         Err(error) => Err(error),
     }

@@ -33,7 +33,7 @@ use Rattle.ua_client.proofs.Carrying.{carried-as, carried-then}
 use Rattle.ua_client.proofs.Settled.{NonePending}
 use Rattle.ua_loopback.specs.Accepted.{AreAccepted, FirstRefused, IsTurnFault, acknowledged, turn_refusal}
 use Rattle.ua_loopback.specs.Beginning.{Beginning}
-use Rattle.ua_loopback.specs.Course.{Converses, Course, Stays, opening_octets}
+use Rattle.ua_loopback.specs.Course.{Converses, Course, opening_octets}
 use Rattle.ua_loopback.specs.Course.Course.{Asked, Renewed}
 use Rattle.ua_loopback.specs.Kept.{EndsAt, LeavesAt, Served, traffic_of}
 use Rattle.ua_loopback.specs.Faults.{BehindRefused, FailsBehind}
@@ -41,7 +41,7 @@ use Rattle.ua_loopback.specs.Replies.{lane_back, turn_replies, turns_replies, tu
 use Rattle.ua_loopback.specs.Sends.{closing_behind, conversation_octets, turns_octets}
 use Rattle.ua_loopback.specs.Says.{end_by, services_after, server_output, state_told}
 use Rattle.ua_loopback.specs.Talking.{IsLineTo, IsTalking, SoFar, StopsOver, TalksAt, acked_in, closed_octets, octets_of, state_in, newest_in, with_turn}
-use Rattle.ua_loopback.specs.inside.Talking.{CanOpen, HasMisanswer, HaveMisanswers, StaysBefore, StaysBehind, StaysTalking, Talked, Went, WentBefore}
+use Rattle.ua_loopback.specs.inside.Talking.{CanOpen, HasMisanswer, HaveMisanswers, Stays, StaysBefore, StaysBehind, StaysTalking, Talked, Went, WentBefore}
 use Rattle.ua_loopback.specs.Turns.{conversation_told, opening_told, turns_told}
 use Rattle.ua_loopback.specs.declared.stage.Stage.{Stage}
 use Rattle.ua_loopback.specs.declared.stage.Stage.TheVariants as stage

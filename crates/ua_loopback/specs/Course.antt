@@ -3,17 +3,13 @@
 use Rattle.std.specs.Prelude.{◌≡◌, ◌++◌, ℕ, List, [], ◌∷◌, Option, Some, None}
 use Rattle.ua_builtin.specs.declared.date_time.DateTime.{DateTime}
 use Rattle.ua_frame.specs.declared.limits.Limits.{Limits}
-use Rattle.ua_channel.specs.Line.{Traffic, IfTrafficKnown}
 use Rattle.ua_channel.specs.declared.client.channel.ClientChannel.{ClientChannel}
 use Rattle.ua_services.specs.declared.request.Request.{Request}
 use Rattle.ua_client.specs.Calls.{AreGroups, Rounds, all_of}
-use Rattle.ua_client.specs.Carried.{Carries}
 use Rattle.ua_client.specs.Client.{closing_at}
-use Rattle.ua_client.specs.Hearing.{channel_of, untaken_of}
 use Rattle.ua_client.specs.Opening.{IsOpened, hello_octets, open_octets}
 use Rattle.ua_client.specs.Renewing.{IsRenewed, renewal_at}
 use Rattle.ua_client.specs.ClientPlace.{ClientPlace, StandsAt}
-use Rattle.ua_client.specs.declared.connection.Connection.{Connection}
 use Rattle.ua_client.specs.declared.reply.Reply.{Reply}
 
 -- the operations of a client in this state, each done in the state that those before it left, and
@@ -50,17 +46,3 @@ pub record Converses (limits : Limits) (url : Option (List ℕ)) (moment : DateT
   pub course : Course moment opened turns last sent replies
   pub up_is : up ≡ opening_octets limits url moment ++ (sent ++ closing_at last moment)
   pub took : last.octets ≡ down
-
--- ---- on the way
-
--- a client that did these operations over a transport: its state, what went over the transport, and
--- the replies
-pub record Stays (moment : DateTime) (opening : List ℕ) (opened : ClientPlace) (turns : List (Option (List Request))) (x : Connection)
-    (before now : Option Traffic) (replies : List Reply) : Type 0 where
-  pub site : ClientPlace
-  pub at : StandsAt (channel_of x) site
-  pub sent : List ℕ
-  pub course : Course moment opened turns site sent replies
-  pub got : List ℕ
-  pub carried : IfTrafficKnown (Carries got (opening ++ sent)) before now
-  pub got_is : got ≡ site.octets ++ untaken_of x

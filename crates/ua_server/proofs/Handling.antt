@@ -107,13 +107,13 @@ module _ {A : Type 0} (changes : A → State → A → State → Type 0) (limits
       there = read ++ take taken piece
 
       pub handled-more : (n : ℕ) (end : Option Ending) → end ≡ None
-          → Exchanged gives m m' [] lb lc (λ more ts. Turns changes (Ok (n, end)) y limits channel first (rest_of piece taken) there
+          → Exchanged gives m m' [] lb lc (λ more ts. Turns changes (Ok (record { size = n; outcome = end })) y limits channel first (rest_of piece taken) there
           ((written ++ so_far.written) ++ more) ((given ++ so_far.ticks) ++ ts) now')
           → Handled (taken + n) m' lc y now' read written given
       handled-more n end is f =
           exchanged-then gives m0 m m' [] [] la lb lc (λ more ts. Keeps changes mid limits channel first there (written ++ more) (given ++ ts) now)
-          (λ more ts. Turns changes (Ok (n, end)) y limits channel first (rest_of piece taken) there ((written ++ so_far.written) ++ more)
-          ((given ++ so_far.ticks) ++ ts) now')
+          (λ more ts. Turns changes (Ok (record { size = n; outcome = end })) y limits channel first (rest_of piece taken) there
+          ((written ++ so_far.written) ++ more) ((given ++ so_far.ticks) ++ ts) now')
           (λ more ts. Keeps changes y limits channel first (read ++ take (taken + n) piece) (written ++ more) (given ++ ts) now') so_far f
           (λ w ts h. moved-to (λ r u t. Keeps changes y limits channel first r u t now') (there ++ take n (rest_of piece taken))
           (read ++ take (taken + n) piece)
@@ -130,14 +130,14 @@ module _ {A : Type 0} (changes : A → State → A → State → Type 0) (limits
 
       -- the connection ends within the piece
       pub handled-end : (n : ℕ) (end : Option Ending) (e : Ending) → end ≡ Some e
-          → Exchanged gives m m' [] lb lc (λ more ts. Turns changes (Ok (n, end)) y limits channel first (rest_of piece taken) there
+          → Exchanged gives m m' [] lb lc (λ more ts. Turns changes (Ok (record { size = n; outcome = end })) y limits channel first (rest_of piece taken) there
           ((written ++ so_far.written) ++ more) ((given ++ so_far.ticks) ++ ts) now')
           → Exchanged gives m0 m' [] la lc (λ more ts. Handles changes (Ok (Some e)) y limits channel first (read ++ piece) (written ++ more)
           (given ++ ts) now')
       handled-end n end e is f =
           exchanged-then gives m0 m m' [] [] la lb lc (λ more ts. Keeps changes mid limits channel first there (written ++ more) (given ++ ts) now)
-          (λ more ts. Turns changes (Ok (n, end)) y limits channel first (rest_of piece taken) there ((written ++ so_far.written) ++ more)
-          ((given ++ so_far.ticks) ++ ts) now')
+          (λ more ts. Turns changes (Ok (record { size = n; outcome = end })) y limits channel first (rest_of piece taken) there
+          ((written ++ so_far.written) ++ more) ((given ++ so_far.ticks) ++ ts) now')
           (λ more ts. EndsTelling changes e limits channel first (read ++ piece) (written ++ more) (given ++ ts) now') so_far f
           (λ w ts h. moved-to (λ r u t. EndsTelling changes e limits channel first r u t now')
           ((there ++ take n (rest_of piece taken)) ++ drop n (rest_of piece taken)) (read ++ piece)

@@ -181,8 +181,8 @@ module _ {A : Type 0} (changes : A → State → A → State → Type 0) (limits
     pub turn-said : (step : Step) (y z : Serving)
         → OfEventsBetween gives m0 m1 (λ ts. Steps changes (Ok step) y limits channel first piece read written (given ++ ts) now)
         → z ≡ record y { written = counted y.written (length step.out.items) } → IfTrafficKnown (MovesTraffic [] step.out.items) la lb
-        → Exchanged gives m0 m1 [] la lb (λ more ts. Turns changes (Ok (step.taken, step.end)) z limits channel first piece read (written ++ more)
-        (given ++ ts) now)
+        → Exchanged gives m0 m1 [] la lb (λ more ts. Turns changes (Ok (record { size = step.taken; outcome = step.end })) z limits channel first piece read
+        (written ++ more) (given ++ ts) now)
     turn-said step y z a same moved = record {
       written = step.out.items;
       ticks = a.ticks;

@@ -10,6 +10,7 @@ use Rattle.ua_channel.specs.Received.{listed}
 use Rattle.ua_channel.specs.ServerPlaces.{agreed_by}
 use Rattle.ua_channel.specs.ServerStands.{limits_of, channel_of}
 use Rattle.ua_channel.specs.ServerTold.{Told}
+use Rattle.ua_channel.specs.declared.taken.Taken.{Taken}
 use Rattle.ua_server.specs.Happening.{Event, Leads, noted_in}
 use Rattle.ua_server.specs.History.{ConnectionEvent, StandsOver, moments_of, output_over, told_in}
 use Rattle.ua_server.specs.Said.{start}
@@ -155,10 +156,10 @@ TurnsTo changes None x limits channel first read written ticks now = Keeps chang
 TurnsTo changes (Some end) x limits channel first read written ticks now = EndsTelling changes end limits channel first read written ticks now
 
 -- a step and its response
-abbrev pub Turns : {A : Type 0} → (A → State → A → State → Type 0) → Result (ℕ × Option Ending) ServeFault → Serving → Limits → ℕ → State × A → List ℕ → List ℕ
-    → List ℕ → List Event → State × A → Type 0
-Turns changes (Ok turn) x limits channel first piece read written ticks now = TurnsTo changes turn.1 x limits channel first (read ++ take turn.0 piece) written
-    ticks now
+abbrev pub Turns : {A : Type 0} → (A → State → A → State → Type 0) → Result (Taken (Option Ending)) ServeFault → Serving → Limits → ℕ → State × A → List ℕ
+    → List ℕ → List ℕ → List Event → State × A → Type 0
+Turns changes (Ok turn) x limits channel first piece read written ticks now = TurnsTo changes turn.outcome x limits channel first (read ++ take turn.size piece)
+    written ticks now
 Turns changes (Err f) x limits channel first piece read written ticks now = FailsTelling changes f limits channel first (read ++ piece) written ticks now
 
 -- a whole fragment, or the bytes of it up to the end of the connection

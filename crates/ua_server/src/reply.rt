@@ -20,6 +20,17 @@ use ua_services::{
     Request, RequestFault, Response, UaArray, empty_body, read_request_for, write_response,
 };
 
+/// The body of the reply to a message, and what it answers.
+#[derive(Debug, Drop)]
+pub(crate) struct Replied {
+    /// The body.
+    pub body: Vec<u8>,
+    /// The answered request.
+    pub request: AnsweredRequest,
+    /// The results of a Write; null of another request.
+    pub results: UaArray<StatusCode>,
+}
+
 impl Services {
     /// The body of the reply to a message with this body: the response to the request that the body
     /// encodes, or a ServiceFault where it encodes none. If an allocation fails, the state is as it
@@ -39,7 +50,7 @@ impl Services {
             ((self.new ≡ self.old) ⊎ (self.new ≡ (answered self.old moment (S.octets src.old)).0)) }
     {
         match self.reply_telling(alloc, src, moment, None) {
-            Ok((body, _request, results)) => {
+            Ok(Replied { body, results, .. }) => {
                 drop(results);
                 Ok(body)
             }
@@ -57,13 +68,15 @@ impl Services {
         src: &mut S,
         moment: DateTime,
         most: Option<usize>,
-    ) -> Result<(Vec<u8>, AnsweredRequest, UaArray<StatusCode>), AllocError>
+    ) -> Result<Replied, AllocError>
         ensures body { IfOk result
             (λ told. IsBodyWithin most (response.canonical (answered self.old moment (S.octets src.old)).1)
-            told.0.items) }
-        ensures some { IfOk result (λ told. 0 < length told.0.items) }
-        ensures request { IfOk result (λ told. told.1 ≡ request_answered None self.old moment (S.octets src.old)) }
-        ensures results { IfOk result (λ told. told.2 ≡ results_of (answered self.old moment (S.octets src.old)).1) }
+            told.body.items) }
+        ensures some { IfOk result (λ told. 0 < length told.body.items) }
+        ensures request { IfOk result
+            (λ told. told.request ≡ request_answered None self.old moment (S.octets src.old)) }
+        ensures results { IfOk result
+            (λ told. told.results ≡ results_of (answered self.old moment (S.octets src.old)).1) }
         ensures state { IfOk result (λ told. self.new ≡ (answered self.old moment (S.octets src.old)).0) }
         ensures refused { OnErr result
             ((self.new ≡ self.old) ⊎ (self.new ≡ (answered self.old moment (S.octets src.old)).0)) }
@@ -105,18 +118,18 @@ impl Services {
         request: Request,
         moment: DateTime,
         most: Option<usize>,
-    ) -> Result<(Vec<u8>, AnsweredRequest, UaArray<StatusCode>), AllocError>
+    ) -> Result<Replied, AllocError>
         ensures body { IfOk result
-            (λ told. IsBodyWithin most (response.canonical (answer self.old moment request).1) told.0.items) }
-        ensures some { IfOk result (λ told. 0 < length told.0.items) }
+            (λ told. IsBodyWithin most (response.canonical (answer self.old moment request).1) told.body.items) }
+        ensures some { IfOk result (λ told. 0 < length told.body.items) }
         ensures request { IfOk result
-            (λ told. told.1 ≡ record {
+            (λ told. told.request ≡ record {
               kind = Some (kind_of request);
               encoding = None;
               items = items_asked request;
               code = (header_of (answer self.old moment request).1).service_result;
             }) }
-        ensures results { IfOk result (λ told. told.2 ≡ results_of (answer self.old moment request).1) }
+        ensures results { IfOk result (λ told. told.results ≡ results_of (answer self.old moment request).1) }
         ensures state { IfOk result (λ told. self.new ≡ (answer self.old moment request).0) }
         ensures refused { OnErr result ((self.new ≡ self.old) ⊎ (self.new ≡ (answer self.old moment request).0)) }
     {
@@ -136,13 +149,17 @@ impl Services {
                 (body, code, results)
             }
         };
-        let told = AnsweredRequest {
+        let request = AnsweredRequest {
             kind,
             encoding: None,
             items,
             code,
         };
-        Ok((body, told, results))
+        Ok(Replied {
+            body,
+            request,
+            results,
+        })
     }
 
     /// The body of the ServiceFault that answers what is no request, which the source begins with,
@@ -154,17 +171,17 @@ impl Services {
         handle: u32,
         code: StatusCode,
         moment: DateTime,
-    ) -> Result<(Vec<u8>, AnsweredRequest, UaArray<StatusCode>), AllocError>
-        ensures body { IfOk result (λ told. told.0.items ≡ response.canonical (fault_of handle code.code moment)) }
-        ensures some { IfOk result (λ told. 0 < length told.0.items) }
+    ) -> Result<Replied, AllocError>
+        ensures body { IfOk result (λ told. told.body.items ≡ response.canonical (fault_of handle code.code moment)) }
+        ensures some { IfOk result (λ told. 0 < length told.body.items) }
         ensures request { IfOk result
-            (λ told. told.1 ≡ record {
+            (λ told. told.request ≡ record {
               kind = None;
               encoding = encoding_number (S.octets head.old);
               items = 0;
               code = code;
             }) }
-        ensures results { IfOk result (λ told. told.2 ≡ None) }
+        ensures results { IfOk result (λ told. told.results ≡ None) }
     {
         let encoding = encoding_ahead(alloc, head)?;
         let body = body_of(alloc, self.fault(handle, code, moment))?;
@@ -174,7 +191,11 @@ impl Services {
             items: 0,
             code,
         };
-        Ok((body, request, UaArray::null()))
+        Ok(Replied {
+            body,
+            request,
+            results: UaArray::null(),
+        })
     }
 }
 

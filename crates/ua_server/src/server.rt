@@ -20,13 +20,13 @@ ghost use Rattle.ua_server.specs.Stepping.{AnswersBehind, IsReplyAt, StepStands,
 ghost use Rattle.ua_server.specs.Stored.{stored_of};
 ghost use Rattle.ua_server.specs.declared.step.StepFault.TheVariants as step_fault;
 
+use crate::reply::Replied;
 use crate::services::Services;
-use crate::step::{Advanced, End, Step, StepFault};
-use crate::watch::AnsweredRequest;
+use crate::step::{Advanced, AnsweredMessage, End, Step, StepFault};
 use crate::written::Written;
 use std::alloc::Global;
 use ua_builtin::DateTime;
-use ua_channel::{ChannelFault, ReplyFault, ServerChannel, ServerEvent};
+use ua_channel::{ChannelFault, ReplyFault, ServerChannel, ServerEvent, Taken};
 use ua_chunk::Message;
 use ua_frame::Limits;
 
@@ -46,33 +46,39 @@ fn next_answered(
     channel: &mut ServerChannel,
     piece: &[u8],
     moment: DateTime,
-) -> (usize, Result<ServerEvent, ChannelFault>)
+) -> Taken<Result<ServerEvent, ChannelFault>>
     ensures answers { (octets : List ℕ) (told : List Told) → Goes channel.old octets told
-        → AnswersBehind (channel_of channel.old) (next_of channel.old) moment piece.now result.0 result.1 channel.new
-        octets told }
-    ensures progress { Progress piece.now result.0 result.1 }
-    ensures some { is_given_up result.1 ≡ false }
-    ensures closed { IsDone channel.old → (result.1 ≡ Err channel_fault.Closed) × (channel.new ≡ channel.old) }
+        → AnswersBehind (channel_of channel.old) (next_of channel.old) moment piece.now result.size result.outcome
+        channel.new octets told }
+    ensures progress { Progress piece.now result.size result.outcome }
+    ensures some { is_given_up result.outcome ≡ false }
+    ensures closed { IsDone channel.old → (result.outcome ≡ Err channel_fault.Closed) × (channel.new ≡ channel.old) }
     ensures starved { (octets : List ℕ) (told : List Told) → Goes channel.old octets told
-        → IsErrOf result.1 channel_fault.OutOfMemory → bound_of channel.new ≡ bound_of channel.old }
+        → IsErrOf result.outcome channel_fault.OutOfMemory → bound_of channel.new ≡ bound_of channel.old }
     ensures limits { limits_of channel.new ≡ limits_of channel.old }
     ensures channel { channel_of channel.new ≡ channel_of channel.old }
 {
-    let (n, answer) = channel.advance(piece, moment);
-    if !is_given_up(&answer) {
-        return (n, answer);
+    let Taken { size, outcome } = channel.advance(piece, moment);
+    if !is_given_up(&outcome) {
+        return Taken { size, outcome };
     }
-    drop(answer);
-    let mut taken = n;
+    drop(outcome);
+    let mut taken = size;
     while taken < piece.len() {
-        let (n, answer) = channel.advance(&piece[taken..], moment);
-        taken += n;
-        if !is_given_up(&answer) {
-            return (taken, answer);
+        let Taken { size, outcome } = channel.advance(&piece[taken..], moment);
+        taken += size;
+        if !is_given_up(&outcome) {
+            return Taken {
+                size: taken,
+                outcome,
+            };
         }
-        drop(answer);
+        drop(outcome);
     }
-    (taken, Ok(ServerEvent::NeedMore))
+    Taken {
+        size: taken,
+        outcome: Ok(ServerEvent::NeedMore),
+    }
 }
 
 /// Answers a whole message, under its RequestId, and gives the answered request; what it stored is
@@ -85,17 +91,18 @@ fn reply_to(
     message: Message,
     moment: DateTime,
     written: &mut Written,
-) -> Result<(Vec<u8>, AnsweredRequest), StepFault>
+) -> Result<AnsweredMessage, StepFault>
     requires { written.old ≡ [] }
     ensures sent { (octets : List ℕ) (before : List Told) (token : ℕ)
         → GoesTelling channel.old octets before (Asked id token (concat message))
         → IfOk result (λ told. GoesTelling channel.new octets before (Asked id token (concat message))
         × IsReplyAt (channel_of channel.old) token (agreed_by before)
-        (response.canonical (answered services.old moment (concat message)).1) (next_of channel.old) id told.0.items
-        (next_of channel.new)) }
+        (response.canonical (answered services.old moment (concat message)).1) (next_of channel.old) id
+        told.out.items (next_of channel.new)) }
     ensures noted { (octets : List ℕ) (before : List Told) (token : ℕ)
         → GoesTelling channel.old octets before (Asked id token (concat message))
-        → IfOk result (λ told. told.1 ≡ request_answered (lane_at (channel_of channel.old) token (agreed_by before))
+        → IfOk result
+        (λ told. told.request ≡ request_answered (lane_at (channel_of channel.old) token (agreed_by before))
         services.old moment (concat message)) }
     ensures stored { IfOk result (λ told. written.new ≡ stored_of services.old (concat message)) }
     ensures forgotten { OnErr result (written.new ≡ []) }
@@ -111,7 +118,11 @@ fn reply_to(
 {
     let most = channel.most_octets();
     let told = services.reply_telling(alloc, &mut message.source(), moment, most);
-    let (body, request, results) = match told {
+    let Replied {
+        body,
+        request,
+        results,
+    } = match told {
         Ok(told) => told,
         Err(_) => {
             drop(message);
@@ -123,7 +134,10 @@ fn reply_to(
     match channel.respond(id, &body) {
         Ok(sent) => {
             let request = request.sent_as(sent.is_abort);
-            Ok((sent.octets, request))
+            Ok(AnsweredMessage {
+                out: sent.octets,
+                request,
+            })
         }
         Err(ReplyFault::OutOfMemory) => {
             written.forget();
@@ -375,10 +389,10 @@ impl Server {
         ensures channel { channel_of (channel_in self.new) ≡ channel_of (channel_in self.old) }
     {
         written.forget();
-        let (taken, answer) = next_answered(&mut self.channel, piece, moment);
-        match answer {
-            Ok(event) => self.answer(services, taken, event, moment, written),
-            Err(fault) => match refusal(self.alloc, taken, fault) {
+        let Taken { size, outcome } = next_answered(&mut self.channel, piece, moment);
+        match outcome {
+            Ok(event) => self.answer(services, size, event, moment, written),
+            Err(fault) => match refusal(self.alloc, size, fault) {
                 Ok(step) => Ok(Advanced {
                     step,
                     answered: false,
@@ -440,9 +454,9 @@ impl Server {
                 let channel = &mut self.channel;
                 match reply_to(self.alloc, channel, services, id, message, moment, written) {
                     Ok(told) => Ok(Advanced {
-                        step: Step::saying(taken, told.0),
+                        step: Step::saying(taken, told.out),
                         answered: true,
-                        request: Some(told.1),
+                        request: Some(told.request),
                     }),
                     Err(fault) => Err(fault),
                 }

@@ -16,7 +16,7 @@ use crate::watch::{Unwatched, Watch, tell};
 use crate::written::Written;
 use std::alloc::{AllocError, Global};
 use ua_builtin::DateTime;
-use ua_channel::{Line, Moments, write_whole};
+use ua_channel::{Line, Moments, Taken, write_whole};
 use ua_frame::Limits;
 
 /// The most bytes that are read at once.
@@ -252,8 +252,7 @@ impl Serving {
         }
     }
 
-    /// One step of the server, and its answer. Returns how many bytes were taken, and how the
-    /// connection ended, if it did.
+    /// One step of the server, and its answer. The outcome is how the connection ended, if it did.
     fn turn<L: Line, M: Moments, W: Watch, A: Application>(
         &mut self,
         line: &mut L,
@@ -262,7 +261,7 @@ impl Serving {
         watch: &mut W,
         application: &mut A,
         piece: &[u8],
-    ) -> Result<(usize, Option<End>), ServeFault>
+    ) -> Result<Taken<Option<End>>, ServeFault>
         requires { 0 < length piece.now }
         ensures turns { (limits : Limits) (channel : ℕ) (first : State × A) (read written : List ℕ) (given : List Event)
             → Keeps A.changes self.old limits channel first read written given (services.old, application.old)
@@ -271,8 +270,8 @@ impl Serving {
             (λ more events. Turns A.changes result self.new limits channel first piece.now read (written ++ more)
             (given ++ events) (services.new, application.new)) }
         ensures told { WasTold W.notes watch.old watch.new }
-        ensures progress { IfOk result (λ turn. (turn.0 ≤ length piece.now)
-            × (turn.1 ≡ None → 0 < length piece.now → 0 < turn.0)) }
+        ensures progress { IfOk result (λ turn. (turn.size ≤ length piece.now)
+            × (turn.outcome ≡ None → 0 < length piece.now → 0 < turn.size)) }
         ensures failed { LineFailed (L.failures line.old) result (L.failures line.new) }
     {
         let step = match self.step(services, moments, watch, application, piece) {
@@ -280,7 +279,10 @@ impl Serving {
             Err(_) => return Err(ServeFault::OutOfMemory),
         };
         match self.say(line, &step.out) {
-            Ok(()) => Ok((step.taken, step.end)),
+            Ok(()) => Ok(Taken {
+                size: step.taken,
+                outcome: step.end,
+            }),
             Err(fault) => Err(fault),
         }
     }
@@ -307,7 +309,7 @@ impl Serving {
     {
         let mut taken = 0;
         while taken < piece.len() {
-            let (n, end) = match self.turn(
+            let turn = match self.turn(
                 line,
                 services,
                 moments,
@@ -318,9 +320,9 @@ impl Serving {
                 Ok(turn) => turn,
                 Err(fault) => return Err(fault),
             };
-            match end {
+            match turn.outcome {
                 Some(end) => return Ok(Some(end)),
-                None => taken += n,
+                None => taken += turn.size,
             }
         }
         Ok(None)

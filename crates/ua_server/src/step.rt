@@ -67,6 +67,15 @@ pub(crate) struct Advanced {
     pub request: Option<AnsweredRequest>,
 }
 
+/// The answer to a message, and the request that it answers.
+#[derive(Debug, Drop)]
+pub(crate) struct AnsweredMessage {
+    /// The bytes to be sent.
+    pub out: Vec<u8>,
+    /// The answered request.
+    pub request: AnsweredRequest,
+}
+
 /// Why a server takes no bytes. After that it takes nothing more.
 #[derive(Clone, Copy, PartialEq, Eq, Debug, Error)]
 pub enum StepFault {

@@ -29,12 +29,13 @@ use Rattle.ua_channel.specs.ClientTold.{ClientTold, ClientTold as told, Why, our
 use Rattle.ua_channel.specs.Content.{Opening, Content}
 use Rattle.ua_channel.specs.Content.Content.{Opens, Sends}
 use Rattle.ua_channel.specs.inside.Ends.{ComesBy}
-use Rattle.ua_channel.specs.inside.ClientEvents.{event_parts, told_by}
+use Rattle.ua_channel.specs.ClientEvents.{event_parts, told_by}
 use Rattle.ua_channel.specs.inside.Parts.{IsFaultFor, MayEndIn, parts_in}
 use Rattle.ua_channel.specs.Received.{Received, after, nothing_received, listed}
-use Rattle.ua_channel.specs.declared.step_fault.StepFault.{StepFault}
+use Rattle.ua_channel.specs.declared.end_fault.EndFault.{EndFault}
 use Rattle.ua_channel.specs.declared.client.agreed.Agreed.{Agreed}
 use Rattle.ua_channel.specs.declared.client.answer.Answer.{Answer}
+use Rattle.ua_channel.specs.declared.client.answer.IssuedToken.{IssuedToken}
 use Rattle.ua_channel.specs.declared.client.channel.ClientChannel.{ClientChannel}
 use Rattle.ua_channel.specs.declared.client.event.ClientEvent.{ClientEvent}
 use Rattle.ua_channel.specs.declared.client.event.ClientEvent.TheVariants as client_event
@@ -42,8 +43,8 @@ use Rattle.ua_channel.specs.declared.client.event.Event.{Event}
 use Rattle.ua_channel.specs.declared.client.fault.ClientTakeFault.{ClientTakeFault}
 use Rattle.ua_channel.specs.declared.client.phase.Phase.{Phase}
 use Rattle.ua_channel.specs.declared.client.talking.Talking.{Talking}
-use Rattle.ua_channel.specs.inside.StepFaults as step_faults
-use Rattle.ua_channel.specs.declared.step_fault.StepFault.TheVariants.{Refused, Peer, OutOfMemory, Closed}
+use Rattle.ua_channel.specs.inside.EndFaults as end_faults
+use Rattle.ua_channel.specs.declared.end_fault.EndFault.TheVariants.{Refused, Peer, OutOfMemory, Closed}
 use Rattle.ua_channel.specs.declared.client.event.Event.TheVariants as event
 use Rattle.ua_channel.specs.declared.client.fault.ClientTakeFault.TheVariants as take_fault
 
@@ -51,12 +52,12 @@ use Rattle.ua_channel.specs.declared.client.fault.ClientTakeFault.TheVariants as
 
 -- a channel stops for the first of these reasons, its own or the server's, or because an allocation
 -- fails
-abbrev pub IsStopFor : List (Why × Bool) → StepFault → Type 0
+abbrev pub IsStopFor : List (Why × Bool) → EndFault → Type 0
 IsStopFor reasons fault = IsFaultFor (λ (code : ℕ). first_reason reasons ≡ Some (ours code)) (λ (code : ℕ). first_reason reasons ≡ Some (peers code)) fault
 
 -- the outcome for a frame with these reasons against it: it is taken, and then this holds, or it
 -- stops the channel for the first of them
-abbrev pub Judged : {A : Type 0} → List (Why × Bool) → (A → Type 0) → Result A StepFault → Type 0
+abbrev pub Judged : {A : Type 0} → List (Why × Bool) → (A → Type 0) → Result A EndFault → Type 0
 Judged reasons Good (Ok a) = (first_reason reasons ≡ None) × Good a
 Judged reasons Good (Err fault) = IsStopFor reasons fault
 
@@ -80,19 +81,19 @@ IsAgreed found a = found ≡ Some a.ack
 abbrev pub response_reasons : OpenResponse → List (Why × Bool)
 response_reasons r = (ours r.response_header.service_result.code, nat_le 0x8000_0000 r.response_header.service_result.code) ∷ []
 
--- these are the channel and the token of a response
-abbrev pub IsResponse : OpenResponse → ℕ × ℕ → Type 0
-IsResponse r ids = (r.channel_id ≡ ids.0) × (r.token_id ≡ ids.1)
+-- a response issues this token
+abbrev pub Issues : OpenResponse → IssuedToken → Type 0
+Issues r issued = (r.channel_id ≡ issued.channel) × (r.token_id ≡ issued.token)
 
 -- why the body of an OPN is rejected, by the response that it is
 abbrev pub body_reasons : Option OpenAnswer → List (Why × Bool)
 body_reasons answer = (ours 0x8007_0000, is_none answer) ∷ (ours (result_of answer), is_bad answer) ∷ []
 
--- the response is an OpenSecureChannel response with this channel and token
-pub record IsAnsweredBy (answer : Option OpenAnswer) (ids : ℕ × ℕ) : Type 0 where
+-- the response is an OpenSecureChannel response that issues this token
+pub record IsAnsweredBy (answer : Option OpenAnswer) (issued : IssuedToken) : Type 0 where
   pub response : OpenResponse
   pub answer_is : answer ≡ Some (Opened response)
-  pub ids_are : IsResponse response ids
+  pub issues : Issues response issued
 
 -- what remains to be judged of a response: its channel, its token, its SequenceNumber, its
 -- RequestId
@@ -115,7 +116,7 @@ pub record IsAnswerOf (o : Opening) (a : Answer) : Type 0 where
       ≡ first_reason (answer_reasons before asked a)
 
 -- the outcome for an OPN, whatever was received and requested before
-abbrev pub JudgesAnswer : Opening → Result Answer StepFault → Type 0
+abbrev pub JudgesAnswer : Opening → Result Answer EndFault → Type 0
 JudgesAnswer o (Ok a) = IsAnswerOf o a
 JudgesAnswer o (Err fault) = (limits : Limits) (before : Received) (asked : List Asking) → IsStopFor (client_reasons limits before asked (Opens o)) fault
 
@@ -184,7 +185,7 @@ token_reasons t c = (ours 0x807F_0000, not (c.channel == t.channel)) ∷ (ours 0
 
 -- why a client's channel stops for what an assembler rejects
 abbrev pub why_of : AssembleFault → Why
-why_of fault = ours (step_faults.fault_code 0x80B9_0000 fault)
+why_of fault = ours (end_faults.fault_code 0x80B9_0000 fault)
 
 -- why its assembler rejects a chunk after these
 abbrev pub refused_reasons : Talking → List Chunk → Chunk → List (Why × Bool)
@@ -279,7 +280,7 @@ ComesTo e new asks octets before = ComesBy client_side false new.end asks octets
 -- ---- what is answered
 
 -- the event of a channel that this stops, or the fault of its call
-abbrev pub failure_of : StepFault → Result ClientEvent ClientTakeFault
+abbrev pub failure_of : EndFault → Result ClientEvent ClientTakeFault
 failure_of (Refused code) = Ok (client_event.Failed code false)
 failure_of (Peer code) = Ok (client_event.Failed code true)
 failure_of OutOfMemory = Err take_fault.OutOfMemory

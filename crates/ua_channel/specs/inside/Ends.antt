@@ -11,8 +11,8 @@ use Rattle.ua_channel.specs.Ends.{Side, EndDone, EndGoes, EndOver, EndStarves, E
 use Rattle.ua_channel.specs.Received.{received}
 use Rattle.ua_channel.specs.inside.Parts.{IsFaultFor, MayEndIn, IsWithinPiece}
 use Rattle.ua_channel.specs.declared.end_core.EndCore.{EndCore}
-use Rattle.ua_channel.specs.declared.step_fault.StepFault.{StepFault}
-use Rattle.ua_channel.specs.declared.step_fault.StepFault.TheVariants.{Refused, Peer, OutOfMemory, Closed}
+use Rattle.ua_channel.specs.declared.end_fault.EndFault.{EndFault}
+use Rattle.ua_channel.specs.declared.end_fault.EndFault.TheVariants.{Refused, Peer, OutOfMemory, Closed}
 
 -- the same end apart from its state
 abbrev pub SameEnd : {R P : Type 0} → EndCore R P → EndCore R P → Type 0
@@ -60,13 +60,13 @@ pub record TakenBy {R P E : Type 0} (S : Side R P E) (r : R) (k : S.Key) (frames
   pub bound_is : bound ≡ S.bound r (frames ++ f ∷ [])
 
 -- a frame after these is rejected with this fault
-abbrev pub RefusedBy : {R P E : Type 0} (S : Side R P E) → R → (k : S.Key) → List Frame → Frame → StepFault → Type 0
+abbrev pub RefusedBy : {R P E : Type 0} (S : Side R P E) → R → (k : S.Key) → List Frame → Frame → EndFault → Type 0
 RefusedBy S r k frames f fault =
     IsFaultFor (λ (code : ℕ). refusal (S.rules r k) frames f ≡ Some ((S.rules r k).of_header code))
     (λ (code : ℕ). MatchOption (S.peer code) ⊥ (λ (why : S.Why). refusal (S.rules r k) frames f ≡ Some why)) fault
 
 -- the outcome for a frame after these
-abbrev pub JudgesNext : {R P E : Type 0} (S : Side R P E) → R → (k : S.Key) → List Frame → Frame → P → ℕ → Result (Option E) StepFault → Type 0
+abbrev pub JudgesNext : {R P E : Type 0} (S : Side R P E) → R → (k : S.Key) → List Frame → Frame → P → ℕ → Result (Option E) EndFault → Type 0
 JudgesNext S r k frames f p bound (Ok e) = TakenBy S r k frames f p bound e
 JudgesNext S r k frames f p bound (Err fault) = RefusedBy S r k frames f fault
 
@@ -78,7 +78,7 @@ ComesBy S false x k octets told e = EndTells S x k octets told (S.tells e) × Ha
 ComesBy S true x k octets told e = EndOver S x k octets (told ++ S.tells e ∷ [])
 
 -- with a fault
-abbrev pub FailsBy : {R P E : Type 0} (S : Side R P E) → EndCore R P → (k : S.Key) → List ℕ → List S.Told → StepFault → Type 0
+abbrev pub FailsBy : {R P E : Type 0} (S : Side R P E) → EndCore R P → (k : S.Key) → List ℕ → List S.Told → EndFault → Type 0
 FailsBy S x k octets told (Refused code) = EndStops S x k octets told ((rules_by S x k).of_header code.code)
 FailsBy S x k octets told (Peer code) = MatchOption (S.peer code.code) ⊥ (λ (why : S.Why). EndStops S x k octets told why)
 FailsBy S x k octets told OutOfMemory = EndStarves S x k octets told
@@ -93,18 +93,18 @@ pub record TakesWhole {R P E : Type 0} (S : Side R P E) (new : EndCore R P) (k :
   pub reader_is : closes_by S e ≡ false → new.reader ≡ open_reader ((rules_by S new k).gate (frames ++ f ∷ [])) []
 
 -- the outcome for a whole frame that comes after these
-abbrev pub JudgesWhole : {R P E : Type 0} (S : Side R P E) → EndCore R P → (k : S.Key) → List Frame → Frame → Result (Option E) StepFault → Type 0
+abbrev pub JudgesWhole : {R P E : Type 0} (S : Side R P E) → EndCore R P → (k : S.Key) → List Frame → Frame → Result (Option E) EndFault → Type 0
 JudgesWhole S new k frames f (Ok e) = TakesWhole S new k frames f e
 JudgesWhole S new k frames f (Err fault) = RefusedBy S new.rules k frames f fault × EndDone S new × (new.bound ≡ S.bound new.rules frames)
 
 -- one call of the reader, and the outcome for its frame
-abbrev pub EndSteps : {R P E : Type 0} (S : Side R P E) → List ℕ → ℕ → Result (Option E) StepFault → EndCore R P → (k : S.Key) → List ℕ → List S.Told → Type 0
+abbrev pub EndSteps : {R P E : Type 0} (S : Side R P E) → List ℕ → ℕ → Result (Option E) EndFault → EndCore R P → (k : S.Key) → List ℕ → List S.Told → Type 0
 EndSteps S piece n (Ok None) new k octets told = EndGoes S new k (octets ++ take n piece) told
 EndSteps S piece n (Ok (Some e)) new k octets told = ComesBy S (S.closes e) new k (octets ++ take n piece) told e
 EndSteps S piece n (Err fault) new k octets told = FailsBy S new k (octets ++ take n piece) told fault
 
 -- the steps of a fragment, up to the first event or fault; with none the whole fragment is taken
-abbrev pub EndNexts : {R P E : Type 0} (S : Side R P E) → List ℕ → ℕ → Result (Option E) StepFault → EndCore R P → (k : S.Key) → List ℕ → List S.Told → Type 0
+abbrev pub EndNexts : {R P E : Type 0} (S : Side R P E) → List ℕ → ℕ → Result (Option E) EndFault → EndCore R P → (k : S.Key) → List ℕ → List S.Told → Type 0
 EndNexts S piece n (Ok None) new k octets told = (n ≡ length piece) × EndGoes S new k (octets ++ piece) told
 EndNexts S piece n (Ok (Some e)) new k octets told = (0 < n) × (n ≤ length piece) × ComesBy S (S.closes e) new k (octets ++ take n piece) told e
 EndNexts S piece n (Err fault) new k octets told = (n ≤ length piece) × FailsBy S new k (octets ++ take n piece) told fault
@@ -117,6 +117,6 @@ pub record EndTook {R P E : Type 0} (S : Side R P E) (old now : EndCore R P) (pi
 
 -- what is taken is within the fragment, and is something unless the fragment is empty or an
 -- allocation failed
-abbrev pub MovesBy : {A : Type 0} → List ℕ → ℕ → Result A StepFault → Type 0
+abbrev pub MovesBy : {A : Type 0} → List ℕ → ℕ → Result A EndFault → Type 0
 MovesBy piece n (Err OutOfMemory) = n ≤ length piece
 MovesBy piece n other = IsWithinPiece piece n

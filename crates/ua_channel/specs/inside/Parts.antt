@@ -8,8 +8,8 @@ use Rattle.ua_channel.specs.Content.{Content}
 use Rattle.ua_chunk.specs.declared.delivered.Delivered.{Delivered}
 use Rattle.ua_chunk.specs.declared.delivered.Delivered.TheVariants.{Whole, Aborted}
 use Rattle.ua_channel.specs.MessageParts.{EndsIn}
-use Rattle.ua_channel.specs.declared.step_fault.StepFault.{StepFault}
-use Rattle.ua_channel.specs.declared.step_fault.StepFault.TheVariants.{Refused, Peer, OutOfMemory, Closed}
+use Rattle.ua_channel.specs.declared.end_fault.EndFault.{EndFault}
+use Rattle.ua_channel.specs.declared.end_fault.EndFault.TheVariants.{Refused, Peer, OutOfMemory, Closed}
 
 -- a frame whose flag and size are those of its kind, as is each one that a reader returns
 pub record HasShape (f : Frame) : Type 0 where
@@ -31,7 +31,7 @@ parts_in (Some (Aborted id code reason)) = None
 
 -- a fault of a part of an end: this holds of the code with which the end rejects, or of the code
 -- with which an ERR tells that the server does, or an allocation failed
-abbrev pub IsFaultFor : (ℕ → Type 0) → (ℕ → Type 0) → StepFault → Type 0
+abbrev pub IsFaultFor : (ℕ → Type 0) → (ℕ → Type 0) → EndFault → Type 0
 IsFaultFor Refuses ServerRefuses (Refused code) = Refuses code.code
 IsFaultFor Refuses ServerRefuses (Peer code) = ServerRefuses code.code
 IsFaultFor Refuses ServerRefuses OutOfMemory = Unit {0}

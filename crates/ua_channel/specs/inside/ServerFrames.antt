@@ -9,7 +9,7 @@ use Rattle.ua_channel.specs.declared.server.Phase.{Phase}
 use Rattle.ua_channel.specs.declared.server.Phase.TheVariants.{Waiting, Greeted, Open, Done}
 use Rattle.ua_channel.specs.declared.server_rules.ServerRules.{ServerRules}
 use Rattle.ua_channel.specs.declared.server_event.Event.{Event}
-use Rattle.ua_channel.specs.declared.step_fault.StepFault.{StepFault}
+use Rattle.ua_channel.specs.declared.end_fault.EndFault.{EndFault}
 use Rattle.ua_channel.specs.Agreement.{lane_of}
 use Rattle.ua_channel.specs.Content.{Content}
 use Rattle.ua_channel.specs.Received.{Received, after}
@@ -45,6 +45,6 @@ pub record ServerTakesFrame (r : ServerRules) (before : Received) (c : Content) 
   pub bound_is : bound ≡ bound_after r.limits (after before c)
 
 -- the outcome for a frame with this content
-abbrev pub JudgesFrame : ServerRules → Received → Content → Phase → ℕ → Result (Option Event) StepFault → Type 0
+abbrev pub JudgesFrame : ServerRules → Received → Content → Phase → ℕ → Result (Option Event) EndFault → Type 0
 JudgesFrame r before c p bound (Ok e) = ServerTakesFrame r before c p bound e
 JudgesFrame r before c p bound (Err fault) = IsRefusalFor (IsRefused r.limits r.channel before c) fault

@@ -12,7 +12,7 @@ use Rattle.ua_chunk.specs.declared.chunk.Chunk.{Chunk}
 use Rattle.ua_chunk.specs.Sequence.{may_follow}
 use Rattle.ua_channel.specs.declared.running.Running.{Running}
 use Rattle.ua_channel.specs.declared.server_event.Event.{Event}
-use Rattle.ua_channel.specs.declared.step_fault.StepFault.{StepFault}
+use Rattle.ua_channel.specs.declared.end_fault.EndFault.{EndFault}
 use Rattle.ua_channel.specs.declared.server_opening.Asked.{Asked}
 use Rattle.ua_channel.specs.declared.server_opening.Opened.{Opened}
 use Rattle.ua_channel.specs.Agreement.{Agreement, agreement_of}
@@ -20,14 +20,14 @@ use Rattle.ua_channel.specs.Content.{Content, opening_of}
 use Rattle.ua_channel.specs.Content.Content.{Greets, Opens}
 use Rattle.ua_channel.specs.inside.Parts.{IsFaultFor, MayEndIn}
 use Rattle.ua_channel.specs.Received.{Received, after}
-use Rattle.ua_channel.specs.inside.ServerEvents.{told_list, parts_of}
+use Rattle.ua_channel.specs.ServerEvents.{told_of, parts_of}
 use Rattle.ua_channel.specs.ServerRefusals.{type_wanted, server_reasons}
 use Rattle.ua_channel.specs.ServerRules.{receive_size}
 use Rattle.ua_channel.specs.ServerStands.{Stays}
-use Rattle.ua_channel.specs.ServerTold.{issued, lifetime_for, server_tells, Told as told}
+use Rattle.ua_channel.specs.ServerTold.{issued, lifetime_for, server_tells, Told, Told as told}
 
 -- a fault of a server's part: it rejects with a code of which this holds, or an allocation failed
-abbrev pub IsRefusalFor : (ℕ → Type 0) → StepFault → Type 0
+abbrev pub IsRefusalFor : (ℕ → Type 0) → EndFault → Type 0
 IsRefusalFor Refuses fault = IsFaultFor Refuses (λ (code : ℕ). ⊥) fault
 
 -- ---- HEL
@@ -41,7 +41,7 @@ pub record AgreesTo (limits : Limits) (body : List ℕ) (a : Agreement) : Type 0
   pub accepted : (channel : ℕ) (before : Received) → first_reason (server_reasons limits channel before (Greets (hello_in body))) ≡ None
 
 -- the outcome for the body of a HEL
-abbrev pub JudgesHello : Limits → List ℕ → Result Agreement StepFault → Type 0
+abbrev pub JudgesHello : Limits → List ℕ → Result Agreement EndFault → Type 0
 JudgesHello limits body (Ok a) = AgreesTo limits body a
 JudgesHello limits body (Err fault) =
     IsRefusalFor (λ code. (channel : ℕ) (before : Received) → first_reason (server_reasons limits channel before (Greets (hello_in body))) ≡ Some code) fault
@@ -62,7 +62,7 @@ pub record IsAskedIn (octets : List ℕ) (a : Asked) : Type 0 where
   pub asks : AsksFor request a
 
 -- what is decoded of the bytes after a sequence header
-abbrev pub ReadsAsked : List ℕ → Result Asked StepFault → Type 0
+abbrev pub ReadsAsked : List ℕ → Result Asked EndFault → Type 0
 ReadsAsked octets (Ok a) = IsAskedIn octets a
 ReadsAsked octets (Err fault) = IsRefusalFor (λ code. (code ≡ 0x8007_0000) × (body_of (message 446 open_request) octets ≡ None)) fault
 
@@ -85,12 +85,17 @@ pub record OpensSo (channel count : ℕ) (body : List ℕ) (o : Opened) : Type 0
       ≡ first_reason ((0x8088_0000, not (may_follow before.last o.sequence)) ∷ (0x8081_0000, issued before == 4294967295) ∷ [])
 
 -- the outcome for the body of an OPN if this many tokens were issued
-abbrev pub JudgesOpening : ℕ → ℕ → List ℕ → Result Opened StepFault → Type 0
+abbrev pub JudgesOpening : ℕ → ℕ → List ℕ → Result Opened EndFault → Type 0
 JudgesOpening channel count body (Ok o) = OpensSo channel count body o
 JudgesOpening channel count body (Err fault) = IsRefusalFor (λ code. (limits : Limits) (before : Received) → issued before ≡ count
     → first_reason (server_reasons limits channel before (Opens (opening_of body))) ≡ Some code) fault
 
 -- ---- an open channel
+
+-- what is told by an event, if there is one
+abbrev pub told_list : Option Event → List Told
+told_list None = []
+told_list (Some e) = told_of e ∷ []
 
 -- a frame with this content is taken after what was received, and tells this, a message in its
 -- parts
@@ -104,12 +109,12 @@ abbrev pub IsRefused : Limits → ℕ → Received → Content → ℕ → Type 
 IsRefused limits channel before c code = first_reason (server_reasons limits channel before c) ≡ Some code
 
 -- the outcome of an open channel for a frame with this content, and its state then
-abbrev pub Judges : Limits → ℕ → Received → Content → Result (Option Event) StepFault → Running → Type 0
+abbrev pub Judges : Limits → ℕ → Received → Content → Result (Option Event) EndFault → Running → Type 0
 Judges limits channel before c (Ok e) r = TakesSo limits channel before c e × Stays limits r (after before c)
 Judges limits channel before c (Err fault) r = IsRefusalFor (IsRefused limits channel before c) fault
 
 -- the outcome of an open channel for a close
-abbrev pub JudgesClose : Limits → ℕ → Received → Content → Result (Unit {0}) StepFault → Type 0
+abbrev pub JudgesClose : Limits → ℕ → Received → Content → Result (Unit {0}) EndFault → Type 0
 JudgesClose limits channel before c (Ok done) = first_reason (server_reasons limits channel before c) ≡ None
 JudgesClose limits channel before c (Err fault) = IsRefusalFor (IsRefused limits channel before c) fault
 
@@ -120,6 +125,6 @@ ids_reasons c channel used count = (0x807F_0000, not (c.channel == channel)) ∷
 -- ---- before the channel is open
 
 -- the outcome for the first OPN
-abbrev pub JudgesFirst : Limits → ℕ → Received → Content → Result (Running × Event) StepFault → Type 0
+abbrev pub JudgesFirst : Limits → ℕ → Received → Content → Result (Running × Event) EndFault → Type 0
 JudgesFirst limits channel before c (Ok (r, e)) = TakesSo limits channel before c (Some e) × Stays limits r (after before c)
 JudgesFirst limits channel before c (Err fault) = IsRefusalFor (IsRefused limits channel before c) fault

@@ -8,7 +8,7 @@ use Rattle.ua_channel.specs.declared.server_event.ServerEvent.TheVariants.{NeedM
 use Rattle.ua_channel.specs.declared.server_fault.ChannelFault.{ChannelFault}
 use Rattle.ua_channel.specs.declared.server_fault.ChannelFault.TheVariants.{Refused, Closed, OutOfMemory}
 use Rattle.ua_channel.specs.inside.Ends.{ComesBy}
-use Rattle.ua_channel.specs.inside.ServerEvents.{is_closed}
+use Rattle.ua_channel.specs.ServerEvents.{is_closed}
 use Rattle.ua_channel.specs.ServerStands.{server_side, next_of, IsDone, GoesTelling, ClosedAt}
 use Rattle.ua_channel.specs.ServerTold.{Told, Told as told}
 use Rattle.ua_channel.specs.ServerAnswers.{SendsOctets, Asks}

@@ -32,6 +32,7 @@ use crate::client::phase::Phase;
 use crate::client::rules::ClientRules;
 use crate::end_core::EndCore;
 use crate::numbers::Numbers;
+use crate::taken::Taken;
 use std::alloc::{AllocError, Global};
 use ua_builtin::{DateTime, UaString};
 use ua_frame::{FrameReader, Gate, Kind, LEAST_BUFFER_SIZE, Limits};
@@ -319,33 +320,42 @@ impl ClientChannel {
         }
     }
 
-    /// Takes bytes up to the end of the first frame that has an event, and returns that event, or
-    /// else takes the whole fragment; returns how many it took. `moment` is the timestamp of the OPN
-    /// request.
+    /// Takes bytes up to the end of the first frame that has an event, or else the whole fragment.
+    /// `moment` is the timestamp of the OPN request.
     fn go_on(
         &mut self,
         piece: &[u8],
         moment: DateTime,
-    ) -> (usize, Result<ClientEvent, ClientTakeFault>)
+    ) -> Taken<Result<ClientEvent, ClientTakeFault>>
         ensures answers { (asks : List Placed) (octets : List ℕ) (told : List ClientTold)
             → ClientGoes self.old asks octets told
-            → ClientAnswers moment piece.now (counted result.0 result.1) self.new asks octets told }
+            → ClientAnswers moment piece.now (counted result.size result.outcome) self.new asks octets told }
         ensures parts { (asks : List Placed) (octets : List ℕ) (told : List ClientTold)
             → ClientGoes self.old asks octets told
-            → IfOk result.1 (λ e. ComesInParts (parts_handed e) self.new asks (octets ++ take result.0 piece.now)) }
-        ensures progress { ClientProgress piece.now (counted result.0 result.1) }
-        ensures within { result.0 ≤ length piece.now }
+            → IfOk result.outcome
+            (λ e. ComesInParts (parts_handed e) self.new asks (octets ++ take result.size piece.now)) }
+        ensures progress { ClientProgress piece.now (counted result.size result.outcome) }
+        ensures within { result.size ≤ length piece.now }
         ensures starves { (asks : List Placed) (octets : List ℕ) (told : List ClientTold)
-            → ClientGoes self.old asks octets told → IsErrOf result.1 OutOfMemory
-            → ClientStarvedAt self.new asks (octets ++ take result.0 piece.now) told }
+            → ClientGoes self.old asks octets told → IsErrOf result.outcome OutOfMemory
+            → ClientStarvedAt self.new asks (octets ++ take result.size piece.now) told }
         ensures same { SameClient self.old self.new }
         ensures next { client_next self.new ≡ client_next self.old }
     {
-        let (n, outcome) = self.end.next_event(piece);
+        let Taken { size, outcome } = self.end.next_event(piece);
         match outcome {
-            Ok(None) => (n, Ok(ClientEvent::NeedMore)),
-            Ok(Some(event)) => (n, self.answer(event, moment)),
-            Err(fault) => (n, ClientEvent::of_fault(fault)),
+            Ok(None) => Taken {
+                size,
+                outcome: Ok(ClientEvent::NeedMore),
+            },
+            Ok(Some(event)) => Taken {
+                size,
+                outcome: self.answer(event, moment),
+            },
+            Err(fault) => Taken {
+                size,
+                outcome: ClientEvent::of_fault(fault),
+            },
         }
     }
 
@@ -380,9 +390,9 @@ impl ClientChannel {
             return Err(ClientTakeFault::Closed);
         }
         let bound = self.end.bound;
-        let (n, answer) = self.go_on(piece, moment);
-        match answer {
-            Ok(event) => Ok((n, event)),
+        let Taken { size, outcome } = self.go_on(piece, moment);
+        match outcome {
+            Ok(event) => Ok((size, event)),
             Err(fault) => {
                 self.end.bound = bound;
                 Err(fault)

@@ -1,7 +1,7 @@
 //! The events of the bytes that a client takes.
 
 use crate::client::fault::ClientTakeFault;
-use crate::step_fault::StepFault;
+use crate::end_fault::EndFault;
 use ua_builtin::StatusCode;
 use ua_chunk::Message;
 use ua_frame::Ack;
@@ -50,14 +50,14 @@ impl ClientEvent {
     ghost use Rattle.ua_channel.specs.inside.ClientParts.{failure_of};
 
     /// The event of a channel that this stops, or the fault of its call.
-    pub(crate) fn of_fault(fault: StepFault) -> Result<ClientEvent, ClientTakeFault>
+    pub(crate) fn of_fault(fault: EndFault) -> Result<ClientEvent, ClientTakeFault>
         ensures { result ≡ failure_of fault }
     {
         match fault {
-            StepFault::Refused(code) => Ok(ClientEvent::Failed { code, peer: false }),
-            StepFault::Peer(code) => Ok(ClientEvent::Failed { code, peer: true }),
-            StepFault::OutOfMemory => Err(ClientTakeFault::OutOfMemory),
-            StepFault::Closed => Err(ClientTakeFault::Closed),
+            EndFault::Refused(code) => Ok(ClientEvent::Failed { code, peer: false }),
+            EndFault::Peer(code) => Ok(ClientEvent::Failed { code, peer: true }),
+            EndFault::OutOfMemory => Err(ClientTakeFault::OutOfMemory),
+            EndFault::Closed => Err(ClientTakeFault::Closed),
         }
     }
 }

@@ -11,7 +11,7 @@ ghost use Rattle.ua_channel.specs.Content.Content.{Acks};
 ghost use Rattle.ua_channel.specs.Received.{nothing_received};
 
 use crate::client::agreed::Agreed;
-use crate::step_fault::StepFault;
+use crate::end_fault::EndFault;
 use std::alloc::{AllocError, Global};
 use ua_builtin::{StatusCode, Wire};
 use ua_frame::{Ack, ErrorFrame, Frame, Kind, LEAST_BUFFER_SIZE, Limits};
@@ -31,13 +31,13 @@ fn read_error(alloc: Global, body: &[u8]) -> Result<Option<ErrorFrame>, AllocErr
 }
 
 /// Why the body of an ERR stops a channel: its code, which is the peer's.
-pub fn stop_of_error(alloc: Global, body: &[u8]) -> StepFault
+pub fn stop_of_error(alloc: Global, body: &[u8]) -> EndFault
     ensures { IsStopFor (error_reasons (whole_of error body.now)) result }
 {
     match read_error(alloc, body) {
-        Ok(Some(error)) => StepFault::Peer(error.error),
-        Ok(None) => StepFault::Refused(StatusCode::BAD_DECODING_ERROR),
-        Err(_) => StepFault::OutOfMemory,
+        Ok(Some(error)) => EndFault::Peer(error.error),
+        Ok(None) => EndFault::Refused(StatusCode::BAD_DECODING_ERROR),
+        Err(_) => EndFault::OutOfMemory,
     }
 }
 
@@ -53,20 +53,20 @@ fn is_outside(limits: &Limits, ack: &Ack) -> bool
 }
 
 /// What the body of an ACK agrees to, within what a client with these limits allows.
-fn judge_ack(alloc: Global, limits: &Limits, body: &[u8]) -> Result<Agreed, StepFault>
+fn judge_ack(alloc: Global, limits: &Limits, body: &[u8]) -> Result<Agreed, EndFault>
     ensures { Judged (ack_reasons limits.now (whole_of ack body.now)) (IsAgreed (whole_of ack body.now)) result }
 {
     let Some(ack) = read_ack(alloc, body)? else {
-        return Err(StepFault::Refused(StatusCode::BAD_DECODING_ERROR));
+        return Err(EndFault::Refused(StatusCode::BAD_DECODING_ERROR));
     };
     if is_outside(limits, &ack) {
-        return Err(StepFault::Refused(StatusCode::BAD_TCP_NOT_ENOUGH_RESOURCES));
+        return Err(EndFault::Refused(StatusCode::BAD_TCP_NOT_ENOUGH_RESOURCES));
     }
     Ok(Agreed { ack })
 }
 
 /// The agreement on the first frame of a server that received only a HEL.
-pub fn greet(alloc: Global, limits: &Limits, frame: Frame) -> Result<Agreed, StepFault>
+pub fn greet(alloc: Global, limits: &Limits, frame: Frame) -> Result<Agreed, EndFault>
     ensures { LetsIn ack_gate frame
         → Judged (client_reasons limits.now nothing_received [] (content frame))
         (λ a. content frame ≡ Acks (Some a.ack)) result }
@@ -74,6 +74,6 @@ pub fn greet(alloc: Global, limits: &Limits, frame: Frame) -> Result<Agreed, Ste
     match frame.kind {
         Kind::Ack => judge_ack(alloc, limits, &frame.body),
         Kind::Err => Err(stop_of_error(alloc, &frame.body)),
-        _ => Err(StepFault::Closed),
+        _ => Err(EndFault::Closed),
     }
 }

@@ -16,7 +16,7 @@ use crate::client::greeting::greet;
 use crate::client::phase::Phase;
 use crate::client::talking::Talking;
 use crate::end_core::EndRules;
-use crate::step_fault::StepFault;
+use crate::end_fault::EndFault;
 use std::alloc::Global;
 use ua_chunk::MOST_OPEN;
 use ua_frame::{Frame, Gate, Limits};
@@ -36,7 +36,7 @@ impl ClientRules {
         phase: &mut Phase,
         bound: &mut usize,
         frame: Frame,
-    ) -> Result<Option<Event>, StepFault>
+    ) -> Result<Option<Event>, EndFault>
         requires shape { HasShape frame }
         ensures judges { (before : Received) (asked : List Asking) → InPhase self.now.limits phase.old before asked
             → bound.old ≡ client_bound_behind self.now.limits before.ack
@@ -66,7 +66,7 @@ impl ClientRules {
                     Err(fault) => Err(fault),
                 }
             }
-            Phase::Done => Err(StepFault::Closed),
+            Phase::Done => Err(EndFault::Closed),
         }
     }
 }
@@ -90,7 +90,7 @@ impl EndRules<Phase> for ClientRules {
         phase: &mut Phase,
         bound: &mut usize,
         frame: Frame,
-    ) -> Result<Option<Event>, StepFault> {
+    ) -> Result<Option<Event>, EndFault> {
         self.judge(alloc, phase, bound, frame)
     }
 

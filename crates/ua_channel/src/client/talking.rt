@@ -30,8 +30,8 @@ use crate::client::fault::AskFault;
 use crate::client::greeting::stop_of_error;
 use crate::client::ids::{FIRST_ID, OPENING_ID};
 use crate::client::octets::renewal_octets;
+use crate::end_fault::EndFault;
 use crate::numbers::Numbers;
-use crate::step_fault::StepFault;
 use std::alloc::Global;
 use ua_builtin::{DateTime, StatusCode};
 use ua_chunk::{Assembler, CHUNK_HEADERS, Chunk, Delivered, Lane, cut, read_chunk};
@@ -108,15 +108,15 @@ impl Talking {
         limits: &Limits,
         agreed: Agreed,
         answer: Answer,
-    ) -> Result<Talking, StepFault>
+    ) -> Result<Talking, EndFault>
         ensures { Judged (first_reasons answer) (IsOpenedWith limits.now agreed answer) result }
     {
         if answer.request != OPENING_ID {
-            return Err(StepFault::Refused(StatusCode::BAD_UNKNOWN_RESPONSE));
+            return Err(EndFault::Refused(StatusCode::BAD_UNKNOWN_RESPONSE));
         }
         let mut tokens = Vec::new(alloc);
         let Ok(()) = tokens.push(answer.token) else {
-            return Err(StepFault::OutOfMemory);
+            return Err(EndFault::OutOfMemory);
         };
         Ok(Talking {
             agreed,
@@ -141,7 +141,7 @@ impl Talking {
         limits: &Limits,
         agreed: Agreed,
         frame: Frame,
-    ) -> Result<Talking, StepFault>
+    ) -> Result<Talking, EndFault>
         ensures { LetsIn (answer_gate agreed.ack.send_buffer_size) frame
             → Judged (client_reasons limits.now (greeted agreed) [] (content frame))
             (IsOpenedBy limits.now agreed (content frame)) result }
@@ -152,31 +152,31 @@ impl Talking {
                 Err(fault) => Err(fault),
             },
             Kind::Err => Err(stop_of_error(alloc, &frame.body)),
-            _ => Err(StepFault::Closed),
+            _ => Err(EndFault::Closed),
         }
     }
 
     // ---- what is received
 
     /// Takes the answer to a renewal.
-    fn on_answer(&mut self, answer: Answer) -> Result<(), StepFault>
+    fn on_answer(&mut self, answer: Answer) -> Result<(), EndFault>
         ensures { (cs : List Chunk) → Stands self.old.assembler cs
             → Judged (renewal_reasons self.old answer) (λ _. IsRenewedWith self.old answer cs self.new) result }
     {
         if answer.channel != self.channel {
-            return Err(StepFault::Refused(StatusCode::BAD_TCP_SECURE_CHANNEL_UNKNOWN));
+            return Err(EndFault::Refused(StatusCode::BAD_TCP_SECURE_CHANNEL_UNKNOWN));
         }
         if self.tokens.contains(&answer.token) {
-            return Err(StepFault::Refused(StatusCode::BAD_SECURE_CHANNEL_TOKEN_UNKNOWN));
+            return Err(EndFault::Refused(StatusCode::BAD_SECURE_CHANNEL_TOKEN_UNKNOWN));
         }
         if let Err(fault) = self.assembler.step(answer.sequence) {
-            return Err(StepFault::of_chunk(fault, StatusCode::BAD_RESPONSE_TOO_LARGE));
+            return Err(EndFault::of_chunk(fault, StatusCode::BAD_RESPONSE_TOO_LARGE));
         }
         if self.renewal != Some(answer.request) {
-            return Err(StepFault::Refused(StatusCode::BAD_UNKNOWN_RESPONSE));
+            return Err(EndFault::Refused(StatusCode::BAD_UNKNOWN_RESPONSE));
         }
         let Ok(()) = self.tokens.push(answer.token) else {
-            return Err(StepFault::OutOfMemory);
+            return Err(EndFault::OutOfMemory);
         };
         self.newest = answer.token;
         self.renewal = None;
@@ -184,7 +184,7 @@ impl Talking {
     }
 
     /// Takes the response to a renewal, and returns the token as an event.
-    fn on_renewed(&mut self, answer: Answer) -> Result<Option<Event>, StepFault>
+    fn on_renewed(&mut self, answer: Answer) -> Result<Option<Event>, EndFault>
         ensures { (cs : List Chunk) → Stands self.old.assembler cs
             → Judged (renewal_reasons self.old answer) (TellsRenewal self.old answer cs self.new) result }
     {
@@ -195,26 +195,26 @@ impl Talking {
     }
 
     /// Whether a chunk is on this channel, under a token that is held.
-    fn judge_chunk(&self, chunk: &Chunk) -> Result<(), StepFault>
+    fn judge_chunk(&self, chunk: &Chunk) -> Result<(), EndFault>
         ensures { Judged (token_reasons self.now chunk.now) any_event result }
     {
         if chunk.channel != self.channel {
-            return Err(StepFault::Refused(StatusCode::BAD_TCP_SECURE_CHANNEL_UNKNOWN));
+            return Err(EndFault::Refused(StatusCode::BAD_TCP_SECURE_CHANNEL_UNKNOWN));
         }
         if !self.tokens.contains(&chunk.token) {
-            return Err(StepFault::Refused(StatusCode::BAD_SECURE_CHANNEL_TOKEN_UNKNOWN));
+            return Err(EndFault::Refused(StatusCode::BAD_SECURE_CHANNEL_TOKEN_UNKNOWN));
         }
         Ok(())
     }
 
     /// Takes what the assembler makes of a chunk.
-    fn accept(&mut self, chunk: Chunk) -> Result<Option<Delivered>, StepFault>
+    fn accept(&mut self, chunk: Chunk) -> Result<Option<Delivered>, EndFault>
         ensures { (cs : List Chunk) → Stands self.old.assembler cs
             → Judged (refused_reasons self.old cs chunk) (IsAccepted self.old cs chunk self.new) result }
     {
         match self.assembler.accept(chunk) {
             Ok(delivered) => Ok(delivered),
-            Err(fault) => Err(StepFault::of_chunk(fault, StatusCode::BAD_RESPONSE_TOO_LARGE)),
+            Err(fault) => Err(EndFault::of_chunk(fault, StatusCode::BAD_RESPONSE_TOO_LARGE)),
         }
     }
 
@@ -225,13 +225,13 @@ impl Talking {
         token: u32,
         ends: bool,
         delivered: Option<Delivered>,
-    ) -> Result<Option<Event>, StepFault>
+    ) -> Result<Option<Event>, EndFault>
         ensures { Judged (unasked_reasons self.old request)
             (IsDeliveredWith self.old request token ends delivered self.new) result }
     {
         if !self.pending.contains(&request) {
             drop(delivered);
-            return Err(StepFault::Refused(StatusCode::BAD_UNKNOWN_RESPONSE));
+            return Err(EndFault::Refused(StatusCode::BAD_UNKNOWN_RESPONSE));
         }
         release_before(&mut self.tokens, token);
         if ends {
@@ -241,7 +241,7 @@ impl Talking {
     }
 
     /// Takes a chunk of this channel under a token that is held.
-    fn on_known(&mut self, chunk: Chunk) -> Result<Option<Event>, StepFault>
+    fn on_known(&mut self, chunk: Chunk) -> Result<Option<Event>, EndFault>
         ensures { (cs : List Chunk) → Stands self.old.assembler cs
             → Judged (known_reasons self.old cs chunk) (IsTakenWith self.old cs chunk self.new) result }
     {
@@ -253,7 +253,7 @@ impl Talking {
     }
 
     /// Takes a chunk of a message.
-    fn on_chunk(&mut self, chunk: Chunk) -> Result<Option<Event>, StepFault>
+    fn on_chunk(&mut self, chunk: Chunk) -> Result<Option<Event>, EndFault>
         ensures { (cs : List Chunk) → Stands self.old.assembler cs
             → Judged (chunk_reasons self.old cs chunk) (IsTakenWith self.old cs chunk self.new) result }
     {
@@ -264,7 +264,7 @@ impl Talking {
     }
 
     /// Takes a frame.
-    pub fn on_frame(&mut self, alloc: Global, frame: Frame) -> Result<Option<Event>, StepFault>
+    pub fn on_frame(&mut self, alloc: Global, frame: Frame) -> Result<Option<Event>, EndFault>
         requires { HasShape frame }
         ensures { (limits : Limits) (before : Received) (asked : List Asking) → Talks limits self.old before asked
             → LetsIn (reply_gate self.old.agreed.ack.send_buffer_size) frame
@@ -278,7 +278,7 @@ impl Talking {
                 Err(fault) => Err(fault),
             },
             Kind::Err => Err(stop_of_error(alloc, &frame.body)),
-            _ => Err(StepFault::Closed),
+            _ => Err(EndFault::Closed),
         }
     }
 

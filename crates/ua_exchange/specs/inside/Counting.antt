@@ -1,9 +1,10 @@
 -- How the renewals are found that are refused, since too many tokens count as held: operations are
 -- counted one by one.
-use Rattle.std.specs.Prelude.{◌≡◌, ℕ, ◌+◌, true, false, length, take, List, [], ◌∷◌, ◌++◌, Option, Some, None}
+use Rattle.std.specs.Prelude.{◌≡◌, ℕ, ◌+◌, nat_le, Bool, true, false, length, take, List, [], ◌∷◌, ◌++◌, Option, Some, None}
 use Rattle.ua_frame.specs.After.{AllAfter}
+use Rattle.ua_channel.specs.ClientAsks.{most_tokens}
 use Rattle.ua_loopback.specs.Accepted.{tokens_held}
-use Rattle.ua_exchange.specs.Accepted.{is_crowded, last_calls}
+use Rattle.ua_exchange.specs.Accepted.{last_calls, tokens_counted}
 use Rattle.ua_exchange.specs.Turns.{served_turns}
 use Rattle.ua_exchange.specs.declared.turn.Turn.{Turn}
 use Rattle.ua_exchange.specs.declared.turn.Turn.TheVariants.{Ask, Renew}
@@ -24,6 +25,11 @@ pub record CountsLast (before : List Turn) (renewals calls : ℕ) : Type 0 where
   pub calls_are : calls ≡ length last
   pub no_more : last_calls front ≡ []
   pub held_is : tokens_held 1 (served_turns front) ≡ renewals + 1
+
+-- the operation is a renewal after these that is refused since too many tokens count as held
+abbrev pub is_crowded : List Turn → Turn → Bool
+is_crowded before (Ask m) = false
+is_crowded before Renew = nat_le most_tokens (tokens_counted before)
 
 -- no renewal among these operations is refused since too many tokens count as held
 abbrev pub HaveRoom : List Turn → Type 0

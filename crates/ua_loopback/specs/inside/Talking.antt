@@ -15,6 +15,7 @@ use Rattle.ua_services.specs.declared.request.Request.{Request}
 use Rattle.ua_server.specs.State.{State}
 use Rattle.ua_client.specs.Carried.{Carries}
 use Rattle.ua_client.specs.Client.{closing_at}
+use Rattle.ua_client.specs.Hearing.{channel_of, untaken_of}
 use Rattle.ua_client.specs.Opening.{IsOpened}
 use Rattle.ua_client.specs.ClientPlace.{ClientPlace, StandsAt}
 use Rattle.ua_client.specs.declared.connection.Connection.{Connection}
@@ -23,7 +24,7 @@ use Rattle.ua_client.specs.declared.fault.ClientFault.TheVariants as fault
 use Rattle.ua_client.specs.declared.reply.Reply.{Reply}
 use Rattle.ua_loopback.specs.Accepted.{AreAccepted, acknowledged}
 use Rattle.ua_loopback.specs.Beginning.{Beginning}
-use Rattle.ua_loopback.specs.Course.{Course, Stays, opening_octets}
+use Rattle.ua_loopback.specs.Course.{Course, opening_octets}
 use Rattle.ua_loopback.specs.Faults.{DoneBefore, IsDoneOf}
 use Rattle.ua_loopback.specs.Replies.{HaveMisanswer, turn_state, turns_replies, turns_state}
 use Rattle.ua_loopback.specs.Says.{server_output, state_told}
@@ -71,6 +72,18 @@ pub record CanOpen (b : Beginning) (limits : Limits) (url : Option (List ℕ)) (
   pub on : b.channel < 2 ^ 32
   pub dated : IsTrue (date_time.encodable moment)
   pub answered : IsTrue (date_time.encodable b.moment)
+
+-- a client that did these operations over a transport: its state, what went over the transport, and
+-- the replies
+pub record Stays (moment : DateTime) (opening : List ℕ) (opened : ClientPlace) (turns : List (Option (List Request))) (x : Connection)
+    (before now : Option Traffic) (replies : List Reply) : Type 0 where
+  pub site : ClientPlace
+  pub at : StandsAt (channel_of x) site
+  pub sent : List ℕ
+  pub course : Course moment opened turns site sent replies
+  pub got : List ℕ
+  pub carried : IfTrafficKnown (Carries got (opening ++ sent)) before now
+  pub got_is : got ≡ site.octets ++ untaken_of x
 
 -- a client did these operations over a transport to such a server, all at this time, and both are
 -- in step after them

@@ -7,8 +7,8 @@ use Rattle.test_determinism.proofs.ServersAlike.{Both, alike}
 use Rattle.test_determinism.proofs.servers.server_advance_twice.Goals as goal
 
 both : (c : goal.After-advance-second) (octets : List ℕ) (told : List Told) → ServersAlike c.args.one.now c.args.two.now octets told
-    → HadMemory OutOfMemory c.advance-first.result.1 c.advance-second.result.1
-    → Both c.advance-first.result.0 c.advance-second.result.0 c.advance-first.result.1 c.advance-second.result.1 c.advance-first.new.self
+    → HadMemory OutOfMemory c.advance-first.result.outcome c.advance-second.result.outcome
+    → Both c.advance-first.result.size c.advance-second.result.size c.advance-first.result.outcome c.advance-second.result.outcome c.advance-first.new.self
     c.advance-second.new.self octets c.args.piece.now told
 both c octets told s had =
     alike _ _ _ _ c.args.moment c.args.piece.now octets told _ _ _ _ s

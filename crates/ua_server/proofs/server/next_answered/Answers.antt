@@ -6,24 +6,24 @@ use Rattle.ua_server.proofs.server.next_answered.Goals as goal
 
 pub loop-taken-init : goal.loop-taken-init
 loop-taken-init c =
-    let given : is_given_up c.advance-n.result.1 ≡ true = search rules in
-    first-passed c.args.channel.now c.advance-n.new.self c.args.moment c.args.piece.now c.advance-n.result.0 c.advance-n.result.1
-    c.advance-n.ensures.answers c.advance-n.ensures.progress (λ d. (c.advance-n.ensures.closed d).1) c.advance-n.ensures.limits c.advance-n.ensures.channel
-    given
+    let given : is_given_up c.advance-size.result.outcome ≡ true = search rules in
+    first-passed c.args.channel.now c.advance-size.new.self c.args.moment c.args.piece.now c.advance-size.result.size c.advance-size.result.outcome
+    c.advance-size.ensures.answers c.advance-size.ensures.progress (λ d. (c.advance-size.ensures.closed d).1) c.advance-size.ensures.limits
+    c.advance-size.ensures.channel given
 
 pub returns-then-not-is_given_up-2-clause-answers : goal.returns-then-not-is_given_up-2-clause-answers
 returns-then-not-is_given_up-2-clause-answers c =
-    at-last c.args.channel.now c.loop-taken.channel c.advance-n-in-loop-taken.new.self c.args.moment c.args.piece.now c.loop-taken.taken
-    c.advance-n-in-loop-taken.result.0 c.advance-n-in-loop-taken.result.1
-    c.loop-taken.invariant c.advance-n-in-loop-taken.ensures.answers
+    at-last c.args.channel.now c.loop-taken.channel c.advance-size-in-loop-taken.new.self c.args.moment c.args.piece.now c.loop-taken.taken
+    c.advance-size-in-loop-taken.result.size c.advance-size-in-loop-taken.result.outcome
+    c.loop-taken.invariant c.advance-size-in-loop-taken.ensures.answers
 
 pub loop-taken-preserved : goal.loop-taken-preserved
 loop-taken-preserved c =
-    let given : is_given_up c.advance-n-in-loop-taken.result.1 ≡ true = search rules in
-    next-passed c.args.channel.now c.loop-taken.channel c.advance-n-in-loop-taken.new.self c.args.moment c.args.piece.now c.loop-taken.taken
-    c.advance-n-in-loop-taken.result.0 c.advance-n-in-loop-taken.result.1
-    c.loop-taken.invariant c.advance-n-in-loop-taken.ensures.answers c.advance-n-in-loop-taken.ensures.progress c.advance-n-in-loop-taken.ensures.limits
-    c.advance-n-in-loop-taken.ensures.channel given
+    let given : is_given_up c.advance-size-in-loop-taken.result.outcome ≡ true = search rules in
+    next-passed c.args.channel.now c.loop-taken.channel c.advance-size-in-loop-taken.new.self c.args.moment c.args.piece.now c.loop-taken.taken
+    c.advance-size-in-loop-taken.result.size c.advance-size-in-loop-taken.result.outcome
+    c.loop-taken.invariant c.advance-size-in-loop-taken.ensures.answers c.advance-size-in-loop-taken.ensures.progress
+    c.advance-size-in-loop-taken.ensures.limits c.advance-size-in-loop-taken.ensures.channel given
 
 pub returns-clause-answers : goal.returns-clause-answers
 returns-clause-answers c = all-passed c.args.channel.now c.loop-taken.channel c.args.moment c.args.piece.now c.loop-taken.taken c.loop-taken.invariant
@@ -31,13 +31,13 @@ returns-clause-answers c = all-passed c.args.channel.now c.loop-taken.channel c.
 
 pub returns-then-not-is_given_up-2-clause-progress : goal.returns-then-not-is_given_up-2-clause-progress
 returns-then-not-is_given_up-2-clause-progress c =
-    progress-on c.args.channel.now c.loop-taken.channel c.args.piece.now c.loop-taken.taken c.advance-n-in-loop-taken.result.0
-    c.advance-n-in-loop-taken.result.1 c.loop-taken.invariant c.advance-n-in-loop-taken.ensures.progress
+    progress-on c.args.channel.now c.loop-taken.channel c.args.piece.now c.loop-taken.taken c.advance-size-in-loop-taken.result.size
+    c.advance-size-in-loop-taken.result.outcome c.loop-taken.invariant c.advance-size-in-loop-taken.ensures.progress
 
 pub returns-clause-progress : goal.returns-clause-progress
 returns-clause-progress c = all-progress c.args.channel.now c.loop-taken.channel c.args.piece.now c.loop-taken.taken c.loop-taken.invariant
 
 pub returns-then-not-is_given_up-2-clause-starved : goal.returns-then-not-is_given_up-2-clause-starved
 returns-then-not-is_given_up-2-clause-starved c = λ octets told g fails.
-    c.advance-n-in-loop-taken.ensures.starved fails ∙ passed-bound c.args.channel.now c.loop-taken.channel c.args.piece.now c.loop-taken.taken octets told
+    c.advance-size-in-loop-taken.ensures.starved fails ∙ passed-bound c.args.channel.now c.loop-taken.channel c.args.piece.now c.loop-taken.taken octets told
     c.loop-taken.invariant g

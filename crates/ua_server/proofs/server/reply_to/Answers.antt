@@ -36,9 +36,9 @@ returns-in-Ok-respond-clause-noted c = λ octets before token g.
     let limit = c.most_octets-most.ensures.most octets (g.frames ++ g.frame ∷ []) [] g.stands
     (server_asked c.args.channel.now octets before c.args.id token (concat c.args.message) g) sent.0 sent.1 in
     let within : IsBodyWithin c.most_octets-most.result whole c.deref.result.now = search rules in
-    let request : c.in-Ok.told.1 ≡ request_answered None c.args.services.now c.args.moment (concat c.args.message) = search rules in
+    let request : c.in-Ok.told.request ≡ request_answered None c.args.services.now c.args.moment (concat c.args.message) = search rules in
     noted-there c.args.channel.now octets before c.args.id token (concat c.args.message) g sent.0 c.args.services.now c.args.moment c.deref.result.now
-    c.in-Ok.told.1 c.sent_as-request.result sent.1
+    c.in-Ok.told.request c.sent_as-request.result sent.1
     (λ code. same_code sent.0 c.most_octets-most.result whole c.deref.result.now code limit within) request
     (c.sent_as-request.ensures sent.0 c.deref.result.now sent.3)
 
@@ -50,5 +50,5 @@ returns-clause-failed c = λ octets before token g.
 
 pub returns-in-Ok-respond-clause-stored : goal.returns-in-Ok-respond-clause-stored
 returns-in-Ok-respond-clause-stored c =
-    let results : c.in-Ok.told.2 ≡ results_of (answered c.args.services.now c.args.moment (concat c.args.message)).1 = search rules in
-    kept-stored c.args.services.now c.args.moment (concat c.args.message) c.keep.new.self c.in-Ok.told.2 c.keep.ensures results
+    let results : c.in-Ok.told.results ≡ results_of (answered c.args.services.now c.args.moment (concat c.args.message)).1 = search rules in
+    kept-stored c.args.services.now c.args.moment (concat c.args.message) c.keep.new.self c.in-Ok.told.results c.keep.ensures results

@@ -12,8 +12,8 @@ pub returns-in-Ok-judge_body : goal.returns-in-Ok-judge_body
 returns-in-Ok-judge_body c =
     judges_good c.in-Ok.opening.channel c.in-Ok.opening.sequence c.in-Ok.opening.request c.args.frame.body c.in-Ok.opening.body
     (has_headers c.args.frame c.in-Ok.opening c.in-Ok.ensures.found) _ refl refl
-    (subst (λ (t : List ℕ). Judged (body_reasons (answer_read t)) (IsAnsweredBy (answer_read t)) (Ok (c.in-Ok-judge_body.channel, c.in-Ok-judge_body.token)))
-    c.deref.ensures c.in-Ok-judge_body.ensures)
+    (subst (λ (t : List ℕ). Judged (body_reasons (answer_read t)) (IsAnsweredBy (answer_read t)) (Ok c.in-Ok-judge_body.issued)) c.deref.ensures
+    c.in-Ok-judge_body.ensures)
 
 pub returns : goal.returns
 returns c =

@@ -12,35 +12,35 @@ use Rattle.ua_channel.proofs.server.ServerChannel.advance.Goals as goal
 pub returns-in-Ok-clause-answers : goal.returns-in-Ok-clause-answers
 returns-in-Ok-clause-answers c = λ octets told g.
     subst (λ (a : Result ServerEvent ChannelFault). AnswersAt (channel_of c.args.self.now) (next_of c.args.self.now) c.args.moment c.args.piece.now
-    c.go_on-n.result.0 a c.go_on-n.new.self octets told) c.in-Ok.is (c.go_on-n.ensures.answers octets told g)
+    c.go_on-size.result.size a c.go_on-size.new.self octets told) c.in-Ok.is (c.go_on-size.ensures.answers octets told g)
 
 pub returns-in-Ok-clause-parts : goal.returns-in-Ok-clause-parts
 returns-in-Ok-clause-parts c = λ octets told g.
     subst (λ (a : Result ServerEvent ChannelFault).
-    IfOk a (λ e. AsksInParts (parts_asked e) c.go_on-n.new.self (octets ++ take c.go_on-n.result.0 c.args.piece.now))) c.in-Ok.is
-    (c.go_on-n.ensures.parts octets told g)
+    IfOk a (λ e. AsksInParts (parts_asked e) c.go_on-size.new.self (octets ++ take c.go_on-size.result.size c.args.piece.now))) c.in-Ok.is
+    (c.go_on-size.ensures.parts octets told g)
 
 pub returns-after-fault-clause-answers : goal.returns-after-fault-clause-answers
 returns-after-fault-clause-answers c = λ octets told g.
-    let failed : AnswersAt (channel_of c.args.self.now) (next_of c.args.self.now) c.args.moment c.args.piece.now c.go_on-n.result.0
-    (Err c.in-Err.fault) c.go_on-n.new.self octets told =
+    let failed : AnswersAt (channel_of c.args.self.now) (next_of c.args.self.now) c.args.moment c.args.piece.now c.go_on-size.result.size
+    (Err c.in-Err.fault) c.go_on-size.new.self octets told =
     subst (λ (a : Result ServerEvent ChannelFault). AnswersAt (channel_of c.args.self.now) (next_of c.args.self.now) c.args.moment c.args.piece.now
-    c.go_on-n.result.0 a c.go_on-n.new.self octets told) c.in-Err.is (c.go_on-n.ensures.answers octets told g) in
+    c.go_on-size.result.size a c.go_on-size.new.self octets told) c.in-Err.is (c.go_on-size.ensures.answers octets told g) in
     elim c.match-fault.branch [
       | in-OutOfMemory w ↦
-          starved_with (channel_of c.args.self.now) (next_of c.args.self.now) c.args.moment c.args.piece.now c.go_on-n.result.0 c.args.self.now.end.bound
-          c.in-Err.fault c.go_on-n.new.self c.match-fault.self octets told w.in-OutOfMemory.is w.self-is failed
+          starved_with (channel_of c.args.self.now) (next_of c.args.self.now) c.args.moment c.args.piece.now c.go_on-size.result.size c.args.self.now.end.bound
+          c.in-Err.fault c.go_on-size.new.self c.match-fault.self octets told w.in-OutOfMemory.is w.self-is failed
       | in_default w ↦
-          subst (λ (y : ServerChannel). AnswersAt (channel_of c.args.self.now) (next_of c.args.self.now) c.args.moment c.args.piece.now c.go_on-n.result.0
+          subst (λ (y : ServerChannel). AnswersAt (channel_of c.args.self.now) (next_of c.args.self.now) c.args.moment c.args.piece.now c.go_on-size.result.size
           (Err c.in-Err.fault) y octets told) (sym w.self-is) failed
     ]
 
 pub returns-after-fault-clause-starves : goal.returns-after-fault-clause-starves
 returns-after-fault-clause-starves c = λ octets told g failed.
-    let starved : StarvedAt c.go_on-n.new.self (octets ++ take c.go_on-n.result.0 c.args.piece.now) told =
-    c.go_on-n.ensures.starves octets told g (c.in-Err.is ∙ failed) in
+    let starved : StarvedAt c.go_on-size.new.self (octets ++ take c.go_on-size.result.size c.args.piece.now) told =
+    c.go_on-size.ensures.starves octets told g (c.in-Err.is ∙ failed) in
     elim c.match-fault.branch [
-      | in-OutOfMemory w ↦ starved_bound c.go_on-n.new.self c.match-fault.self c.args.self.now.end.bound (octets ++ take c.go_on-n.result.0 c.args.piece.now)
-          told w.self-is starved
-      | in_default w ↦ subst (λ (y : ServerChannel). StarvedAt y (octets ++ take c.go_on-n.result.0 c.args.piece.now) told) (sym w.self-is) starved
+      | in-OutOfMemory w ↦ starved_bound c.go_on-size.new.self c.match-fault.self c.args.self.now.end.bound
+          (octets ++ take c.go_on-size.result.size c.args.piece.now) told w.self-is starved
+      | in_default w ↦ subst (λ (y : ServerChannel). StarvedAt y (octets ++ take c.go_on-size.result.size c.args.piece.now) told) (sym w.self-is) starved
     ]

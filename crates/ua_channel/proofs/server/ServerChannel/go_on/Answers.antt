@@ -10,49 +10,51 @@ use Rattle.ua_channel.proofs.server.ServerChannel.go_on.Goals as goal
 
 pub returns-in-Ok-None-clause-answers : goal.returns-in-Ok-None-clause-answers
 returns-in-Ok-None-clause-answers c = λ octets told g.
-    answers_nothing (channel_of c.args.self.now) (next_of c.args.self.now) c.args.moment c.args.piece.now c.next_event-n.result.0
-    (of_end c.next_event-n.new.self) octets told
-    (nexts_as server_side c.args.self.now.end c.next_event-n.new.self c.args.piece.now c.next_event-n.result.0 c.next_event-n.result.1
-    (Ok None) c.next_event-n.ensures.nexts (c.in-Ok-None.is ∙ ap Ok c.in-Ok-None.field-0-is) tt octets told g)
-    (ap (λ (x : EndCore ServerRules Phase). x.numbers.next) c.next_event-n.ensures.kept)
+    answers_nothing (channel_of c.args.self.now) (next_of c.args.self.now) c.args.moment c.args.piece.now c.next_event-size.result.size
+    (of_end c.next_event-size.new.self) octets told
+    (nexts_as server_side c.args.self.now.end c.next_event-size.new.self c.args.piece.now c.next_event-size.result.size c.next_event-size.result.outcome
+    (Ok None) c.next_event-size.ensures.nexts (c.in-Ok-None.is ∙ ap Ok c.in-Ok-None.field-0-is) tt octets told g)
+    (ap (λ (x : EndCore ServerRules Phase). x.numbers.next) c.next_event-size.ensures.kept)
 
 pub returns-in-Ok-Some-clause-answers : goal.returns-in-Ok-Some-clause-answers
 returns-in-Ok-Some-clause-answers c = λ octets told g.
-    answers_event (channel_of c.args.self.now) (channel_of (of_end c.next_event-n.new.self)) (next_of c.args.self.now)
-    (next_of (of_end c.next_event-n.new.self)) c.args.moment c.args.piece.now c.next_event-n.result.0 c.in-Ok-Some.event c.answer.result
-    (of_end c.next_event-n.new.self) c.answer.new.self octets told
-    (ap (λ (x : EndCore ServerRules Phase). x.rules.channel) c.next_event-n.ensures.kept)
-    (ap (λ (x : EndCore ServerRules Phase). x.numbers.next) c.next_event-n.ensures.kept)
-    (nexts_as server_side c.args.self.now.end c.next_event-n.new.self c.args.piece.now c.next_event-n.result.0 c.next_event-n.result.1
-    (Ok (Some c.in-Ok-Some.event)) c.next_event-n.ensures.nexts (c.in-Ok-Some.is ∙ ap Ok c.in-Ok-Some.field-0-is) tt octets told g)
-    (c.answer.ensures.answers (octets ++ take c.next_event-n.result.0 c.args.piece.now) told)
+    answers_event (channel_of c.args.self.now) (channel_of (of_end c.next_event-size.new.self)) (next_of c.args.self.now)
+    (next_of (of_end c.next_event-size.new.self)) c.args.moment c.args.piece.now c.next_event-size.result.size c.in-Ok-Some.event c.answer.result
+    (of_end c.next_event-size.new.self) c.answer.new.self octets told
+    (ap (λ (x : EndCore ServerRules Phase). x.rules.channel) c.next_event-size.ensures.kept)
+    (ap (λ (x : EndCore ServerRules Phase). x.numbers.next) c.next_event-size.ensures.kept)
+    (nexts_as server_side c.args.self.now.end c.next_event-size.new.self c.args.piece.now c.next_event-size.result.size c.next_event-size.result.outcome
+    (Ok (Some c.in-Ok-Some.event)) c.next_event-size.ensures.nexts (c.in-Ok-Some.is ∙ ap Ok c.in-Ok-Some.field-0-is) tt octets told g)
+    (c.answer.ensures.answers (octets ++ take c.next_event-size.result.size c.args.piece.now) told)
 
 pub returns-in-Ok-Some-clause-parts : goal.returns-in-Ok-Some-clause-parts
 returns-in-Ok-Some-clause-parts c = λ octets told g.
-    let nexts = nexts_as server_side c.args.self.now.end c.next_event-n.new.self c.args.piece.now c.next_event-n.result.0 c.next_event-n.result.1
-    (Ok (Some c.in-Ok-Some.event)) c.next_event-n.ensures.nexts (c.in-Ok-Some.is ∙ ap Ok c.in-Ok-Some.field-0-is) tt octets told g in
-    c.answer.ensures.parts (octets ++ take c.next_event-n.result.0 c.args.piece.now) told nexts.2
+    let nexts = nexts_as server_side c.args.self.now.end c.next_event-size.new.self c.args.piece.now c.next_event-size.result.size
+    c.next_event-size.result.outcome (Ok (Some c.in-Ok-Some.event)) c.next_event-size.ensures.nexts (c.in-Ok-Some.is ∙ ap Ok c.in-Ok-Some.field-0-is) tt
+    octets told g in
+    c.answer.ensures.parts (octets ++ take c.next_event-size.result.size c.args.piece.now) told nexts.2
 
 pub returns-in-Err-clause-answers : goal.returns-in-Err-clause-answers
 returns-in-Err-clause-answers c = λ octets told g.
-    answers_fault (channel_of c.args.self.now) (next_of c.args.self.now) c.args.moment c.args.piece.now c.next_event-n.result.0 c.in-Err.fault c.of_step.result
-    (of_end c.next_event-n.new.self) octets told
-    (nexts_as server_side c.args.self.now.end c.next_event-n.new.self c.args.piece.now c.next_event-n.result.0 c.next_event-n.result.1
-    (Err c.in-Err.fault) c.next_event-n.ensures.nexts c.in-Err.is tt octets told g) c.of_step.ensures
+    answers_fault (channel_of c.args.self.now) (next_of c.args.self.now) c.args.moment c.args.piece.now c.next_event-size.result.size c.in-Err.fault
+    c.of_end.result (of_end c.next_event-size.new.self) octets told
+    (nexts_as server_side c.args.self.now.end c.next_event-size.new.self c.args.piece.now c.next_event-size.result.size c.next_event-size.result.outcome
+    (Err c.in-Err.fault) c.next_event-size.ensures.nexts c.in-Err.is tt octets told g) c.of_end.ensures
 
 pub returns-in-Ok-Some-clause-starves : goal.returns-in-Ok-Some-clause-starves
 returns-in-Ok-Some-clause-starves c = λ octets told g failed.
-    let nexts = nexts_as server_side c.args.self.now.end c.next_event-n.new.self c.args.piece.now c.next_event-n.result.0 c.next_event-n.result.1
-    (Ok (Some c.in-Ok-Some.event)) c.next_event-n.ensures.nexts (c.in-Ok-Some.is ∙ ap Ok c.in-Ok-Some.field-0-is) tt octets told g in
-    starved_event (of_end c.next_event-n.new.self) c.answer.new.self (octets ++ take c.next_event-n.result.0 c.args.piece.now) told c.in-Ok-Some.event
+    let nexts = nexts_as server_side c.args.self.now.end c.next_event-size.new.self c.args.piece.now c.next_event-size.result.size
+    c.next_event-size.result.outcome (Ok (Some c.in-Ok-Some.event)) c.next_event-size.ensures.nexts (c.in-Ok-Some.is ∙ ap Ok c.in-Ok-Some.field-0-is) tt
+    octets told g in
+    starved_event (of_end c.next_event-size.new.self) c.answer.new.self (octets ++ take c.next_event-size.result.size c.args.piece.now) told c.in-Ok-Some.event
     c.answer.result c.answer.ensures.limits c.answer.ensures.channel
-    (done_by (channel_of (of_end c.next_event-n.new.self)) (next_of (of_end c.next_event-n.new.self)) c.args.moment c.answer.result c.answer.new.self
-    (octets ++ take c.next_event-n.result.0 c.args.piece.now) told failed
-    (c.answer.ensures.answers (octets ++ take c.next_event-n.result.0 c.args.piece.now) told nexts.2))
+    (done_by (channel_of (of_end c.next_event-size.new.self)) (next_of (of_end c.next_event-size.new.self)) c.args.moment c.answer.result c.answer.new.self
+    (octets ++ take c.next_event-size.result.size c.args.piece.now) told failed
+    (c.answer.ensures.answers (octets ++ take c.next_event-size.result.size c.args.piece.now) told nexts.2))
     nexts.2 c.answer.ensures.closes failed
 
 pub returns-in-Err-clause-starves : goal.returns-in-Err-clause-starves
 returns-in-Err-clause-starves c = λ octets told g failed.
-    starved_fault c.args.piece.now c.next_event-n.result.0 c.in-Err.fault c.of_step.result (of_end c.next_event-n.new.self) octets told
-    (nexts_as server_side c.args.self.now.end c.next_event-n.new.self c.args.piece.now c.next_event-n.result.0 c.next_event-n.result.1
-    (Err c.in-Err.fault) c.next_event-n.ensures.nexts c.in-Err.is tt octets told g) c.of_step.ensures failed
+    starved_fault c.args.piece.now c.next_event-size.result.size c.in-Err.fault c.of_end.result (of_end c.next_event-size.new.self) octets told
+    (nexts_as server_side c.args.self.now.end c.next_event-size.new.self c.args.piece.now c.next_event-size.result.size c.next_event-size.result.outcome
+    (Err c.in-Err.fault) c.next_event-size.ensures.nexts c.in-Err.is tt octets told g) c.of_end.ensures failed

@@ -10,26 +10,26 @@ use Rattle.ua_channel.proofs.server.ServerChannel.take.Goals as goal
 pub returns-in-Ok-clause-answers : goal.returns-in-Ok-clause-answers
 returns-in-Ok-clause-answers c = λ octets told g.
     subst (λ (a : Result ServerEvent ChannelFault). AnswersAt (channel_of c.args.self.now) (next_of c.args.self.now) c.args.moment c.args.piece.now
-    c.advance-n.result.0 a c.advance-n.new.self octets told) c.in-Ok.is (c.advance-n.ensures.answers octets told g)
+    c.advance-size.result.size a c.advance-size.new.self octets told) c.in-Ok.is (c.advance-size.ensures.answers octets told g)
 
 pub returns-in-Err-clause-answers : goal.returns-in-Err-clause-answers
 returns-in-Err-clause-answers c = λ octets told g. (
-  c.advance-n.result.0,
+  c.advance-size.result.size,
   subst (λ (a : Result ServerEvent ChannelFault). AnswersAt (channel_of c.args.self.now) (next_of c.args.self.now) c.args.moment c.args.piece.now
-      c.advance-n.result.0 a c.advance-n.new.self octets told) c.in-Err.is (c.advance-n.ensures.answers octets told g),
+      c.advance-size.result.size a c.advance-size.new.self octets told) c.in-Err.is (c.advance-size.ensures.answers octets told g),
 )
 
 pub returns-in-Ok-clause-parts : goal.returns-in-Ok-clause-parts
 returns-in-Ok-clause-parts c = λ octets told g.
     subst (λ (a : Result ServerEvent ChannelFault).
-    IfOk a (λ e. AsksInParts (parts_asked e) c.advance-n.new.self (octets ++ take c.advance-n.result.0 c.args.piece.now))) c.in-Ok.is
-    (c.advance-n.ensures.parts octets told g)
+    IfOk a (λ e. AsksInParts (parts_asked e) c.advance-size.new.self (octets ++ take c.advance-size.result.size c.args.piece.now))) c.in-Ok.is
+    (c.advance-size.ensures.parts octets told g)
 
 pub returns-in-Err-clause-starves : goal.returns-in-Err-clause-starves
 returns-in-Err-clause-starves c = λ octets told g failed.
     let is : c.in-Err.fault ≡ fault.OutOfMemory = cc in (
-      c.advance-n.result.0,
-      subst (λ (a : Result ServerEvent ChannelFault). Progress c.args.piece.now c.advance-n.result.0 a) c.in-Err.is
-          c.advance-n.ensures.progress,
-      c.advance-n.ensures.starves octets told g (c.in-Err.is ∙ ap Err is),
+      c.advance-size.result.size,
+      subst (λ (a : Result ServerEvent ChannelFault). Progress c.args.piece.now c.advance-size.result.size a) c.in-Err.is
+          c.advance-size.ensures.progress,
+      c.advance-size.ensures.starves octets told g (c.in-Err.is ∙ ap Err is),
     )

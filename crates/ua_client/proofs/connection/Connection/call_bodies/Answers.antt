@@ -39,7 +39,7 @@ returns-in_err-asked-clause-failed g c =
 pub returns-in_default-clause-calls : goal.returns-in_default-clause-calls
 returns-in_default-clause-calls g c =
     let mid : Connection = record { channel = c.ask_group.new.channel; piece = c.args.self.now.piece } in
-    let asked : IsAsked c.args.requests.now c.args.self.now mid c.in_ok-asked.asked.0 (asked_octets c.in_ok-asked.asked.1.items) = record {
+    let asked : IsAsked c.args.requests.now c.args.self.now mid c.in_ok-asked.asked.first (asked_octets c.in_ok-asked.asked.calls.items) = record {
       bodies = c.args.bodies.now;
       bodies_are = c.requires.bodies;
       judged = none-refused c.args.requests.now c.requires.few c.args.self.now.channel c.requires.judged;
@@ -48,7 +48,7 @@ returns-in_default-clause-calls g c =
       some = c.requires.some;
       asks = c.in_ok-asked.ensures.asks;
     } in
-    group-unwritten c.args.requests.now c.args.self.now mid c.in_ok-asked.asked.0 (asked_octets c.in_ok-asked.asked.1.items) asked
+    group-unwritten c.args.requests.now c.args.self.now mid c.in_ok-asked.asked.first (asked_octets c.in_ok-asked.asked.calls.items) asked
     (g.L.Line.traffic c.args.line.now) (g.L.Line.traffic c.write_calls.new.line) c.args.reads.now c.args.replies.now.items c.make_room.new.replies.items
     c.in_ok-make_room.ensures.same (subst (λ (cs : List AskedCall). 0 < length (asked_octets cs)) c.deref.ensures.value c.in_default.ensures.some)
     (subst (λ (cs : List AskedCall). IfTrafficKnown (WritesFront (asked_octets cs)) (g.L.Line.traffic c.args.line.now)
@@ -58,7 +58,7 @@ pub returns-in_err-slots-clause-calls : goal.returns-in_err-slots-clause-calls
 returns-in_err-slots-clause-calls g c =
     let p = err_from_is_err_and c.from_residual-in_err-slots.result c.from_residual-in_err-slots.ensures.1 in
     let mid : Connection = record { channel = c.ask_group.new.channel; piece = c.args.self.now.piece } in
-    let asked : IsAsked c.args.requests.now c.args.self.now mid c.in_ok-asked.asked.0 (asked_octets c.in_ok-asked.asked.1.items) = record {
+    let asked : IsAsked c.args.requests.now c.args.self.now mid c.in_ok-asked.asked.first (asked_octets c.in_ok-asked.asked.calls.items) = record {
       bodies = c.args.bodies.now;
       bodies_are = c.requires.bodies;
       judged = none-refused c.args.requests.now c.requires.few c.args.self.now.channel c.requires.judged;
@@ -67,7 +67,7 @@ returns-in_err-slots-clause-calls g c =
       some = c.requires.some;
       asks = c.in_ok-asked.ensures.asks;
     } in
-    rw (p.1, p.2) (group-unslotted c.args.requests.now c.args.self.now mid c.in_ok-asked.asked.0 (asked_octets c.in_ok-asked.asked.1.items) asked
+    rw (p.1, p.2) (group-unslotted c.args.requests.now c.args.self.now mid c.in_ok-asked.asked.first (asked_octets c.in_ok-asked.asked.calls.items) asked
     c.calls_are_told_behind.ensures (g.L.Line.traffic c.args.line.now) (g.L.Line.traffic c.write_calls.new.line) c.args.reads.now
     (subst (λ (cs : List AskedCall). IfTrafficKnown (Carries [] (asked_octets cs)) (g.L.Line.traffic c.args.line.now) (g.L.Line.traffic c.write_calls.new.line))
     c.deref.ensures.value c.in-Ok.ensures.written)
@@ -81,7 +81,7 @@ returns-in_err-slots-clause-failed g c =
 pub returns-clause-calls : goal.returns-clause-calls
 returns-clause-calls g c =
     let mid : Connection = record { channel = c.ask_group.new.channel; piece = c.args.self.now.piece } in
-    let asked : IsAsked c.args.requests.now c.args.self.now mid c.in_ok-asked.asked.0 (asked_octets c.in_ok-asked.asked.1.items) = record {
+    let asked : IsAsked c.args.requests.now c.args.self.now mid c.in_ok-asked.asked.first (asked_octets c.in_ok-asked.asked.calls.items) = record {
       bodies = c.args.bodies.now;
       bodies_are = c.requires.bodies;
       judged = none-refused c.args.requests.now c.requires.few c.args.self.now.channel c.requires.judged;
@@ -90,9 +90,9 @@ returns-clause-calls g c =
       some = c.requires.some;
       asks = c.in_ok-asked.ensures.asks;
     } in
-    group-kept c.args.requests.now c.args.self.now mid c.in_ok-asked.asked.0 (asked_octets c.in_ok-asked.asked.1.items) asked c.calls_are_told_behind.ensures
-    c.collect-waited.new.self (g.L.Line.traffic c.args.line.now) (g.L.Line.traffic c.write_calls.new.line) (g.L.Line.traffic c.collect-waited.new.line)
-    c.args.reads.now c.collect-waited.new.reads
+    group-kept c.args.requests.now c.args.self.now mid c.in_ok-asked.asked.first (asked_octets c.in_ok-asked.asked.calls.items) asked
+    c.calls_are_told_behind.ensures c.collect-waited.new.self (g.L.Line.traffic c.args.line.now) (g.L.Line.traffic c.write_calls.new.line)
+    (g.L.Line.traffic c.collect-waited.new.line) c.args.reads.now c.collect-waited.new.reads
     (subst (λ (cs : List AskedCall). IfTrafficKnown (Carries [] (asked_octets cs)) (g.L.Line.traffic c.args.line.now) (g.L.Line.traffic c.write_calls.new.line))
     c.deref.ensures.value c.in-Ok.ensures.written)
     c.collect-waited.new.slots.items c.args.replies.now.items c.append_front.new.replies.items (c.append_front.ensures

@@ -1,6 +1,6 @@
 use Rattle.std.proofs.Common.{◌∙◌, ap, sym}
 use Rattle.std.proofs.lemmas.Bool.{lt-leb}
-use Rattle.ua_exchange.specs.Accepted.{is_crowded}
+use Rattle.ua_exchange.specs.inside.Counting.{is_crowded}
 use Rattle.ua_exchange.proofs.Counting.{crowded-few, crowded-many}
 use Rattle.ua_exchange.proofs.crowded.Last.is_crowded.Goals as goal
 

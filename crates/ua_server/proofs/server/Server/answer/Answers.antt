@@ -39,13 +39,13 @@ returns-in-Send-clause-stands c = λ old piece octets told b.
 
 pub returns-in-Ok-clause-stands : goal.returns-in-Ok-clause-stands
 returns-in-Ok-clause-stands c = λ old piece octets told b.
-    let said : Step = record { taken = c.args.taken; out = c.in-Ok.told.0; end = None } in
+    let said : Step = record { taken = c.args.taken; out = c.in-Ok.told.out; end = None } in
     let there = event-as (channel_of old) (next_of old) c.args.moment piece c.args.taken (channel_in c.args.self.now) octets told c.args.event
     (event.Asked c.in-Asked.id c.in-Asked.message) c.in-Asked.is b in
     saying-stands (channel_of old) (next_of old) c.args.moment piece c.args.taken (channel_in c.args.self.now) octets told c.saying-in-Ok.result said
     c.reply_to.new.channel c.saying-in-Ok.ensures
     (stands-replied (channel_of old) (next_of old) c.args.moment piece c.args.taken (channel_in c.args.self.now) octets told c.in-Asked.id c.in-Asked.message
-    c.reply_to.new.channel c.in-Ok.told.0.items there
+    c.reply_to.new.channel c.in-Ok.told.out.items there
     (c.in-Ok.ensures.sent (octets ++ take c.args.taken piece) (told ++ given_up there.quiet) there.answers.1.0.token there.answers.1.0.goes).0)
 
 pub returns-in-Err-clause-stands : goal.returns-in-Err-clause-stands
@@ -80,13 +80,13 @@ returns-in-Send-clause-now c = λ old piece octets told b.
 
 pub returns-in-Ok-clause-now : goal.returns-in-Ok-clause-now
 returns-in-Ok-clause-now c = λ old piece octets told b.
-    let said : Step = record { taken = c.args.taken; out = c.in-Ok.told.0; end = None } in
+    let said : Step = record { taken = c.args.taken; out = c.in-Ok.told.out; end = None } in
     let there = now-event old (channel_in c.args.self.now) c.args.moment piece c.args.taken octets told c.args.event
     (event.Asked c.in-Asked.id c.in-Asked.message) c.in-Asked.is b in
-    now-saying old (channel_in c.args.self.now) c.args.moment piece c.args.taken octets told c.args.services.now (Some c.in-Ok.told.1) c.saying-in-Ok.result
-    said c.reply_to.new.channel c.reply_to.new.services c.saying-in-Ok.ensures
-    (now-reply old (channel_in c.args.self.now) c.args.moment piece c.args.taken octets told c.args.services.now c.in-Ok.told.1 c.reply_to.new.channel
-    c.in-Asked.id c.in-Asked.message c.in-Ok.told.0.items c.reply_to.new.services there
+    now-saying old (channel_in c.args.self.now) c.args.moment piece c.args.taken octets told c.args.services.now (Some c.in-Ok.told.request)
+    c.saying-in-Ok.result said c.reply_to.new.channel c.reply_to.new.services c.saying-in-Ok.ensures
+    (now-reply old (channel_in c.args.self.now) c.args.moment piece c.args.taken octets told c.args.services.now c.in-Ok.told.request c.reply_to.new.channel
+    c.in-Asked.id c.in-Asked.message c.in-Ok.told.out.items c.reply_to.new.services there
     (c.in-Ok.ensures.sent (octets ++ take c.args.taken piece) (told ++ given_up there.quiet) there.answers.1.0.token there.answers.1.0.goes)
     c.in-Ok.ensures.state
     (c.in-Ok.ensures.noted (octets ++ take c.args.taken piece) (told ++ given_up there.quiet) there.answers.1.0.token there.answers.1.0.goes))
@@ -130,13 +130,13 @@ returns-in-Send-clause-stores c = λ old piece octets told b.
 
 pub returns-in-Ok-clause-stores : goal.returns-in-Ok-clause-stores
 returns-in-Ok-clause-stores c = λ old piece octets told b.
-    let said : Step = record { taken = c.args.taken; out = c.in-Ok.told.0; end = None } in
+    let said : Step = record { taken = c.args.taken; out = c.in-Ok.told.out; end = None } in
     let there = event-as (channel_of old) (next_of old) c.args.moment piece c.args.taken (channel_in c.args.self.now) octets told c.args.event
     (event.Asked c.in-Asked.id c.in-Asked.message) c.in-Asked.is b in
     saying-stores (channel_of old) (next_of old) c.args.moment piece c.args.taken (channel_in c.args.self.now) octets told c.args.services.now
     c.saying-in-Ok.result said c.reply_to.new.written c.reply_to.new.channel c.saying-in-Ok.ensures
     (stores-replied (channel_of old) (next_of old) c.args.moment piece c.args.taken (channel_in c.args.self.now) octets told c.args.services.now c.in-Asked.id
-    c.in-Asked.message c.reply_to.new.channel c.in-Ok.told.0.items there c.reply_to.new.written
+    c.in-Asked.message c.reply_to.new.channel c.in-Ok.told.out.items there c.reply_to.new.written
     (c.in-Ok.ensures.sent (octets ++ take c.args.taken piece) (told ++ given_up there.quiet) there.answers.1.0.token there.answers.1.0.goes).0
     c.in-Ok.ensures.stored)
 

@@ -38,26 +38,26 @@ returns-in-Some-clause-handles g c = λ limits channel first read written given 
     (g.L.Line.traffic c.args.line.now) c.args.self.now (c.args.services.now, c.args.application.now) c.args.piece.now c.loop-taken.taken
     (c.loop-taken.moments, c.loop-taken.watch) (c.turn.new.moments, c.turn.new.watch) (g.L.Line.traffic c.loop-taken.line)
     (g.L.Line.traffic c.turn.new.line) c.loop-taken.self c.turn.new.self (c.loop-taken.services, c.loop-taken.application)
-    (c.turn.new.services, c.turn.new.application) read written given so c.in-Ok.turn.0 c.in-Ok.turn.1 c.in-Some.end c.in-Some.is
+    (c.turn.new.services, c.turn.new.application) read written given so c.in-Ok.turn.size c.in-Ok.turn.outcome c.in-Some.end c.in-Some.is
     (c.in-Ok.ensures.turns limits channel first (read ++ take c.loop-taken.taken c.args.piece.now) (written ++ so.written) (given ++ so.ticks) so.holds)
 
 pub returns-in-Some-clause-failed : goal.returns-in-Some-clause-failed
 returns-in-Some-clause-failed g c = c.in-Ok.ensures.failed ∙ c.loop-taken.invariant.same
 
 pub loop-taken-smaller : goal.loop-taken-smaller
-loop-taken-smaller g c = turns-fewer c.args.piece.now c.loop-taken.taken c.in-Ok.turn.0 c.loop-taken-test.true c.in-Ok.ensures.progress.0
+loop-taken-smaller g c = turns-fewer c.args.piece.now c.loop-taken.taken c.in-Ok.turn.size c.loop-taken-test.true c.in-Ok.ensures.progress.0
     (c.in-Ok.ensures.progress.1 c.in-None.is)
 
 pub loop-taken-preserved : goal.loop-taken-preserved
 loop-taken-preserved g c = record {
-  within = within-piece c.args.piece.now c.loop-taken.taken c.in-Ok.turn.0 c.loop-taken.invariant.within c.in-Ok.ensures.progress.0;
+  within = within-piece c.args.piece.now c.loop-taken.taken c.in-Ok.turn.size c.loop-taken.invariant.within c.in-Ok.ensures.progress.0;
   so_far = λ limits channel first read written given k.
       let so = c.loop-taken.invariant.so_far limits channel first read written given k in
       handled-more g.A.Application.changes limits channel first (Happens g.M.Moments.gives g.W.Watch.notes) (c.args.moments.now, c.args.watch.now)
       (g.L.Line.traffic c.args.line.now) c.args.self.now (c.args.services.now, c.args.application.now) c.args.piece.now c.loop-taken.taken
       (c.loop-taken.moments, c.loop-taken.watch) (c.turn.new.moments, c.turn.new.watch) (g.L.Line.traffic c.loop-taken.line)
       (g.L.Line.traffic c.turn.new.line) c.loop-taken.self c.turn.new.self (c.loop-taken.services, c.loop-taken.application)
-      (c.turn.new.services, c.turn.new.application) read written given so c.in-Ok.turn.0 c.in-Ok.turn.1 c.in-None.is
+      (c.turn.new.services, c.turn.new.application) read written given so c.in-Ok.turn.size c.in-Ok.turn.outcome c.in-None.is
       (c.in-Ok.ensures.turns limits channel first (read ++ take c.loop-taken.taken c.args.piece.now) (written ++ so.written) (given ++ so.ticks) so.holds);
   same = c.in-Ok.ensures.failed ∙ c.loop-taken.invariant.same;
   told = told-more g.W.Watch.notes c.args.watch.now c.loop-taken.watch c.turn.new.watch c.loop-taken.invariant.told c.in-Ok.ensures.told;

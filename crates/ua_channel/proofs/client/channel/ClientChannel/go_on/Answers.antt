@@ -10,40 +10,44 @@ use Rattle.ua_channel.proofs.client.channel.ClientChannel.go_on.Goals as goal
 
 pub returns-in-Ok-None-clause-answers : goal.returns-in-Ok-None-clause-answers
 returns-in-Ok-None-clause-answers c = λ asks octets told g.
-    nexts_as client_side c.args.self.now.end c.next_event-n.new.self c.args.piece.now c.next_event-n.result.0 c.next_event-n.result.1
-    (Ok None) c.next_event-n.ensures.nexts (c.in-Ok-None.is ∙ ap Ok c.in-Ok-None.field-0-is) asks octets told g
+    nexts_as client_side c.args.self.now.end c.next_event-size.new.self c.args.piece.now c.next_event-size.result.size c.next_event-size.result.outcome
+    (Ok None) c.next_event-size.ensures.nexts (c.in-Ok-None.is ∙ ap Ok c.in-Ok-None.field-0-is) asks octets told g
 
 pub returns-in-Ok-Some-clause-answers : goal.returns-in-Ok-Some-clause-answers
 returns-in-Ok-Some-clause-answers c = λ asks octets told g.
-    let nexts = nexts_as client_side c.args.self.now.end c.next_event-n.new.self c.args.piece.now c.next_event-n.result.0 c.next_event-n.result.1
-    (Ok (Some c.in-Ok-Some.event)) c.next_event-n.ensures.nexts (c.in-Ok-Some.is ∙ ap Ok c.in-Ok-Some.field-0-is) asks octets told g in
-    answers_event c.args.moment c.args.piece.now c.next_event-n.result.0 c.answer.result c.answer.new.self asks octets told
-    (c.answer.ensures.answers asks (octets ++ take c.next_event-n.result.0 c.args.piece.now) told nexts.2)
+    let nexts = nexts_as client_side c.args.self.now.end c.next_event-size.new.self c.args.piece.now c.next_event-size.result.size
+    c.next_event-size.result.outcome (Ok (Some c.in-Ok-Some.event)) c.next_event-size.ensures.nexts (c.in-Ok-Some.is ∙ ap Ok c.in-Ok-Some.field-0-is) asks
+    octets told g in
+    answers_event c.args.moment c.args.piece.now c.next_event-size.result.size c.answer.result c.answer.new.self asks octets told
+    (c.answer.ensures.answers asks (octets ++ take c.next_event-size.result.size c.args.piece.now) told nexts.2)
 
 pub returns-in-Ok-Some-clause-parts : goal.returns-in-Ok-Some-clause-parts
 returns-in-Ok-Some-clause-parts c = λ asks octets told g.
-    let nexts = nexts_as client_side c.args.self.now.end c.next_event-n.new.self c.args.piece.now c.next_event-n.result.0 c.next_event-n.result.1
-    (Ok (Some c.in-Ok-Some.event)) c.next_event-n.ensures.nexts (c.in-Ok-Some.is ∙ ap Ok c.in-Ok-Some.field-0-is) asks octets told g in
-    c.answer.ensures.parts asks (octets ++ take c.next_event-n.result.0 c.args.piece.now) told nexts.2
+    let nexts = nexts_as client_side c.args.self.now.end c.next_event-size.new.self c.args.piece.now c.next_event-size.result.size
+    c.next_event-size.result.outcome (Ok (Some c.in-Ok-Some.event)) c.next_event-size.ensures.nexts (c.in-Ok-Some.is ∙ ap Ok c.in-Ok-Some.field-0-is) asks
+    octets told g in
+    c.answer.ensures.parts asks (octets ++ take c.next_event-size.result.size c.args.piece.now) told nexts.2
 
 pub returns-in-Ok-Some-clause-starves : goal.returns-in-Ok-Some-clause-starves
 returns-in-Ok-Some-clause-starves c = λ asks octets told g failed.
-    let nexts = nexts_as client_side c.args.self.now.end c.next_event-n.new.self c.args.piece.now c.next_event-n.result.0 c.next_event-n.result.1
-    (Ok (Some c.in-Ok-Some.event)) c.next_event-n.ensures.nexts (c.in-Ok-Some.is ∙ ap Ok c.in-Ok-Some.field-0-is) asks octets told g in
-    starved_event c.args.moment (with_end c.args.self.now c.next_event-n.new.self) c.answer.new.self asks
-    (octets ++ take c.next_event-n.result.0 c.args.piece.now) told _ c.answer.result (sym c.answer.ensures.same.limits) nexts.2.0
-    (c.answer.ensures.answers asks (octets ++ take c.next_event-n.result.0 c.args.piece.now) told nexts.2) failed
+    let nexts = nexts_as client_side c.args.self.now.end c.next_event-size.new.self c.args.piece.now c.next_event-size.result.size
+    c.next_event-size.result.outcome (Ok (Some c.in-Ok-Some.event)) c.next_event-size.ensures.nexts (c.in-Ok-Some.is ∙ ap Ok c.in-Ok-Some.field-0-is) asks
+    octets told g in
+    starved_event c.args.moment (with_end c.args.self.now c.next_event-size.new.self) c.answer.new.self asks
+    (octets ++ take c.next_event-size.result.size c.args.piece.now) told _ c.answer.result (sym c.answer.ensures.same.limits) nexts.2.0
+    (c.answer.ensures.answers asks (octets ++ take c.next_event-size.result.size c.args.piece.now) told nexts.2) failed
 
 pub returns-in-Err-clause-answers : goal.returns-in-Err-clause-answers
 returns-in-Err-clause-answers c = λ asks octets told g.
-    subst (λ (r : Result ClientEvent ClientTakeFault). ClientAnswers c.args.moment c.args.piece.now (counted c.next_event-n.result.0 r)
-    (with_end c.args.self.now c.next_event-n.new.self) asks octets told) (sym c.of_fault.ensures)
-    (answers_fault c.args.moment c.args.piece.now c.next_event-n.result.0 c.in-Err.fault (with_end c.args.self.now c.next_event-n.new.self) asks octets told
-    (nexts_as client_side c.args.self.now.end c.next_event-n.new.self c.args.piece.now c.next_event-n.result.0 c.next_event-n.result.1
-    (Err c.in-Err.fault) c.next_event-n.ensures.nexts c.in-Err.is asks octets told g))
+    subst (λ (r : Result ClientEvent ClientTakeFault). ClientAnswers c.args.moment c.args.piece.now (counted c.next_event-size.result.size r)
+    (with_end c.args.self.now c.next_event-size.new.self) asks octets told) (sym c.of_fault.ensures)
+    (answers_fault c.args.moment c.args.piece.now c.next_event-size.result.size c.in-Err.fault (with_end c.args.self.now c.next_event-size.new.self) asks octets
+    told
+    (nexts_as client_side c.args.self.now.end c.next_event-size.new.self c.args.piece.now c.next_event-size.result.size c.next_event-size.result.outcome
+    (Err c.in-Err.fault) c.next_event-size.ensures.nexts c.in-Err.is asks octets told g))
 
 pub returns-in-Err-clause-starves : goal.returns-in-Err-clause-starves
 returns-in-Err-clause-starves c = λ asks octets told g failed.
-    starved_fault c.args.piece.now c.next_event-n.result.0 c.in-Err.fault (with_end c.args.self.now c.next_event-n.new.self) asks octets told
-    (nexts_as client_side c.args.self.now.end c.next_event-n.new.self c.args.piece.now c.next_event-n.result.0 c.next_event-n.result.1
-    (Err c.in-Err.fault) c.next_event-n.ensures.nexts c.in-Err.is asks octets told g) (sym c.of_fault.ensures ∙ failed)
+    starved_fault c.args.piece.now c.next_event-size.result.size c.in-Err.fault (with_end c.args.self.now c.next_event-size.new.self) asks octets told
+    (nexts_as client_side c.args.self.now.end c.next_event-size.new.self c.args.piece.now c.next_event-size.result.size c.next_event-size.result.outcome
+    (Err c.in-Err.fault) c.next_event-size.ensures.nexts c.in-Err.is asks octets told g) (sym c.of_fault.ensures ∙ failed)

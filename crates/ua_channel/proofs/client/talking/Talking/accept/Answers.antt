@@ -2,7 +2,7 @@ use Rattle.std.proofs.Common.{refl, sym, subst}
 use Rattle.ua_chunk.specs.Assembling.{octet_limit, chunk_limit, last_number}
 use Rattle.ua_chunk.specs.Refusal.{reasons}
 use Rattle.ua_channel.specs.inside.ClientParts.{IsStopFor, refused_reasons}
-use Rattle.ua_channel.specs.declared.step_fault.StepFault.{StepFault}
+use Rattle.ua_channel.specs.declared.end_fault.EndFault.{EndFault}
 use Rattle.ua_channel.proofs.ClientChunks.{accepts, refuses}
 use Rattle.ua_channel.proofs.client.talking.Talking.accept.Goals as goal
 
@@ -22,6 +22,6 @@ returns-in-Ok c = λ cs s. (
 
 pub returns-in-Err : goal.returns-in-Err
 returns-in-Err c = λ cs s.
-    subst (λ (x : StepFault). IsStopFor (refused_reasons c.args.self.now cs c.args.chunk) x) (sym c.of_chunk.ensures)
+    subst (λ (x : EndFault). IsStopFor (refused_reasons c.args.self.now cs c.args.chunk) x) (sym c.of_chunk.ensures)
     (refuses (reasons (octet_limit c.args.self.now.assembler) (chunk_limit c.args.self.now.assembler) (last_number c.args.self.now.assembler) cs c.args.chunk)
     c.in-Err.fault (c.in-Err.ensures.faults cs s))

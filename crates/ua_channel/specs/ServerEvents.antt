@@ -1,5 +1,5 @@
 -- Events of a server, as what frames tell, and the parts of their messages.
-use Rattle.std.specs.Prelude.{ℕ, Bool, true, false, List, [], ◌∷◌, Option, Some, None}
+use Rattle.std.specs.Prelude.{ℕ, Bool, true, false, List, Option, Some, None}
 use Rattle.std.specs.List.{concat}
 use Rattle.ua_channel.specs.declared.server_event.Event.{Event}
 use Rattle.ua_channel.specs.ServerTold.{Told, Agreed, Opened, Asked, GaveUp, Closed}
@@ -12,11 +12,6 @@ told_of (event.Opened request handle token lifetime) = Opened request handle tok
 told_of (event.Asked request token message) = Asked request token (concat message)
 told_of (event.Aborted request) = GaveUp request
 told_of event.Closed = Closed
-
--- what is told by an event, if there is one
-abbrev pub told_list : Option Event → List Told
-told_list None = []
-told_list (Some e) = told_of e ∷ []
 
 -- the parts of the message of an event, if it has one
 abbrev pub parts_of : Option Event → Option (List (List ℕ))
