@@ -1,1 +1,1 @@
-"""What tools/add_service.py is made of, from the lowest up: texts, structures, forms, kinds, descriptions, steps, checks."""
+"""What tools/add_service.py is made of, from the lowest up: texts, words, schema, forms, generated, kinds, descriptions, steps, checks."""

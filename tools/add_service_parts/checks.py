@@ -1,14 +1,18 @@
 """Compares what would be written with what stands."""
 from __future__ import annotations
 
-import re
-
 from add_service_parts.descriptions import described, refuse_what_stands
-from add_service_parts.forms import answer_of, entries_of, format_of, lemma_of, lines_of, rust_of, shown_of
+from add_service_parts.forms import cells_of, declaration_of, row_of
+from add_service_parts.generated import generated, has_layout, head, laid_out
 from add_service_parts.kinds import Kind, files_by_kind, kinds_of, places, renamed
+from add_service_parts.schema import Schema
 from add_service_parts.steps import write_service
-from add_service_parts.structures import OTHERWISE, Known, Structure
-from add_service_parts.texts import PAIR, ROWS, Refused, block, plain, read, under
+from add_service_parts.texts import DEFINITIONS, OPENING, PAIR, ROWS, SERVICES, STRUCTURES, Refused, plain, read, under
+
+# The crates that have files written from schema/.
+WRITTEN = (OPENING, STRUCTURES, PAIR, ROWS)
+# Lines of a kind that are no copies of those of another one.
+OTHERWISE = (f"{SERVICES}/proofs/ResponseLawful.antt: Read", f"{SERVICES}/proofs/RequestLawful.antt: Write")
 
 # A service that is written for the check, and not saved: so each place that a new one needs is looked for.
 SAMPLE = """# A service (OPC 10000-4, 5).
@@ -48,13 +52,11 @@ REFUSED = (
 def check_refused() -> list[str]:
     """The descriptions that are to be refused and are not, or not for their reason."""
     wrong: list[str] = []
-    k = Known()
     for old, new, reason in REFUSED:
-        text, said = SAMPLE.replace(old, new, 1), "nothing"
+        text, said, k = SAMPLE.replace(old, new, 1), "nothing", Schema()
         try:
-            described_new, _, structures = described(text, k)
-            refuse_what_stands(described_new, structures, k)
-            k = Known()
+            new_kind, _, file = described(text, k)
+            refuse_what_stands(new_kind, file, k)
         except Refused as fault:
             said = str(fault)
         if text == SAMPLE or reason not in said:
@@ -62,26 +64,31 @@ def check_refused() -> list[str]:
     return wrong
 
 
-def check_structure(k: Known, s: Structure) -> list[str]:
-    """The parts of a structure that stand in another form than it would be written in."""
-    src, head = f"{s.crate}/src/{s.module}.rt", f"impl Wire for {s.name} {{"
-    pair = [re.sub(r"^#.*\n" if s.name in OTHERWISE["sound"] else r"\0", "", block(text, head)) for text in (rust_of(s), read(src))]
-    rest = [re.sub(r"^    fn read_value[\s\S]*?^    \}\n", "", it, flags=re.M) for it in pair]
-    wrong = [(src, part, plain(one) != plain(other)) for part, (one, other) in (("read_value", pair), ("impl", rest))]
-    forms = [(f"{s.crate}/specs/{s.spec}.antt", "format", f"unfoldable pub {s.word} :", format_of),
-             (f"{s.crate}/proofs/{s.spec}Sound.antt", "sound", f"pub sound_{s.word} :", lemma_of),
-             (f"{PAIR}/specs/{s.spec}.antt", "tree", f"unfoldable pub {s.word}_entries :", entries_of)]
-    for folder, part, start, form in ((f"{PAIR}/src/fields", "lines", f"impl Lines for {s.name} {{", lines_of),
-                                      (f"{ROWS}/src", "shown", f"impl Shown for {s.name} {{", shown_of)):
-        forms += [(path, part, start, form) for path in under(folder) if start in read(path)]
-    path = f"{PAIR}/proofs/fields/{s.module}/{s.name}Lines/push_lines/Answers.antt"
-    forms += [(path, "answer", "[\\s\\S]*?returns c =", answer_of)] if read(path) else []
-    for path, part, start, form in forms:
-        try:
-            wrong.append((path, part, plain(form(s, k)) != plain(block(read(path), start))))
-        except Refused:
-            wrong.append((path, part, True))
-    return [f"{path}: {s.name}: {part}" for path, part, differs in wrong if differs != (s.name in OTHERWISE.get(part, ()))]
+def check_generated(k: Schema) -> list[str]:
+    """The files that are not as schema/ gives them: octet for octet, or where there is no `rt fmt` but for their layout."""
+    texts, same = laid_out(generated(k)), (lambda text: text) if has_layout() else plain
+    wrong = [path for path, text in texts.items() if same(read(path)) != same(text)]
+    mark = head(None, "", "").split("`")[1]
+    stray = [path for crate in WRITTEN for path in under(crate) if f"`{mark}`" in read(path).split("\n")[0] and path not in texts]
+    return [f"{path}: it is not what schema/ gives: tools/add_service.py --write" for path in wrong] + [f"{path}: schema/ gives no such file" for path in stray]
+
+
+def check_declared(k: Schema) -> list[str]:
+    """The structures whose declaration is not as schema/ has it."""
+    paths = {s.name: f"{s.crate}/src/{s.declared_in}.rt" for s in k.structures.values()}
+    return [f"{paths[s.name]}: {s.name} is not as schema/ has it:\n{declaration_of(s, k)}" for s in k.structures.values() if declaration_of(s, k) not in read(paths[s.name])]
+
+
+def check_rows(k: Schema) -> list[str]:
+    """The structures whose row in docs/ENCODINGS.md lacks a field, or has them in another order; between them it may say more."""
+    rows, wrong = read(DEFINITIONS).split("\n"), []
+    for s in k.structures.values():
+        row, at = next((it for it in rows if it.endswith(f"`{s.spec}.antt`: `{s.word}` |")), ""), 0
+        for cell in cells_of(s):
+            ends = [row.find(f" {cell}{end}", at) for end in (",", ";", " ")]
+            at = min((it for it in ends if it >= 0), default=len(row) + 1)
+        wrong += [f"{DEFINITIONS}: {s.name} is not as schema/ has it: {row_of(s).strip()}"] if at > len(row) else []
+    return wrong
 
 
 def check_kind(old: Kind, new: Kind) -> list[str]:
@@ -92,25 +99,25 @@ def check_kind(old: Kind, new: Kind) -> list[str]:
         stands = {plain("\n".join(lines[at:end])) for at, end in places(read(path), new)}
         copies = [renamed("\n".join(lines[at:end]), old, new) for at, end in places(read(path), old)]
         lacking = [it.strip() for it in copies if plain(it) not in stands]
-        wrong += [f"{path}: {new.name}: {it}" for it in lacking] if f"{path}: {new.name}" not in OTHERWISE["kind"] else []
+        wrong += [f"{path}: {new.name}: {it}" for it in lacking] if f"{path}: {new.name}" not in OTHERWISE else []
     return wrong
 
 
 def check() -> int:
     """Whether all that stands is as it would be written: the status, behind what differs."""
-    k = Known()
-    wrong = [it for s in k.structures.values() for it in check_structure(k, s)]
+    k = Schema()
+    wrong = check_generated(k) + check_declared(k) + check_rows(k)
     kinds = kinds_of(k)
     old = next(it for it in kinds if it.name == "CloseSession")
     wrong += [it for new in kinds for it in check_kind(old, new)]
-    count = f"{len(k.structures)} structures and {len(kinds)} kinds of message, {len(REFUSED)} descriptions that are refused"
+    count = f"{len(k.structures)} structures of schema/ in {len(generated(k))} files, {len(kinds)} kinds of message, {len(REFUSED)} descriptions that are refused"
     wrong += check_refused()
     try:
         write_service(SAMPLE, k)
     except Refused as fault:
         wrong.append(str(fault))
     if wrong:
-        print("What tools/add_service.py would write in another form than it stands in, or otherwise than OTHERWISE says:")
+        print("What is not as tools/add_service.py writes it:")
         print("".join(f"  {it}\n" for it in wrong), end="")
     print(f"{count}; {len(wrong)} places differ")
     return 1 if wrong else 0

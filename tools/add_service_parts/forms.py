@@ -1,11 +1,13 @@
 """What is written of each structure, from its fields alone."""
 from __future__ import annotations
 
-import re
 import textwrap
 
-from add_service_parts.structures import Known, Structure
-from add_service_parts.texts import braced, nested
+from add_service_parts.schema import Schema, Structure
+from add_service_parts.texts import braced, nested, stacked
+
+# The columns of a line of specs/ that is not broken.
+LONGEST = 160
 
 
 def filled(start: str, names: list[str], end: str) -> str:
@@ -21,14 +23,41 @@ def filled(start: str, names: list[str], end: str) -> str:
     return line
 
 
-def rust_of(s: Structure) -> str:
-    """A structure, and its `impl Wire`."""
-    fields = "".join(f"{s.about.get(name, '')}    pub {name}: {kind},\n" for name, kind in s.fields)
-    return f"""{s.comment}#[derive(Drop)]
-pub struct {s.name} {{
-{fields}}}
+def declaration_of(s: Structure, k: Schema) -> str:
+    """A structure, as it stands in the file of its module beside what makes it."""
+    fields = "".join(f"{s.about.get(name, '')}    pub {name}: {rust},\n" for name, rust in zip(s.names(), k.all("rust", s)))
+    return f"{s.comment}#[derive(Debug, Drop)]\npub struct {s.name} {{\n{fields}}}\n"
 
-#[tactic(auto, unfolding(crate::specs::{s.spec}::{s.word}), using(crate::proofs::{s.spec}Sound::sound_{s.word}))]
+
+def read_of(s: Structure, k: Schema) -> str:
+    """The body that reads it: all fields at once, or as an option says."""
+    if s.by("read in place"):
+        held = "header" if s.name.endswith("Header") else "message"
+        return f"""let mut {held} = {s.name}::empty();
+        match {held}.read_into(alloc, src, depth) {{
+            Ok(()) => Ok({held}),
+            Err(fault) => {{
+                drop({held});
+                Err(fault)
+            }}
+        }}"""
+    if s.by("read field by field"):
+        reads = [f"let {name} = {rust}::read_value(alloc, src, depth)?;\n        " for name, rust in zip(s.names(), k.all("rust", s))]
+        return f"{''.join(reads)}Ok({s.name} {{ {', '.join(s.names())} }})"
+    return filled(f"read_fields!(alloc, src, depth => {s.name} {{ ", s.names(), " })")
+
+
+def append_of(s: Structure) -> str:
+    """The body that appends it."""
+    if s.by("appended by "):
+        return f"{s.by('appended by ')}({', '.join('&self.' + it for it in s.names())}, out)"
+    return filled("append_fields!(self, out => ", s.names(), ")")
+
+
+def wire_of(s: Structure, k: Schema) -> str:
+    """Its `impl Wire`."""
+    lemma = f"{s.spec}Lawful::lawful_{s.word}" if s.by("lawful by hand") else f"{s.spec}Sound::sound_{s.word}"
+    return f"""#[tactic(auto, unfolding(crate::specs::{s.spec}::{s.word}), using(crate::proofs::{lemma}))]
 impl Wire for {s.name} {{
     ghost use Rattle.{s.library}.specs.{s.spec}.{{{s.word}}};
 
@@ -38,7 +67,7 @@ impl Wire for {s.name} {{
     fn lawful() {{}}
 
     fn read_value<S: Source>(alloc: Global, src: &mut S, depth: u32) -> Result<Self, ReadFault> {{
-        {filled(f"read_fields!(alloc, src, depth => {s.name} {{ ", s.names(), " })")}
+        {read_of(s, k)}
     }}
 
     fn is_encodable(&self) -> bool {{
@@ -46,39 +75,42 @@ impl Wire for {s.name} {{
     }}
 
     fn append(&self, out: &mut Vec<u8>) -> Result<(), AllocError> {{
-        {filled("append_fields!(self, out => ", s.names(), ")")}
+        {append_of(s)}
     }}
 }}
 """
 
 
-def format_of(s: Structure, k: Known) -> str:
+def format_of(s: Structure, k: Schema) -> str:
     """Its format, for a file of specs/."""
-    tuples, record = nested(s.names()), "; ".join(f"{it} = {it}" for it in s.names())
+    tuples, record, parts = nested(s.names()), "; ".join(f"{it} = {it}" for it in s.names()), ["s." + it for it in s.names()]
     record = f"{{ {record} }}" if len(tuples + record) < 120 else "{\n      " + record.replace("; ", ";\n      ") + ";\n    }"
+    if len(tuples) > LONGEST - 20:
+        tuples = stacked(s.names(), "    ")
+    values = nested(parts) if len(nested(parts)) < LONGEST - 10 else stacked(parts, "    ")
     return f"""-- ---- {s.name}
 
 -- its fields in order ({s.clause})
 unfoldable pub {s.word} : Format {s.name}
 {s.word} = struct
     (λ {tuples}. record {record})
-    (λ s. {nested(['s.' + it for it in s.names()])})
+    (λ s. {values})
     {nested([braced(it) for it in k.all('format', s)], 'pair')}
 """
 
 
-def lemma_of(s: Structure, k: Known) -> str:
+def lemma_of(s: Structure, k: Schema) -> str:
     """That its format is sound."""
-    body = nested([braced(it) for it in k.all("sound", s)], "sound_pair")
+    body = nested([braced(it) for it in k.all("lemma", s)], "sound_pair")
     return f"pub sound_{s.word} : Sound {s.word}\nunfolding {s.word}\nsound_{s.word} = sound_struct _ _ (λ v. refl) (λ p. refl) {body}\n"
 
 
-def is_part(k: Known, kind: str) -> bool:
+def is_part(k: Schema, kind: str) -> bool:
     """Whether a field of this type has lines of its own below its name."""
     return k.word("tree", kind).startswith("structure ")
 
 
-def lines_of(s: Structure, k: Known) -> str:
+def lines_of(s: Structure, k: Schema) -> str:
     """Its fields as lines."""
     calls = [f"push_{'part' if is_part(k, kind) else 'field'} {name}" for name, kind in s.fields]
     return f"""impl Lines for {s.name} {{
@@ -95,7 +127,7 @@ def lines_of(s: Structure, k: Known) -> str:
 """
 
 
-def answer_of(s: Structure, k: Known) -> str:
+def answer_of(s: Structure, k: Schema) -> str:
     """That the lines of its fields stand one behind the other."""
     count: dict[str, int] = {}
     calls = []
@@ -116,25 +148,39 @@ returns c = {proof}
 """
 
 
-def entries_of(s: Structure, k: Known) -> str:
+def title_of(s: Structure, message: str) -> str:
+    """What it is called: a message by its service.
+
+    >>> s = Structure("OpenRequest", "", "a"); s.service, s.role = "OpenSecureChannel", "request"
+    >>> title_of(s, "the {1} of {0}"), title_of(Structure("ReadValueId", "", "a"), "")
+    ('the request of OpenSecureChannel', 'ReadValueId')
+    """
+    return message.format(s.service, s.role) if s.service else s.name
+
+
+def entries_of(s: Structure, k: Schema) -> str:
     """Its fields as a tree, for a file of specs/."""
-    title = re.sub(r"^(\w+?)(Request|Response)$", lambda m: f"the {m.group(2).lower()} of {m.group(1)}", s.name)
     trees = [f'(codes "{name}", {tree.replace("@", "m." + name)})' for name, tree in zip(s.names(), k.all("tree", s))]
-    return f"""-- {title} ({s.clause})
+    return f"""-- {title_of(s, "the {1} of {0}")} ({s.clause})
 unfoldable pub {s.word}_entries : {s.name} → Fields
 {s.word}_entries m = named (
     """ + "\n    ∷ ".join(trees + ["[])"]) + "\n"
 
 
-def shown_of(s: Structure, k: Known) -> str:
+def shown_of(s: Structure, k: Schema) -> str:
     """Its `impl Shown`, for the rows."""
-    calls = [f"structure{'s' if '<' in kind else ''}" if is_part(k, re.sub(r"^UaArray<|>$", "", kind)) else "field" for _, kind in s.fields]
-    shown = "".join(f'        fields.{call}("{name}", &self.{name});\n' for call, name in zip(calls, s.names()))
+    shown = ""
+    for name, kind in s.fields:
+        call = f"structure{'s' if kind.endswith('[]') else ''}" if is_part(k, kind.removesuffix("[]")) else "field"
+        shown += f'        fields.{call}("{name}", &self.{name});\n'
     return f"impl Shown for {s.name} {{\n    fn show(&self, fields: &mut Fields) {{\n{shown}    }}\n}}\n"
 
 
-def row_of(s: Structure, k: Known) -> str:
+def cells_of(s: Structure) -> list[str]:
+    """Its fields in the table of structures."""
+    return [name if kind in ("RequestHeader", "ResponseHeader") else f"{name} {kind}" for name, kind in s.fields]
+
+
+def row_of(s: Structure) -> str:
     """Its row in the table of structures."""
-    title = re.sub(r"^(\w+?)(Request|Response)$", lambda m: f"{m.group(1)} {m.group(2).lower()}", s.name)
-    fields = [name if kind == title.split()[-1].capitalize() + "Header" else f"{name} {k.word('row', kind)}" for name, kind in s.fields]
-    return f"| {title} | {', '.join(fields)} | {s.clause.split(', ')[1]} | `{s.spec}.antt`: `{s.word}` |\n"
+    return f"| {title_of(s, '{0} {1}')} | {', '.join(cells_of(s))} | {s.clause.split(', ')[1]} | `{s.spec}.antt`: `{s.word}` |\n"

@@ -3,8 +3,9 @@ from __future__ import annotations
 
 import re
 
-from add_service_parts.structures import Known
-from add_service_parts.texts import DEFINITIONS, PAIR, ROWS, SERVICES, USE, code, depth, names_in, read, snake, under
+from add_service_parts.generated import SHOWN
+from add_service_parts.schema import Schema, title_case
+from add_service_parts.texts import PAIR, ROWS, SERVICES, STRUCTURES, USE, code, depth, names_in, read, snake, under
 
 # The crates whose lines by kind are copied.
 BY_KIND = (SERVICES, PAIR, ROWS)
@@ -15,8 +16,8 @@ MAKERS = tuple(f"{SERVICES}/{path}" for path in ("src/session_requests.rt", "spe
 class Kind:
     """A kind of message: its name, the numbers of its request and its response, and the files of its structures."""
 
-    def __init__(self, name: str, request: str = "", response: str = "", module: str = "", spec: str = "") -> None:
-        self.name, self.word, self.module, self.spec, self.items = name, snake(name), module, spec, ""
+    def __init__(self, name: str, request: str = "", response: str = "", module: str = "", spec: str = "", items: str = "") -> None:
+        self.name, self.word, self.module, self.spec, self.items = name, snake(name), module, spec, items
         self.request, self.response = request, response
         self.pattern = re.compile(rf"(?<![\w']){name}(?=(?:Request|Response|Answer)?(?![\w']))")
 
@@ -89,17 +90,16 @@ def copied(text: str, old: Kind, new: Kind) -> str:
 def files_by_kind(kind: Kind) -> list[str]:
     """The files with lines by kind; not those of the structures of the kind."""
     return [path for crate in BY_KIND for path in under(crate) if kind.name in read(path) and kind.pattern.search(read(path))
-            and not path.startswith(MAKERS) and not any(f"ua_pair/{it}" in path for it in (f"src/fields/{kind.module}.rt", f"specs/{kind.spec}.antt", "proofs/fields/"))]
+            and path != SHOWN and not path.startswith(MAKERS) and not any(f"ua_pair/{it}" in path for it in (f"src/fields/{kind.module}.rt", f"specs/{kind.spec}.antt", "proofs/fields/"))]
 
 
-def kinds_of(k: Known) -> list[Kind]:
-    """The kinds that stand."""
-    rows = re.findall(r"^\| (\w+) \| (\d+) \| (\d+) \|$", read(DEFINITIONS), re.M)
-    found = [(row, k.structures.get(row[0] + "Request")) for row in rows]
-    return [Kind(*row, request.module, request.spec) for row, request in found if request]
+def kinds_of(k: Schema) -> list[Kind]:
+    """The kinds that stand: the services of ua_structures."""
+    found = [it for file in k.files if file.crate == STRUCTURES for it in file.services]
+    return [Kind(it.name, it.numbers["request"], it.numbers["response"], it.module, title_case(it.module)) for it in found]
 
 
-def plain_kinds(k: Known) -> list[Kind]:
+def plain_kinds(k: Schema) -> list[Kind]:
     """The kinds of which no more is said than of most."""
     said = {kind: sum(len(places(read(path), kind)) for path in files_by_kind(kind)) for kind in kinds_of(k)}
     return [kind for kind in said if said[kind] == min(said.values())]

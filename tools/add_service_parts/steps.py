@@ -7,12 +7,13 @@ import re
 import shutil
 import subprocess
 
-from add_service_parts.descriptions import described, refuse_what_stands
-from add_service_parts.forms import answer_of, entries_of, format_of, lemma_of, lines_of, row_of, rust_of, shown_of
-from add_service_parts.kinds import Kind, copied, files_by_kind, renamed
-from add_service_parts.structures import Known, Structure
-from add_service_parts.texts import DEFINITIONS, HEADER, LEAVES, MEMORY, NEW, OLD, PAIR, ROWS, SERVER, SERVICES, STRUCTURES, TOP, USE
-from add_service_parts.texts import behind, block, line_of, names_in, origins_of, put, read, text_of, under, write
+from add_service_parts.descriptions import described, kept, refuse_what_stands
+from add_service_parts.forms import declaration_of, row_of
+from add_service_parts.generated import elements, generated, has_arrays, laid_out
+from add_service_parts.kinds import Kind, copied, files_by_kind, kinds_of, renamed
+from add_service_parts.schema import FOLDER, Schema, Structure
+from add_service_parts.texts import DEFINITIONS, HEADER, MEMORY, NEW, OLD, PAIR, ROWS, SERVER, SERVICES, STRUCTURES, TOP, USE
+from add_service_parts.texts import behind, line_of, names_in, put, read, text_of, write
 
 LEFT = """left to write:
   ua_server: in specs/ the reasons against it and its response, in specs/Answer.antt the service and its line of `answer`,
@@ -24,76 +25,73 @@ LEFT = """left to write:
   docs/DECISIONS.md, the README's first table, CHANGELOG.md"""
 
 
-def write_structures(new: Kind, old: Kind, structures: list[Structure], k: Known) -> None:
-    """Step 1."""
-    own, src, specs, proofs = "Rattle.ua_structures", f"{STRUCTURES}/src", f"{STRUCTURES}/specs", f"{STRUCTURES}/proofs"
+def write_generated(k: Schema) -> None:
+    """What is written from schema/ alone."""
+    for path, text in laid_out(generated(k)).items():
+        write(path, text)
+
+
+def write_structures(new: Kind, old: Kind, structures: list[Structure], k: Schema) -> None:
+    """Step 1, but for what is written from schema/ alone: the declarations, and the names of the files."""
+    src, specs, proofs = f"{STRUCTURES}/src", f"{STRUCTURES}/specs", f"{STRUCTURES}/proofs"
     use = next((m for m in USE.finditer(read(f"{src}/lib.rt")) if m.group(2) == new.module), None)
     if not use:
-        behind(f"{src}/lib.rt", f"mod {old.module};\n", f"mod {new.module};\n")
+        behind(f"{src}/lib.rt", f"mod {old.module}_wire;\n", f"mod {new.module};\nmod {new.module}_wire;\n")
         behind(f"{specs}/Lib.antt", f"pub mod {old.spec}\n", f"pub mod {new.spec}\n")
         behind(f"{proofs}/Lib.antt", f"pub mod {old.spec}Sound\n", f"pub mod {new.spec}Sound\n")
     names = ", ".join((names_in(use) if use else []) + [s.name for s in structures])
     write(f"{src}/lib.rt", read(f"{src}/lib.rt").replace(use.group() if use else "\0", "") + f"pub use {new.module}::{{{names}}};\n")
-    origins = k.origins | origins_of(under(src))
-    origins |= {s.name: f"crate::{s.module}" if s.crate == STRUCTURES else s.library for s in k.structures.values()}
-    counts = [len(s.fields) for s in structures]
-    adding = " append_two" * any(n % 2 == 0 or n > 3 for n in counts) + " append_three" * any(n % 2 and n > 1 for n in counts)
-    put(f"{src}/{new.module}.rt", f"//! The service {new.name}.", origins, [rust_of(s) for s in structures], "crate::", adding)
-    formats = {s.word: f"Rattle.{s.library}.specs.{s.spec}" for s in k.structures.values()}
-    origins = k.origins | origins_of(f"{specs}/{it}.antt" for it in k.specs) | formats | declared(structures)
-    put(f"{specs}/{new.spec}.antt", f"-- The structures of {new.name}.", origins, [format_of(s, k) for s in structures], own)
-    origins = k.origins | origins_of(f"{proofs}/{it}Sound.antt" for it in k.specs) | formats
-    origins |= {f"sound_{s.word}": f"Rattle.{s.library}.proofs.{s.spec}Sound" for s in k.structures.values()}
-    put(f"{proofs}/{new.spec}Sound.antt", f"-- The structures of {new.name} are sound.", origins, [lemma_of(s, k) for s in structures], own)
+    origins = {k.of(kind).rust: k.of(kind).library for kind in elements(structures) if k.of(kind).library}
+    origins |= {s.name: f"crate::{s.declared_in}" for s in k.structures.values() if s.name in origins and s.crate == STRUCTURES}
+    origins |= {"UaArray": "ua_opening"} if has_arrays(structures) else {}
+    put(f"{src}/{new.module}.rt", f"//! The service {new.name}.", origins, [declaration_of(s, k) for s in structures], "crate::")
 
 
-def declared(structures: list[Structure]) -> dict[str, str]:
-    """Where specs/ find the declarations of these structures."""
-    return {s.name: f"Rattle.ua_structures.specs.declared.{s.module}.{s.name}" for s in structures}
-
-
-def write_pair(new: Kind, old: Kind, structures: list[Structure], k: Known) -> None:
-    """Step 4."""
-    src, specs = f"{PAIR}/src/fields", f"{PAIR}/specs"
-    if not read(f"{src}/{new.module}.rt"):
+def write_pair(new: Kind, old: Kind) -> None:
+    """Step 4, but for what is written from schema/ alone: the names of the files."""
+    if not read(f"{PAIR}/src/fields/{new.module}.rt"):
         behind(f"{PAIR}/src/fields.rt", f"mod {old.module};\n", f"mod {new.module};\n")
-        behind(f"{specs}/Lib.antt", f"pub mod {old.spec}\n", f"pub mod {new.spec}\n")
-    origins = origins_of([f"{src}/{old.module}.rt"]) | {s.name: "ua_services" for s in structures}
-    put(f"{src}/{new.module}.rt", f"//! {new.name}, as lines.", origins, [lines_of(s, k) for s in structures], "crate::")
-    for s in structures:
-        write(f"{PAIR}/proofs/fields/{s.module}/{s.name}Lines/push_lines/Answers.antt", answer_of(s, k))
-    origins = origins_of(f"{specs}/{it}.antt" for it in k.specs) | declared(structures)
-    origins |= {f"{s.word}_entries": f"Rattle.ua_pair.specs.{s.spec}" for s in k.structures.values()}
-    origins |= {word: "Rattle.ua_pair.specs.Leaves" for word in re.findall(r"^abbrev pub (\w+) : \w+ → Tree$", read(LEAVES), re.M)}
-    put(f"{specs}/{new.spec}.antt", f"-- The fields of {new.name}.", origins, [entries_of(s, k) for s in structures], "Rattle.ua_pair")
+        behind(f"{PAIR}/specs/Lib.antt", f"pub mod {old.spec}\n", f"pub mod {new.spec}\n")
 
 
-def write_messages(new: Kind, old: Kind, structures: list[Structure], k: Known) -> None:
+def answering(row: str, kinds: set[str], old: Kind, new: Kind) -> str:
+    """A row that names all kinds which a response answers, with the new one in its place.
+
+    >>> answering("a answers Read Write b", {"Read", "Write"}, Kind("Read"), Kind("Browse"))
+    'a answers Read Browse Write b'
+    >>> answering("a answers Read b", {"Read", "Write"}, Kind("Read"), Kind("Browse"))
+    'a answers Read b'
+    """
+    before, mark, after = row.partition(" answers ")
+    words = after.split(" ")
+    count = next((n for n, word in enumerate(words) if word not in kinds), len(words))
+    if set(words[:count]) == kinds:
+        words.insert(words.index(old.name) + 1, new.name)
+    return before + mark + " ".join(words)
+
+
+def write_messages(new: Kind, old: Kind, structures: list[Structure], k: Schema) -> None:
     """Steps 2, 3, 6 and 7, and the rows of 8."""
-    before = " ".join(re.findall(r"^    (\w+),$", block(read(f"{SERVICES}/src/request.rt"), "pub enum RequestKind {"), re.M))
     for path in files_by_kind(old):
         write(path, copied(read(path), old, new))
-    after = re.sub(rf"\b{old.name}\b", f"{old.name} {new.name}", before)
-    write(f"{ROWS}/stdout", read(f"{ROWS}/stdout").replace(f" answers {before} ", f" answers {after} "))
+    kinds = {it.name for it in kinds_of(k)} - {new.name}
+    write(f"{ROWS}/stdout", "\n".join(answering(line, kinds, old, new) for line in read(f"{ROWS}/stdout").split("\n")))
     number = f"    UA_{old.word.upper()}_RESPONSE = {old.response},\n"
     behind(HEADER, number, number.replace(old.word.upper(), new.word.upper()).replace(old.response, new.response))
     numbers = f"| {old.name} | {old.request} | {old.response} |\n"
     behind(DEFINITIONS, numbers, renamed(numbers, old, new))
-    behind(DEFINITIONS, line_of(DEFINITIONS, rf".*`{old.word}_response` \|"), "".join(row_of(s, k) for s in structures))
+    behind(DEFINITIONS, line_of(DEFINITIONS, rf".*`{old.word}_response` \|"), "".join(row_of(s) for s in structures))
     for s in structures:
         word = s.name.removeprefix(new.name)
         if word in ("Request", "Response"):
-            path = f"{ROWS}/src/{word.lower()}s.rt"
-            behind(path, block(read(path), f"impl Shown for {old.name}{word} {{"), "\n" + shown_of(s, k))
             behind(MEMORY, f"`Wire for {old.name}{word}`", f" `Wire for {s.name}`")
             continue
         behind(f"{SERVICES}/src/lib.rt", f"{new.name}Request,", f" {s.name},")
-        put(f"{ROWS}/src/structures.rt", "", {s.name: "ua_services"}, [shown_of(s, k)], "crate::")
         write(f"{ROWS}/src/lists.rt", copied(read(f"{ROWS}/src/lists.rt"), Kind("UserTokenPolicy"), Kind(s.name)))
         behind(MEMORY, "`Wire for WriteValue`", f" `Wire for {s.name}`")
 
 
-def write_server(new: Kind, old: Kind, structures: list[Structure], k: Known) -> None:
+def write_server(new: Kind, old: Kind, structures: list[Structure]) -> None:
     """Of step 5 the names of its files, the arm that calls the handler, and how many items it asks for."""
     src, specs = f"{SERVER}/src", f"{SERVER}/specs"
     if not read(f"{src}/{new.module}.rt"):
@@ -109,16 +107,20 @@ def write_server(new: Kind, old: Kind, structures: list[Structure], k: Known) ->
         write(path, re.sub(r"(Request\.TheVariants\.\{[^}]*)\}", rf"\1, {new.name}}}", read(path)))
 
 
-def write_service(text: str, k: Known) -> None:
+def write_service(text: str, k: Schema) -> None:
     """All that a description gives, which is not saved yet."""
-    new, old, structures = described(text, k)
-    refuse_what_stands(new, structures, k)
-    for step in (write_structures, write_pair, write_messages, write_server):
-        step(new, old, structures, k)
+    new, old, file = described(text, k)
+    refuse_what_stands(new, file, k)
+    write(f"{FOLDER}/{new.module}.txt", kept(text, new))
+    write_structures(new, old, file.structures, k)
+    write_pair(new, old)
+    write_messages(new, old, file.structures, k)
+    write_server(new, old, file.structures)
+    write_generated(Schema())
 
 
-def save() -> None:
-    """Writes the files, lays them out, and says what they are."""
+def save(left: str) -> None:
+    """Writes the files, lays them out, and says what they are, and what is left."""
     paths = [path for path in sorted(NEW) if NEW[path] != OLD[path]]
     for path in paths:
         os.makedirs(os.path.dirname(os.path.join(TOP, path)), exist_ok=True)
@@ -134,4 +136,4 @@ def save() -> None:
         added = sum(end - at for tag, _, _, at, end in steps if tag in ("insert", "replace"))
         total += added
         print(f"{added:5} {path}{'' if old else ' (new)'}")
-    print(f"{total:5} lines in {len(paths)} files\n{LEFT}")
+    print(f"{total:5} lines in {len(paths)} files" + (f"\n{left}" if left else ""))

@@ -4,13 +4,12 @@ from __future__ import annotations
 import functools
 import os
 import re
-from typing import Iterable
 
 TOP = os.path.dirname(os.path.dirname(os.path.dirname(os.path.abspath(__file__))))
 OPENING, STRUCTURES, PAIR, ROWS = "crates/ua_opening", "crates/ua_structures", "crates/ua_pair", "crates/test_values"
-SERVICES, SERVER, SOUND = "crates/ua_services", "crates/ua_server", f"{OPENING}/proofs/Sound.antt"
+SERVICES, SERVER = "crates/ua_services", "crates/ua_server"
 HEADER = "crates/ua_c/include/ua.h"
-DEFINITIONS, MEMORY, LEAVES = "docs/ENCODINGS.md", "crates/test_values/AMPLE-MEMORY.md", f"{PAIR}/specs/Leaves.antt"
+DEFINITIONS, MEMORY = "docs/ENCODINGS.md", "crates/test_values/AMPLE-MEMORY.md"
 USE = re.compile(r"^((?:pub |ghost )*use )([\w.:]+?)(\.|::)(?:\{([^}]*)\}|(\w+))(;?)$", re.M)
 OLD: dict[str, str] = {}
 NEW: dict[str, str] = {}
@@ -96,34 +95,6 @@ def depth(text: str) -> int:
     return sum((c in "({[") - (c in ")}]") for c in text)
 
 
-def words_of(text: str) -> list[str]:
-    """The parts of an application, each without the parentheses around it.
-
-    >>> words_of("pair (array node_id) (flat u32)")
-    ['pair', 'array node_id', 'flat u32']
-    """
-    out = [""]
-    for part in code(text).split():
-        out[-1] += (" " if out[-1] else "") + part
-        out += [""] if not depth(out[-1]) else []
-    return [it[1:-1] if it.startswith("(") else it for it in out if it]
-
-
-def parts_of(text: str, head: str, count: int) -> list[str]:
-    """The parts of `head a (head b c)`, if there are so many.
-
-    >>> parts_of("pair a (pair b c)", "pair", 3), parts_of("f a", "pair", 2)
-    (['a', 'b', 'c'], [])
-    """
-    out: list[str] = []
-    while len(out) < count - 1:
-        words = words_of(text)
-        if len(words) != 3 or words[0] != head:
-            return []
-        out, text = out + [words[1]], words[2]
-    return out + [text]
-
-
 def nested(parts: list[str], head: str = "") -> str:
     """`(a, (b, c))`, or with a head `(head a (head b c))`.
 
@@ -135,6 +106,20 @@ def nested(parts: list[str], head: str = "") -> str:
     return f"({head} {parts[0]} {nested(parts[1:], head)})" if head else f"({parts[0]}, {nested(parts[1:])})"
 
 
+def stacked(parts: list[str], margin: str) -> str:
+    """The same pairs with a line for each part.
+
+    >>> print(stacked(["a", "b", "c"], "  "))
+    (
+        a,
+        (b, c),
+      )
+    """
+    if len(parts) < 3:
+        return nested(parts)
+    return f"(\n{margin}  {parts[0]},\n{margin}  {stacked(parts[1:], margin + '  ')},\n{margin})"
+
+
 def braced(words: str) -> str:
     """An argument of an application.
 
@@ -144,12 +129,6 @@ def braced(words: str) -> str:
     return f"({words})" if " " in words and not words.startswith("(") else words
 
 
-def block(text: str, start: str) -> str:
-    """The item that begins so: to the brace that closes it at the margin, or in a file of specs to the next empty line."""
-    m = re.search(rf"^(?:#\[tactic.*\n)?{start}" + (r"[\s\S]*?^\}\n" if start.endswith("{") else r"[\s\S]*?(?=\n\n|\Z)"), text, re.M)
-    return m.group() if m else ""
-
-
 def names_in(use: re.Match[str]) -> list[str]:
     """The names that a `use` brings.
 
@@ -157,11 +136,6 @@ def names_in(use: re.Match[str]) -> list[str]:
     [['b', 'c'], ['e'], ['g']]
     """
     return [it.strip() for it in (use.group(4) or use.group(5) or "").split(",") if it.strip()]
-
-
-def origins_of(paths: Iterable[str]) -> dict[str, str]:
-    """Where the words come from that these files import."""
-    return {name: use.group(2) for path in paths for use in USE.finditer(read(path)) if use.group(1) == "use " for name in names_in(use)}
 
 
 def with_imports(text: str, words: str, origins: dict[str, str], own: str) -> str:

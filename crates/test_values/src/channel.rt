@@ -14,44 +14,15 @@ use ua_services::{
     write_open_request, write_open_response,
 };
 
-impl Shown for OpenRequest {
-    fn show(&self, fields: &mut Fields) {
-        fields.structure("request_header", &self.request_header);
-        fields.field("client_protocol_version", &self.client_protocol_version);
-        fields.field("request_type", &self.request_type);
-        fields.field("security_mode", &self.security_mode);
-        fields.field("client_nonce", &self.client_nonce);
-        fields.field("requested_lifetime", &self.requested_lifetime);
-    }
-}
-
 impl Message for OpenRequest {
     fn add_to(&self, out: &mut Vec<u8>) -> Result<(), WriteFault> {
         write_open_request(self, out)
     }
 }
 
-impl Shown for OpenResponse {
-    fn show(&self, fields: &mut Fields) {
-        fields.structure("response_header", &self.response_header);
-        fields.field("server_protocol_version", &self.server_protocol_version);
-        fields.field("channel_id", &self.channel_id);
-        fields.field("token_id", &self.token_id);
-        fields.field("created_at", &self.created_at);
-        fields.field("revised_lifetime", &self.revised_lifetime);
-        fields.field("server_nonce", &self.server_nonce);
-    }
-}
-
 impl Message for OpenResponse {
     fn add_to(&self, out: &mut Vec<u8>) -> Result<(), WriteFault> {
         write_open_response(self, out)
-    }
-}
-
-impl Shown for CloseRequest {
-    fn show(&self, fields: &mut Fields) {
-        fields.structure("request_header", &self.request_header);
     }
 }
 

@@ -7,71 +7,10 @@ use crate::structure_fields::{Fields, Shown};
 use std::alloc::Global;
 use ua_builtin::{DateTime, Identifier, NodeId, Octets, UaString, WriteFault};
 use ua_services::{
-    ActivateSessionRequest, CloseSessionRequest, CreateSessionRequest, GetEndpointsRequest,
     ReadRequest, ReadValueId, Request, RequestFault, RequestHeader, RequestKind, WriteRequest,
     WriteValue, by_kind, read_request, requests, skip_request, write_request,
 };
 use ua_variant::{DataValue, HeldVariant, Variant};
-
-impl Shown for GetEndpointsRequest {
-    fn show(&self, fields: &mut Fields) {
-        fields.structure("request_header", &self.request_header);
-        fields.field("endpoint_url", &self.endpoint_url);
-        fields.field("locale_ids", &self.locale_ids);
-        fields.field("profile_uris", &self.profile_uris);
-    }
-}
-
-impl Shown for CreateSessionRequest {
-    fn show(&self, fields: &mut Fields) {
-        fields.structure("request_header", &self.request_header);
-        fields.structure("client_description", &self.client_description);
-        fields.field("server_uri", &self.server_uri);
-        fields.field("endpoint_url", &self.endpoint_url);
-        fields.field("session_name", &self.session_name);
-        fields.field("client_nonce", &self.client_nonce);
-        fields.field("client_certificate", &self.client_certificate);
-        fields.field("requested_session_timeout", &self.requested_session_timeout);
-        fields.field("max_response_message_size", &self.max_response_message_size);
-    }
-}
-
-impl Shown for ActivateSessionRequest {
-    fn show(&self, fields: &mut Fields) {
-        fields.structure("request_header", &self.request_header);
-        fields.structure("client_signature", &self.client_signature);
-        fields.structures(
-            "client_software_certificates",
-            &self.client_software_certificates,
-        );
-        fields.field("locale_ids", &self.locale_ids);
-        fields.field("user_identity_token", &self.user_identity_token);
-        fields.structure("user_token_signature", &self.user_token_signature);
-    }
-}
-
-impl Shown for CloseSessionRequest {
-    fn show(&self, fields: &mut Fields) {
-        fields.structure("request_header", &self.request_header);
-        fields.field("delete_subscriptions", &self.delete_subscriptions);
-    }
-}
-
-impl Shown for ReadRequest {
-    fn show(&self, fields: &mut Fields) {
-        fields.structure("request_header", &self.request_header);
-        fields.field("max_age", &self.max_age);
-        fields.field("timestamps_to_return", &self.timestamps_to_return);
-        fields.structures("nodes_to_read", &self.nodes_to_read);
-    }
-}
-
-impl Shown for WriteRequest {
-    fn show(&self, fields: &mut Fields) {
-        fields.structure("request_header", &self.request_header);
-        fields.structures("nodes_to_write", &self.nodes_to_write);
-    }
-}
 
 impl Shown for Request {
     fn show(&self, fields: &mut Fields) {

@@ -9,72 +9,9 @@ use crate::structure_fields::{Fields, Shown};
 use std::alloc::Global;
 use ua_builtin::{Octets, WriteFault};
 use ua_services::{
-    ActivateSessionResponse, CloseSessionResponse, CreateSessionResponse, GetEndpointsResponse,
-    ReadResponse, RequestKind, Response, ResponseFault, ResponseKind, ServiceFault, WriteResponse,
-    by_kind, read_response, requests, responses, write_response,
+    RequestKind, Response, ResponseFault, ResponseKind, by_kind, read_response, requests,
+    responses, write_response,
 };
-
-impl Shown for GetEndpointsResponse {
-    fn show(&self, fields: &mut Fields) {
-        fields.structure("response_header", &self.response_header);
-        fields.structures("endpoints", &self.endpoints);
-    }
-}
-
-impl Shown for CreateSessionResponse {
-    fn show(&self, fields: &mut Fields) {
-        fields.structure("response_header", &self.response_header);
-        fields.field("session_id", &self.session_id);
-        fields.field("authentication_token", &self.authentication_token);
-        fields.field("revised_session_timeout", &self.revised_session_timeout);
-        fields.field("server_nonce", &self.server_nonce);
-        fields.field("server_certificate", &self.server_certificate);
-        fields.structures("server_endpoints", &self.server_endpoints);
-        fields.structures(
-            "server_software_certificates",
-            &self.server_software_certificates,
-        );
-        fields.structure("server_signature", &self.server_signature);
-        fields.field("max_request_message_size", &self.max_request_message_size);
-    }
-}
-
-impl Shown for ActivateSessionResponse {
-    fn show(&self, fields: &mut Fields) {
-        fields.structure("response_header", &self.response_header);
-        fields.field("server_nonce", &self.server_nonce);
-        fields.field("results", &self.results);
-        fields.field("diagnostic_infos", &self.diagnostic_infos);
-    }
-}
-
-impl Shown for CloseSessionResponse {
-    fn show(&self, fields: &mut Fields) {
-        fields.structure("response_header", &self.response_header);
-    }
-}
-
-impl Shown for ReadResponse {
-    fn show(&self, fields: &mut Fields) {
-        fields.structure("response_header", &self.response_header);
-        fields.structures("results", &self.results);
-        fields.field("diagnostic_infos", &self.diagnostic_infos);
-    }
-}
-
-impl Shown for WriteResponse {
-    fn show(&self, fields: &mut Fields) {
-        fields.structure("response_header", &self.response_header);
-        fields.field("results", &self.results);
-        fields.field("diagnostic_infos", &self.diagnostic_infos);
-    }
-}
-
-impl Shown for ServiceFault {
-    fn show(&self, fields: &mut Fields) {
-        fields.structure("response_header", &self.response_header);
-    }
-}
 
 impl Shown for Response {
     fn show(&self, fields: &mut Fields) {

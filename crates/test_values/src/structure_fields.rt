@@ -5,6 +5,7 @@ use crate::shown::digits;
 use std::alloc::Global;
 use ua_builtin::{Wire, WriteFault};
 use ua_services::UaArray;
+use ua_variant::DataValue;
 
 /// The text of the fields so far. Once a field found no memory there is none.
 #[derive(Drop)]
@@ -105,5 +106,18 @@ fn field_text<T: Wire>(alloc: Global, value: &T) -> Result<String, Fault> {
         Ok(()) => digits(alloc, out.as_slice()),
         Err(WriteFault::NotWritable) => Ok(String::from_str(alloc, "unwritable")?),
         Err(WriteFault::OutOfMemory) => Err(Fault::Memory),
+    }
+}
+
+impl Shown for DataValue {
+    fn show(&self, fields: &mut Fields) {
+        if let Some(held) = &self.value {
+            fields.field("value", held.get());
+        }
+        fields.some_field("status", &self.status);
+        fields.some_field("source_timestamp", &self.source_timestamp);
+        fields.some_field("source_picoseconds", &self.source_picoseconds);
+        fields.some_field("server_timestamp", &self.server_timestamp);
+        fields.some_field("server_picoseconds", &self.server_picoseconds);
     }
 }

@@ -1,8 +1,9 @@
--- The structures of the headers and of the fault are sound.
+-- Written by `tools/add_service.py --write` from `schema/header.txt`.
+-- The structures of the headers and the ServiceFault are sound.
 use Rattle.std.proofs.Common.{refl}
-use Rattle.ua_opening.specs.Header.{request_header, response_header, service_fault}
 use Rattle.ua_opening.proofs.Sound.{Sound, sound_array, sound_date_time, sound_diagnostic, sound_extension_object}
 use Rattle.ua_opening.proofs.Sound.{sound_node_id, sound_pair, sound_status_code, sound_string, sound_struct, sound_uint32}
+use Rattle.ua_opening.specs.Header.{request_header, response_header, service_fault}
 
 pub sound_request_header : Sound request_header
 unfolding request_header

@@ -1,4 +1,5 @@
--- Headers of requests and responses, and the fault.
+-- Written by `tools/add_service.py --write` from `schema/header.txt`.
+-- The structures of the headers and the ServiceFault.
 use Rattle.ua_builtin.specs.DateTime.{date_time}
 use Rattle.ua_builtin.specs.ExtensionObject.{extension_object}
 use Rattle.ua_builtin.specs.Format.{Format, flat}
@@ -26,25 +27,7 @@ request_header = struct
       timeout_hint = timeout_hint;
       additional_header = additional_header;
     })
-    (λ s. (
-      s.authentication_token,
-      (
-        s.timestamp,
-        (
-          s.request_handle,
-          (
-            s.return_diagnostics,
-            (
-              s.audit_entry_id,
-              (
-                s.timeout_hint,
-                s.additional_header,
-              ),
-            ),
-          ),
-        ),
-      ),
-    ))
+    (λ s. (s.authentication_token, (s.timestamp, (s.request_handle, (s.return_diagnostics, (s.audit_entry_id, (s.timeout_hint, s.additional_header)))))))
     (pair (flat node_id) (pair (flat date_time) (pair uint32 (pair uint32 (pair string (pair uint32 (flat extension_object)))))))
 
 -- ---- ResponseHeader

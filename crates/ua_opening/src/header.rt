@@ -11,15 +11,13 @@ ghost use Rattle.ua_opening.specs.Plain.{request_header_of, response_header_of, 
 ghost use Rattle.ua_opening.specs.inside.HeaderEnds.{behind_diagnostics, behind_result};
 
 use crate::array::UaArray;
-use crate::{append_fields, are_encodable, read_fields};
-use std::alloc::{AllocError, Global};
+use std::alloc::Global;
 use ua_builtin::laws::{moment_is_encodable, status_is_encodable};
 use ua_builtin::{
     DateTime, ExtensionObject, NULL_COUNT, NodeId, ReadFault, Skip, Source, StatusCode, UaString,
     Wire,
 };
 use ua_diagnostic::DiagnosticInfo;
-use ua_wire::{append_three, append_two};
 
 /// What follows the ServiceResult of nearly each response, as a number, the least byte first: 00 of
 /// a DiagnosticInfo without fields (OPC 10000-6, 5.2.2.12), FF FF FF FF of a null array of texts
@@ -188,41 +186,6 @@ fn take_timeout_alone<S: Source>(alloc: Global, src: &mut S) -> Option<u32>
     Some(timeout_hint)
 }
 
-#[tactic(auto, unfolding(crate::specs::Header::request_header), using(crate::proofs::HeaderSound::sound_request_header))]
-impl Wire for RequestHeader {
-    ghost use Rattle.ua_opening.specs.Header.{request_header};
-
-    ghost format = { request_header };
-
-    #[inline]
-    fn lawful() {}
-
-    fn read_value<S: Source>(alloc: Global, src: &mut S, depth: u32) -> Result<Self, ReadFault> {
-        let mut header = RequestHeader::empty();
-        match header.read_into(alloc, src, depth) {
-            Ok(()) => Ok(header),
-            Err(fault) => {
-                drop(header);
-                Err(fault)
-            }
-        }
-    }
-
-    fn is_encodable(&self) -> bool {
-        are_encodable!(self =>
-            authentication_token, timestamp, request_handle, return_diagnostics, audit_entry_id,
-            timeout_hint, additional_header
-        )
-    }
-
-    fn append(&self, out: &mut Vec<u8>) -> Result<(), AllocError> {
-        append_fields!(self, out =>
-            authentication_token, timestamp, request_handle, return_diagnostics, audit_entry_id,
-            timeout_hint, additional_header
-        )
-    }
-}
-
 /// The header of each response (OPC 10000-4, 7.34).
 #[derive(Debug, Drop)]
 pub struct ResponseHeader {
@@ -348,41 +311,6 @@ fn take_nothing_more<S: Source>(alloc: Global, src: &mut S, depth: u32) -> Optio
     Some(texts)
 }
 
-#[tactic(auto, unfolding(crate::specs::Header::response_header), using(crate::proofs::HeaderSound::sound_response_header))]
-impl Wire for ResponseHeader {
-    ghost use Rattle.ua_opening.specs.Header.{response_header};
-
-    ghost format = { response_header };
-
-    #[inline]
-    fn lawful() {}
-
-    fn read_value<S: Source>(alloc: Global, src: &mut S, depth: u32) -> Result<Self, ReadFault> {
-        let mut header = ResponseHeader::empty();
-        match header.read_into(alloc, src, depth) {
-            Ok(()) => Ok(header),
-            Err(fault) => {
-                drop(header);
-                Err(fault)
-            }
-        }
-    }
-
-    fn is_encodable(&self) -> bool {
-        are_encodable!(self =>
-            timestamp, request_handle, service_result, service_diagnostics, string_table,
-            additional_header
-        )
-    }
-
-    fn append(&self, out: &mut Vec<u8>) -> Result<(), AllocError> {
-        append_fields!(self, out =>
-            timestamp, request_handle, service_result, service_diagnostics, string_table,
-            additional_header
-        )
-    }
-}
-
 impl Skip for ResponseHeader {
     #[tactic(auto, unfolding(crate::specs::Header::response_header))]
     fn skip_value<S: Source>(alloc: Global, src: &mut S, depth: u32) -> Result<(), ReadFault> {
@@ -415,27 +343,5 @@ impl ServiceFault {
         ServiceFault {
             response_header: ResponseHeader::new(timestamp, request_handle, code),
         }
-    }
-}
-
-#[tactic(auto, unfolding(crate::specs::Header::service_fault), using(crate::proofs::HeaderSound::sound_service_fault))]
-impl Wire for ServiceFault {
-    ghost use Rattle.ua_opening.specs.Header.{service_fault};
-
-    ghost format = { service_fault };
-
-    #[inline]
-    fn lawful() {}
-
-    fn read_value<S: Source>(alloc: Global, src: &mut S, depth: u32) -> Result<Self, ReadFault> {
-        read_fields!(alloc, src, depth => ServiceFault { response_header })
-    }
-
-    fn is_encodable(&self) -> bool {
-        are_encodable!(self => response_header)
-    }
-
-    fn append(&self, out: &mut Vec<u8>) -> Result<(), AllocError> {
-        append_fields!(self, out => response_header)
     }
 }

@@ -21,10 +21,12 @@
 mod array;
 mod fields;
 mod header;
+mod header_wire;
 pub mod laws;
 mod message;
 mod open;
 mod secure_channel;
+mod secure_channel_wire;
 
 pub use array::{UaArray, read_array};
 pub use header::{RequestHeader, ResponseHeader, ServiceFault};

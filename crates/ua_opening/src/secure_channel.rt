@@ -5,11 +5,8 @@ ghost use Rattle.ua_opening.specs.Plain.{open_request_of, open_response_of, clos
 ghost use Rattle.ua_opening.specs.SecureChannel.{open_request, open_response, close_request};
 
 use crate::header::{RequestHeader, ResponseHeader};
-use crate::{append_fields, are_encodable, read_fields};
-use std::alloc::{AllocError, Global};
 use ua_builtin::laws::moment_is_encodable;
-use ua_builtin::{DateTime, NodeId, ReadFault, Source, StatusCode, UaBytes, Wire};
-use ua_wire::{append_three, append_two};
+use ua_builtin::{DateTime, NodeId, StatusCode, UaBytes};
 
 /// The OpenSecureChannel request: asks for a SecureChannel, or for a new token of one (OPC 10000-4,
 /// 5.6.2).
@@ -76,37 +73,6 @@ impl OpenRequest {
     }
 }
 
-#[tactic(auto, unfolding(crate::specs::SecureChannel::open_request), using(crate::proofs::SecureChannelLawful::lawful_open_request))]
-impl Wire for OpenRequest {
-    ghost use Rattle.ua_opening.specs.SecureChannel.{open_request};
-
-    ghost format = { open_request };
-
-    #[inline]
-    fn lawful() {}
-
-    fn read_value<S: Source>(alloc: Global, src: &mut S, depth: u32) -> Result<Self, ReadFault> {
-        read_fields!(alloc, src, depth => OpenRequest {
-            request_header, client_protocol_version, request_type, security_mode, client_nonce,
-            requested_lifetime
-        })
-    }
-
-    fn is_encodable(&self) -> bool {
-        are_encodable!(self =>
-            request_header, client_protocol_version, request_type, security_mode, client_nonce,
-            requested_lifetime
-        )
-    }
-
-    fn append(&self, out: &mut Vec<u8>) -> Result<(), AllocError> {
-        append_fields!(self, out =>
-            request_header, client_protocol_version, request_type, security_mode, client_nonce,
-            requested_lifetime
-        )
-    }
-}
-
 /// The response to an [`OpenRequest`] (OPC 10000-4, 5.6.2).
 #[derive(Debug, Drop)]
 pub struct OpenResponse {
@@ -150,37 +116,6 @@ impl OpenResponse {
     }
 }
 
-#[tactic(auto, unfolding(crate::specs::SecureChannel::open_response), using(crate::proofs::SecureChannelLawful::lawful_open_response))]
-impl Wire for OpenResponse {
-    ghost use Rattle.ua_opening.specs.SecureChannel.{open_response};
-
-    ghost format = { open_response };
-
-    #[inline]
-    fn lawful() {}
-
-    fn read_value<S: Source>(alloc: Global, src: &mut S, depth: u32) -> Result<Self, ReadFault> {
-        read_fields!(alloc, src, depth => OpenResponse {
-            response_header, server_protocol_version, channel_id, token_id, created_at,
-            revised_lifetime, server_nonce
-        })
-    }
-
-    fn is_encodable(&self) -> bool {
-        are_encodable!(self =>
-            response_header, server_protocol_version, channel_id, token_id, created_at,
-            revised_lifetime, server_nonce
-        )
-    }
-
-    fn append(&self, out: &mut Vec<u8>) -> Result<(), AllocError> {
-        append_fields!(self, out =>
-            response_header, server_protocol_version, channel_id, token_id, created_at,
-            revised_lifetime, server_nonce
-        )
-    }
-}
-
 /// The CloseSecureChannel request: closes the SecureChannel. It has no response. (OPC 10000-4,
 /// 5.6.3).
 #[derive(Debug, Drop)]
@@ -199,27 +134,5 @@ impl CloseRequest {
         CloseRequest {
             request_header: RequestHeader::new(NodeId::null(), timestamp, request_handle),
         }
-    }
-}
-
-#[tactic(auto, unfolding(crate::specs::SecureChannel::close_request), using(crate::proofs::SecureChannelLawful::lawful_close_request))]
-impl Wire for CloseRequest {
-    ghost use Rattle.ua_opening.specs.SecureChannel.{close_request};
-
-    ghost format = { close_request };
-
-    #[inline]
-    fn lawful() {}
-
-    fn read_value<S: Source>(alloc: Global, src: &mut S, depth: u32) -> Result<Self, ReadFault> {
-        read_fields!(alloc, src, depth => CloseRequest { request_header })
-    }
-
-    fn is_encodable(&self) -> bool {
-        are_encodable!(self => request_header)
-    }
-
-    fn append(&self, out: &mut Vec<u8>) -> Result<(), AllocError> {
-        append_fields!(self, out => request_header)
     }
 }

@@ -1,47 +1,48 @@
--- The fields of the service GetEndpoints.
-use Rattle.std.specs.Prelude.{[], ◌∷◌, codes}
+-- Written by `tools/add_service.py --write` from `schema/discovery.txt`.
+-- The fields of the structures of the service GetEndpoints.
+use Rattle.std.specs.Prelude.{[], codes, ◌∷◌}
 use Rattle.ua_structures.specs.declared.discovery.ApplicationDescription.{ApplicationDescription}
 use Rattle.ua_structures.specs.declared.discovery.EndpointDescription.{EndpointDescription}
 use Rattle.ua_structures.specs.declared.discovery.GetEndpointsRequest.{GetEndpointsRequest}
 use Rattle.ua_structures.specs.declared.discovery.GetEndpointsResponse.{GetEndpointsResponse}
 use Rattle.ua_structures.specs.declared.discovery.UserTokenPolicy.{UserTokenPolicy}
-use Rattle.ua_pair.specs.Tree.{Fields, structure, named, array_of}
-use Rattle.ua_pair.specs.Leaves.{number, signed, string, byte_string, localized_text}
 use Rattle.ua_pair.specs.Header.{request_header_entries, response_header_entries}
+use Rattle.ua_pair.specs.Leaves.{byte_string, localized_text, number, signed, string}
+use Rattle.ua_pair.specs.Tree.{Fields, array_of, named, structure}
 
 -- ApplicationDescription (OPC 10000-4, 7.2)
 unfoldable pub application_description_entries : ApplicationDescription → Fields
-application_description_entries a = named (
-    (codes "application_uri", string a.application_uri)
-    ∷ (codes "product_uri", string a.product_uri)
-    ∷ (codes "application_name", localized_text a.application_name)
-    ∷ (codes "application_type", signed a.application_type)
-    ∷ (codes "gateway_server_uri", string a.gateway_server_uri)
-    ∷ (codes "discovery_profile_uri", string a.discovery_profile_uri)
-    ∷ (codes "discovery_urls", array_of string a.discovery_urls)
+application_description_entries m = named (
+    (codes "application_uri", string m.application_uri)
+    ∷ (codes "product_uri", string m.product_uri)
+    ∷ (codes "application_name", localized_text m.application_name)
+    ∷ (codes "application_type", signed m.application_type)
+    ∷ (codes "gateway_server_uri", string m.gateway_server_uri)
+    ∷ (codes "discovery_profile_uri", string m.discovery_profile_uri)
+    ∷ (codes "discovery_urls", array_of string m.discovery_urls)
     ∷ [])
 
 -- UserTokenPolicy (OPC 10000-4, 7.42)
 unfoldable pub user_token_policy_entries : UserTokenPolicy → Fields
-user_token_policy_entries p = named (
-    (codes "policy_id", string p.policy_id)
-    ∷ (codes "token_type", signed p.token_type)
-    ∷ (codes "issued_token_type", string p.issued_token_type)
-    ∷ (codes "issuer_endpoint_url", string p.issuer_endpoint_url)
-    ∷ (codes "security_policy_uri", string p.security_policy_uri)
+user_token_policy_entries m = named (
+    (codes "policy_id", string m.policy_id)
+    ∷ (codes "token_type", signed m.token_type)
+    ∷ (codes "issued_token_type", string m.issued_token_type)
+    ∷ (codes "issuer_endpoint_url", string m.issuer_endpoint_url)
+    ∷ (codes "security_policy_uri", string m.security_policy_uri)
     ∷ [])
 
 -- EndpointDescription (OPC 10000-4, 7.14)
 unfoldable pub endpoint_description_entries : EndpointDescription → Fields
-endpoint_description_entries e = named (
-    (codes "endpoint_url", string e.endpoint_url)
-    ∷ (codes "server", structure (application_description_entries e.server))
-    ∷ (codes "server_certificate", byte_string e.server_certificate)
-    ∷ (codes "security_mode", signed e.security_mode)
-    ∷ (codes "security_policy_uri", string e.security_policy_uri)
-    ∷ (codes "user_identity_tokens", array_of (λ p. structure (user_token_policy_entries p)) e.user_identity_tokens)
-    ∷ (codes "transport_profile_uri", string e.transport_profile_uri)
-    ∷ (codes "security_level", number e.security_level)
+endpoint_description_entries m = named (
+    (codes "endpoint_url", string m.endpoint_url)
+    ∷ (codes "server", structure (application_description_entries m.server))
+    ∷ (codes "server_certificate", byte_string m.server_certificate)
+    ∷ (codes "security_mode", signed m.security_mode)
+    ∷ (codes "security_policy_uri", string m.security_policy_uri)
+    ∷ (codes "user_identity_tokens", array_of (λ e. structure (user_token_policy_entries e)) m.user_identity_tokens)
+    ∷ (codes "transport_profile_uri", string m.transport_profile_uri)
+    ∷ (codes "security_level", number m.security_level)
     ∷ [])
 
 -- the request of GetEndpoints (OPC 10000-4, 5.5.4)

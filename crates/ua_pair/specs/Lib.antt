@@ -4,10 +4,12 @@ pub mod Styles
 pub mod Tree
 pub mod Leaves
 pub mod Header
+pub mod DataValue
 pub mod Attribute
 pub mod Discovery
 pub mod Session
 pub mod SecureChannel
+pub mod SecurityToken
 pub mod Messages
 pub mod Bodies
 pub mod Laws

@@ -20,7 +20,8 @@ use Rattle.ua_pair.specs.Attribute.{read_request_entries, read_response_entries,
 use Rattle.ua_pair.specs.Discovery.{get_endpoints_request_entries, get_endpoints_response_entries}
 use Rattle.ua_pair.specs.Session.{create_session_request_entries, create_session_response_entries, activate_session_request_entries}
 use Rattle.ua_pair.specs.Session.{activate_session_response_entries, close_session_request_entries, close_session_response_entries}
-use Rattle.ua_pair.specs.SecureChannel.{open_request_entries, open_response_entries, close_request_entries}
+use Rattle.ua_pair.specs.SecureChannel.{open_request_entries, close_request_entries}
+use Rattle.ua_pair.specs.SecurityToken.{open_response_entries}
 
 -- ---- messages as trees
 

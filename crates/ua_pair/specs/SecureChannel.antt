@@ -1,12 +1,11 @@
--- The fields of the services of secure channels.
-use Rattle.std.specs.Prelude.{[], ◌∷◌, codes}
+-- Written by `tools/add_service.py --write` from `schema/secure_channel.txt`.
+-- The fields of the structures of the SecureChannel services.
+use Rattle.std.specs.Prelude.{[], codes, ◌∷◌}
 use Rattle.ua_opening.specs.declared.secure_channel.CloseRequest.{CloseRequest}
 use Rattle.ua_opening.specs.declared.secure_channel.OpenRequest.{OpenRequest}
-use Rattle.ua_opening.specs.declared.secure_channel.OpenResponse.{OpenResponse}
-use Rattle.ua_pair.specs.declared.fields.secure_channel.SecurityToken.{SecurityToken}
-use Rattle.ua_pair.specs.Tree.{Fields, structure, named}
-use Rattle.ua_pair.specs.Leaves.{number, signed, byte_string, date_time}
-use Rattle.ua_pair.specs.Header.{request_header_entries, response_header_entries}
+use Rattle.ua_pair.specs.Header.{request_header_entries}
+use Rattle.ua_pair.specs.Leaves.{byte_string, number, signed}
+use Rattle.ua_pair.specs.Tree.{Fields, named, structure}
 
 -- the request of OpenSecureChannel (OPC 10000-4, 5.6.2)
 unfoldable pub open_request_entries : OpenRequest → Fields
@@ -17,28 +16,6 @@ open_request_entries m = named (
     ∷ (codes "security_mode", signed m.security_mode)
     ∷ (codes "client_nonce", byte_string m.client_nonce)
     ∷ (codes "requested_lifetime", number m.requested_lifetime)
-    ∷ [])
-
--- ChannelSecurityToken, a structure within the response (OPC 10000-4, 5.6.2)
-unfoldable pub security_token_entries : SecurityToken → Fields
-security_token_entries t = named (
-    (codes "channel_id", number t.channel_id)
-    ∷ (codes "token_id", number t.token_id)
-    ∷ (codes "created_at", date_time t.created_at)
-    ∷ (codes "revised_lifetime", number t.revised_lifetime)
-    ∷ [])
-
--- the ChannelSecurityToken of a response
-abbrev pub security_token_of : OpenResponse → SecurityToken
-security_token_of m = record { channel_id = m.channel_id; token_id = m.token_id; created_at = m.created_at; revised_lifetime = m.revised_lifetime }
-
--- the response of OpenSecureChannel (OPC 10000-4, 5.6.2)
-unfoldable pub open_response_entries : OpenResponse → Fields
-open_response_entries m = named (
-    (codes "response_header", structure (response_header_entries m.response_header))
-    ∷ (codes "server_protocol_version", number m.server_protocol_version)
-    ∷ (codes "security_token", structure (security_token_entries (security_token_of m)))
-    ∷ (codes "server_nonce", byte_string m.server_nonce)
     ∷ [])
 
 -- the request of CloseSecureChannel (OPC 10000-4, 5.6.3)

@@ -1,5 +1,6 @@
--- The fields of the services of sessions.
-use Rattle.std.specs.Prelude.{[], ◌∷◌, codes}
+-- Written by `tools/add_service.py --write` from `schema/session.txt`.
+-- The fields of the structures of the Session services.
+use Rattle.std.specs.Prelude.{[], codes, ◌∷◌}
 use Rattle.ua_structures.specs.declared.session.ActivateSessionRequest.{ActivateSessionRequest}
 use Rattle.ua_structures.specs.declared.session.ActivateSessionResponse.{ActivateSessionResponse}
 use Rattle.ua_structures.specs.declared.session.CloseSessionRequest.{CloseSessionRequest}
@@ -8,23 +9,23 @@ use Rattle.ua_structures.specs.declared.session.CreateSessionRequest.{CreateSess
 use Rattle.ua_structures.specs.declared.session.CreateSessionResponse.{CreateSessionResponse}
 use Rattle.ua_structures.specs.declared.signature.SignatureData.{SignatureData}
 use Rattle.ua_structures.specs.declared.signature.SignedSoftwareCertificate.{SignedSoftwareCertificate}
-use Rattle.ua_pair.specs.Tree.{Fields, structure, named, array_of}
-use Rattle.ua_pair.specs.Leaves.{number, boolean, double, string, byte_string, status_code, node_id, extension_object, diagnostic_info}
-use Rattle.ua_pair.specs.Header.{request_header_entries, response_header_entries}
 use Rattle.ua_pair.specs.Discovery.{application_description_entries, endpoint_description_entries}
+use Rattle.ua_pair.specs.Header.{request_header_entries, response_header_entries}
+use Rattle.ua_pair.specs.Leaves.{boolean, byte_string, diagnostic_info, double, extension_object, node_id, number, status_code, string}
+use Rattle.ua_pair.specs.Tree.{Fields, array_of, named, structure}
 
 -- SignedSoftwareCertificate (OPC 10000-4, 7.38)
 unfoldable pub signed_software_certificate_entries : SignedSoftwareCertificate → Fields
-signed_software_certificate_entries c = named (
-    (codes "certificate_data", byte_string c.certificate_data)
-    ∷ (codes "signature", byte_string c.signature)
+signed_software_certificate_entries m = named (
+    (codes "certificate_data", byte_string m.certificate_data)
+    ∷ (codes "signature", byte_string m.signature)
     ∷ [])
 
 -- SignatureData (OPC 10000-4, 7.37)
 unfoldable pub signature_data_entries : SignatureData → Fields
-signature_data_entries s = named (
-    (codes "algorithm", string s.algorithm)
-    ∷ (codes "signature", byte_string s.signature)
+signature_data_entries m = named (
+    (codes "algorithm", string m.algorithm)
+    ∷ (codes "signature", byte_string m.signature)
     ∷ [])
 
 -- the request of CreateSession (OPC 10000-4, 5.7.2)
@@ -51,7 +52,7 @@ create_session_response_entries m = named (
     ∷ (codes "server_nonce", byte_string m.server_nonce)
     ∷ (codes "server_certificate", byte_string m.server_certificate)
     ∷ (codes "server_endpoints", array_of (λ e. structure (endpoint_description_entries e)) m.server_endpoints)
-    ∷ (codes "server_software_certificates", array_of (λ c. structure (signed_software_certificate_entries c)) m.server_software_certificates)
+    ∷ (codes "server_software_certificates", array_of (λ e. structure (signed_software_certificate_entries e)) m.server_software_certificates)
     ∷ (codes "server_signature", structure (signature_data_entries m.server_signature))
     ∷ (codes "max_request_message_size", number m.max_request_message_size)
     ∷ [])
@@ -61,7 +62,7 @@ unfoldable pub activate_session_request_entries : ActivateSessionRequest → Fie
 activate_session_request_entries m = named (
     (codes "request_header", structure (request_header_entries m.request_header))
     ∷ (codes "client_signature", structure (signature_data_entries m.client_signature))
-    ∷ (codes "client_software_certificates", array_of (λ c. structure (signed_software_certificate_entries c)) m.client_software_certificates)
+    ∷ (codes "client_software_certificates", array_of (λ e. structure (signed_software_certificate_entries e)) m.client_software_certificates)
     ∷ (codes "locale_ids", array_of string m.locale_ids)
     ∷ (codes "user_identity_token", extension_object m.user_identity_token)
     ∷ (codes "user_token_signature", structure (signature_data_entries m.user_token_signature))

@@ -6,6 +6,7 @@
 mod array;
 mod attribute;
 mod body;
+mod data_value;
 mod discovery;
 mod header;
 mod leaves;
@@ -13,6 +14,7 @@ mod lines;
 mod message;
 mod null;
 mod secure_channel;
+mod security_token;
 mod session;
 mod text;
 

@@ -12,7 +12,7 @@ use Rattle.ua_builtin.specs.declared.node_id.Identifier.TheVariants.{Numeric, Te
 use Rattle.ua_builtin.specs.NodeId.{null_id}
 use Rattle.ua_structures.specs.Session.{anonymous_identity_token}
 use Rattle.ua_structures.specs.declared.session.AnonymousIdentityToken.{AnonymousIdentityToken}
-use Rattle.ua_structures.proofs.SessionSound.{lawful_anonymous_identity_token}
+use Rattle.ua_structures.proofs.SessionLawful.{lawful_anonymous_identity_token}
 use Rattle.ua_services.specs.Identity.{Carries, CarriesNone}
 use Rattle.ua_opening.specs.Message.{IsBody, body_of, standard, standard_number}
 use Rattle.ua_opening.proofs.BodyRead.{body_found, body_is}

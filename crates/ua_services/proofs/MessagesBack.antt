@@ -2,7 +2,7 @@
 use Rattle.std.specs.Prelude.{◌≡◌, ℕ, ◌≤◌, List, true, Option, Some, None, Ok}
 use Rattle.std.proofs.Common.{sym, ap, subst, ◌∙◌}
 use Rattle.ua_builtin.specs.Format.{Within, most_levels}
-use Rattle.ua_structures.proofs.AttributeSound.{where_write_request, where_read_response}
+use Rattle.ua_structures.proofs.AttributeLawful.{where_write_request, where_read_response}
 use Rattle.ua_structures.specs.WrittenBack.{write_unreserved, results_unreserved}
 use Rattle.ua_structures.specs.declared.attribute.ReadResponse.{ReadResponse}
 use Rattle.ua_structures.specs.declared.attribute.WriteRequest.{WriteRequest}

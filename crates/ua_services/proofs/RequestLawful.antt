@@ -2,7 +2,8 @@
 use Rattle.std.specs.Prelude.{◌≡◌, Some}
 use Rattle.std.proofs.Common.{refl}
 use Rattle.ua_builtin.specs.Format.{IsLawful}
-use Rattle.ua_structures.proofs.AttributeSound.{sound_read_request, lawful_write_request}
+use Rattle.ua_structures.proofs.AttributeLawful.{lawful_write_request}
+use Rattle.ua_structures.proofs.AttributeSound.{sound_read_request}
 use Rattle.ua_structures.proofs.DiscoverySound.{sound_get_endpoints_request}
 use Rattle.ua_structures.proofs.SessionSound.{sound_create_session_request, sound_activate_session_request, sound_close_session_request}
 use Rattle.ua_services.specs.Request.{request, requests, request_parts, Structure}

@@ -2,7 +2,8 @@
 use Rattle.std.specs.Prelude.{◌≡◌, Some}
 use Rattle.std.proofs.Common.{refl}
 use Rattle.ua_builtin.specs.Format.{IsLawful}
-use Rattle.ua_structures.proofs.AttributeSound.{lawful_read_response, sound_write_response}
+use Rattle.ua_structures.proofs.AttributeLawful.{lawful_read_response}
+use Rattle.ua_structures.proofs.AttributeSound.{sound_write_response}
 use Rattle.ua_structures.proofs.DiscoverySound.{sound_get_endpoints_response}
 use Rattle.ua_opening.proofs.HeaderSound.{sound_service_fault}
 use Rattle.ua_structures.proofs.SessionSound.{sound_create_session_response, sound_activate_session_response, sound_close_session_response}

@@ -1,9 +1,10 @@
--- The structures of Discovery are sound.
+-- Written by `tools/add_service.py --write` from `schema/discovery.txt`.
+-- The structures of the service GetEndpoints are sound.
 use Rattle.std.proofs.Common.{refl}
-use Rattle.ua_structures.specs.Discovery.{application_description, user_token_policy, endpoint_description, get_endpoints_request, get_endpoints_response}
+use Rattle.ua_opening.proofs.HeaderSound.{sound_request_header, sound_response_header}
 use Rattle.ua_opening.proofs.Sound.{Sound, sound_array, sound_byte, sound_byte_string, sound_int32}
 use Rattle.ua_opening.proofs.Sound.{sound_localized_text, sound_pair, sound_string, sound_struct}
-use Rattle.ua_opening.proofs.HeaderSound.{sound_request_header, sound_response_header}
+use Rattle.ua_structures.specs.Discovery.{application_description, endpoint_description, get_endpoints_request, get_endpoints_response, user_token_policy}
 
 pub sound_application_description : Sound application_description
 unfolding application_description

@@ -1,7 +1,9 @@
 pub mod PlainFits
 mod Ahead
 mod Thinned
+pub mod AttributeLawful
 pub mod AttributeSound
 pub mod DiscoverySound
+pub mod SessionLawful
 pub mod SessionSound
 mod VariantsBack

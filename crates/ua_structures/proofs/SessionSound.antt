@@ -1,14 +1,12 @@
+-- Written by `tools/add_service.py --write` from `schema/session.txt`.
 -- The structures of the Session services are sound.
 use Rattle.std.proofs.Common.{refl}
-use Rattle.ua_builtin.specs.Format.{IsLawful}
-use Rattle.ua_structures.specs.Session.{signed_software_certificate, signature_data, anonymous_identity_token, create_session_request, create_session_response}
-use Rattle.ua_structures.specs.Session.{activate_session_request, activate_session_response, close_session_request, close_session_response}
-use Rattle.ua_wire.proofs.CountedLawful.{lawful_text}
-use Rattle.ua_wire.proofs.Lawfulness.{lawful_struct}
+use Rattle.ua_opening.proofs.HeaderSound.{sound_request_header, sound_response_header}
 use Rattle.ua_opening.proofs.Sound.{Sound, sound_array, sound_boolean, sound_byte_string, sound_diagnostic, sound_double_bits}
 use Rattle.ua_opening.proofs.Sound.{sound_extension_object, sound_node_id, sound_pair, sound_status_code, sound_string, sound_struct, sound_uint32}
 use Rattle.ua_structures.proofs.DiscoverySound.{sound_application_description, sound_endpoint_description}
-use Rattle.ua_opening.proofs.HeaderSound.{sound_request_header, sound_response_header}
+use Rattle.ua_structures.specs.Session.{activate_session_request, activate_session_response, close_session_request, close_session_response}
+use Rattle.ua_structures.specs.Session.{create_session_request, create_session_response, signature_data, signed_software_certificate}
 
 pub sound_signed_software_certificate : Sound signed_software_certificate
 unfolding signed_software_certificate
@@ -17,10 +15,6 @@ sound_signed_software_certificate = sound_struct _ _ (λ v. refl) (λ p. refl) (
 pub sound_signature_data : Sound signature_data
 unfolding signature_data
 sound_signature_data = sound_struct _ _ (λ v. refl) (λ p. refl) (sound_pair sound_string sound_byte_string)
-
-pub lawful_anonymous_identity_token : IsLawful anonymous_identity_token
-unfolding anonymous_identity_token
-lawful_anonymous_identity_token = lawful_struct _ _ (λ v. refl) (λ p. refl) lawful_text
 
 pub sound_create_session_request : Sound create_session_request
 unfolding create_session_request

@@ -21,7 +21,7 @@ use Rattle.ua_opening.specs.declared.header.RequestHeader.{RequestHeader}
 use Rattle.ua_structures.specs.declared.thin.ValueType.{ValueType}
 use Rattle.ua_structures.specs.inside.Ahead.{is_kept_at}
 use Rattle.ua_structures.proofs.Ahead.{kept_is}
-use Rattle.ua_structures.proofs.AttributeSound.{lawful_write_value}
+use Rattle.ua_structures.proofs.AttributeLawful.{lawful_write_value}
 use Rattle.ua_opening.proofs.ItemsRead.{claims_more}
 
 -- a reader of lists

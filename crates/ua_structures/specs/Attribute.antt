@@ -1,11 +1,13 @@
--- The structures of Read and Write.
+-- Written by `tools/add_service.py --write` from `schema/attribute.txt`.
+-- The structures of the services Read and Write.
 use Rattle.ua_builtin.specs.DoubleBits.{double_bits}
 use Rattle.ua_builtin.specs.Format.{Format, flat}
 use Rattle.ua_builtin.specs.Join.{pair, struct}
 use Rattle.ua_builtin.specs.NodeId.{node_id}
 use Rattle.ua_builtin.specs.QualifiedName.{qualified_name}
 use Rattle.ua_builtin.specs.Status.{status_code}
-use Rattle.ua_variant.specs.Formats.{data_value_format, diagnostic_format}
+use Rattle.ua_diagnostic.specs.Formats.{diagnostic_format}
+use Rattle.ua_variant.specs.Formats.{data_value_format}
 use Rattle.ua_opening.specs.Array.{array}
 use Rattle.ua_opening.specs.Field.{int32, string, uint32}
 use Rattle.ua_opening.specs.Header.{request_header, response_header}

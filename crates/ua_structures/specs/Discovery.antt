@@ -1,4 +1,5 @@
--- The structures of GetEndpoints.
+-- Written by `tools/add_service.py --write` from `schema/discovery.txt`.
+-- The structures of the service GetEndpoints.
 use Rattle.ua_builtin.specs.Format.{Format, flat}
 use Rattle.ua_builtin.specs.Join.{pair, struct}
 use Rattle.ua_builtin.specs.LocalizedText.{localized_text}
@@ -16,25 +17,7 @@ use Rattle.ua_structures.specs.declared.discovery.UserTokenPolicy.{UserTokenPoli
 -- its fields in order (OPC 10000-4, 7.2)
 unfoldable pub application_description : Format ApplicationDescription
 application_description = struct
-    (λ (
-      application_uri,
-      (
-        product_uri,
-        (
-          application_name,
-          (
-            application_type,
-            (
-              gateway_server_uri,
-              (
-                discovery_profile_uri,
-                discovery_urls,
-              ),
-            ),
-          ),
-        ),
-      ),
-    ). record {
+    (λ (application_uri, (product_uri, (application_name, (application_type, (gateway_server_uri, (discovery_profile_uri, discovery_urls)))))). record {
       application_uri = application_uri;
       product_uri = product_uri;
       application_name = application_name;
@@ -43,25 +26,7 @@ application_description = struct
       discovery_profile_uri = discovery_profile_uri;
       discovery_urls = discovery_urls;
     })
-    (λ s. (
-      s.application_uri,
-      (
-        s.product_uri,
-        (
-          s.application_name,
-          (
-            s.application_type,
-            (
-              s.gateway_server_uri,
-              (
-                s.discovery_profile_uri,
-                s.discovery_urls,
-              ),
-            ),
-          ),
-        ),
-      ),
-    ))
+    (λ s. (s.application_uri, (s.product_uri, (s.application_name, (s.application_type, (s.gateway_server_uri, (s.discovery_profile_uri, s.discovery_urls)))))))
     (pair string (pair string (pair (flat localized_text) (pair int32 (pair string (pair string (array string)))))))
 
 -- ---- UserTokenPolicy
@@ -96,10 +61,7 @@ endpoint_description = struct
               security_policy_uri,
               (
                 user_identity_tokens,
-                (
-                  transport_profile_uri,
-                  security_level,
-                ),
+                (transport_profile_uri, security_level),
               ),
             ),
           ),

@@ -1,3 +1,4 @@
+-- Written by `tools/add_service.py --write` from `schema/session.txt`.
 -- The structures of the Session services.
 use Rattle.ua_builtin.specs.Boolean.{boolean}
 use Rattle.ua_builtin.specs.DoubleBits.{double_bits}
@@ -6,11 +7,11 @@ use Rattle.ua_builtin.specs.Format.{Format, flat}
 use Rattle.ua_builtin.specs.Join.{pair, struct}
 use Rattle.ua_builtin.specs.NodeId.{node_id}
 use Rattle.ua_builtin.specs.Status.{status_code}
-use Rattle.ua_variant.specs.Formats.{diagnostic_format}
+use Rattle.ua_diagnostic.specs.Formats.{diagnostic_format}
 use Rattle.ua_opening.specs.Array.{array}
-use Rattle.ua_structures.specs.Discovery.{application_description, endpoint_description}
 use Rattle.ua_opening.specs.Field.{byte_string, string, uint32}
 use Rattle.ua_opening.specs.Header.{request_header, response_header}
+use Rattle.ua_structures.specs.Discovery.{application_description, endpoint_description}
 use Rattle.ua_structures.specs.declared.session.ActivateSessionRequest.{ActivateSessionRequest}
 use Rattle.ua_structures.specs.declared.session.ActivateSessionResponse.{ActivateSessionResponse}
 use Rattle.ua_structures.specs.declared.session.AnonymousIdentityToken.{AnonymousIdentityToken}
@@ -107,8 +108,8 @@ create_session_request = struct
         ),
       ),
     ))
-    (pair request_header (pair application_description (pair string (pair string (pair string (pair byte_string (pair byte_string
-    (pair (flat double_bits) uint32))))))))
+    (pair request_header
+    (pair application_description (pair string (pair string (pair string (pair byte_string (pair byte_string (pair (flat double_bits) uint32))))))))
 
 -- ---- CreateSessionResponse
 
@@ -129,7 +130,10 @@ create_session_response = struct
                 server_certificate,
                 (
                   server_endpoints,
-                  (server_software_certificates, (server_signature, max_request_message_size)),
+                  (
+                    server_software_certificates,
+                    (server_signature, max_request_message_size),
+                  ),
                 ),
               ),
             ),
@@ -160,37 +164,31 @@ create_session_response = struct
               s.server_nonce,
               (
                 s.server_certificate,
-                (s.server_endpoints, (s.server_software_certificates, (s.server_signature, s.max_request_message_size))),
+                (
+                  s.server_endpoints,
+                  (
+                    s.server_software_certificates,
+                    (s.server_signature, s.max_request_message_size),
+                  ),
+                ),
               ),
             ),
           ),
         ),
       ),
     ))
-    (pair response_header (pair (flat node_id) (pair (flat node_id) (pair (flat double_bits) (pair byte_string (pair byte_string
-    (pair (array endpoint_description) (pair (array signed_software_certificate) (pair signature_data uint32)))))))))
+    (pair response_header
+    (pair (flat node_id)
+    (pair (flat node_id)
+    (pair (flat double_bits)
+    (pair byte_string (pair byte_string (pair (array endpoint_description) (pair (array signed_software_certificate) (pair signature_data uint32)))))))))
 
 -- ---- ActivateSessionRequest
 
 -- its fields in order (OPC 10000-4, 5.7.3)
 unfoldable pub activate_session_request : Format ActivateSessionRequest
 activate_session_request = struct
-    (λ (
-      request_header,
-      (
-        client_signature,
-        (
-          client_software_certificates,
-          (
-            locale_ids,
-            (
-              user_identity_token,
-              user_token_signature,
-            ),
-          ),
-        ),
-      ),
-    ). record {
+    (λ (request_header, (client_signature, (client_software_certificates, (locale_ids, (user_identity_token, user_token_signature))))). record {
       request_header = request_header;
       client_signature = client_signature;
       client_software_certificates = client_software_certificates;
@@ -199,8 +197,7 @@ activate_session_request = struct
       user_token_signature = user_token_signature;
     })
     (λ s. (s.request_header, (s.client_signature, (s.client_software_certificates, (s.locale_ids, (s.user_identity_token, s.user_token_signature))))))
-    (pair request_header (pair signature_data (pair (array signed_software_certificate) (pair (array string)
-    (pair (flat extension_object) signature_data)))))
+    (pair request_header (pair signature_data (pair (array signed_software_certificate) (pair (array string) (pair (flat extension_object) signature_data)))))
 
 -- ---- ActivateSessionResponse
 
@@ -221,10 +218,7 @@ activate_session_response = struct
 -- its fields in order (OPC 10000-4, 5.7.4)
 unfoldable pub close_session_request : Format CloseSessionRequest
 close_session_request = struct
-    (λ (request_header, delete_subscriptions). record {
-      request_header = request_header;
-      delete_subscriptions = delete_subscriptions;
-    })
+    (λ (request_header, delete_subscriptions). record { request_header = request_header; delete_subscriptions = delete_subscriptions })
     (λ s. (s.request_header, s.delete_subscriptions))
     (pair request_header (flat boolean))
 

@@ -20,11 +20,8 @@ use std::alloc::{AllocError, Global};
 use ua_builtin::{
     DoubleBits, NodeId, QualifiedName, ReadFault, Skip, Source, StatusCode, UaString, Wire,
 };
-use ua_opening::{
-    RequestHeader, ResponseHeader, UaArray, append_fields, are_encodable, read_fields,
-};
+use ua_opening::{RequestHeader, ResponseHeader, UaArray};
 use ua_variant::{DataValue, DiagnosticInfo};
-use ua_wire::{append_three, append_two};
 
 /// An item of a Read: an attribute of a node, or a part of it (OPC 10000-4, 7.29).
 #[derive(Debug, Drop)]
@@ -60,37 +57,6 @@ impl ReadValueId {
                 name: UaString::null(),
             },
         }
-    }
-}
-
-#[tactic(auto, unfolding(crate::specs::Attribute::read_value_id), using(crate::proofs::AttributeSound::sound_read_value_id))]
-impl Wire for ReadValueId {
-    ghost use Rattle.ua_structures.specs.Attribute.{read_value_id};
-
-    ghost format = { read_value_id };
-
-    #[inline]
-    fn lawful() {}
-
-    fn read_value<S: Source>(alloc: Global, src: &mut S, depth: u32) -> Result<Self, ReadFault> {
-        let node_id = NodeId::read_value(alloc, src, depth)?;
-        let attribute_id = u32::read_value(alloc, src, depth)?;
-        let index_range = UaString::read_value(alloc, src, depth)?;
-        let data_encoding = QualifiedName::read_value(alloc, src, depth)?;
-        Ok(ReadValueId {
-            node_id,
-            attribute_id,
-            index_range,
-            data_encoding,
-        })
-    }
-
-    fn is_encodable(&self) -> bool {
-        are_encodable!(self => node_id, attribute_id, index_range, data_encoding)
-    }
-
-    fn append(&self, out: &mut Vec<u8>) -> Result<(), AllocError> {
-        append_fields!(self, out => node_id, attribute_id, index_range, data_encoding)
     }
 }
 
@@ -184,35 +150,6 @@ impl ReadRequest {
     }
 }
 
-#[tactic(auto, unfolding(crate::specs::Attribute::read_request), using(crate::proofs::AttributeSound::sound_read_request))]
-impl Wire for ReadRequest {
-    ghost use Rattle.ua_structures.specs.Attribute.{read_request};
-
-    ghost format = { read_request };
-
-    #[inline]
-    fn lawful() {}
-
-    fn read_value<S: Source>(alloc: Global, src: &mut S, depth: u32) -> Result<Self, ReadFault> {
-        let mut message = ReadRequest::empty();
-        match message.read_into(alloc, src, depth) {
-            Ok(()) => Ok(message),
-            Err(fault) => {
-                drop(message);
-                Err(fault)
-            }
-        }
-    }
-
-    fn is_encodable(&self) -> bool {
-        are_encodable!(self => request_header, max_age, timestamps_to_return, nodes_to_read)
-    }
-
-    fn append(&self, out: &mut Vec<u8>) -> Result<(), AllocError> {
-        append_fields!(self, out => request_header, max_age, timestamps_to_return, nodes_to_read)
-    }
-}
-
 impl Skip for ReadRequest {
     #[tactic(auto, unfolding(crate::specs::Attribute::read_request))]
     fn skip_value<S: Source>(alloc: Global, src: &mut S, depth: u32) -> Result<(), ReadFault> {
@@ -281,40 +218,6 @@ impl ReadResponse {
         self.results = read_data_values(alloc, src, depth)?;
         self.diagnostic_infos = UaArray::read_value(alloc, src, depth)?;
         Ok(())
-    }
-}
-
-#[tactic(auto, unfolding(crate::specs::Attribute::read_response), using(crate::proofs::AttributeSound::lawful_read_response))]
-impl Wire for ReadResponse {
-    ghost use Rattle.ua_structures.specs.Attribute.{read_response};
-
-    ghost format = { read_response };
-
-    #[inline]
-    fn lawful() {}
-
-    fn read_value<S: Source>(alloc: Global, src: &mut S, depth: u32) -> Result<Self, ReadFault> {
-        let mut message = ReadResponse::empty();
-        match message.read_into(alloc, src, depth) {
-            Ok(()) => Ok(message),
-            Err(fault) => {
-                drop(message);
-                Err(fault)
-            }
-        }
-    }
-
-    fn is_encodable(&self) -> bool {
-        are_encodable!(self => response_header, results, diagnostic_infos)
-    }
-
-    fn append(&self, out: &mut Vec<u8>) -> Result<(), AllocError> {
-        append_read_response(
-            &self.response_header,
-            &self.results,
-            &self.diagnostic_infos,
-            out,
-        )
     }
 }
 
@@ -407,28 +310,6 @@ impl WriteValue {
     }
 }
 
-#[tactic(auto, unfolding(crate::specs::Attribute::write_value), using(crate::proofs::AttributeSound::lawful_write_value))]
-impl Wire for WriteValue {
-    ghost use Rattle.ua_structures.specs.Attribute.{write_value};
-
-    ghost format = { write_value };
-
-    #[inline]
-    fn lawful() {}
-
-    fn read_value<S: Source>(alloc: Global, src: &mut S, depth: u32) -> Result<Self, ReadFault> {
-        read_fields!(alloc, src, depth => WriteValue { node_id, attribute_id, index_range, value })
-    }
-
-    fn is_encodable(&self) -> bool {
-        are_encodable!(self => node_id, attribute_id, index_range, value)
-    }
-
-    fn append(&self, out: &mut Vec<u8>) -> Result<(), AllocError> {
-        append_fields!(self, out => node_id, attribute_id, index_range, value)
-    }
-}
-
 impl Skip for WriteValue {
     #[tactic(auto, unfolding(crate::specs::Attribute::write_value))]
     fn skip_value<S: Source>(alloc: Global, src: &mut S, depth: u32) -> Result<(), ReadFault> {
@@ -477,28 +358,6 @@ impl WriteRequest {
     }
 }
 
-#[tactic(auto, unfolding(crate::specs::Attribute::write_request), using(crate::proofs::AttributeSound::lawful_write_request))]
-impl Wire for WriteRequest {
-    ghost use Rattle.ua_structures.specs.Attribute.{write_request};
-
-    ghost format = { write_request };
-
-    #[inline]
-    fn lawful() {}
-
-    fn read_value<S: Source>(alloc: Global, src: &mut S, depth: u32) -> Result<Self, ReadFault> {
-        read_fields!(alloc, src, depth => WriteRequest { request_header, nodes_to_write })
-    }
-
-    fn is_encodable(&self) -> bool {
-        are_encodable!(self => request_header, nodes_to_write)
-    }
-
-    fn append(&self, out: &mut Vec<u8>) -> Result<(), AllocError> {
-        append_fields!(self, out => request_header, nodes_to_write)
-    }
-}
-
 impl Skip for WriteRequest {
     #[tactic(auto, unfolding(crate::specs::Attribute::write_request))]
     fn skip_value<S: Source>(alloc: Global, src: &mut S, depth: u32) -> Result<(), ReadFault> {
@@ -529,29 +388,5 @@ impl WriteResponse {
             results: UaArray::new(Some(results)),
             diagnostic_infos: UaArray::null(),
         }
-    }
-}
-
-#[tactic(auto, unfolding(crate::specs::Attribute::write_response), using(crate::proofs::AttributeSound::sound_write_response))]
-impl Wire for WriteResponse {
-    ghost use Rattle.ua_structures.specs.Attribute.{write_response};
-
-    ghost format = { write_response };
-
-    #[inline]
-    fn lawful() {}
-
-    fn read_value<S: Source>(alloc: Global, src: &mut S, depth: u32) -> Result<Self, ReadFault> {
-        read_fields!(alloc, src, depth => WriteResponse {
-            response_header, results, diagnostic_infos
-        })
-    }
-
-    fn is_encodable(&self) -> bool {
-        are_encodable!(self => response_header, results, diagnostic_infos)
-    }
-
-    fn append(&self, out: &mut Vec<u8>) -> Result<(), AllocError> {
-        append_fields!(self, out => response_header, results, diagnostic_infos)
     }
 }

@@ -1,18 +1,14 @@
 //! Discovery: endpoints, and the applications that provide them.
 
-ghost use Rattle.std.specs.Prelude.{◌≡◌, ◌≤◌, None, pos, IsTrue};
+ghost use Rattle.std.specs.Prelude.{◌≡◌, None, pos, IsTrue};
 ghost use Rattle.ua_opening.specs.Array.{array};
 ghost use Rattle.ua_structures.specs.Discovery.{application_description, get_endpoints_request};
 ghost use Rattle.ua_opening.specs.Field.{string};
 ghost use Rattle.ua_opening.specs.Header.{request_header as header_format};
 ghost use Rattle.ua_structures.specs.Plain.{application_of, endpoints_of};
 
-use std::alloc::{AllocError, Global};
-use ua_builtin::{LocalizedText, ReadFault, Source, UaBytes, UaString, Wire};
-use ua_opening::{
-    RequestHeader, ResponseHeader, UaArray, append_fields, are_encodable, read_fields,
-};
-use ua_wire::{append_three, append_two};
+use ua_builtin::{LocalizedText, UaBytes, UaString};
+use ua_opening::{RequestHeader, ResponseHeader, UaArray};
 
 /// The description of a server or a client (OPC 10000-4, 7.2).
 #[derive(Debug, Drop)]
@@ -84,37 +80,6 @@ impl ApplicationDescription {
     }
 }
 
-#[tactic(auto, unfolding(crate::specs::Discovery::application_description), using(crate::proofs::DiscoverySound::sound_application_description))]
-impl Wire for ApplicationDescription {
-    ghost use Rattle.ua_structures.specs.Discovery.{application_description};
-
-    ghost format = { application_description };
-
-    #[inline]
-    fn lawful() {}
-
-    fn read_value<S: Source>(alloc: Global, src: &mut S, depth: u32) -> Result<Self, ReadFault> {
-        read_fields!(alloc, src, depth => ApplicationDescription {
-            application_uri, product_uri, application_name, application_type, gateway_server_uri,
-            discovery_profile_uri, discovery_urls
-        })
-    }
-
-    fn is_encodable(&self) -> bool {
-        are_encodable!(self =>
-            application_uri, product_uri, application_name, application_type, gateway_server_uri,
-            discovery_profile_uri, discovery_urls
-        )
-    }
-
-    fn append(&self, out: &mut Vec<u8>) -> Result<(), AllocError> {
-        append_fields!(self, out =>
-            application_uri, product_uri, application_name, application_type, gateway_server_uri,
-            discovery_profile_uri, discovery_urls
-        )
-    }
-}
-
 /// A kind of user identity token that an endpoint accepts (OPC 10000-4, 7.42).
 #[derive(Debug, Drop)]
 pub struct UserTokenPolicy {
@@ -125,34 +90,6 @@ pub struct UserTokenPolicy {
     pub issued_token_type: UaString,
     pub issuer_endpoint_url: UaString,
     pub security_policy_uri: UaString,
-}
-
-#[tactic(auto, unfolding(crate::specs::Discovery::user_token_policy), using(crate::proofs::DiscoverySound::sound_user_token_policy))]
-impl Wire for UserTokenPolicy {
-    ghost use Rattle.ua_structures.specs.Discovery.{user_token_policy};
-
-    ghost format = { user_token_policy };
-
-    #[inline]
-    fn lawful() {}
-
-    fn read_value<S: Source>(alloc: Global, src: &mut S, depth: u32) -> Result<Self, ReadFault> {
-        read_fields!(alloc, src, depth => UserTokenPolicy {
-            policy_id, token_type, issued_token_type, issuer_endpoint_url, security_policy_uri
-        })
-    }
-
-    fn is_encodable(&self) -> bool {
-        are_encodable!(self =>
-            policy_id, token_type, issued_token_type, issuer_endpoint_url, security_policy_uri
-        )
-    }
-
-    fn append(&self, out: &mut Vec<u8>) -> Result<(), AllocError> {
-        append_fields!(self, out =>
-            policy_id, token_type, issued_token_type, issuer_endpoint_url, security_policy_uri
-        )
-    }
 }
 
 /// An endpoint of a server: its URL and its security settings (OPC 10000-4, 7.14).
@@ -168,37 +105,6 @@ pub struct EndpointDescription {
     pub transport_profile_uri: UaString,
     /// A greater number means more secure.
     pub security_level: u8,
-}
-
-#[tactic(auto, unfolding(crate::specs::Discovery::endpoint_description), using(crate::proofs::DiscoverySound::sound_endpoint_description))]
-impl Wire for EndpointDescription {
-    ghost use Rattle.ua_structures.specs.Discovery.{endpoint_description};
-
-    ghost format = { endpoint_description };
-
-    #[inline]
-    fn lawful() {}
-
-    fn read_value<S: Source>(alloc: Global, src: &mut S, depth: u32) -> Result<Self, ReadFault> {
-        read_fields!(alloc, src, depth => EndpointDescription {
-            endpoint_url, server, server_certificate, security_mode, security_policy_uri,
-            user_identity_tokens, transport_profile_uri, security_level
-        })
-    }
-
-    fn is_encodable(&self) -> bool {
-        are_encodable!(self =>
-            endpoint_url, server, server_certificate, security_mode, security_policy_uri,
-            user_identity_tokens, transport_profile_uri, security_level
-        )
-    }
-
-    fn append(&self, out: &mut Vec<u8>) -> Result<(), AllocError> {
-        append_fields!(self, out =>
-            endpoint_url, server, server_certificate, security_mode, security_policy_uri,
-            user_identity_tokens, transport_profile_uri, security_level
-        )
-    }
 }
 
 /// The GetEndpoints request: asks for the endpoints of a server (OPC 10000-4, 5.5.4).
@@ -229,55 +135,9 @@ impl GetEndpointsRequest {
     }
 }
 
-#[tactic(auto, unfolding(crate::specs::Discovery::get_endpoints_request), using(crate::proofs::DiscoverySound::sound_get_endpoints_request))]
-impl Wire for GetEndpointsRequest {
-    ghost use Rattle.ua_structures.specs.Discovery.{get_endpoints_request};
-
-    ghost format = { get_endpoints_request };
-
-    #[inline]
-    fn lawful() {}
-
-    fn read_value<S: Source>(alloc: Global, src: &mut S, depth: u32) -> Result<Self, ReadFault> {
-        read_fields!(alloc, src, depth => GetEndpointsRequest {
-            request_header, endpoint_url, locale_ids, profile_uris
-        })
-    }
-
-    fn is_encodable(&self) -> bool {
-        are_encodable!(self => request_header, endpoint_url, locale_ids, profile_uris)
-    }
-
-    fn append(&self, out: &mut Vec<u8>) -> Result<(), AllocError> {
-        append_fields!(self, out => request_header, endpoint_url, locale_ids, profile_uris)
-    }
-}
-
 /// The response to a [`GetEndpointsRequest`] (OPC 10000-4, 5.5.4).
 #[derive(Debug, Drop)]
 pub struct GetEndpointsResponse {
     pub response_header: ResponseHeader,
     pub endpoints: UaArray<EndpointDescription>,
-}
-
-#[tactic(auto, unfolding(crate::specs::Discovery::get_endpoints_response), using(crate::proofs::DiscoverySound::sound_get_endpoints_response))]
-impl Wire for GetEndpointsResponse {
-    ghost use Rattle.ua_structures.specs.Discovery.{get_endpoints_response};
-
-    ghost format = { get_endpoints_response };
-
-    #[inline]
-    fn lawful() {}
-
-    fn read_value<S: Source>(alloc: Global, src: &mut S, depth: u32) -> Result<Self, ReadFault> {
-        read_fields!(alloc, src, depth => GetEndpointsResponse { response_header, endpoints })
-    }
-
-    fn is_encodable(&self) -> bool {
-        are_encodable!(self => response_header, endpoints)
-    }
-
-    fn append(&self, out: &mut Vec<u8>) -> Result<(), AllocError> {
-        append_fields!(self, out => response_header, endpoints)
-    }
 }

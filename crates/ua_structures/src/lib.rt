@@ -17,10 +17,13 @@
 #![tactic(auto)]
 
 mod attribute;
+mod attribute_wire;
 mod data_values;
 mod discovery;
+mod discovery_wire;
 pub mod laws;
 mod session;
+mod session_wire;
 mod signature;
 mod thin;
 

@@ -1,6 +1,6 @@
 //! The Session services.
 
-ghost use Rattle.std.specs.Prelude.{◌≡◌, ◌≤◌, IsTrue};
+ghost use Rattle.std.specs.Prelude.{◌≡◌, IsTrue};
 ghost use Rattle.ua_builtin.specs.DoubleBits.{double_bits};
 ghost use Rattle.ua_builtin.specs.ExtensionObject.{extension_object};
 ghost use Rattle.ua_builtin.specs.NodeId.{node_id};
@@ -14,15 +14,9 @@ ghost use Rattle.ua_structures.specs.Session.{activate_session_request, activate
 
 use crate::discovery::{ApplicationDescription, EndpointDescription};
 use crate::signature::{SignatureData, SignedSoftwareCertificate};
-use std::alloc::{AllocError, Global};
-use ua_builtin::{
-    DoubleBits, ExtensionObject, NodeId, ReadFault, Source, StatusCode, UaBytes, UaString, Wire,
-};
-use ua_opening::{
-    RequestHeader, ResponseHeader, UaArray, append_fields, are_encodable, read_fields,
-};
+use ua_builtin::{DoubleBits, ExtensionObject, NodeId, StatusCode, UaBytes, UaString};
+use ua_opening::{RequestHeader, ResponseHeader, UaArray};
 use ua_variant::DiagnosticInfo;
-use ua_wire::{append_three, append_two};
 
 /// Every timeout can be written: its bits are within the range of their type once they are read.
 #[inline]
@@ -38,28 +32,6 @@ fn timeout_is_encodable(timeout: &DoubleBits)
 pub struct AnonymousIdentityToken {
     /// The `policy_id` of the [`UserTokenPolicy`](crate::UserTokenPolicy) that the token is for.
     pub policy_id: UaString,
-}
-
-#[tactic(auto, unfolding(crate::specs::Session::anonymous_identity_token), using(crate::proofs::SessionSound::lawful_anonymous_identity_token))]
-impl Wire for AnonymousIdentityToken {
-    ghost use Rattle.ua_structures.specs.Session.{anonymous_identity_token};
-
-    ghost format = { anonymous_identity_token };
-
-    #[inline]
-    fn lawful() {}
-
-    fn read_value<S: Source>(alloc: Global, src: &mut S, depth: u32) -> Result<Self, ReadFault> {
-        read_fields!(alloc, src, depth => AnonymousIdentityToken { policy_id })
-    }
-
-    fn is_encodable(&self) -> bool {
-        are_encodable!(self => policy_id)
-    }
-
-    fn append(&self, out: &mut Vec<u8>) -> Result<(), AllocError> {
-        append_fields!(self, out => policy_id)
-    }
 }
 
 /// The CreateSession request: asks for a session (OPC 10000-4, 5.7.2).
@@ -110,37 +82,6 @@ impl CreateSessionRequest {
             requested_session_timeout,
             max_response_message_size: 0,
         }
-    }
-}
-
-#[tactic(auto, unfolding(crate::specs::Session::create_session_request), using(crate::proofs::SessionSound::sound_create_session_request))]
-impl Wire for CreateSessionRequest {
-    ghost use Rattle.ua_structures.specs.Session.{create_session_request};
-
-    ghost format = { create_session_request };
-
-    #[inline]
-    fn lawful() {}
-
-    fn read_value<S: Source>(alloc: Global, src: &mut S, depth: u32) -> Result<Self, ReadFault> {
-        read_fields!(alloc, src, depth => CreateSessionRequest {
-            request_header, client_description, server_uri, endpoint_url, session_name,
-            client_nonce, client_certificate, requested_session_timeout, max_response_message_size
-        })
-    }
-
-    fn is_encodable(&self) -> bool {
-        are_encodable!(self =>
-            request_header, client_description, server_uri, endpoint_url, session_name,
-            client_nonce, client_certificate, requested_session_timeout, max_response_message_size
-        )
-    }
-
-    fn append(&self, out: &mut Vec<u8>) -> Result<(), AllocError> {
-        append_fields!(self, out =>
-            request_header, client_description, server_uri, endpoint_url, session_name,
-            client_nonce, client_certificate, requested_session_timeout, max_response_message_size
-        )
     }
 }
 
@@ -199,40 +140,6 @@ impl CreateSessionResponse {
     }
 }
 
-#[tactic(auto, unfolding(crate::specs::Session::create_session_response), using(crate::proofs::SessionSound::sound_create_session_response))]
-impl Wire for CreateSessionResponse {
-    ghost use Rattle.ua_structures.specs.Session.{create_session_response};
-
-    ghost format = { create_session_response };
-
-    #[inline]
-    fn lawful() {}
-
-    fn read_value<S: Source>(alloc: Global, src: &mut S, depth: u32) -> Result<Self, ReadFault> {
-        read_fields!(alloc, src, depth => CreateSessionResponse {
-            response_header, session_id, authentication_token, revised_session_timeout,
-            server_nonce, server_certificate, server_endpoints, server_software_certificates,
-            server_signature, max_request_message_size
-        })
-    }
-
-    fn is_encodable(&self) -> bool {
-        are_encodable!(self =>
-            response_header, session_id, authentication_token, revised_session_timeout,
-            server_nonce, server_certificate, server_endpoints, server_software_certificates,
-            server_signature, max_request_message_size
-        )
-    }
-
-    fn append(&self, out: &mut Vec<u8>) -> Result<(), AllocError> {
-        append_fields!(self, out =>
-            response_header, session_id, authentication_token, revised_session_timeout,
-            server_nonce, server_certificate, server_endpoints, server_software_certificates,
-            server_signature, max_request_message_size
-        )
-    }
-}
-
 /// The ActivateSession request: gives the identity of the session's user (OPC 10000-4, 5.7.3).
 #[derive(Debug, Drop)]
 pub struct ActivateSessionRequest {
@@ -267,37 +174,6 @@ impl ActivateSessionRequest {
     }
 }
 
-#[tactic(auto, unfolding(crate::specs::Session::activate_session_request), using(crate::proofs::SessionSound::sound_activate_session_request))]
-impl Wire for ActivateSessionRequest {
-    ghost use Rattle.ua_structures.specs.Session.{activate_session_request};
-
-    ghost format = { activate_session_request };
-
-    #[inline]
-    fn lawful() {}
-
-    fn read_value<S: Source>(alloc: Global, src: &mut S, depth: u32) -> Result<Self, ReadFault> {
-        read_fields!(alloc, src, depth => ActivateSessionRequest {
-            request_header, client_signature, client_software_certificates, locale_ids,
-            user_identity_token, user_token_signature
-        })
-    }
-
-    fn is_encodable(&self) -> bool {
-        are_encodable!(self =>
-            request_header, client_signature, client_software_certificates, locale_ids,
-            user_identity_token, user_token_signature
-        )
-    }
-
-    fn append(&self, out: &mut Vec<u8>) -> Result<(), AllocError> {
-        append_fields!(self, out =>
-            request_header, client_signature, client_software_certificates, locale_ids,
-            user_identity_token, user_token_signature
-        )
-    }
-}
-
 /// The response to an [`ActivateSessionRequest`] (OPC 10000-4, 5.7.3).
 #[derive(Debug, Drop)]
 pub struct ActivateSessionResponse {
@@ -324,30 +200,6 @@ impl ActivateSessionResponse {
     }
 }
 
-#[tactic(auto, unfolding(crate::specs::Session::activate_session_response), using(crate::proofs::SessionSound::sound_activate_session_response))]
-impl Wire for ActivateSessionResponse {
-    ghost use Rattle.ua_structures.specs.Session.{activate_session_response};
-
-    ghost format = { activate_session_response };
-
-    #[inline]
-    fn lawful() {}
-
-    fn read_value<S: Source>(alloc: Global, src: &mut S, depth: u32) -> Result<Self, ReadFault> {
-        read_fields!(alloc, src, depth => ActivateSessionResponse {
-            response_header, server_nonce, results, diagnostic_infos
-        })
-    }
-
-    fn is_encodable(&self) -> bool {
-        are_encodable!(self => response_header, server_nonce, results, diagnostic_infos)
-    }
-
-    fn append(&self, out: &mut Vec<u8>) -> Result<(), AllocError> {
-        append_fields!(self, out => response_header, server_nonce, results, diagnostic_infos)
-    }
-}
-
 /// The CloseSession request: closes a session (OPC 10000-4, 5.7.4).
 #[derive(Debug, Drop)]
 pub struct CloseSessionRequest {
@@ -355,54 +207,8 @@ pub struct CloseSessionRequest {
     pub delete_subscriptions: bool,
 }
 
-#[tactic(auto, unfolding(crate::specs::Session::close_session_request), using(crate::proofs::SessionSound::sound_close_session_request))]
-impl Wire for CloseSessionRequest {
-    ghost use Rattle.ua_structures.specs.Session.{close_session_request};
-
-    ghost format = { close_session_request };
-
-    #[inline]
-    fn lawful() {}
-
-    fn read_value<S: Source>(alloc: Global, src: &mut S, depth: u32) -> Result<Self, ReadFault> {
-        read_fields!(alloc, src, depth => CloseSessionRequest {
-            request_header, delete_subscriptions
-        })
-    }
-
-    fn is_encodable(&self) -> bool {
-        are_encodable!(self => request_header, delete_subscriptions)
-    }
-
-    fn append(&self, out: &mut Vec<u8>) -> Result<(), AllocError> {
-        append_fields!(self, out => request_header, delete_subscriptions)
-    }
-}
-
 /// The response to a [`CloseSessionRequest`] (OPC 10000-4, 5.7.4).
 #[derive(Debug, Drop)]
 pub struct CloseSessionResponse {
     pub response_header: ResponseHeader,
-}
-
-#[tactic(auto, unfolding(crate::specs::Session::close_session_response), using(crate::proofs::SessionSound::sound_close_session_response))]
-impl Wire for CloseSessionResponse {
-    ghost use Rattle.ua_structures.specs.Session.{close_session_response};
-
-    ghost format = { close_session_response };
-
-    #[inline]
-    fn lawful() {}
-
-    fn read_value<S: Source>(alloc: Global, src: &mut S, depth: u32) -> Result<Self, ReadFault> {
-        read_fields!(alloc, src, depth => CloseSessionResponse { response_header })
-    }
-
-    fn is_encodable(&self) -> bool {
-        are_encodable!(self => response_header)
-    }
-
-    fn append(&self, out: &mut Vec<u8>) -> Result<(), AllocError> {
-        append_fields!(self, out => response_header)
-    }
 }

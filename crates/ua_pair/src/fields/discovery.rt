@@ -1,4 +1,5 @@
-//! The Discovery services, as lines.
+//! Written by `tools/add_service.py --write` from `schema/discovery.txt`.
+//! The structures of the service GetEndpoints, as lines.
 
 use crate::fields::lines::{Lines, Place, push_fields};
 use std::alloc::{AllocError, Global};

@@ -1,4 +1,5 @@
-//! The headers and the ServiceFault, as lines.
+//! Written by `tools/add_service.py --write` from `schema/header.txt`.
+//! The structures of the headers and the ServiceFault, as lines.
 
 use crate::fields::lines::{Lines, Place, push_fields};
 use std::alloc::{AllocError, Global};

@@ -1,4 +1,5 @@
-//! The Session services, as lines.
+//! Written by `tools/add_service.py --write` from `schema/session.txt`.
+//! The structures of the Session services, as lines.
 
 use crate::fields::lines::{Lines, Place, push_fields};
 use std::alloc::{AllocError, Global};

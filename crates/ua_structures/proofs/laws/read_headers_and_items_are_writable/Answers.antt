@@ -1,4 +1,5 @@
-use Rattle.ua_structures.proofs.AttributeSound.{sound_read_value_id, lawful_write_value, where_write_value}
+use Rattle.ua_structures.proofs.AttributeLawful.{lawful_write_value, where_write_value}
+use Rattle.ua_structures.proofs.AttributeSound.{sound_read_value_id}
 use Rattle.ua_opening.proofs.FormatsBack.{read_writable}
 use Rattle.ua_opening.proofs.HeaderSound.{sound_request_header, sound_response_header}
 use Rattle.ua_structures.proofs.laws.read_headers_and_items_are_writable.Goals as goal

@@ -1,3 +1,5 @@
+-- Written by `tools/add_service.py --write` from `schema/attribute.txt`.
+-- The lines of its fields stand one behind the other.
 use Rattle.std.proofs.Common.{refl}
 use Rattle.ua_pair.specs.Attribute.{read_request_entries}
 use Rattle.ua_pair.proofs.fields.attribute.ReadRequestLines.push_lines.Goals as goal

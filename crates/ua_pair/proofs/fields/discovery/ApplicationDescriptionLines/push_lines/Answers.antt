@@ -1,3 +1,5 @@
+-- Written by `tools/add_service.py --write` from `schema/discovery.txt`.
+-- The lines of its fields stand one behind the other.
 use Rattle.std.proofs.Common.{refl}
 use Rattle.ua_pair.specs.Discovery.{application_description_entries}
 use Rattle.ua_pair.proofs.fields.discovery.ApplicationDescriptionLines.push_lines.Goals as goal

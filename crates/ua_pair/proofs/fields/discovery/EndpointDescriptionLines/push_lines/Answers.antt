@@ -1,3 +1,5 @@
+-- Written by `tools/add_service.py --write` from `schema/discovery.txt`.
+-- The lines of its fields stand one behind the other.
 use Rattle.std.proofs.Common.{refl}
 use Rattle.ua_pair.specs.Discovery.{endpoint_description_entries}
 use Rattle.ua_pair.proofs.fields.discovery.EndpointDescriptionLines.push_lines.Goals as goal

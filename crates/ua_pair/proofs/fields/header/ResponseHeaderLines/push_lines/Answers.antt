@@ -1,3 +1,5 @@
+-- Written by `tools/add_service.py --write` from `schema/header.txt`.
+-- The lines of its fields stand one behind the other.
 use Rattle.std.proofs.Common.{refl}
 use Rattle.ua_pair.specs.Header.{response_header_entries}
 use Rattle.ua_pair.proofs.fields.header.ResponseHeaderLines.push_lines.Goals as goal

@@ -1,3 +1,5 @@
+-- Written by `tools/add_service.py --write` from `schema/header.txt`.
+-- The lines of its fields stand one behind the other.
 use Rattle.std.proofs.Common.{refl}
 use Rattle.ua_pair.specs.Header.{service_fault_entries}
 use Rattle.ua_pair.proofs.fields.header.ServiceFaultLines.push_lines.Goals as goal

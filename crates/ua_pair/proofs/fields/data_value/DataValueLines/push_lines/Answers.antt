@@ -1,6 +1,6 @@
 use Rattle.std.proofs.Common.{refl}
-use Rattle.ua_pair.specs.Attribute.{data_value_entries}
-use Rattle.ua_pair.proofs.fields.attribute.DataValueLines.push_lines.Goals as goal
+use Rattle.ua_pair.specs.DataValue.{data_value_entries}
+use Rattle.ua_pair.proofs.fields.data_value.DataValueLines.push_lines.Goals as goal
 
 pub returns : goal.returns
 unfolding data_value_entries

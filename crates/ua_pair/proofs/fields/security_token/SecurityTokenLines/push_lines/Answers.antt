@@ -1,6 +1,6 @@
 use Rattle.std.proofs.Common.{refl}
-use Rattle.ua_pair.specs.SecureChannel.{security_token_entries}
-use Rattle.ua_pair.proofs.fields.secure_channel.SecurityTokenLines.push_lines.Goals as goal
+use Rattle.ua_pair.specs.SecurityToken.{security_token_entries}
+use Rattle.ua_pair.proofs.fields.security_token.SecurityTokenLines.push_lines.Goals as goal
 
 pub returns : goal.returns
 unfolding security_token_entries

@@ -1,6 +1,6 @@
 use Rattle.std.proofs.Common.{refl}
-use Rattle.ua_pair.specs.SecureChannel.{open_response_entries}
-use Rattle.ua_pair.proofs.fields.secure_channel.OpenResponseLines.push_lines.Goals as goal
+use Rattle.ua_pair.specs.SecurityToken.{open_response_entries}
+use Rattle.ua_pair.proofs.fields.security_token.OpenResponseLines.push_lines.Goals as goal
 
 pub returns : goal.returns
 unfolding open_response_entries

@@ -1,0 +1,92 @@
+//! Written by `tools/add_service.py --write` from `schema/secure_channel.txt`.
+//! Decodes and encodes the structures of the SecureChannel services.
+
+use crate::secure_channel::{CloseRequest, OpenRequest, OpenResponse};
+use crate::{append_fields, are_encodable, read_fields};
+use std::alloc::{AllocError, Global};
+use ua_builtin::{ReadFault, Source, Wire};
+use ua_wire::{append_three, append_two};
+
+#[tactic(auto, unfolding(crate::specs::SecureChannel::open_request), using(crate::proofs::SecureChannelLawful::lawful_open_request))]
+impl Wire for OpenRequest {
+    ghost use Rattle.ua_opening.specs.SecureChannel.{open_request};
+
+    ghost format = { open_request };
+
+    #[inline]
+    fn lawful() {}
+
+    fn read_value<S: Source>(alloc: Global, src: &mut S, depth: u32) -> Result<Self, ReadFault> {
+        read_fields!(alloc, src, depth => OpenRequest {
+            request_header, client_protocol_version, request_type, security_mode, client_nonce,
+            requested_lifetime
+        })
+    }
+
+    fn is_encodable(&self) -> bool {
+        are_encodable!(self =>
+            request_header, client_protocol_version, request_type, security_mode, client_nonce,
+            requested_lifetime
+        )
+    }
+
+    fn append(&self, out: &mut Vec<u8>) -> Result<(), AllocError> {
+        append_fields!(self, out =>
+            request_header, client_protocol_version, request_type, security_mode, client_nonce,
+            requested_lifetime
+        )
+    }
+}
+
+#[tactic(auto, unfolding(crate::specs::SecureChannel::open_response), using(crate::proofs::SecureChannelLawful::lawful_open_response))]
+impl Wire for OpenResponse {
+    ghost use Rattle.ua_opening.specs.SecureChannel.{open_response};
+
+    ghost format = { open_response };
+
+    #[inline]
+    fn lawful() {}
+
+    fn read_value<S: Source>(alloc: Global, src: &mut S, depth: u32) -> Result<Self, ReadFault> {
+        read_fields!(alloc, src, depth => OpenResponse {
+            response_header, server_protocol_version, channel_id, token_id, created_at,
+            revised_lifetime, server_nonce
+        })
+    }
+
+    fn is_encodable(&self) -> bool {
+        are_encodable!(self =>
+            response_header, server_protocol_version, channel_id, token_id, created_at,
+            revised_lifetime, server_nonce
+        )
+    }
+
+    fn append(&self, out: &mut Vec<u8>) -> Result<(), AllocError> {
+        append_fields!(self, out =>
+            response_header, server_protocol_version, channel_id, token_id, created_at,
+            revised_lifetime, server_nonce
+        )
+    }
+}
+
+#[tactic(auto, unfolding(crate::specs::SecureChannel::close_request), using(crate::proofs::SecureChannelLawful::lawful_close_request))]
+impl Wire for CloseRequest {
+    ghost use Rattle.ua_opening.specs.SecureChannel.{close_request};
+
+    ghost format = { close_request };
+
+    #[inline]
+    fn lawful() {}
+
+    fn read_value<S: Source>(alloc: Global, src: &mut S, depth: u32) -> Result<Self, ReadFault> {
+        read_fields!(alloc, src, depth => CloseRequest { request_header })
+    }
+
+    fn is_encodable(&self) -> bool {
+        are_encodable!(self => request_header)
+    }
+
+    fn append(&self, out: &mut Vec<u8>) -> Result<(), AllocError> {
+        append_fields!(self, out => request_header)
+    }
+}

@@ -1,0 +1,173 @@
+//! Written by `tools/add_service.py --write` from `schema/attribute.txt`.
+//! Decodes and encodes the structures of the services Read and Write.
+
+use crate::attribute::{
+    ReadRequest, ReadResponse, ReadValueId, WriteRequest, WriteResponse, WriteValue,
+    append_read_response,
+};
+use std::alloc::{AllocError, Global};
+use ua_builtin::{NodeId, QualifiedName, ReadFault, Source, UaString, Wire};
+use ua_opening::{append_fields, are_encodable, read_fields};
+use ua_wire::{append_three, append_two};
+
+#[tactic(auto, unfolding(crate::specs::Attribute::read_value_id), using(crate::proofs::AttributeSound::sound_read_value_id))]
+impl Wire for ReadValueId {
+    ghost use Rattle.ua_structures.specs.Attribute.{read_value_id};
+
+    ghost format = { read_value_id };
+
+    #[inline]
+    fn lawful() {}
+
+    fn read_value<S: Source>(alloc: Global, src: &mut S, depth: u32) -> Result<Self, ReadFault> {
+        let node_id = NodeId::read_value(alloc, src, depth)?;
+        let attribute_id = u32::read_value(alloc, src, depth)?;
+        let index_range = UaString::read_value(alloc, src, depth)?;
+        let data_encoding = QualifiedName::read_value(alloc, src, depth)?;
+        Ok(ReadValueId {
+            node_id,
+            attribute_id,
+            index_range,
+            data_encoding,
+        })
+    }
+
+    fn is_encodable(&self) -> bool {
+        are_encodable!(self => node_id, attribute_id, index_range, data_encoding)
+    }
+
+    fn append(&self, out: &mut Vec<u8>) -> Result<(), AllocError> {
+        append_fields!(self, out => node_id, attribute_id, index_range, data_encoding)
+    }
+}
+
+#[tactic(auto, unfolding(crate::specs::Attribute::read_request), using(crate::proofs::AttributeSound::sound_read_request))]
+impl Wire for ReadRequest {
+    ghost use Rattle.ua_structures.specs.Attribute.{read_request};
+
+    ghost format = { read_request };
+
+    #[inline]
+    fn lawful() {}
+
+    fn read_value<S: Source>(alloc: Global, src: &mut S, depth: u32) -> Result<Self, ReadFault> {
+        let mut message = ReadRequest::empty();
+        match message.read_into(alloc, src, depth) {
+            Ok(()) => Ok(message),
+            Err(fault) => {
+                drop(message);
+                Err(fault)
+            }
+        }
+    }
+
+    fn is_encodable(&self) -> bool {
+        are_encodable!(self => request_header, max_age, timestamps_to_return, nodes_to_read)
+    }
+
+    fn append(&self, out: &mut Vec<u8>) -> Result<(), AllocError> {
+        append_fields!(self, out => request_header, max_age, timestamps_to_return, nodes_to_read)
+    }
+}
+
+#[tactic(auto, unfolding(crate::specs::Attribute::read_response), using(crate::proofs::AttributeLawful::lawful_read_response))]
+impl Wire for ReadResponse {
+    ghost use Rattle.ua_structures.specs.Attribute.{read_response};
+
+    ghost format = { read_response };
+
+    #[inline]
+    fn lawful() {}
+
+    fn read_value<S: Source>(alloc: Global, src: &mut S, depth: u32) -> Result<Self, ReadFault> {
+        let mut message = ReadResponse::empty();
+        match message.read_into(alloc, src, depth) {
+            Ok(()) => Ok(message),
+            Err(fault) => {
+                drop(message);
+                Err(fault)
+            }
+        }
+    }
+
+    fn is_encodable(&self) -> bool {
+        are_encodable!(self => response_header, results, diagnostic_infos)
+    }
+
+    fn append(&self, out: &mut Vec<u8>) -> Result<(), AllocError> {
+        append_read_response(
+            &self.response_header,
+            &self.results,
+            &self.diagnostic_infos,
+            out,
+        )
+    }
+}
+
+#[tactic(auto, unfolding(crate::specs::Attribute::write_value), using(crate::proofs::AttributeLawful::lawful_write_value))]
+impl Wire for WriteValue {
+    ghost use Rattle.ua_structures.specs.Attribute.{write_value};
+
+    ghost format = { write_value };
+
+    #[inline]
+    fn lawful() {}
+
+    fn read_value<S: Source>(alloc: Global, src: &mut S, depth: u32) -> Result<Self, ReadFault> {
+        read_fields!(alloc, src, depth => WriteValue { node_id, attribute_id, index_range, value })
+    }
+
+    fn is_encodable(&self) -> bool {
+        are_encodable!(self => node_id, attribute_id, index_range, value)
+    }
+
+    fn append(&self, out: &mut Vec<u8>) -> Result<(), AllocError> {
+        append_fields!(self, out => node_id, attribute_id, index_range, value)
+    }
+}
+
+#[tactic(auto, unfolding(crate::specs::Attribute::write_request), using(crate::proofs::AttributeLawful::lawful_write_request))]
+impl Wire for WriteRequest {
+    ghost use Rattle.ua_structures.specs.Attribute.{write_request};
+
+    ghost format = { write_request };
+
+    #[inline]
+    fn lawful() {}
+
+    fn read_value<S: Source>(alloc: Global, src: &mut S, depth: u32) -> Result<Self, ReadFault> {
+        read_fields!(alloc, src, depth => WriteRequest { request_header, nodes_to_write })
+    }
+
+    fn is_encodable(&self) -> bool {
+        are_encodable!(self => request_header, nodes_to_write)
+    }
+
+    fn append(&self, out: &mut Vec<u8>) -> Result<(), AllocError> {
+        append_fields!(self, out => request_header, nodes_to_write)
+    }
+}
+
+#[tactic(auto, unfolding(crate::specs::Attribute::write_response), using(crate::proofs::AttributeSound::sound_write_response))]
+impl Wire for WriteResponse {
+    ghost use Rattle.ua_structures.specs.Attribute.{write_response};
+
+    ghost format = { write_response };
+
+    #[inline]
+    fn lawful() {}
+
+    fn read_value<S: Source>(alloc: Global, src: &mut S, depth: u32) -> Result<Self, ReadFault> {
+        read_fields!(alloc, src, depth => WriteResponse {
+            response_header, results, diagnostic_infos
+        })
+    }
+
+    fn is_encodable(&self) -> bool {
+        are_encodable!(self => response_header, results, diagnostic_infos)
+    }
+
+    fn append(&self, out: &mut Vec<u8>) -> Result<(), AllocError> {
+        append_fields!(self, out => response_header, results, diagnostic_infos)
+    }
+}

@@ -1,0 +1,147 @@
+//! Written by `tools/add_service.py --write` from `schema/discovery.txt`.
+//! Decodes and encodes the structures of the service GetEndpoints.
+
+use crate::discovery::{
+    ApplicationDescription, EndpointDescription, GetEndpointsRequest, GetEndpointsResponse,
+    UserTokenPolicy,
+};
+use std::alloc::{AllocError, Global};
+use ua_builtin::{ReadFault, Source, Wire};
+use ua_opening::{append_fields, are_encodable, read_fields};
+use ua_wire::{append_three, append_two};
+
+#[tactic(auto, unfolding(crate::specs::Discovery::application_description), using(crate::proofs::DiscoverySound::sound_application_description))]
+impl Wire for ApplicationDescription {
+    ghost use Rattle.ua_structures.specs.Discovery.{application_description};
+
+    ghost format = { application_description };
+
+    #[inline]
+    fn lawful() {}
+
+    fn read_value<S: Source>(alloc: Global, src: &mut S, depth: u32) -> Result<Self, ReadFault> {
+        read_fields!(alloc, src, depth => ApplicationDescription {
+            application_uri, product_uri, application_name, application_type, gateway_server_uri,
+            discovery_profile_uri, discovery_urls
+        })
+    }
+
+    fn is_encodable(&self) -> bool {
+        are_encodable!(self =>
+            application_uri, product_uri, application_name, application_type, gateway_server_uri,
+            discovery_profile_uri, discovery_urls
+        )
+    }
+
+    fn append(&self, out: &mut Vec<u8>) -> Result<(), AllocError> {
+        append_fields!(self, out =>
+            application_uri, product_uri, application_name, application_type, gateway_server_uri,
+            discovery_profile_uri, discovery_urls
+        )
+    }
+}
+
+#[tactic(auto, unfolding(crate::specs::Discovery::user_token_policy), using(crate::proofs::DiscoverySound::sound_user_token_policy))]
+impl Wire for UserTokenPolicy {
+    ghost use Rattle.ua_structures.specs.Discovery.{user_token_policy};
+
+    ghost format = { user_token_policy };
+
+    #[inline]
+    fn lawful() {}
+
+    fn read_value<S: Source>(alloc: Global, src: &mut S, depth: u32) -> Result<Self, ReadFault> {
+        read_fields!(alloc, src, depth => UserTokenPolicy {
+            policy_id, token_type, issued_token_type, issuer_endpoint_url, security_policy_uri
+        })
+    }
+
+    fn is_encodable(&self) -> bool {
+        are_encodable!(self =>
+            policy_id, token_type, issued_token_type, issuer_endpoint_url, security_policy_uri
+        )
+    }
+
+    fn append(&self, out: &mut Vec<u8>) -> Result<(), AllocError> {
+        append_fields!(self, out =>
+            policy_id, token_type, issued_token_type, issuer_endpoint_url, security_policy_uri
+        )
+    }
+}
+
+#[tactic(auto, unfolding(crate::specs::Discovery::endpoint_description), using(crate::proofs::DiscoverySound::sound_endpoint_description))]
+impl Wire for EndpointDescription {
+    ghost use Rattle.ua_structures.specs.Discovery.{endpoint_description};
+
+    ghost format = { endpoint_description };
+
+    #[inline]
+    fn lawful() {}
+
+    fn read_value<S: Source>(alloc: Global, src: &mut S, depth: u32) -> Result<Self, ReadFault> {
+        read_fields!(alloc, src, depth => EndpointDescription {
+            endpoint_url, server, server_certificate, security_mode, security_policy_uri,
+            user_identity_tokens, transport_profile_uri, security_level
+        })
+    }
+
+    fn is_encodable(&self) -> bool {
+        are_encodable!(self =>
+            endpoint_url, server, server_certificate, security_mode, security_policy_uri,
+            user_identity_tokens, transport_profile_uri, security_level
+        )
+    }
+
+    fn append(&self, out: &mut Vec<u8>) -> Result<(), AllocError> {
+        append_fields!(self, out =>
+            endpoint_url, server, server_certificate, security_mode, security_policy_uri,
+            user_identity_tokens, transport_profile_uri, security_level
+        )
+    }
+}
+
+#[tactic(auto, unfolding(crate::specs::Discovery::get_endpoints_request), using(crate::proofs::DiscoverySound::sound_get_endpoints_request))]
+impl Wire for GetEndpointsRequest {
+    ghost use Rattle.ua_structures.specs.Discovery.{get_endpoints_request};
+
+    ghost format = { get_endpoints_request };
+
+    #[inline]
+    fn lawful() {}
+
+    fn read_value<S: Source>(alloc: Global, src: &mut S, depth: u32) -> Result<Self, ReadFault> {
+        read_fields!(alloc, src, depth => GetEndpointsRequest {
+            request_header, endpoint_url, locale_ids, profile_uris
+        })
+    }
+
+    fn is_encodable(&self) -> bool {
+        are_encodable!(self => request_header, endpoint_url, locale_ids, profile_uris)
+    }
+
+    fn append(&self, out: &mut Vec<u8>) -> Result<(), AllocError> {
+        append_fields!(self, out => request_header, endpoint_url, locale_ids, profile_uris)
+    }
+}
+
+#[tactic(auto, unfolding(crate::specs::Discovery::get_endpoints_response), using(crate::proofs::DiscoverySound::sound_get_endpoints_response))]
+impl Wire for GetEndpointsResponse {
+    ghost use Rattle.ua_structures.specs.Discovery.{get_endpoints_response};
+
+    ghost format = { get_endpoints_response };
+
+    #[inline]
+    fn lawful() {}
+
+    fn read_value<S: Source>(alloc: Global, src: &mut S, depth: u32) -> Result<Self, ReadFault> {
+        read_fields!(alloc, src, depth => GetEndpointsResponse { response_header, endpoints })
+    }
+
+    fn is_encodable(&self) -> bool {
+        are_encodable!(self => response_header, endpoints)
+    }
+
+    fn append(&self, out: &mut Vec<u8>) -> Result<(), AllocError> {
+        append_fields!(self, out => response_header, endpoints)
+    }
+}

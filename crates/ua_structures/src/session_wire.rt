@@ -1,0 +1,244 @@
+//! Written by `tools/add_service.py --write` from `schema/session.txt`.
+//! Decodes and encodes the structures of the Session services.
+
+use crate::session::{
+    ActivateSessionRequest, ActivateSessionResponse, AnonymousIdentityToken, CloseSessionRequest,
+    CloseSessionResponse, CreateSessionRequest, CreateSessionResponse,
+};
+use crate::signature::{SignatureData, SignedSoftwareCertificate};
+use std::alloc::{AllocError, Global};
+use ua_builtin::{ReadFault, Source, Wire};
+use ua_opening::{append_fields, are_encodable, read_fields};
+use ua_wire::{append_three, append_two};
+
+#[tactic(auto, unfolding(crate::specs::Session::signed_software_certificate), using(crate::proofs::SessionSound::sound_signed_software_certificate))]
+impl Wire for SignedSoftwareCertificate {
+    ghost use Rattle.ua_structures.specs.Session.{signed_software_certificate};
+
+    ghost format = { signed_software_certificate };
+
+    #[inline]
+    fn lawful() {}
+
+    fn read_value<S: Source>(alloc: Global, src: &mut S, depth: u32) -> Result<Self, ReadFault> {
+        read_fields!(alloc, src, depth => SignedSoftwareCertificate { certificate_data, signature })
+    }
+
+    fn is_encodable(&self) -> bool {
+        are_encodable!(self => certificate_data, signature)
+    }
+
+    fn append(&self, out: &mut Vec<u8>) -> Result<(), AllocError> {
+        append_fields!(self, out => certificate_data, signature)
+    }
+}
+
+#[tactic(auto, unfolding(crate::specs::Session::signature_data), using(crate::proofs::SessionSound::sound_signature_data))]
+impl Wire for SignatureData {
+    ghost use Rattle.ua_structures.specs.Session.{signature_data};
+
+    ghost format = { signature_data };
+
+    #[inline]
+    fn lawful() {}
+
+    fn read_value<S: Source>(alloc: Global, src: &mut S, depth: u32) -> Result<Self, ReadFault> {
+        read_fields!(alloc, src, depth => SignatureData { algorithm, signature })
+    }
+
+    fn is_encodable(&self) -> bool {
+        are_encodable!(self => algorithm, signature)
+    }
+
+    fn append(&self, out: &mut Vec<u8>) -> Result<(), AllocError> {
+        append_fields!(self, out => algorithm, signature)
+    }
+}
+
+#[tactic(auto, unfolding(crate::specs::Session::anonymous_identity_token), using(crate::proofs::SessionLawful::lawful_anonymous_identity_token))]
+impl Wire for AnonymousIdentityToken {
+    ghost use Rattle.ua_structures.specs.Session.{anonymous_identity_token};
+
+    ghost format = { anonymous_identity_token };
+
+    #[inline]
+    fn lawful() {}
+
+    fn read_value<S: Source>(alloc: Global, src: &mut S, depth: u32) -> Result<Self, ReadFault> {
+        read_fields!(alloc, src, depth => AnonymousIdentityToken { policy_id })
+    }
+
+    fn is_encodable(&self) -> bool {
+        are_encodable!(self => policy_id)
+    }
+
+    fn append(&self, out: &mut Vec<u8>) -> Result<(), AllocError> {
+        append_fields!(self, out => policy_id)
+    }
+}
+
+#[tactic(auto, unfolding(crate::specs::Session::create_session_request), using(crate::proofs::SessionSound::sound_create_session_request))]
+impl Wire for CreateSessionRequest {
+    ghost use Rattle.ua_structures.specs.Session.{create_session_request};
+
+    ghost format = { create_session_request };
+
+    #[inline]
+    fn lawful() {}
+
+    fn read_value<S: Source>(alloc: Global, src: &mut S, depth: u32) -> Result<Self, ReadFault> {
+        read_fields!(alloc, src, depth => CreateSessionRequest {
+            request_header, client_description, server_uri, endpoint_url, session_name,
+            client_nonce, client_certificate, requested_session_timeout, max_response_message_size
+        })
+    }
+
+    fn is_encodable(&self) -> bool {
+        are_encodable!(self =>
+            request_header, client_description, server_uri, endpoint_url, session_name,
+            client_nonce, client_certificate, requested_session_timeout, max_response_message_size
+        )
+    }
+
+    fn append(&self, out: &mut Vec<u8>) -> Result<(), AllocError> {
+        append_fields!(self, out =>
+            request_header, client_description, server_uri, endpoint_url, session_name,
+            client_nonce, client_certificate, requested_session_timeout, max_response_message_size
+        )
+    }
+}
+
+#[tactic(auto, unfolding(crate::specs::Session::create_session_response), using(crate::proofs::SessionSound::sound_create_session_response))]
+impl Wire for CreateSessionResponse {
+    ghost use Rattle.ua_structures.specs.Session.{create_session_response};
+
+    ghost format = { create_session_response };
+
+    #[inline]
+    fn lawful() {}
+
+    fn read_value<S: Source>(alloc: Global, src: &mut S, depth: u32) -> Result<Self, ReadFault> {
+        read_fields!(alloc, src, depth => CreateSessionResponse {
+            response_header, session_id, authentication_token, revised_session_timeout,
+            server_nonce, server_certificate, server_endpoints, server_software_certificates,
+            server_signature, max_request_message_size
+        })
+    }
+
+    fn is_encodable(&self) -> bool {
+        are_encodable!(self =>
+            response_header, session_id, authentication_token, revised_session_timeout,
+            server_nonce, server_certificate, server_endpoints, server_software_certificates,
+            server_signature, max_request_message_size
+        )
+    }
+
+    fn append(&self, out: &mut Vec<u8>) -> Result<(), AllocError> {
+        append_fields!(self, out =>
+            response_header, session_id, authentication_token, revised_session_timeout,
+            server_nonce, server_certificate, server_endpoints, server_software_certificates,
+            server_signature, max_request_message_size
+        )
+    }
+}
+
+#[tactic(auto, unfolding(crate::specs::Session::activate_session_request), using(crate::proofs::SessionSound::sound_activate_session_request))]
+impl Wire for ActivateSessionRequest {
+    ghost use Rattle.ua_structures.specs.Session.{activate_session_request};
+
+    ghost format = { activate_session_request };
+
+    #[inline]
+    fn lawful() {}
+
+    fn read_value<S: Source>(alloc: Global, src: &mut S, depth: u32) -> Result<Self, ReadFault> {
+        read_fields!(alloc, src, depth => ActivateSessionRequest {
+            request_header, client_signature, client_software_certificates, locale_ids,
+            user_identity_token, user_token_signature
+        })
+    }
+
+    fn is_encodable(&self) -> bool {
+        are_encodable!(self =>
+            request_header, client_signature, client_software_certificates, locale_ids,
+            user_identity_token, user_token_signature
+        )
+    }
+
+    fn append(&self, out: &mut Vec<u8>) -> Result<(), AllocError> {
+        append_fields!(self, out =>
+            request_header, client_signature, client_software_certificates, locale_ids,
+            user_identity_token, user_token_signature
+        )
+    }
+}
+
+#[tactic(auto, unfolding(crate::specs::Session::activate_session_response), using(crate::proofs::SessionSound::sound_activate_session_response))]
+impl Wire for ActivateSessionResponse {
+    ghost use Rattle.ua_structures.specs.Session.{activate_session_response};
+
+    ghost format = { activate_session_response };
+
+    #[inline]
+    fn lawful() {}
+
+    fn read_value<S: Source>(alloc: Global, src: &mut S, depth: u32) -> Result<Self, ReadFault> {
+        read_fields!(alloc, src, depth => ActivateSessionResponse {
+            response_header, server_nonce, results, diagnostic_infos
+        })
+    }
+
+    fn is_encodable(&self) -> bool {
+        are_encodable!(self => response_header, server_nonce, results, diagnostic_infos)
+    }
+
+    fn append(&self, out: &mut Vec<u8>) -> Result<(), AllocError> {
+        append_fields!(self, out => response_header, server_nonce, results, diagnostic_infos)
+    }
+}
+
+#[tactic(auto, unfolding(crate::specs::Session::close_session_request), using(crate::proofs::SessionSound::sound_close_session_request))]
+impl Wire for CloseSessionRequest {
+    ghost use Rattle.ua_structures.specs.Session.{close_session_request};
+
+    ghost format = { close_session_request };
+
+    #[inline]
+    fn lawful() {}
+
+    fn read_value<S: Source>(alloc: Global, src: &mut S, depth: u32) -> Result<Self, ReadFault> {
+        read_fields!(alloc, src, depth => CloseSessionRequest {
+            request_header, delete_subscriptions
+        })
+    }
+
+    fn is_encodable(&self) -> bool {
+        are_encodable!(self => request_header, delete_subscriptions)
+    }
+
+    fn append(&self, out: &mut Vec<u8>) -> Result<(), AllocError> {
+        append_fields!(self, out => request_header, delete_subscriptions)
+    }
+}
+
+#[tactic(auto, unfolding(crate::specs::Session::close_session_response), using(crate::proofs::SessionSound::sound_close_session_response))]
+impl Wire for CloseSessionResponse {
+    ghost use Rattle.ua_structures.specs.Session.{close_session_response};
+
+    ghost format = { close_session_response };
+
+    #[inline]
+    fn lawful() {}
+
+    fn read_value<S: Source>(alloc: Global, src: &mut S, depth: u32) -> Result<Self, ReadFault> {
+        read_fields!(alloc, src, depth => CloseSessionResponse { response_header })
+    }
+
+    fn is_encodable(&self) -> bool {
+        are_encodable!(self => response_header)
+    }
+
+    fn append(&self, out: &mut Vec<u8>) -> Result<(), AllocError> {
+        append_fields!(self, out => response_header)
+    }
+}
