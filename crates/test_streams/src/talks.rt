@@ -1,4 +1,4 @@
-//! Calls over the line by the functions of `talking` of `ua_loopback`.
+//! A client that begins a session over the line, and asks requests together after it.
 
 ghost use Rattle.std.specs.Prelude.{IsTrue};
 ghost use Rattle.ua_wire.specs.Counted.{text};
@@ -12,9 +12,8 @@ use crate::words::{front, limits_of, text_of};
 use std::alloc::Global;
 use ua_builtin::{DateTime, NodeId, UaString, Wire};
 use ua_channel::MemoryLine;
-use ua_client::{ClientFault, Reply};
+use ua_client::{Client, ClientFault, Reply};
 use ua_frame::Limits;
-use ua_loopback::talking;
 use ua_services::Request;
 
 /// Tells the token of a session that is begun over the line by the token policy with a PolicyId,
@@ -61,9 +60,9 @@ fn talk(
 ) -> Result<(NodeId, Vec<Reply>), ClientFault>
     requires { IsTrue (text.encodable url) }
 {
-    let mut client = talking::open(alloc, line, limits, url, moment)?;
-    let token = talking::begin_session_as(&mut client, line, policy_id, moment)?;
-    let replies = talking::call_all(&mut client, line, requests, moment)?;
-    talking::close(&mut client, line, moment)?;
+    let mut client = Client::open(alloc, line, limits, url, moment)?;
+    let token = client.begin_session_as(line, policy_id, moment)?;
+    let replies = client.call_all(line, requests, moment)?;
+    client.close(line, moment)?;
     Ok((token, replies))
 }

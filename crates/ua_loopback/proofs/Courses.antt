@@ -1,19 +1,15 @@
 -- A client's turns over a line, one behind the other.
 use Rattle.std.proofs.Common.{◌≡◌, ◌⊎◌, inl, inr, ℕ, ◌+◌, ◌<◌, ◌≤◌, IsTrue, List, [], ◌∷◌, ◌++◌, Option, Some, None, Result, Ok, Err}
 use Rattle.std.proofs.Common.{get_or, length, map, take, drop, refl, sym, ◌∙◌, ap, subst, append-nil, append_assoc, arith, length-append}
-use Rattle.std.specs.Prelude.{IfErr, OnOk}
 use Rattle.std.proofs.lemmas.List.{length-map, length-take-le, map-append, take-append-drop, take_all, take_more}
 use Rattle.ua_builtin.specs.DateTime.{date_time}
 use Rattle.ua_builtin.specs.declared.date_time.DateTime.{DateTime}
-use Rattle.ua_frame.specs.Run.{End, Going, Over, Stopped}
+use Rattle.ua_frame.specs.Run.{Going}
 use Rattle.ua_frame.specs.declared.limits.Limits.{Limits}
 use Rattle.ua_channel.specs.Line.{Traffic, IfTrafficKnown}
 use Rattle.ua_channel_laws.specs.ServerReads.{ServerCloses}
-use Rattle.ua_channel.specs.ServerTold.{Told}
 use Rattle.ua_channel.specs.declared.client.channel.ClientChannel.{ClientChannel}
 use Rattle.ua_services.specs.declared.request.Request.{Request}
-use Rattle.ua_server.specs.State.{State}
-use Rattle.ua_server.specs.declared.step.End.TheVariants as ending
 use Rattle.ua_client.specs.Carried.{Carries}
 use Rattle.ua_client.specs.Client.{Closes, ClosesAt, IsReady, OpensClient, OpensNothing, closing_at, connection_of}
 use Rattle.ua_client.specs.Hearing.{channel_of, untaken_of}
@@ -31,27 +27,25 @@ use Rattle.ua_client.specs.declared.fault.ClientFault.TheVariants.{OutOfMemory}
 use Rattle.ua_client.specs.declared.reply.Reply.{Reply}
 use Rattle.ua_client.proofs.Carrying.{carried-as, carried-then}
 use Rattle.ua_client.proofs.Settled.{NonePending}
-use Rattle.ua_loopback.specs.Accepted.{AreAccepted, FirstRefused, IsTurnFault, acknowledged, turn_refusal}
+use Rattle.ua_loopback.specs.Accepted.{FirstRefused, IsTurnFault, acknowledged, turn_refusal}
 use Rattle.ua_loopback.specs.Beginning.{Beginning}
 use Rattle.ua_loopback.specs.Course.{Converses, Course, opening_octets}
 use Rattle.ua_loopback.specs.Course.Course.{Asked, Renewed}
-use Rattle.ua_loopback.specs.Kept.{EndsAt, LeavesAt, Served, traffic_of}
+use Rattle.ua_loopback.specs.Kept.{Served, traffic_of}
 use Rattle.ua_loopback.specs.Faults.{BehindRefused, FailsBehind}
 use Rattle.ua_loopback.specs.Replies.{lane_back, turn_replies, turns_replies, turns_state}
-use Rattle.ua_loopback.specs.Sends.{closing_behind, conversation_octets, turns_octets}
-use Rattle.ua_loopback.specs.Says.{end_by, services_after, server_output, state_told}
+use Rattle.ua_loopback.specs.Sends.{closing_behind, turns_octets}
+use Rattle.ua_loopback.specs.Says.{end_by, services_after, server_output}
 use Rattle.ua_loopback.specs.Talking.{IsLineTo, IsTalking, SoFar, StopsOver, TalksAt, acked_in, closed_octets, octets_of, state_in, newest_in, with_turn}
 use Rattle.ua_loopback.specs.inside.Talking.{CanOpen, HasMisanswer, HaveMisanswers, Stays, StaysBefore, StaysBehind, StaysTalking, Talked, Went, WentBefore}
-use Rattle.ua_loopback.specs.Turns.{conversation_told, opening_told, turns_told}
-use Rattle.ua_loopback.specs.declared.stage.Stage.{Stage}
-use Rattle.ua_loopback.specs.declared.stage.Stage.TheVariants as stage
+use Rattle.ua_loopback.specs.Turns.{conversation_told}
 use Rattle.ua_loopback.proofs.Begun.{SettlesOpened, went_first}
 use Rattle.ua_loopback.proofs.Faults.{fails_by, misanswers_in, sent_both, sent_over}
 use Rattle.ua_loopback.proofs.OneTurn.{calls_refused, calls_replied, calls_sent, calls_talk, closes_read, closes_silent, closing_is, first_at}
 use Rattle.ua_loopback.proofs.OneTurn.{first_octets, first_replied, first_sent, first_talk, renewing_not, renewing_sent, renewing_talks, talk_left}
 use Rattle.ua_loopback.proofs.Pushes.{octets_push, replies_push}
-use Rattle.ua_loopback.proofs.Replying.{some-append, state_closed}
-use Rattle.ua_loopback.proofs.Saying.{end_is, left_by_run}
+use Rattle.ua_loopback.proofs.Replying.{some-append}
+use Rattle.ua_loopback.proofs.Saying.{end_is}
 use Rattle.ua_loopback.proofs.Talks.{breaks_refused, got_on, rounds_octets}
 
 -- ---- a turn that is refused
@@ -559,129 +553,10 @@ closes_by s moment sent fault.UnknownResponse is k = is
 closes_by s moment sent fault.OutOfMemory is k = is
 closes_by s moment sent fault.Closed is k = is
 
--- ---- how the server saw it end
+-- ---- what stands before a turn that is refused
 
-ends_closed : (b : Beginning) (s : Stage) (up : List ℕ) → EndsAt s b up → end_by b up ≡ Over → s ≡ stage.Ended ending.Closed
-ends_closed b stage.Going up e over = let no : ◌≡◌ {A = End ℕ} Going Over = sym e ∙ over in absurd cc
-ends_closed b (stage.Ended ending.Closed) up e over = refl
-ends_closed b (stage.Ended (ending.Refused code)) up e over = let no : ◌≡◌ {A = End ℕ} (Stopped code.code) Over = sym e ∙ over in absurd cc
-ends_closed b (stage.Ended ending.NoClose) up e over = absurd e
-ends_closed b (stage.Ended ending.Cut) up e over = absurd e
-ends_closed b stage.Broken up e over = let no : ◌≡◌ {A = End ℕ} Going Over = sym e ∙ over in absurd cc
-
--- where a CLO closed its channel, by that
-pub closed_well : (r : Result (Unit {0}) ClientFault) (b : Beginning) (limits : Limits) (channel : ℕ) (first : State) (moment : DateTime) (s : Stage)
-    (up : List ℕ) (told : List Told) → b ≡ record { limits = limits; channel = channel; first = first; moment = moment }
-    → EndsAt s b up → OnOk r (ServerCloses limits channel up told) → OnOk r (s ≡ stage.Ended ending.Closed)
-closed_well (Err f) b limits channel first moment s up told is e q = tt
-closed_well (Ok done) b limits channel first moment s up told is e q =
-    let here : ServerCloses b.limits b.channel up told = subst (λ (d : Beginning). ServerCloses d.limits d.channel up told) (sym is) q in
-    ends_closed b s up e (end_is b up here.frames [] Over here.run)
-
--- and the services are what it left
-pub left_well : (r : Result (Unit {0}) ClientFault) (b : Beginning) (s : Stage) (up : List ℕ) (now : State) → LeavesAt s b up now
-    → OnOk r (s ≡ stage.Ended ending.Closed) → OnOk r (now ≡ services_after b up)
-left_well (Err f) b s up now leaves closed = tt
-left_well (Ok done) b s up now leaves closed = subst (λ (t : Stage). LeavesAt t b up now) closed leaves
-
--- ---- where it did all
-
-module _ (b : Beginning) (limits : Limits) (channel : ℕ) (services : State) (url : Option (List ℕ)) (moment : DateTime) (turns : List (Option (List Request)))
-    (old new : Served) (replies : List Reply) (is : b ≡ record { limits = limits; channel = channel; first = services; moment = moment })
-    (able : CanOpen (record { limits = limits; channel = channel; first = services; moment = moment }) limits url moment) (none : old.up ≡ [])
-    (nothing_read : old.read ≡ 0)
-    (t : (b' : Beginning) → CanOpen b' limits url moment → IsLineTo b' [] [] (Some (traffic_of b old))
-    → Talked b' limits url moment turns (Some (traffic_of b old)) (Some (traffic_of b new)) replies) where
-  talked : Talked b limits url moment turns (Some (traffic_of b old)) (Some (traffic_of b new)) replies
-  talked = t b (subst (λ (d : Beginning). CanOpen d limits url moment) (sym is) able) (line_begins b old none nothing_read)
-
-  all_conversed : (up down : List ℕ) → up ≡ new.up → down ≡ server_output b new.up → Converses limits url moment turns up down replies
-  all_conversed up down p q =
-      subst (λ (u : List ℕ). Converses limits url moment turns u down replies) (sym p)
-      (subst (λ (d : List ℕ). Converses limits url moment turns new.up d replies) (sym q) (conversed b limits url moment turns old new replies none talked))
-
-  all_sent : (up : List ℕ) → up ≡ new.up → up ≡ conversation_octets limits limits url channel moment turns
-  all_sent up p =
-      p
-      ∙ (talked.carried.written
-      ∙ (ap (λ (o : List ℕ). o ++ (opening_octets limits url moment ++ (talked.sent ++ closing_at talked.last moment))) none
-      ∙ (talked.up_is ∙ ap (λ (d : Beginning). conversation_octets d.limits limits url d.channel moment turns) is)))
-
-  all_closed_there : (up : List ℕ) → up ≡ new.up → ServerCloses b.limits b.channel up (conversation_told b.limits limits url turns)
-  all_closed_there up p = subst (λ (u : List ℕ). ServerCloses b.limits b.channel u (conversation_told b.limits limits url turns)) (sym p)
-      (closed_by b limits url moment turns old new replies none talked)
-
-  all_replied : map (λ (r : Reply). Some r) replies ≡ turns_replies (record { limits = limits; channel = channel; first = services; moment = moment }) limits
-      url services 1 turns
-  all_replied = talked.replied ∙ ap (λ (d : Beginning). turns_replies d limits url d.first 1 turns) is
-
-  -- the state that all of it leaves
-  all_left : (up : List ℕ) → up ≡ new.up → services_after b up ≡ turns_state services moment turns
-  all_left up p =
-      let q = all_closed_there up p in
-      left_by_run b up q.frames [] Over q.run
-      ∙ (ap (λ (ts : List Told). state_told b ts) q.told_is
-      ∙ (state_closed b (opening_told b.limits limits url ++ turns_told 1 2 turns)
-      ∙ (talked.state_is ∙ ap (λ (d : Beginning). turns_state d.first d.moment turns) is)))
-
-  all_accepted : AreAccepted (acknowledged limits limits url) turns
-  all_accepted = subst (λ (d : Beginning). AreAccepted (acknowledged d.limits limits url) turns) is talked.accepted
-
-  all_closed : (up : List ℕ) → up ≡ new.up → ServerCloses limits channel up (conversation_told limits limits url turns)
-  all_closed up p =
-      subst (λ (d : Beginning). ServerCloses d.limits d.channel up (conversation_told d.limits limits url turns)) is (all_closed_there up p)
-
--- what went over the line
-pub conversed_on : (r : Result (Unit {0}) ClientFault) (b : Beginning) (limits : Limits) (channel : ℕ) (services : State) (url : Option (List ℕ))
-    (moment : DateTime) (turns : List (Option (List Request))) (old new : Served) (replies : List Reply) (up down : List ℕ)
-    → b ≡ record { limits = limits; channel = channel; first = services; moment = moment }
-    → CanOpen (record { limits = limits; channel = channel; first = services; moment = moment }) limits url moment → old.up ≡ [] → old.read ≡ 0
-    → OnOk r ((b' : Beginning) → CanOpen b' limits url moment → IsLineTo b' [] [] (Some (traffic_of b old))
-    → Talked b' limits url moment turns (Some (traffic_of b old)) (Some (traffic_of b new)) replies)
-    → up ≡ new.up → down ≡ server_output b new.up → OnOk r (Converses limits url moment turns up down replies)
-conversed_on (Err f) b limits channel services url moment turns old new replies up down is able none nothing_read t p q = tt
-conversed_on (Ok found) b limits channel services url moment turns old new replies up down is able none nothing_read t p q =
-    all_conversed b limits channel services url moment turns old new replies is able none nothing_read t up down p q
-
--- and what it told the server
-pub closed_on : (r : Result (Unit {0}) ClientFault) (b : Beginning) (limits : Limits) (channel : ℕ) (services : State) (url : Option (List ℕ))
-    (moment : DateTime) (turns : List (Option (List Request))) (old new : Served) (replies : List Reply) (up : List ℕ)
-    → b ≡ record { limits = limits; channel = channel; first = services; moment = moment }
-    → CanOpen (record { limits = limits; channel = channel; first = services; moment = moment }) limits url moment → old.up ≡ [] → old.read ≡ 0
-    → OnOk r ((b' : Beginning) → CanOpen b' limits url moment → IsLineTo b' [] [] (Some (traffic_of b old))
-    → Talked b' limits url moment turns (Some (traffic_of b old)) (Some (traffic_of b new)) replies)
-    → up ≡ new.up → OnOk r (ServerCloses limits channel up (conversation_told limits limits url turns))
-closed_on (Err f) b limits channel services url moment turns old new replies up is able none nothing_read t p = tt
-closed_on (Ok found) b limits channel services url moment turns old new replies up is able none nothing_read t p =
-    all_closed b limits channel services url moment turns old new replies is able none nothing_read t up p
-
--- and each turn was accepted
-pub accepted_on : (r : Result (Unit {0}) ClientFault) (b : Beginning) (limits : Limits) (channel : ℕ) (services : State) (url : Option (List ℕ))
-    (moment : DateTime) (turns : List (Option (List Request))) (old new : Served) (replies : List Reply)
-    → b ≡ record { limits = limits; channel = channel; first = services; moment = moment }
-    → CanOpen (record { limits = limits; channel = channel; first = services; moment = moment }) limits url moment → old.up ≡ [] → old.read ≡ 0
-    → OnOk r ((b' : Beginning) → CanOpen b' limits url moment → IsLineTo b' [] [] (Some (traffic_of b old))
-    → Talked b' limits url moment turns (Some (traffic_of b old)) (Some (traffic_of b new)) replies)
-    → OnOk r (AreAccepted (acknowledged limits limits url) turns)
-accepted_on (Err f) b limits channel services url moment turns old new replies is able none nothing_read t = tt
-accepted_on (Ok found) b limits channel services url moment turns old new replies is able none nothing_read t =
-    all_accepted b limits channel services url moment turns old new replies is able none nothing_read t
-
--- or the first that is not is named
-pub refused_on : (r : Result (Unit {0}) ClientFault) (b : Beginning) (limits : Limits) (channel : ℕ) (services : State) (url : Option (List ℕ))
-    (moment : DateTime) (turns : List (Option (List Request))) (old : Served) (place : ℕ)
-    → b ≡ record { limits = limits; channel = channel; first = services; moment = moment }
-    → CanOpen (record { limits = limits; channel = channel; first = services; moment = moment }) limits url moment → old.up ≡ [] → old.read ≡ 0
-    → IfErr r (λ f. IsTurnFault f → (b' : Beginning) → CanOpen b' limits url moment → IsLineTo b' [] [] (Some (traffic_of b old))
-    → FirstRefused (acknowledged b'.limits limits url) turns place f)
-    → IfErr r (λ f. IsTurnFault f → FirstRefused (acknowledged limits limits url) turns place f)
-refused_on (Ok found) b limits channel services url moment turns old place is able none nothing_read t = tt
-refused_on (Err f) b limits channel services url moment turns old place is able none nothing_read t = λ reason.
-    subst (λ (d : Beginning). FirstRefused (acknowledged d.limits limits url) turns place f) is
-    (t reason b (subst (λ (d : Beginning). CanOpen d limits url moment) (sym is) able) (line_begins b old none nothing_read))
-
--- and what stands before it was done, and no more
-behind_refused : (b : Beginning) (limits : Limits) (url : Option (List ℕ)) (moment : DateTime) (turns : List (Option (List Request))) (place : ℕ)
+-- it was done, and no more
+pub behind_refused : (b : Beginning) (limits : Limits) (url : Option (List ℕ)) (moment : DateTime) (turns : List (Option (List Request))) (place : ℕ)
     (old new : Served) (replies : List Reply) → old.up ≡ []
     → WentBefore b limits url moment turns place (Some (traffic_of b old)) (Some (traffic_of b new)) replies
     → BehindRefused b limits url moment turns place new.up replies
@@ -708,57 +583,3 @@ waits_refused b limits url moment turns place old new replies none w =
     let up_is : new.up ≡ octets = s.stays.carried.written ∙ ap (λ (o : List ℕ). o ++ octets) none in
     let r = s.talks.talking.served.serving.together.server_reads in
     ap (end_by b) up_is ∙ end_is b octets r.frames [] Going r.run
-
-pub before_on : (r : Result (Unit {0}) ClientFault) (b : Beginning) (limits : Limits) (channel : ℕ) (services : State) (url : Option (List ℕ))
-    (moment : DateTime) (turns : List (Option (List Request))) (old new : Served) (place : ℕ) (replies : List Reply) (up : List ℕ)
-    → b ≡ record { limits = limits; channel = channel; first = services; moment = moment }
-    → CanOpen (record { limits = limits; channel = channel; first = services; moment = moment }) limits url moment → old.up ≡ [] → old.read ≡ 0
-    → IfErr r (λ f. IsTurnFault f → (b' : Beginning) → CanOpen b' limits url moment → IsLineTo b' [] [] (Some (traffic_of b old))
-    → WentBefore b' limits url moment turns place (Some (traffic_of b old)) (Some (traffic_of b new)) replies)
-    → up ≡ new.up
-    → IfErr r (λ f. IsTurnFault f → BehindRefused (record { limits = limits; channel = channel; first = services; moment = moment }) limits url moment turns
-    place up replies)
-before_on (Ok found) b limits channel services url moment turns old new place replies up is able none nothing_read t p = tt
-before_on (Err f) b limits channel services url moment turns old new place replies up is able none nothing_read t p = λ reason.
-    subst (λ (u : List ℕ). BehindRefused (record { limits = limits; channel = channel; first = services; moment = moment }) limits url moment turns place u
-    replies) (sym p)
-    (subst (λ (d : Beginning). BehindRefused d limits url moment turns place new.up replies) is
-    (behind_refused b limits url moment turns place old new replies none
-    (t reason b (subst (λ (d : Beginning). CanOpen d limits url moment) (sym is) able) (line_begins b old none nothing_read))))
-
--- and the client sent just these octets
-pub sent_on : (r : Result (Unit {0}) ClientFault) (b : Beginning) (limits : Limits) (channel : ℕ) (services : State) (url : Option (List ℕ)) (moment : DateTime)
-    (turns : List (Option (List Request))) (old new : Served) (replies : List Reply) (up : List ℕ)
-    → b ≡ record { limits = limits; channel = channel; first = services; moment = moment }
-    → CanOpen (record { limits = limits; channel = channel; first = services; moment = moment }) limits url moment → old.up ≡ [] → old.read ≡ 0
-    → OnOk r ((b' : Beginning) → CanOpen b' limits url moment → IsLineTo b' [] [] (Some (traffic_of b old))
-    → Talked b' limits url moment turns (Some (traffic_of b old)) (Some (traffic_of b new)) replies)
-    → up ≡ new.up → OnOk r (up ≡ conversation_octets limits limits url channel moment turns)
-sent_on (Err f) b limits channel services url moment turns old new replies up is able none nothing_read t p = tt
-sent_on (Ok found) b limits channel services url moment turns old new replies up is able none nothing_read t p =
-    all_sent b limits channel services url moment turns old new replies is able none nothing_read t up p
-
--- each request has the reply that is worked out of the services
-pub replied_on : (r : Result (Unit {0}) ClientFault) (b : Beginning) (limits : Limits) (channel : ℕ) (services : State) (url : Option (List ℕ))
-    (moment : DateTime) (turns : List (Option (List Request))) (old new : Served) (replies : List Reply)
-    → b ≡ record { limits = limits; channel = channel; first = services; moment = moment }
-    → CanOpen (record { limits = limits; channel = channel; first = services; moment = moment }) limits url moment → old.up ≡ [] → old.read ≡ 0
-    → OnOk r ((b' : Beginning) → CanOpen b' limits url moment → IsLineTo b' [] [] (Some (traffic_of b old))
-    → Talked b' limits url moment turns (Some (traffic_of b old)) (Some (traffic_of b new)) replies)
-    → OnOk r (map (λ (x : Reply). Some x) replies ≡ turns_replies (record { limits = limits; channel = channel; first = services; moment = moment }) limits url
-    services 1 turns)
-replied_on (Err f) b limits channel services url moment turns old new replies is able none nothing_read t = tt
-replied_on (Ok found) b limits channel services url moment turns old new replies is able none nothing_read t =
-    all_replied b limits channel services url moment turns old new replies is able none nothing_read t
-
--- and the services are as the turns leave them
-pub state_on : (r : Result (Unit {0}) ClientFault) (b : Beginning) (limits : Limits) (channel : ℕ) (services : State) (url : Option (List ℕ))
-    (moment : DateTime) (turns : List (Option (List Request))) (old new : Served) (replies : List Reply) (up : List ℕ) (now : State)
-    → b ≡ record { limits = limits; channel = channel; first = services; moment = moment }
-    → CanOpen (record { limits = limits; channel = channel; first = services; moment = moment }) limits url moment → old.up ≡ [] → old.read ≡ 0
-    → OnOk r ((b' : Beginning) → CanOpen b' limits url moment → IsLineTo b' [] [] (Some (traffic_of b old))
-    → Talked b' limits url moment turns (Some (traffic_of b old)) (Some (traffic_of b new)) replies)
-    → up ≡ new.up → OnOk r (now ≡ services_after b up) → OnOk r (now ≡ turns_state services moment turns)
-state_on (Err f) b limits channel services url moment turns old new replies up now is able none nothing_read t p q = tt
-state_on (Ok found) b limits channel services url moment turns old new replies up now is able none nothing_read t p q = q
-    ∙ all_left b limits channel services url moment turns old new replies is able none nothing_read t up p

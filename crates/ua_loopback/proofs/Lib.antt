@@ -24,6 +24,7 @@ pub mod Pushes
 pub mod Conversing
 mod Courses
 mod Failing
+mod Outcomes
 mod Fitting
 mod Calling
 mod Sessions

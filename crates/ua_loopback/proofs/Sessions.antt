@@ -1,5 +1,7 @@
 -- A session that is begun over a line to a server, behind a talk so far.
-use Rattle.std.proofs.Common.{◌≡◌, ◌⊎◌, inl, inr, ℕ, ◌+◌, List, [], ◌∷◌, ◌++◌, Option, Some, None, Ok, Err, length, map, refl, sym, ◌∙◌, ap, subst, arith}
+use Rattle.std.proofs.Common.{◌≡◌, ◌⊎◌, inl, inr, ℕ, ◌+◌, List, [], ◌∷◌, ◌++◌, Option, Some, None}
+use Rattle.std.proofs.Common.{Result, Ok, Err, length, map, refl, sym, ◌∙◌, ap, subst, arith}
+use Rattle.std.specs.Prelude.{IfErr, IfOk}
 use Rattle.ua_builtin.specs.declared.date_time.DateTime.{DateTime}
 use Rattle.ua_builtin.specs.declared.node_id.NodeId.{NodeId}
 use Rattle.ua_builtin.specs.declared.status_code.StatusCode.{StatusCode}
@@ -8,10 +10,11 @@ use Rattle.ua_channel.specs.Line.{Traffic}
 use Rattle.ua_channel.specs.Client.{url_of}
 use Rattle.ua_services.specs.declared.request.Request.{Request}
 use Rattle.ua_services.specs.SessionRequests.{activate_session_as, create_session}
+use Rattle.ua_server.specs.Sound.{IsSoundState}
 use Rattle.ua_server.specs.State.{State}
 use Rattle.ua_client.specs.Calls.{BreaksAt, Rounds, sent_at}
 use Rattle.ua_client.specs.Calls.Rounds.{NoRound, OneRound}
-use Rattle.ua_client.specs.Client.{IsReady, connection_of}
+use Rattle.ua_client.specs.Client.{IsLeft, IsReady, connection_of}
 use Rattle.ua_client.specs.Hearing.{channel_of}
 use Rattle.ua_client.specs.Sent.{bodies_of}
 use Rattle.ua_client.specs.Session.{ActivatesBehind, BeginsSessionAs, Replies, ServesAt, activating_at, brings_any, brings_token, creating_at, reply_failure}
@@ -33,6 +36,7 @@ use Rattle.ua_loopback.proofs.Faults.{sent_over}
 use Rattle.ua_loopback.proofs.Faults.{fails_by, group_fails}
 use Rattle.ua_loopback.proofs.OneTurn.{asked_more, asked_sent}
 use Rattle.ua_loopback.proofs.Rounds.{Behind}
+use Rattle.ua_loopback.proofs.Sounds.{session_answered}
 use Rattle.ua_loopback.proofs.Staying.{ToldBehind}
 use Rattle.ua_loopback.proofs.Talks.{asked_behind, rounds_octets}
 
@@ -270,3 +274,29 @@ module _ (t : SoFar) (x : Client) (before : Option Traffic) (k : IsTalking t x b
           ⊎ ActivatesBehind address policy_id moment k.site z c.sent c.moves.taken (λ (given : NodeId). Unit {0}) (Err f)) → FailsSession t policy_id moment f
       by (inl h) = first_fails h
       by (inr h) = second_fails h
+
+-- ---- by what it came to
+
+module _ (t : SoFar) (x : Client) (before : Option Traffic) (k : IsTalking t x before) (y : Client) (after : Option Traffic) (law : NonePending)
+    (policy_id : Option (List ℕ)) (moment : DateTime) where
+  pub begins_on : (result : Result NodeId ClientFault) → BeginsSessionAs policy_id moment (connection_of x) (connection_of y) before after result
+      → IsLeft result y
+      → IfOk result (λ token. IsTalking (with_turn t moment (Some (session_requests t policy_id token moment))) y after)
+  begins_on (Err f) c left = tt
+  begins_on (Ok token) c left = session_on t x before k y after law policy_id moment token c left
+
+  pub begins_sent : (result : Result NodeId ClientFault) → BeginsSessionAs policy_id moment (connection_of x) (connection_of y) before after result
+      → IfOk result (λ token. IsSentOver (octets_of t moment (Some (session_requests t policy_id token moment))) before after)
+  begins_sent (Err f) c = tt
+  begins_sent (Ok token) c = session_sent t x before k y after law policy_id moment token c
+
+  pub begins_fails : ToldBehind → (result : Result NodeId ClientFault)
+      → BeginsSessionAs policy_id moment (connection_of x) (connection_of y) before after result → IfErr result (λ f. FailsSession t policy_id moment f)
+  begins_fails never_before (Ok token) c = tt
+  begins_fails never_before (Err f) c = session_fails t x before k y after law policy_id moment never_before f c
+
+  pub begins_answered : ToldBehind → (result : Result NodeId ClientFault)
+      → BeginsSessionAs policy_id moment (connection_of x) (connection_of y) before after result → IsSoundState t.server.first
+      → IfErr result (λ f. f ≡ fault.UnknownResponse → ⊥)
+  begins_answered never_before (Ok token) c sound = tt
+  begins_answered never_before (Err f) c sound = λ is. session_answered t policy_id moment f sound k.talks.dated (begins_fails never_before (Err f) c) is

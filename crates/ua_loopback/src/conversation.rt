@@ -29,12 +29,11 @@ ghost use Rattle.ua_loopback.specs.inside.Talking.{StaysTalking, Talked, Went, W
 use crate::operation::AsOperation;
 use crate::served_line::{Began, ServedLine};
 use crate::stage::Stage;
-use crate::talking;
 use std::alloc::Global;
 use std::marker::Brand;
 use ua_builtin::{DateTime, UaString};
 use ua_channel::Line;
-use ua_client::laws::clients_are_settled;
+use ua_client::laws::{calls_are_told_behind, clients_are_settled};
 use ua_client::{Client, ClientFault, Reply};
 use ua_frame::Limits;
 use ua_server::Services;
@@ -81,7 +80,7 @@ fn begin<L: Line>(
     ensures failed { L.failures line.new ≡ failures_behind (L.failures line.old) result }
 {
     clients_are_settled();
-    match talking::open(alloc, line, limits, url, moment) {
+    match Client::open(alloc, line, limits, url, moment) {
         Ok(client) => Ok(client),
         Err(fault) => Err(fault),
     }
@@ -131,12 +130,13 @@ fn take_turn<T: AsOperation, L: Line>(
     ensures ready { OnOk result (IsReady client.new) }
 {
     clients_are_settled();
+    calls_are_told_behind();
     match turn.requests() {
-        Some(requests) => match talking::call_into(client, line, requests, moment, replies) {
+        Some(requests) => match client.call_into(line, requests, moment, replies) {
             Ok(()) => Ok(()),
             Err(calls) => Err(calls.fault),
         },
-        None => match talking::renew(client, line, moment) {
+        None => match client.renew(line, moment) {
             Ok(()) => Ok(()),
             Err(fault) => Err(fault),
         },
@@ -234,7 +234,7 @@ fn talk<T: AsOperation, L: Line>(
         Ok(()) => {}
         Err(fault) => return Err(fault),
     }
-    match talking::close(&mut client, line, moment) {
+    match client.close(line, moment) {
         Ok(()) => Ok(()),
         Err(fault) => Err(fault),
     }

@@ -3,7 +3,7 @@
 //! Its contracts are those of [`ServedLine`]: the server takes what is written to it, and what is
 //! read from it is the server's output for all bytes written; and of [`converse`], which runs a
 //! client over such a transport: the bytes each way, the replies, and the services afterwards.
-//! Those of [`talking`] give the result of each call of a client, over any transport to a server.
+//! The [`talking_laws`] give the result of each call of a client, over any transport to a server.
 #![tactic(auto)]
 
 mod conversation;
@@ -12,7 +12,7 @@ pub mod laws;
 mod operation;
 mod served_line;
 mod stage;
-pub mod talking;
+pub mod talking_laws;
 
 pub use conversation::{ConversationLog, converse};
 pub use operation::{AsOperation, Operation};

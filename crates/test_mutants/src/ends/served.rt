@@ -19,7 +19,8 @@ use ua_builtin::{DateTime, UaString};
 use ua_channel::{Line, LineFault};
 use ua_client::{Client, ClientFault};
 use ua_frame::Limits;
-use ua_loopback::{Began, ConversationLog, Operation, ServedLine, converse, talking};
+use ua_loopback::talking_laws::renewals_go_on;
+use ua_loopback::{Began, ConversationLog, Operation, ServedLine, converse};
 use ua_server::Services;
 
 /// Writes bytes to a transport to a server.
@@ -71,7 +72,8 @@ pub fn renew_in_talk<L: Line>(
     line: &mut L,
     moment: DateTime,
 ) -> Result<(), ClientFault>
-    ensures { IfErr result (λ fault. (t : SoFar) → IsTalking t client.old (L.traffic line.old) → FailsBehind ⊥ fault) }
+    ensures { (t : SoFar) → IsTalking t client.old (L.traffic line.old) → IfErr result (λ fault. FailsBehind ⊥ fault) }
 {
-    talking::renew(client, line, moment)
+    renewals_go_on(moment);
+    client.renew(line, moment)
 }

@@ -1,8 +1,9 @@
 use Rattle.std.proofs.Common.{[], map, subst, sym}
-use Rattle.std.specs.Prelude.{List}
+use Rattle.std.specs.Prelude.{Err, List}
 use Rattle.ua_client.specs.Client.{connection_of}
 use Rattle.ua_client.specs.declared.reply.Reply.{Reply}
 use Rattle.ua_loopback.specs.inside.Talking.{HaveMisanswers, StaysTalking}
+use Rattle.ua_loopback.proofs.Calling.{closes_stop}
 use Rattle.ua_loopback.proofs.Courses.{asked_stops, closes_by, talked_all}
 use Rattle.ua_loopback.proofs.Faults.{close_fails, outside_fails}
 use Rattle.ua_loopback.proofs.conversation.talk.Goals as goal
@@ -121,4 +122,6 @@ returns-clause-stops g c = λ b able line short.
     (sym c.requires.none) w.stays) in
     asked_stops b c.args.limits c.args.url c.args.moment w.opened (map g.T.AsOperation.turn c.args.turns.now) c.take_turns.new.client t0
     (g.L.Line.traffic c.take_turns.new.line) (g.L.Line.traffic c.close.new.line) c.take_turns.new.replies.items s
-    c.in-Ok-take_turns.ensures.ready c.in-Err-close.fault c.in-Err-close.ensures.stops
+    c.in-Ok-take_turns.ensures.ready c.in-Err-close.fault
+    (λ t k. closes_stop t c.take_turns.new.client (g.L.Line.traffic c.take_turns.new.line) k c.args.moment (g.L.Line.traffic c.close.new.line)
+    (Err c.in-Err-close.fault) (c.in-Err-close.ensures.closes k.ready))
