@@ -2,6 +2,9 @@ pub mod FramesRead
 pub mod Ranks
 pub mod Pieces
 pub mod ServerTakes
+pub mod Refusing
 pub mod ClientTakes
+pub mod Sending
+pub mod Begins
 pub mod EndsRead
 pub mod Firsts

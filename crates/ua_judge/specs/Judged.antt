@@ -1,6 +1,6 @@
 -- The verdicts on both sides of a recorded connection: those of our ends, of the bytes with our numbers in
 -- the place of theirs. The client's bytes are up, the server's are down.
-use Rattle.std.specs.Prelude.{ℕ, true, List, [], ◌∷◌, drop, length, map}
+use Rattle.std.specs.Prelude.{ℕ, true, List, [], ◌∷◌, drop, length, map, None}
 use Rattle.ua_frame.specs.declared.limits.Limits.{Limits}
 use Rattle.ua_judge.specs.Agreed.{AreClientLimits, AreServerLimits}
 use Rattle.ua_judge.specs.Marks.{placed}
@@ -16,7 +16,7 @@ use Rattle.ua_judge.specs.declared.verdict.Verdict.{Verdict}
 
 -- the token of an opening
 abbrev pub token_name : Opened → Named
-token_name opened = record { number = opened.token; place = 0; opens = true }
+token_name opened = record { number = opened.token; place = 0; opens = true; kind = None }
 
 -- the channel of the first opening, 0 if there is none
 abbrev pub channel_of : List Opened → ℕ

@@ -1,8 +1,10 @@
 -- What the steps of a judge come to.
-use Rattle.std.specs.Prelude.{◌≡◌, Result, Ok, Err, ℕ, ◌≤◌, Bool, true, false, List, [], ◌∷◌, ◌++◌, length, min, take, Option, Some, None}
+use Rattle.std.specs.Prelude.{◌≡◌, Result, Ok, Err, ℕ, Bool, true, false, List, [], ◌∷◌, ◌++◌, length, max, min, take, Option, Some, None}
+use Rattle.std.specs.List.{concat}
 use Rattle.ua_frame.specs.declared.limits.Limits.{Limits}
-use Rattle.ua_channel.specs.Asks.{Placed, asked_in, next_id}
-use Rattle.ua_channel.specs.ClientTable.{client_rules}
+use Rattle.ua_channel.specs.Asks.{Placed}
+use Rattle.ua_channel.specs.ClientTold.{ours}
+use Rattle.ua_channel.specs.ClientTold.ClientTold.{Answered}
 use Rattle.ua_channel.specs.ServerTold.{Told}
 use Rattle.ua_channel.specs.ServerAnswers.{AnswersAt}
 use Rattle.ua_channel.specs.ServerStands.{channel_of, limits_of}
@@ -18,42 +20,63 @@ use Rattle.ua_channel.specs.declared.client.event.ClientEvent.TheVariants as eve
 use Rattle.ua_builtin.specs.declared.status_code.StatusCode.{StatusCode}
 use Rattle.ua_judge.specs.declared.verdict.Verdict.{Verdict}
 use Rattle.ua_judge.specs.declared.verdict.Verdict.TheVariants.{Breaks, Closes, Refuses}
-use Rattle.ua_judge.specs.Verdicts.{EndWrong, Follows, IsClientVerdict, IsVerdictOn, ServerAt, asking}
+use Rattle.ua_judge.specs.Kinds.{is_misfit}
+use Rattle.ua_judge.specs.Verdicts.{EndWrong, Follows, IsBefore, IsBy, IsClientVerdict, IsSent, IsVerdictOn, ServerAt, asks_of, judge_rules}
 use Rattle.ua_judge.specs.declared.named.Named.{Named}
 
 -- ---- of a server
 
--- the bytes up to here were taken, or there is a verdict
-abbrev pub TakesTo : Limits → List Placed → List ℕ → ℕ → ClientChannel → Option Verdict → Type 0
-TakesTo limits asks octets at new None = Follows new asks (take at octets)
-TakesTo limits asks octets at new (Some verdict) = IsVerdictOn limits asks octets verdict
+-- the bytes up to here were taken, or there is a verdict, on bytes up to here
+abbrev pub TakesTo : Limits → List Named → List Placed → List ℕ → ℕ → ClientChannel → Option Verdict → Type 0
+TakesTo limits requests asks octets at new None = Follows requests new asks (take at octets)
+TakesTo limits requests asks octets at new (Some verdict) = IsBy at verdict × IsVerdictOn limits asks requests octets verdict
 
--- the same with at least the bytes up to this place
-abbrev pub TakesUpTo : Limits → List Placed → List ℕ → ℕ → ℕ → ClientChannel → Option Verdict → Type 0
-TakesUpTo limits asks octets place at new None = (min place (length octets) ≤ at) × Follows new asks (take at octets)
-TakesUpTo limits asks octets place at new (Some verdict) = IsVerdictOn limits asks octets verdict
+-- the same from one place to another, or to the end of the bytes if that is before it
+abbrev pub TakesUpTo : Limits → List Named → List Placed → List ℕ → ℕ → ℕ → ℕ → ClientChannel → Option Verdict → Type 0
+TakesUpTo limits requests asks octets from place at new None = (at ≡ max from (min place (length octets))) × Follows requests new asks (take at octets)
+TakesUpTo limits requests asks octets from place at new (Some verdict) = IsBy place verdict × IsVerdictOn limits asks requests octets verdict
 
--- the bytes up to here were taken and the request was sent, or there is a verdict
-pub record GoesOn (limits : Limits) (asks : List Placed) (request : Named) (octets : List ℕ) (at : ℕ) (new : ClientChannel) (found : Option Verdict) : Type
-    0 where
-  pub goes : found ≡ None → Follows new (asks ++ (request.place, asking request.opens (next_id (asked_in asks))) ∷ []) (take at octets)
-  pub decides : (verdict : Verdict) → found ≡ Some verdict → IsVerdictOn limits asks octets verdict
+-- the bytes up to the place of a request were taken and it was sent
+pub record Sends (limits : Limits) (requests before : List Named) (request : Named) (octets : List ℕ) (at : ℕ) (new : ClientChannel) : Type 0 where
+  pub place_is : at ≡ request.place
+  pub is : IsSent limits requests octets before request
+  pub follows : Follows requests new (asks_of (before ++ request ∷ [])) (take at octets)
+
+-- the same, or there is a verdict
+abbrev pub GoesOn : Limits → List Named → List Named → Named → List ℕ → ℕ → ClientChannel → Option Verdict → Type 0
+GoesOn limits requests before request octets at new None = Sends limits requests before request octets at new
+GoesOn limits requests before request octets at new (Some verdict) =
+    IsBefore limits requests octets before request verdict × IsVerdictOn limits (asks_of before) requests octets verdict
 
 -- the verdict of a client that fails at a place, by whether its peer rejected
 abbrev pub failed : ℕ → StatusCode → Bool → Verdict
 failed end code true = Refuses end code
 failed end code false = Breaks end code
 
--- the verdict at an event, if it ends the channel
-abbrev pub verdict_at : ℕ → ClientEvent → Option Verdict
-verdict_at end (event.Failed code peer) = Some (failed end code peer)
-verdict_at end other = None
+-- the verdict at a reply, by whether it is of another kind than its request
+abbrev pub reply_verdict : ℕ → Bool → Option Verdict
+reply_verdict end true = Some (Breaks end (record { code = 0x8009_0000 }))
+reply_verdict end false = None
 
--- some bytes of a fragment were taken after these, with an event that ends the channel or does not
-abbrev pub TakesSome : ℕ → ClientEvent → Limits → ClientChannel → List Placed → List ℕ → List ℕ → Type 0
-TakesSome n (event.Failed code peer) limits new asks piece octets = EndWrong (client_rules limits asks) (octets ++ take n piece)
-    (record { code = code.code; peer = peer })
-TakesSome n other limits new asks piece octets = Follows new asks (octets ++ take n piece)
+-- the verdict at an event, if it ends the channel or brings such a reply
+abbrev pub verdict_at : List Named → ℕ → ClientEvent → Option Verdict
+verdict_at requests end (event.Failed code peer) = Some (failed end code peer)
+verdict_at requests end (event.Answered id message) = reply_verdict end (is_misfit requests (Answered id (concat message)))
+verdict_at requests end other = None
+
+-- bytes were taken that end with a reply, which is of another kind than its request or not
+abbrev pub TakesReply : Bool → Limits → List Named → ClientChannel → List Placed → List ℕ → Type 0
+TakesReply true limits requests new asks octets = EndWrong (judge_rules limits asks requests) octets (ours 0x8009_0000)
+TakesReply false limits requests new asks octets = Follows requests new asks octets
+
+-- some bytes of a fragment were taken after these, with an event that ends the channel, brings a reply, or
+-- does neither
+abbrev pub TakesSome : ℕ → ClientEvent → Limits → List Named → ClientChannel → List Placed → List ℕ → List ℕ → Type 0
+TakesSome n (event.Failed code peer) limits requests new asks piece octets =
+    EndWrong (judge_rules limits asks requests) (octets ++ take n piece) (record { code = code.code; peer = peer })
+TakesSome n (event.Answered id message) limits requests new asks piece octets =
+    TakesReply (is_misfit requests (Answered id (concat message))) limits requests new asks (octets ++ take n piece)
+TakesSome n other limits requests new asks piece octets = Follows requests new asks (octets ++ take n piece)
 
 -- ---- of a client
 

@@ -12,4 +12,4 @@ place_at (mark ∷ marks) end all = cond (nat_le end mark.up) mark.down (place_a
 
 -- a request, with how many of the server's bytes had been sent by its last one
 abbrev pub placed : List Mark → ℕ → Named → Named
-placed marks all request = record { number = request.number; place = place_at marks request.place all; opens = request.opens }
+placed marks all request = record { number = request.number; place = place_at marks request.place all; opens = request.opens; kind = request.kind }

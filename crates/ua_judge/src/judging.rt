@@ -25,6 +25,7 @@ fn tokens_of(alloc: Global, openings: &[Opened]) -> Result<Vec<Named>, AllocErro
             number: opened.token,
             place: 0,
             opens: true,
+            kind: None,
         })?;
     }
     Ok(names)

@@ -1,5 +1,5 @@
 //! A judge of a recorded connection (OPC 10000-6, 6.7 and 7.1): what each side sent, judged as the
-//! other end would judge it, by the proved ends of `ua_channel`.
+//! other end would judge it, by the proved ends of `ua_channel`; replies by their kinds, too.
 //!
 //! The client's bytes are taken by a [`ServerChannel`], the server's by a [`ClientChannel`]. These
 //! choose TokenIds and RequestIds of their own, so [`renumber`] first puts theirs in place of the
@@ -20,6 +20,7 @@ mod client_judge;
 mod field;
 mod guess;
 mod judging;
+mod kinds;
 mod limits;
 mod mark;
 mod named;

@@ -48,6 +48,7 @@ pub fn placed(
             number: request.number,
             place: place_at(marks, request.place, all),
             opens: request.opens,
+            kind: request.kind,
         })?;
     }
     Ok(names)

@@ -3,6 +3,8 @@
 ghost use Rattle.std.specs.Prelude.{◌≡◌, ◌≤◌, length};
 ghost use Rattle.ua_judge.specs.Names.{rank, is_known};
 
+use ua_services::RequestKind;
+
 /// A number that an end chose: a TokenId of the server, or a RequestId of the client.
 #[derive(Clone, Copy, Debug)]
 pub struct Named {
@@ -11,6 +13,8 @@ pub struct Named {
     pub place: usize,
     /// Whether an OPN brought it.
     pub opens: bool,
+    /// The kind of the request that has it, where that is known.
+    pub kind: Option<RequestKind>,
 }
 
 /// Whether this is the name of a number that stands before a place.

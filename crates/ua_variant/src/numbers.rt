@@ -29,7 +29,8 @@ pub trait Number: Pack {
     /// The value that the first bytes encode.
     fn first(octets: &[u8]) -> Self
         requires whole { least_of Self.kind ≤ length octets.now }
-        ensures read { leaf_at Self.kind octets.now ≡ Some (Self.as_leaf result, drop (least_of Self.kind) octets.now) };
+        ensures read { leaf_at Self.kind octets.now
+            ≡ Some (Self.as_leaf result, drop (least_of Self.kind) octets.now) };
 
     /// Writes the encoding of the value to the first bytes.
     fn put(self, octets: &mut [u8])

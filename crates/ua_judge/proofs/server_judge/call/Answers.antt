@@ -1,20 +1,46 @@
-use Rattle.std.proofs.Common.{◌++◌, ◌∷◌, [], ℕ, length, subst}
-use Rattle.std.proofs.lemmas.Result.{err_from_is_err_and}
+use Rattle.std.proofs.Common.{◌++◌, ◌∷◌, [], ℕ, length, false, refl, subst}
+use Rattle.ua_builtin.specs.Reasons.{first_reason}
 use Rattle.ua_channel.specs.Asks.Asking.{Call}
 use Rattle.ua_channel.specs.Client.{ClientStands}
-use Rattle.ua_judge.proofs.ClientTakes.{kept_so}
+use Rattle.ua_judge.specs.Verdicts.{asking_reasons}
+use Rattle.ua_judge.proofs.ClientTakes.{judged_so}
 use Rattle.ua_judge.proofs.server_judge.call.Goals as goal
 
-pub returns-clause-asks : goal.returns-clause-asks
-returns-clause-asks c = λ asks octets s. record {
+pub returns-in-Ok-clause-asks : goal.returns-in-Ok-clause-asks
+returns-in-Ok-clause-asks c = λ requests asks octets s. record {
   frames = s.frames;
   rest = s.rest;
   stands =
       subst (λ (id : ℕ). ClientStands c.ask.new.self (asks ++ (length octets, Call id) ∷ []) octets s.frames s.rest)
-      (c.in_ok-asked.ensures.calls asks octets s.frames s.rest s.stands).id_is (c.in_ok-asked.ensures.stands asks octets s.frames s.rest s.stands);
+      (c.in-Ok.ensures.calls asks octets s.frames s.rest s.stands).id_is (c.in-Ok.ensures.stands asks octets s.frames s.rest s.stands);
+  fit = s.fit;
 }
 
-pub returns-in_err-asked-clause-asks : goal.returns-in_err-asked-clause-asks
-returns-in_err-asked-clause-asks c = λ asks octets s.
-    let p = err_from_is_err_and c.from_residual.result c.from_residual.ensures.1 in
-    rw p.1 (kept_so asks octets s.frames s.rest _ (c.in_err-asked.ensures.kept asks octets s.frames s.rest s.stands))
+pub returns-in-Ok-clause-judged : goal.returns-in-Ok-clause-judged
+returns-in-Ok-clause-judged c = λ requests asks octets s. (
+  first_reason (asking_reasons false s.frames asks),
+  (
+    judged_so requests c.args.client.now _ asks octets false _ refl s refl,
+    c.in-Ok.ensures.refuses asks
+        octets s.frames s.rest s.stands,
+  ),
+)
+
+pub returns-in-Err-clause-asks : goal.returns-in-Err-clause-asks
+returns-in-Err-clause-asks c = λ requests asks octets s. record {
+  frames = s.frames;
+  rest = s.rest;
+  stands = c.in-Err.ensures.kept asks octets s.frames
+      s.rest s.stands;
+  fit = s.fit;
+}
+
+pub returns-in-Err-clause-judged : goal.returns-in-Err-clause-judged
+returns-in-Err-clause-judged c = λ requests asks octets s. (
+  first_reason (asking_reasons false s.frames asks),
+  (
+    judged_so requests c.args.client.now _ asks octets false _ refl s refl,
+    c.in-Err.ensures.refuses
+        asks octets s.frames s.rest s.stands,
+  ),
+)

@@ -1,21 +1,41 @@
-use Rattle.std.proofs.Common.{◌++◌, ◌∷◌, [], ℕ, length, subst, sym}
-use Rattle.std.proofs.lemmas.Result.{err_from_is_err_and}
+use Rattle.std.proofs.Common.{◌++◌, ◌∷◌, [], ℕ, length, true, refl, subst, sym}
+use Rattle.ua_builtin.specs.Reasons.{first_reason}
 use Rattle.ua_channel.specs.Asks.Asking.{Renewal}
 use Rattle.ua_channel.specs.Client.{ClientStands}
 use Rattle.ua_channel.specs.declared.client.channel.ClientChannel.{ClientChannel}
-use Rattle.ua_judge.specs.Verdicts.{Follows}
+use Rattle.ua_judge.specs.Verdicts.{Follows, asking_reasons}
+use Rattle.ua_judge.proofs.ClientTakes.{judged_so}
 use Rattle.ua_judge.proofs.server_judge.renew.Goals as goal
 
-pub returns-clause-asks : goal.returns-clause-asks
-returns-clause-asks c = λ asks octets s. record {
+pub returns-in-Ok-clause-asks : goal.returns-in-Ok-clause-asks
+returns-in-Ok-clause-asks c = λ requests asks octets s. record {
   frames = s.frames;
   rest = s.rest;
   stands =
       subst (λ (id : ℕ). ClientStands c.renew.new.self (asks ++ (length octets, Renewal id) ∷ []) octets s.frames s.rest)
-      (c.in_ok-asked.ensures.renews asks octets s.frames s.rest s.stands).id_is (c.in_ok-asked.ensures.stands asks octets s.frames s.rest s.stands);
+      (c.in-Ok.ensures.renews asks octets s.frames s.rest s.stands).id_is (c.in-Ok.ensures.stands asks octets s.frames s.rest s.stands);
+  fit = s.fit;
 }
 
-pub returns-in_err-asked-clause-asks : goal.returns-in_err-asked-clause-asks
-returns-in_err-asked-clause-asks c = λ asks octets s.
-    let p = err_from_is_err_and c.from_residual.result c.from_residual.ensures.1 in
-    rw p.1 (subst (λ (x : ClientChannel). Follows x asks octets) (sym c.in_err-asked.ensures.unchanged) s)
+pub returns-in-Ok-clause-judged : goal.returns-in-Ok-clause-judged
+returns-in-Ok-clause-judged c = λ requests asks octets s. (
+  first_reason (asking_reasons true s.frames asks),
+  (
+    judged_so requests c.args.client.now _ asks octets true _ refl s refl,
+    c.in-Ok.ensures.refuses asks
+        octets s.frames s.rest s.stands,
+  ),
+)
+
+pub returns-in-Err-clause-asks : goal.returns-in-Err-clause-asks
+returns-in-Err-clause-asks c = λ requests asks octets s. subst (λ (x : ClientChannel). Follows requests x asks octets) (sym c.in-Err.ensures.unchanged) s
+
+pub returns-in-Err-clause-judged : goal.returns-in-Err-clause-judged
+returns-in-Err-clause-judged c = λ requests asks octets s. (
+  first_reason (asking_reasons true s.frames asks),
+  (
+    judged_so requests c.args.client.now _ asks octets true _ refl s refl,
+    c.in-Err.ensures.refuses asks
+        octets s.frames s.rest s.stands,
+  ),
+)
