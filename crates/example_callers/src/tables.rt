@@ -38,6 +38,6 @@ pub fn value_in_file(
     ensures encodable { IfOk result (λ d. IsTrue (data_value_encodable (data_value_of d))) }
 {
     let table = NodeTable::load(alloc, file)?;
-    let item = ReadValueId::of_value(node);
+    let item = ReadValueId::new(node);
     Ok(table.read_item(alloc, &item, Stamps::Both, moment)?)
 }

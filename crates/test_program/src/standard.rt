@@ -49,7 +49,7 @@ fn values(alloc: Global, made: StandardServices, names: &str) -> Result<String, 
 
 /// Adds the line of a node's value.
 fn push_value(alloc: Global, out: &mut String, nodes: &NodeTable, name: &str) -> Result<(), Fault> {
-    let item = ReadValueId::of_value(or_no_row(NodeId::parse_text(alloc, name))?);
+    let item = ReadValueId::new(or_no_row(NodeId::parse_text(alloc, name))?);
     let moment = DateTime { ticks: 0 };
     let answer = nodes.read_item(alloc, &item, Stamps::Source, moment)?;
     let style = LineStyle {

@@ -10,17 +10,17 @@ use ua_services::{Request, RequestFault, Response, read_request, response_body};
 
 /// What is made of a request.
 pub trait Asked: Drop {
-    fn of_request(request: Request) -> Self;
+    fn from_request(request: Request) -> Self;
 }
 
 impl Asked for Request {
-    fn of_request(request: Request) -> Request {
+    fn from_request(request: Request) -> Request {
         request
     }
 }
 
 impl Asked for Turn {
-    fn of_request(request: Request) -> Turn {
+    fn from_request(request: Request) -> Turn {
         Turn::Ask(request)
     }
 }
@@ -45,7 +45,7 @@ fn push_requests<T: Asked>(given: &Given, word: &str, out: &mut Vec<T>, told: &m
 
 fn push_request<T: Asked>(body: &[u8], out: &mut Vec<T>, told: &mut Told) {
     if let Some(request) = request_in(body, told) {
-        push_value(T::of_request(request), out, told);
+        push_value(T::from_request(request), out, told);
     }
 }
 

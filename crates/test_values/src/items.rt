@@ -34,7 +34,7 @@ pub fn values(alloc: Global, state: &State, words: &str) -> Result<String, Fault
     let stamps = stamps_of(words)?;
     let mut text = String::new(alloc);
     for (id, _) in state.table.iter() {
-        let item = ReadValueId::of_value(id.try_clone()?);
+        let item = ReadValueId::new(id.try_clone()?);
         let answer = answered(alloc, state, &item, stamps)?;
         if !text.is_empty() {
             text.push(' ')?;
@@ -51,7 +51,7 @@ fn stamps_of(word: &str) -> Result<Stamps, Fault> {
         "Server" => Ok(Stamps::Server),
         "Both" => Ok(Stamps::Both),
         "Neither" => Ok(Stamps::Neither),
-        _ => Stamps::of_number(number(word)?).ok_or(Fault::NoValue),
+        _ => Stamps::from_number(number(word)?).ok_or(Fault::NoValue),
     }
 }
 

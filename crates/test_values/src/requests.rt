@@ -98,8 +98,8 @@ pub fn fault_text(alloc: Global, fault: RequestFault) -> Result<String, Fault> {
 pub fn made_read(alloc: Global, words: &str) -> Result<String, Fault> {
     let octets = octets_of(alloc, words)?;
     let (node, _) = crate::values::read::<NodeId>(alloc, octets.as_slice())?;
-    let item = ReadValueId::of_value(node);
-    let request = ReadRequest::of_item(alloc, header(), item)?;
+    let item = ReadValueId::new(node);
+    let request = ReadRequest::with_item(alloc, header(), item)?;
     body_text(alloc, Request::Read(request), octets.as_slice())
 }
 
@@ -126,8 +126,8 @@ fn untimed(value: Variant) -> DataValue {
 /// A Write to the Value of ns=1;s=Pump, under the token ns=2;i=1, at 1970-01-01, with the handle 9.
 fn write_of(alloc: Global, value: DataValue) -> Result<Request, Fault> {
     let name = UaString::from_str(alloc, "Pump")?;
-    let item = WriteValue::of_value(NodeId::new(1, Identifier::Text(name)), value);
-    Ok(Request::Write(WriteRequest::of_item(alloc, header(), item)?))
+    let item = WriteValue::new(NodeId::new(1, Identifier::Text(name)), value);
+    Ok(Request::Write(WriteRequest::with_item(alloc, header(), item)?))
 }
 
 fn header() -> RequestHeader {

@@ -44,7 +44,7 @@ impl Holding {
             return Told::only(FETCH_FIRST);
         }
         let answer = client.take(piece, moment);
-        Told::of_take(alloc, answer, &mut self.waiting)
+        Told::from_take(alloc, answer, &mut self.waiting)
     }
 
     /// A call.

@@ -78,7 +78,7 @@ impl SharedNodes {
         let mut written = Written::nothing();
         let connection = &mut served.connection;
         let answer = connection.step_telling(&mut self.services, piece, moment, &mut written);
-        Report::of_stored(alloc, answer, written, waiting, &mut served.written)
+        Report::from_stored(alloc, answer, written, waiting, &mut served.written)
     }
 }
 

@@ -44,7 +44,7 @@ impl Holding {
             return Report::only(FETCH_FIRST);
         }
         let answer = station.step(piece, moment);
-        Report::of_step(answer, &mut self.waiting)
+        Report::from_step(answer, &mut self.waiting)
     }
 
     /// The next connection of a server.

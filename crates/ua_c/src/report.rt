@@ -32,7 +32,7 @@ impl Report {
     }
 
     /// The result of a step that took this many bytes, and ended the connection or not.
-    fn of_end(taken: usize, end: Option<End>) -> Report
+    fn from_end(taken: usize, end: Option<End>) -> Report
         ensures { result ≡ record { status = status_of end; taken = taken; code = code_of end } }
     {
         let (status, code) = match end {
@@ -48,13 +48,13 @@ impl Report {
     }
 
     /// The result of a step, whose output waits from now on.
-    pub(crate) fn of_step(answer: Result<Step, StepFault>, waiting: &mut Waiting) -> Report
+    pub(crate) fn from_step(answer: Result<Step, StepFault>, waiting: &mut Waiting) -> Report
         ensures { Shows answer result waiting.old waiting.new }
     {
         match answer {
             Ok(Step { taken, out, end }) => {
                 *waiting = Waiting::of(out);
-                Report::of_end(taken, end)
+                Report::from_end(taken, end)
             }
             Err(StepFault::Closed) => Report::only(CLOSED),
             Err(StepFault::OutOfMemory) => Report::only(NO_MEMORY),
@@ -62,7 +62,7 @@ impl Report {
     }
 
     /// The same for a step, where the items that its Write stored are to be told from now on.
-    pub(crate) fn of_stored(
+    pub(crate) fn from_stored(
         alloc: Global,
         answer: Result<Step, StepFault>,
         written: Written,
@@ -76,7 +76,7 @@ impl Report {
             Ok(Step { taken, out, end }) => {
                 *left = Untold::of(alloc, written);
                 *waiting = Waiting::of(out);
-                Report::of_end(taken, end)
+                Report::from_end(taken, end)
             }
             Err(StepFault::Closed) => Report::only(CLOSED),
             Err(StepFault::OutOfMemory) => Report::only(NO_MEMORY),

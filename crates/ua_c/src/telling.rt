@@ -52,7 +52,7 @@ impl SharedNodes {
             status,
             index,
             needed,
-            reading: UaReading::of_value(&item.value, 0, octets.len()),
+            reading: UaReading::from_value(&item.value, 0, octets.len()),
         }
     }
 

@@ -60,7 +60,7 @@ impl Told {
     }
 
     /// The event of bytes that were taken; what is to be sent or to be read waits from now on.
-    fn of_event(alloc: Global, taken: usize, event: ClientEvent, waiting: &mut Waiting) -> Told
+    fn from_event(alloc: Global, taken: usize, event: ClientEvent, waiting: &mut Waiting) -> Told
         ensures { ShowsEvent taken event result waiting.old waiting.new }
     {
         match event {
@@ -88,7 +88,7 @@ impl Told {
     }
 
     /// The answer of a client's channel, for C.
-    pub(crate) fn of_take(
+    pub(crate) fn from_take(
         alloc: Global,
         answer: Result<(usize, ClientEvent), ClientTakeFault>,
         waiting: &mut Waiting,
@@ -96,7 +96,7 @@ impl Told {
         ensures { ShowsTake answer result waiting.old waiting.new }
     {
         match answer {
-            Ok((taken, event)) => Told::of_event(alloc, taken, event, waiting),
+            Ok((taken, event)) => Told::from_event(alloc, taken, event, waiting),
             Err(ClientTakeFault::Closed) => Told::only(CLOSED),
             Err(ClientTakeFault::OutOfMemory) => Told::only(NO_MEMORY),
         }

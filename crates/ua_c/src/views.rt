@@ -36,7 +36,7 @@ macro_rules! numbered {
 impl UaReading {
     /// The reading of a DataValue, with a value whose encoding takes this many bytes from a place
     /// on.
-    pub(crate) fn of_value(value: &DataValue, value_at: usize, value_len: usize) -> UaReading
+    pub(crate) fn from_value(value: &DataValue, value_at: usize, value_len: usize) -> UaReading
         ensures { result ≡ reading_of value.now value_at value_len }
     {
         let mut reading = UaReading::nothing();
@@ -104,7 +104,7 @@ fn view_value(alloc: Global, body: &[u8], source: &mut Octets<'_>) -> Result<UaR
     let value = DataValue::read_value(alloc, source, MOST_LEVELS)?;
     let behind = before - source.left();
     let size = behind - 1 - fields_size(&value);
-    Ok(UaReading::of_value(&value, body.len() - before + 1, size))
+    Ok(UaReading::from_value(&value, body.len() - before + 1, size))
 }
 
 /// Reads that many DataValues of a body.

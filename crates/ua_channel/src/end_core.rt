@@ -143,7 +143,7 @@ impl<R: EndRules<P>, P: Drop> EndCore<R, P> {
             },
             Err(fault) => {
                 self.fail();
-                let fault = EndFault::of_frame(fault);
+                let fault = EndFault::from_frame(fault);
                 let size = HEADER_LEN.saturating_sub(held).max(fault.least());
                 Taken {
                     size: size.min(piece.len()),

@@ -24,7 +24,7 @@ impl EndFault {
     ghost use Rattle.ua_channel.specs.inside.EndFaults.{of_frame_fault, of_open_fault, of_chunk_fault, least_at};
 
     /// The fault of the frame reader, as one of an end.
-    pub(crate) fn of_frame(fault: FrameFault) -> EndFault
+    pub(crate) fn from_frame(fault: FrameFault) -> EndFault
         ensures { result ≡ of_frame_fault fault }
     {
         match fault.code() {
@@ -45,7 +45,7 @@ impl EndFault {
     }
 
     /// The fault of an OPN's headers, as one of an end.
-    pub(crate) fn of_open(fault: OpenFault) -> EndFault
+    pub(crate) fn from_open(fault: OpenFault) -> EndFault
         ensures { result ≡ of_open_fault fault }
     {
         match fault {
@@ -57,7 +57,7 @@ impl EndFault {
 
     /// The fault of the assembler, as one of an end, where this is the StatusCode of a message that
     /// is too large.
-    pub(crate) fn of_chunk(fault: AssembleFault, too_large: StatusCode) -> EndFault
+    pub(crate) fn from_chunk(fault: AssembleFault, too_large: StatusCode) -> EndFault
         ensures { result ≡ of_chunk_fault too_large.code fault }
     {
         match fault {

@@ -131,9 +131,9 @@ impl Running {
         match self.assembler.accept(chunk) {
             Ok(delivered) => {
                 self.used = token;
-                Ok(Event::of_delivered(token, delivered))
+                Ok(Event::from_delivered(token, delivered))
             }
-            Err(fault) => Err(EndFault::of_chunk(fault, StatusCode::BAD_REQUEST_TOO_LARGE)),
+            Err(fault) => Err(EndFault::from_chunk(fault, StatusCode::BAD_REQUEST_TOO_LARGE)),
         }
     }
 
@@ -147,7 +147,7 @@ impl Running {
         }
         match self.assembler.step(chunk.sequence) {
             Ok(()) => Ok(()),
-            Err(fault) => Err(EndFault::of_chunk(fault, StatusCode::BAD_REQUEST_TOO_LARGE)),
+            Err(fault) => Err(EndFault::from_chunk(fault, StatusCode::BAD_REQUEST_TOO_LARGE)),
         }
     }
 
@@ -163,7 +163,7 @@ impl Running {
     {
         let opened = judge_opening(alloc, channel, self.issued, frame)?;
         if let Err(fault) = self.assembler.step(opened.sequence) {
-            return Err(EndFault::of_chunk(fault, StatusCode::BAD_REQUEST_TOO_LARGE));
+            return Err(EndFault::from_chunk(fault, StatusCode::BAD_REQUEST_TOO_LARGE));
         }
         if self.issued == u32::MAX {
             return Err(EndFault::Refused(StatusCode::BAD_TCP_NOT_ENOUGH_RESOURCES));

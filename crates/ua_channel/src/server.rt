@@ -187,7 +187,7 @@ impl ServerChannel {
             },
             Err(fault) => Taken {
                 size,
-                outcome: Err(ChannelFault::of_end(fault)),
+                outcome: Err(ChannelFault::from_end(fault)),
             },
         }
     }

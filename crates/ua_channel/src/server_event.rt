@@ -52,7 +52,7 @@ impl Event {
 
     /// What a chunk under this token delivers, as an event.
     #[inline(always)]
-    pub(crate) fn of_delivered(token: u32, delivered: Option<Delivered>) -> Option<Event>
+    pub(crate) fn from_delivered(token: u32, delivered: Option<Delivered>) -> Option<Event>
         ensures tells { told_list result ≡ map (told_under token) (items_of delivered) }
         ensures parts { parts_of result ≡ parts_in delivered }
     {

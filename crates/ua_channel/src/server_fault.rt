@@ -39,7 +39,7 @@ impl ChannelFault {
     ghost use Rattle.ua_channel.specs.inside.EndFaults.{of_end_fault};
 
     /// The fault of an end, as one of the channel.
-    pub(crate) fn of_end(fault: EndFault) -> ChannelFault
+    pub(crate) fn from_end(fault: EndFault) -> ChannelFault
         ensures { result ≡ of_end_fault fault }
     {
         match fault {

@@ -117,7 +117,7 @@ pub fn judge_opening(
 {
     let opening = match read_open(frame) {
         Ok(opening) => opening,
-        Err(fault) => return Err(EndFault::of_open(fault)),
+        Err(fault) => return Err(EndFault::from_open(fault)),
     };
     let asked = read_asked(alloc, &opening.body)?;
     match judge_asked(&asked, opening.channel, channel, issued) {

@@ -115,7 +115,7 @@ pub fn exchange(
     let asked = front(turns, crowded);
     let found = conversed(alloc, table, asked, cuts_up, cuts_down, moment)?;
     if let Err(fault) = found.outcome {
-        return Err(PairFault::of_client(found.taken, fault));
+        return Err(PairFault::from_client(found.taken, fault));
     }
     if let Some(place) = crowded {
         return Err(PairFault::Request(place, AskFault::TooManyTokens));

@@ -29,7 +29,7 @@ impl PairFault {
     /// Why a client does not perform the operation at this place. A transport to a server in the
     /// same process fails where an allocation of the server fails; apart from that only the
     /// client's own failed allocations fail it.
-    pub(crate) fn of_client(place: usize, fault: ClientFault) -> PairFault
+    pub(crate) fn from_client(place: usize, fault: ClientFault) -> PairFault
         requires { (stage : Stage) × FailsAt stage fault }
         ensures { result ≡ fault_at place fault }
     {

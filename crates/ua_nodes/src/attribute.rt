@@ -18,7 +18,7 @@ pub(crate) enum Attribute {
 
 impl Attribute {
     /// The attribute with this id (OPC 10000-6, A.1).
-    pub(crate) fn of_id(id: u32) -> Option<Attribute>
+    pub(crate) fn from_id(id: u32) -> Option<Attribute>
         ensures { result ≡ attribute_of id }
     {
         match id {

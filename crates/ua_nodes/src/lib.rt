@@ -4,7 +4,7 @@
 //! ```
 //! let mut table = NodeTable::load(alloc, "ns=1;s=Pump\trw\tPump\tInt32\t5\n")?;
 //! let node = NodeId::parse_text(alloc, "ns=1;s=Pump")?;
-//! let item = ReadValueId::of_value(node);
+//! let item = ReadValueId::new(node);
 //! let answer = table.read_item(alloc, &item, Stamps::Both, moment)?; // a value, or a bad status
 //! table.append_items(alloc, &items, Stamps::Both, moment, None, &mut out)?; // encoded
 //! let mut statuses = Vec::with_capacity(alloc, items.len())?; // the caller allocates

@@ -110,7 +110,7 @@ impl Variable {
         ensures { result ≡ judged (first_reason (read_item_reasons self.now item.now))
             (attribute_of item.now.attribute_id) (asked_range item.now.index_range) }
     {
-        let Some(attribute) = Attribute::of_id(item.attribute_id) else {
+        let Some(attribute) = Attribute::from_id(item.attribute_id) else {
             return Err(StatusCode::BAD_ATTRIBUTE_ID_INVALID);
         };
         let range = IndexRange::asked(&item.index_range);

@@ -16,7 +16,7 @@ impl Stamps {
     /// The TimestampsToReturn of this number in a Read request: 0 for Source, 1 for Server, 2 for
     /// Both and 3 for Neither.
     #[inline]
-    pub fn of_number(number: i32) -> Option<Stamps>
+    pub fn from_number(number: i32) -> Option<Stamps>
         ensures { result ≡ stamps_numbered number }
     {
         match number {

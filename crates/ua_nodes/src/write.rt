@@ -73,7 +73,7 @@ impl Variable {
     pub(crate) fn write_refusal(&self, item: &WriteValue) -> Option<StatusCode>
         ensures { result ≡ first_reason (write_item_reasons self.now item.now) }
     {
-        if Attribute::of_id(item.attribute_id).is_none() {
+        if Attribute::from_id(item.attribute_id).is_none() {
             return Some(StatusCode::BAD_ATTRIBUTE_ID_INVALID);
         }
         if !(item.attribute_id == VALUE_ATTRIBUTE && self.access.writable) {

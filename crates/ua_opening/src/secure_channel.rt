@@ -41,7 +41,7 @@ impl OpenRequest {
         ensures encodable { IsTrue (open_request.encodable result) }
     {
         moment_is_encodable(&timestamp);
-        OpenRequest::of_type(ISSUE, timestamp, request_handle, requested_lifetime)
+        OpenRequest::with_type(ISSUE, timestamp, request_handle, requested_lifetime)
     }
 
     /// Asks for a new token of a SecureChannel, otherwise as [`issue`](OpenRequest::issue) does.
@@ -51,10 +51,10 @@ impl OpenRequest {
         ensures encodable { IsTrue (open_request.encodable result) }
     {
         moment_is_encodable(&timestamp);
-        OpenRequest::of_type(RENEW, timestamp, request_handle, requested_lifetime)
+        OpenRequest::with_type(RENEW, timestamp, request_handle, requested_lifetime)
     }
 
-    fn of_type(
+    fn with_type(
         request_type: i32,
         timestamp: DateTime,
         request_handle: u32,

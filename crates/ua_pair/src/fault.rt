@@ -22,7 +22,7 @@ pub enum DissectFault {
 
 impl DissectFault {
     /// The error on this side that results from an error of the assembler.
-    pub fn of_chunk(side: Side, fault: AssembleFault) -> DissectFault
+    pub fn from_chunk(side: Side, fault: AssembleFault) -> DissectFault
         ensures { result ≡ chunk_fault side fault }
     {
         let code = match fault {
@@ -41,7 +41,7 @@ impl DissectFault {
     }
 
     /// The error that results from an error in the headers of an OPN.
-    pub fn of_opening(fault: OpenFault) -> DissectFault
+    pub fn from_opening(fault: OpenFault) -> DissectFault
         ensures { result ≡ opening_fault fault }
     {
         match fault {

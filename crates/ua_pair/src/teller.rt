@@ -220,10 +220,10 @@ impl Teller {
         let size = frame_size(&frame);
         let chunk = match read_open(frame) {
             Ok(chunk) => chunk,
-            Err(fault) => return Err(DissectFault::of_opening(fault)),
+            Err(fault) => return Err(DissectFault::from_opening(fault)),
         };
         if let Err(fault) = self.assembler.step(chunk.sequence) {
-            return Err(DissectFault::of_chunk(self.options.side, fault));
+            return Err(DissectFault::from_chunk(self.options.side, fault));
         }
         push_opening_line(lines, place, size, &chunk)?;
         push_opened(self.alloc, &self.options, &chunk, lines)?;
@@ -256,7 +256,7 @@ impl Teller {
                 Ok(())
             }
             Ok(None) => Ok(()),
-            Err(fault) => Err(DissectFault::of_chunk(self.options.side, fault)),
+            Err(fault) => Err(DissectFault::from_chunk(self.options.side, fault)),
         }
     }
 
@@ -280,7 +280,7 @@ impl Teller {
         let size = frame_size(&frame);
         let chunk = read_chunk(frame);
         if let Err(fault) = self.assembler.step(chunk.sequence) {
-            return Err(DissectFault::of_chunk(self.options.side, fault));
+            return Err(DissectFault::from_chunk(self.options.side, fault));
         }
         push_chunk_line(lines, "CLO", place, size, &chunk)?;
         Ok(())

@@ -134,7 +134,7 @@ impl Services {
         if let Some(code) = self.session_refusal(&request.request_header) {
             return Some(code);
         }
-        if Stamps::of_number(request.timestamps_to_return).is_none() {
+        if Stamps::from_number(request.timestamps_to_return).is_none() {
             return Some(StatusCode::BAD_TIMESTAMPS_TO_RETURN_INVALID);
         }
         if request.max_age.bits > MOST_AGE {
@@ -193,10 +193,10 @@ impl Services {
         if let Some(code) = self.read_refusal(request) {
             return Ok(self.fault(handle, code, moment));
         }
-        let stamps = Stamps::of_number(request.timestamps_to_return).unwrap_or(Stamps::Neither);
+        let stamps = Stamps::from_number(request.timestamps_to_return).unwrap_or(Stamps::Neither);
         let items = request.nodes_to_read.as_items().unwrap_or(&[]);
         let results = self.read_items(alloc, items, stamps, moment)?;
-        Ok(Response::Read(ReadResponse::of_results(good_header(moment, handle), results)))
+        Ok(Response::Read(ReadResponse::with_results(good_header(moment, handle), results)))
     }
 
     /// The body of the response to a Read that is not refused: its results are written one by one,
@@ -214,7 +214,7 @@ impl Services {
             (λ body. IsBodyWithin most (response.canonical (values_given self.now moment request.now)) body.items) }
         ensures some { IfOk result (λ body. 0 < length body.items) }
     {
-        let stamps = Stamps::of_number(request.timestamps_to_return).unwrap_or(Stamps::Neither);
+        let stamps = Stamps::from_number(request.timestamps_to_return).unwrap_or(Stamps::Neither);
         let items = request.nodes_to_read.as_items().unwrap_or(&[]);
         let header = good_header(moment, request.request_header.request_handle);
         let answers = ReadAnswers {
@@ -334,6 +334,6 @@ impl Services {
         let items = mem::replace(&mut request.nodes_to_write, UaArray::null());
         let statuses = self.write_items(alloc, items, moment)?;
         let header = good_header(moment, handle);
-        Ok(Response::Write(WriteResponse::of_results(header, statuses)))
+        Ok(Response::Write(WriteResponse::with_results(header, statuses)))
     }
 }

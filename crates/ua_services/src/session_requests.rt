@@ -57,7 +57,7 @@ pub fn get_endpoints_request(url: UaString, moment: DateTime, handle: u32) -> Re
     ensures encodable { IsTrue (string.encodable url) → IsTrue (request.encodable result) }
 {
     let header = RequestHeader::new(NodeId::null(), moment, handle);
-    Request::GetEndpoints(GetEndpointsRequest::of_url(header, url))
+    Request::GetEndpoints(GetEndpointsRequest::with_url(header, url))
 }
 
 /// A CreateSession request, for a session named `ua` of the client `urn:ua:client`.
@@ -165,7 +165,7 @@ pub fn read_request(
         → IsTrue (list_all read_value_id.encodable items.items) → IsTrue (request.encodable result) }
 {
     let header = RequestHeader::new(token, moment, handle);
-    Request::Read(ReadRequest::of_items(header, items))
+    Request::Read(ReadRequest::with_items(header, items))
 }
 
 /// A Write request of these items.
@@ -181,7 +181,7 @@ pub fn write_request(
         → IsTrue (list_all write_value.encodable items.items) → IsTrue (request.encodable result) }
 {
     let header = RequestHeader::new(token, moment, handle);
-    Request::Write(WriteRequest::of_items(header, items))
+    Request::Write(WriteRequest::with_items(header, items))
 }
 
 /// A Read item for an attribute of a node, by its AttributeId (OPC 10000-6, A.1), or for the part
@@ -192,7 +192,7 @@ pub fn read_attribute_item(node: NodeId, attribute: u32, range: UaString) -> Rea
     ensures encodable { IsTrue (node_id.encodable node) → IsTrue (string.encodable range)
         → IsTrue (read_value_id.encodable result) }
 {
-    let mut item = ReadValueId::of_value(node);
+    let mut item = ReadValueId::new(node);
     item.attribute_id = attribute;
     item.index_range = range;
     item
@@ -222,5 +222,5 @@ pub fn write_item(node: NodeId, value: Variant) -> WriteValue
         server_timestamp: None,
         server_picoseconds: None,
     };
-    WriteValue::of_value(node, value)
+    WriteValue::new(node, value)
 }

@@ -44,7 +44,7 @@ const BOTH_TIMES: i32 = 2;
 impl ReadValueId {
     /// An item for the whole Value of a node, in its default encoding.
     #[tactic(auto, using(crate::proofs::PlainFits::read_value_id_fits))]
-    pub fn of_value(node_id: NodeId) -> ReadValueId
+    pub fn new(node_id: NodeId) -> ReadValueId
         ensures value { result ≡ value_of_node node_id }
         ensures encodable { IsTrue (node_format.encodable node_id) → IsTrue (read_value_id.encodable result) }
     {
@@ -86,7 +86,7 @@ impl ReadRequest {
 
     /// A Read of these items with a MaxAge of 0, and with source and server timestamps.
     #[tactic(auto, using(crate::proofs::PlainFits::read_request_fits))]
-    pub fn of_items(request_header: RequestHeader, items: Vec<ReadValueId>) -> ReadRequest
+    pub fn with_items(request_header: RequestHeader, items: Vec<ReadValueId>) -> ReadRequest
         ensures value { result ≡ read_of request_header items.items }
         ensures encodable { IsTrue (header_format.encodable request_header) → length items.items < first_negative
             → IsTrue (list_all read_value_id.encodable items.items) → IsTrue (read_request.encodable result) }
@@ -99,9 +99,9 @@ impl ReadRequest {
         }
     }
 
-    /// A Read of one item, as [`of_items`](ReadRequest::of_items) makes it.
+    /// A Read of one item, as [`of_items`](ReadRequest::with_items) makes it.
     #[tactic(auto, using(crate::proofs::PlainFits::read_item_fits))]
-    pub fn of_item(
+    pub fn with_item(
         alloc: Global,
         request_header: RequestHeader,
         item: ReadValueId,
@@ -112,7 +112,7 @@ impl ReadRequest {
     {
         let mut items = Vec::new(alloc);
         items.push(item)?;
-        Ok(ReadRequest::of_items(request_header, items))
+        Ok(ReadRequest::with_items(request_header, items))
     }
 
     /// A Read of no items with an empty header, to decode one into. Allocates nothing.
@@ -172,7 +172,7 @@ pub struct ReadResponse {
 impl ReadResponse {
     /// A response with the values of the items, without diagnostics.
     #[tactic(auto, using(crate::proofs::PlainFits::read_response_fits))]
-    pub fn of_results(response_header: ResponseHeader, results: Vec<DataValue>) -> ReadResponse
+    pub fn with_results(response_header: ResponseHeader, results: Vec<DataValue>) -> ReadResponse
         ensures value { result ≡ values_of response_header results.items }
         ensures encodable { IsTrue (answer_format.encodable response_header) → length results.items < first_negative
             → IsTrue (list_all data_value_format.encodable results.items) → IsTrue (read_response.encodable result) }
@@ -296,7 +296,7 @@ pub struct WriteValue {
 impl WriteValue {
     /// An item that sets the whole Value of a node.
     #[tactic(auto, using(crate::proofs::PlainFits::write_value_fits))]
-    pub fn of_value(node_id: NodeId, value: DataValue) -> WriteValue
+    pub fn new(node_id: NodeId, value: DataValue) -> WriteValue
         ensures value { result ≡ value_for_node node_id value }
         ensures encodable { IsTrue (node_format.encodable node_id) → IsTrue (data_value_format.encodable value)
             → IsTrue (write_value.encodable result) }
@@ -330,7 +330,7 @@ pub struct WriteRequest {
 impl WriteRequest {
     /// A Write of these items.
     #[tactic(auto, using(crate::proofs::PlainFits::write_request_fits))]
-    pub fn of_items(request_header: RequestHeader, items: Vec<WriteValue>) -> WriteRequest
+    pub fn with_items(request_header: RequestHeader, items: Vec<WriteValue>) -> WriteRequest
         ensures value { result ≡ write_of request_header items.items }
         ensures encodable { IsTrue (header_format.encodable request_header) → length items.items < first_negative
             → IsTrue (list_all write_value.encodable items.items) → IsTrue (write_request.encodable result) }
@@ -343,7 +343,7 @@ impl WriteRequest {
 
     /// A Write of one item.
     #[tactic(auto, using(crate::proofs::PlainFits::write_item_fits))]
-    pub fn of_item(
+    pub fn with_item(
         alloc: Global,
         request_header: RequestHeader,
         item: WriteValue,
@@ -354,7 +354,7 @@ impl WriteRequest {
     {
         let mut items = Vec::new(alloc);
         items.push(item)?;
-        Ok(WriteRequest::of_items(request_header, items))
+        Ok(WriteRequest::with_items(request_header, items))
     }
 }
 
@@ -378,7 +378,7 @@ pub struct WriteResponse {
 impl WriteResponse {
     /// A response with the result of each item, without diagnostics.
     #[tactic(auto, using(crate::proofs::PlainFits::write_response_fits))]
-    pub fn of_results(response_header: ResponseHeader, results: Vec<StatusCode>) -> WriteResponse
+    pub fn with_results(response_header: ResponseHeader, results: Vec<StatusCode>) -> WriteResponse
         ensures value { result ≡ statuses_of response_header results.items }
         ensures encodable { IsTrue (answer_format.encodable response_header) → length results.items < first_negative
             → IsTrue (list_all status_code.encodable results.items) → IsTrue (write_response.encodable result) }

@@ -44,7 +44,7 @@ impl ApplicationDescription {
             → IsTrue ((array string).encodable discovery_urls)
             → IsTrue (application_description.encodable result) }
     {
-        ApplicationDescription::of_type(SERVER, application_uri, name, discovery_urls)
+        ApplicationDescription::with_type(SERVER, application_uri, name, discovery_urls)
     }
 
     /// A client with this ApplicationUri and this name without a locale; the other fields are null.
@@ -54,10 +54,10 @@ impl ApplicationDescription {
         ensures encodable { IsTrue (string.encodable application_uri) → IsTrue (string.encodable name)
             → IsTrue (application_description.encodable result) }
     {
-        ApplicationDescription::of_type(CLIENT, application_uri, name, UaArray::null())
+        ApplicationDescription::with_type(CLIENT, application_uri, name, UaArray::null())
     }
 
-    fn of_type(
+    fn with_type(
         application_type: i32,
         application_uri: UaString,
         name: UaString,
@@ -121,7 +121,7 @@ pub struct GetEndpointsRequest {
 impl GetEndpointsRequest {
     /// Asks for the endpoints at this URL, for any locale and profile.
     #[tactic(auto, using(crate::proofs::PlainFits::endpoints_fit))]
-    pub fn of_url(request_header: RequestHeader, endpoint_url: UaString) -> GetEndpointsRequest
+    pub fn with_url(request_header: RequestHeader, endpoint_url: UaString) -> GetEndpointsRequest
         ensures value { result ≡ endpoints_of request_header endpoint_url }
         ensures encodable { IsTrue (header_format.encodable request_header) → IsTrue (string.encodable endpoint_url)
             → IsTrue (get_endpoints_request.encodable result) }

@@ -5,8 +5,8 @@
 //!
 //! ```
 //! let header = RequestHeader::new(token, moment, handle);
-//! let item = ReadValueId::of_value(node);
-//! let request = ReadRequest::of_item(alloc, header, item)?;
+//! let item = ReadValueId::new(node);
+//! let request = ReadRequest::with_item(alloc, header, item)?;
 //! request.write(&mut out)?; // its fields in order
 //! let mut src = Octets::new(out.as_slice());
 //! let read = ReadRequest::read(alloc, &mut src, MOST_LEVELS)?;

@@ -62,7 +62,7 @@ pub fn judge_answer(alloc: Global, frame: Frame) -> Result<Answer, EndFault>
 {
     let opening = match read_open(frame) {
         Ok(opening) => opening,
-        Err(fault) => return Err(EndFault::of_open(fault)),
+        Err(fault) => return Err(EndFault::from_open(fault)),
     };
     match judge_body(alloc, &opening.body) {
         Ok(issued) => Ok(Answer {

@@ -354,7 +354,7 @@ impl ClientChannel {
             },
             Err(fault) => Taken {
                 size,
-                outcome: ClientEvent::of_fault(fault),
+                outcome: ClientEvent::from_fault(fault),
             },
         }
     }

@@ -50,7 +50,7 @@ impl ClientEvent {
     ghost use Rattle.ua_channel.specs.inside.ClientParts.{failure_of};
 
     /// The event of a channel that this stops, or the fault of its call.
-    pub(crate) fn of_fault(fault: EndFault) -> Result<ClientEvent, ClientTakeFault>
+    pub(crate) fn from_fault(fault: EndFault) -> Result<ClientEvent, ClientTakeFault>
         ensures { result ≡ failure_of fault }
     {
         match fault {

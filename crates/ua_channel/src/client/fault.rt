@@ -46,7 +46,7 @@ impl AskFault {
     ghost use Rattle.ua_channel.specs.inside.ClientAsking.{of_cut_fault};
 
     /// The fault of splitting a body, as a fault of a call.
-    pub(crate) fn of_cut(fault: CutFault) -> AskFault
+    pub(crate) fn from_cut(fault: CutFault) -> AskFault
         ensures { result ≡ of_cut_fault fault }
     {
         match fault {

@@ -170,7 +170,7 @@ impl Talking {
             return Err(EndFault::Refused(StatusCode::BAD_SECURE_CHANNEL_TOKEN_UNKNOWN));
         }
         if let Err(fault) = self.assembler.step(answer.sequence) {
-            return Err(EndFault::of_chunk(fault, StatusCode::BAD_RESPONSE_TOO_LARGE));
+            return Err(EndFault::from_chunk(fault, StatusCode::BAD_RESPONSE_TOO_LARGE));
         }
         if self.renewal != Some(answer.request) {
             return Err(EndFault::Refused(StatusCode::BAD_UNKNOWN_RESPONSE));
@@ -214,7 +214,7 @@ impl Talking {
     {
         match self.assembler.accept(chunk) {
             Ok(delivered) => Ok(delivered),
-            Err(fault) => Err(EndFault::of_chunk(fault, StatusCode::BAD_RESPONSE_TOO_LARGE)),
+            Err(fault) => Err(EndFault::from_chunk(fault, StatusCode::BAD_RESPONSE_TOO_LARGE)),
         }
     }
 
@@ -359,7 +359,7 @@ impl Talking {
         let mut out = Vec::new(alloc);
         let next = match cut(&lane, body, numbers.number(), id, &mut out) {
             Ok(next) => next,
-            Err(fault) => return Err(AskFault::of_cut(fault)),
+            Err(fault) => return Err(AskFault::from_cut(fault)),
         };
         match self.pending.push(id) {
             Ok(()) => {

@@ -17,6 +17,6 @@ pub returns-clause-sees : goal.returns-clause-sees
 returns-clause-sees c =
     let takes = value_takes c.args.source.now c.read_value.new.src c.in_ok-value.value c.in_ok-value.ensures.exact in
     let whole = ap length c.requires.stands.parts in
-    value_seen c.args.body.now c.args.source.now c.read_value.new.src c.in_ok-value.value c.of_value.result _ _ c.requires.stands c.in_ok-value.ensures.exact
+    value_seen c.args.body.now c.args.source.now c.read_value.new.src c.in_ok-value.value c.from_value.result _ _ c.requires.stands c.in_ok-value.ensures.exact
     (omega (arith, whole, length-append c.requires.stands.taken c.args.source.now, c.left-before.ensures))
-    (omega (arith, takes, c.left-before.ensures, c.left.ensures, c.fields_size.ensures)) c.of_value.ensures
+    (omega (arith, takes, c.left-before.ensures, c.left.ensures, c.fields_size.ensures)) c.from_value.ensures

@@ -5,7 +5,7 @@ use Rattle.ua_channel.proofs.Openings.{judges_headers, has_headers, judges_body,
 use Rattle.ua_channel.proofs.server_opening.judge_opening.Goals as goal
 
 pub returns-in-Err : goal.returns-in-Err
-returns-in-Err c = judges_headers c.args.channel c.args.issued c.args.frame.body c.in-Err.fault c.of_open.result c.in-Err.ensures.faults c.of_open.ensures
+returns-in-Err c = judges_headers c.args.channel c.args.issued c.args.frame.body c.in-Err.fault c.from_open.result c.in-Err.ensures.faults c.from_open.ensures
 
 pub returns-in_err-asked : goal.returns-in_err-asked
 returns-in_err-asked c =

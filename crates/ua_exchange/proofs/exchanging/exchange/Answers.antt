@@ -8,8 +8,8 @@ use Rattle.ua_exchange.proofs.Conversed.{accepted-turns, all-conversed, down-all
 use Rattle.ua_exchange.proofs.Conversed.{refused-crowded, refused-turn, replies-all, served-fault, services-all, up-all}
 use Rattle.ua_exchange.proofs.exchanging.exchange.Goals as goal
 
-pub of_client-requires : goal.of_client-requires
-of_client-requires c =
+pub from_client-requires : goal.from_client-requires
+from_client-requires c =
     let first = begun_over c.args.table in
     let k = subst (λ (ts : List Turn). IsConversed first c.args.moment ts c.in_ok-found.found) c.front-asked.ensures c.in_ok-found.ensures in
     served-fault first c.args.moment (front_of c.find_crowded-crowded.result c.args.turns.now) c.in_ok-found.found c.in-Err.fault k c.in-Err.is
@@ -19,7 +19,7 @@ returns-in-Err-clause-refused c =
     let found = c.find_crowded-crowded.result in
     let first = begun_over c.args.table in
     let k = subst (λ (ts : List Turn). IsConversed first c.args.moment ts c.in_ok-found.found) c.front-asked.ensures c.in_ok-found.ensures in
-    subst (IsRefusedFor c.args.turns.now) (sym c.of_client.ensures)
+    subst (IsRefusedFor c.args.turns.now) (sym c.from_client.ensures)
     (refused-turn first c.args.moment c.args.turns.now found c.in_ok-found.found c.in-Err.fault c.find_crowded-crowded.ensures.found k c.in-Err.is)
 
 pub returns-in-Some-clause-refused : goal.returns-in-Some-clause-refused

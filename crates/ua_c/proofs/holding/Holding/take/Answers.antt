@@ -4,7 +4,7 @@ use Rattle.ua_c.proofs.holding.Holding.take.Goals as goal
 
 -- where nothing waits
 pub returns : goal.returns
-returns c = takes_machine c.args.self.now _ c.args.piece.now c.args.moment c.of_take.result c.in-Client.client c.take-answer.new.self c.take-answer.result
+returns c = takes_machine c.args.self.now _ c.args.piece.now c.args.moment c.from_take.result c.in-Client.client c.take-answer.new.self c.take-answer.result
     c.in-Client.is
     (λ some. let a = c.len.ensures in let b = c.if-len-gt0.false in omega (some, a, b, arith))
     (record {
@@ -17,4 +17,4 @@ returns c = takes_machine c.args.self.now _ c.args.piece.now c.args.moment c.of_
       same =
           c.take-answer.ensures.same;
       next = c.take-answer.ensures.next;
-    }) refl c.of_take.ensures
+    }) refl c.from_take.ensures

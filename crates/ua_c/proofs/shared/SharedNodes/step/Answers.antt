@@ -17,8 +17,8 @@ pub returns : goal.returns
 returns c =
     let by = c.step_telling-answer.ensures in
     λ others. steps_shared (record { machine = machine.Connection c.args.served.now; waiting = c.args.waiting.now }) _
-    (record { machine = machine.Nodes c.args.self.now; waiting = others }) _ c.args.piece.now c.args.moment c.of_stored.result
-    c.args.served.now (record { connection = c.step_telling-answer.new.self; written = c.of_stored.new.left }) c.args.self.now
+    (record { machine = machine.Nodes c.args.self.now; waiting = others }) _ c.args.piece.now c.args.moment c.from_stored.result
+    c.args.served.now (record { connection = c.step_telling-answer.new.self; written = c.from_stored.new.left }) c.args.self.now
     (record { services = c.step_telling-answer.new.services }) c.step_telling-answer.result c.step_telling-answer.new.written refl refl
     (λ some. let a = c.len.ensures in let b = c.if-len-gt0.false in omega (some, a, b, arith))
     (record {
@@ -39,4 +39,4 @@ returns c =
           by.limits;
       channel = by.channel;
     })
-    refl refl c.of_stored.ensures.shows c.of_stored.ensures.stored
+    refl refl c.from_stored.ensures.shows c.from_stored.ensures.stored

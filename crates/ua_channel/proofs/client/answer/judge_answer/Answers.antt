@@ -6,7 +6,7 @@ use Rattle.ua_channel.proofs.Openings.{has_headers}
 use Rattle.ua_channel.proofs.client.answer.judge_answer.Goals as goal
 
 pub returns-in-Err : goal.returns-in-Err
-returns-in-Err c = judges_headers c.args.frame.body c.in-Err.fault c.of_open.result c.in-Err.ensures.faults c.of_open.ensures
+returns-in-Err c = judges_headers c.args.frame.body c.in-Err.fault c.from_open.result c.in-Err.ensures.faults c.from_open.ensures
 
 pub returns-in-Ok-judge_body : goal.returns-in-Ok-judge_body
 returns-in-Ok-judge_body c =

@@ -19,12 +19,12 @@ returns-in-Ok-default-Some-clause-steps g c =
 pub returns-in-Err-clause-steps : goal.returns-in-Err-clause-steps
 returns-in-Err-clause-steps g c =
     step_fault g.R.EndRules.side c.args.self.now c.fail.new.self c.take.new.self c.args.piece.now c.min.result c.least.result c.in-Err.fault
-    c.of_frame-fault.result (least_small c.of_frame-fault.result c.least.result c.least.ensures)
+    c.from_frame-fault.result (least_small c.from_frame-fault.result c.least.result c.least.ensures)
     (c.min.ensures
     ∙ ap (λ (k : ℕ). min k (length c.args.piece.now)) (c.max-size.ensures
     ∙ ap (λ (k : ℕ). max k c.least.result) (c.saturating_sub.ensures ∙ ap (λ (k : ℕ). 8 - k) c.held-held.ensures.count))) c.in-Err.ensures.takes
-    c.of_frame-fault.ensures c.fail.ensures.done c.fail.ensures.kept
+    c.from_frame-fault.ensures c.fail.ensures.done c.fail.ensures.kept
 
 pub returns-in-Err-clause-moves : goal.returns-in-Err-clause-moves
 returns-in-Err-clause-moves g c = moves_failed (Option g.row.R-Event.Denot) c.args.piece.now c.min.result c.saturating_sub.result c.least.result
-    c.of_frame-fault.result c.least.ensures (c.min.ensures ∙ ap (λ (k : ℕ). min k (length c.args.piece.now)) c.max-size.ensures)
+    c.from_frame-fault.result c.least.ensures (c.min.ensures ∙ ap (λ (k : ℕ). min k (length c.args.piece.now)) c.max-size.ensures)

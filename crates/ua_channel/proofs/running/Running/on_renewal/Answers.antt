@@ -15,7 +15,7 @@ pub returns-in-Err : goal.returns-in-Err
 returns-in-Err c = λ limits before s.
     let f = c.in-Err.ensures.follows before.messages s.assembles in
     refuses_renewal limits c.args.self.now before c.args.channel c.args.frame.body c.in_ok-opened.opened s c.in_ok-opened.ensures c.in-Err.fault
-    c.of_chunk.result f.0 f.1 c.of_chunk.ensures
+    c.from_chunk.result f.0 f.1 c.from_chunk.ensures
 
 pub returns-then-self : goal.returns-then-self
 returns-then-self c = λ limits before s.

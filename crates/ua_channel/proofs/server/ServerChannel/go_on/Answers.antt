@@ -37,9 +37,9 @@ returns-in-Ok-Some-clause-parts c = λ octets told g.
 pub returns-in-Err-clause-answers : goal.returns-in-Err-clause-answers
 returns-in-Err-clause-answers c = λ octets told g.
     answers_fault (channel_of c.args.self.now) (next_of c.args.self.now) c.args.moment c.args.piece.now c.next_event-size.result.size c.in-Err.fault
-    c.of_end.result (of_end c.next_event-size.new.self) octets told
+    c.from_end.result (of_end c.next_event-size.new.self) octets told
     (nexts_as server_side c.args.self.now.end c.next_event-size.new.self c.args.piece.now c.next_event-size.result.size c.next_event-size.result.outcome
-    (Err c.in-Err.fault) c.next_event-size.ensures.nexts c.in-Err.is tt octets told g) c.of_end.ensures
+    (Err c.in-Err.fault) c.next_event-size.ensures.nexts c.in-Err.is tt octets told g) c.from_end.ensures
 
 pub returns-in-Ok-Some-clause-starves : goal.returns-in-Ok-Some-clause-starves
 returns-in-Ok-Some-clause-starves c = λ octets told g failed.
@@ -55,6 +55,6 @@ returns-in-Ok-Some-clause-starves c = λ octets told g failed.
 
 pub returns-in-Err-clause-starves : goal.returns-in-Err-clause-starves
 returns-in-Err-clause-starves c = λ octets told g failed.
-    starved_fault c.args.piece.now c.next_event-size.result.size c.in-Err.fault c.of_end.result (of_end c.next_event-size.new.self) octets told
+    starved_fault c.args.piece.now c.next_event-size.result.size c.in-Err.fault c.from_end.result (of_end c.next_event-size.new.self) octets told
     (nexts_as server_side c.args.self.now.end c.next_event-size.new.self c.args.piece.now c.next_event-size.result.size c.next_event-size.result.outcome
-    (Err c.in-Err.fault) c.next_event-size.ensures.nexts c.in-Err.is tt octets told g) c.of_end.ensures failed
+    (Err c.in-Err.fault) c.next_event-size.ensures.nexts c.in-Err.is tt octets told g) c.from_end.ensures failed

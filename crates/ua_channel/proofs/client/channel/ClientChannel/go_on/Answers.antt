@@ -40,7 +40,7 @@ returns-in-Ok-Some-clause-starves c = λ asks octets told g failed.
 pub returns-in-Err-clause-answers : goal.returns-in-Err-clause-answers
 returns-in-Err-clause-answers c = λ asks octets told g.
     subst (λ (r : Result ClientEvent ClientTakeFault). ClientAnswers c.args.moment c.args.piece.now (counted c.next_event-size.result.size r)
-    (with_end c.args.self.now c.next_event-size.new.self) asks octets told) (sym c.of_fault.ensures)
+    (with_end c.args.self.now c.next_event-size.new.self) asks octets told) (sym c.from_fault.ensures)
     (answers_fault c.args.moment c.args.piece.now c.next_event-size.result.size c.in-Err.fault (with_end c.args.self.now c.next_event-size.new.self) asks octets
     told
     (nexts_as client_side c.args.self.now.end c.next_event-size.new.self c.args.piece.now c.next_event-size.result.size c.next_event-size.result.outcome
@@ -50,4 +50,4 @@ pub returns-in-Err-clause-starves : goal.returns-in-Err-clause-starves
 returns-in-Err-clause-starves c = λ asks octets told g failed.
     starved_fault c.args.piece.now c.next_event-size.result.size c.in-Err.fault (with_end c.args.self.now c.next_event-size.new.self) asks octets told
     (nexts_as client_side c.args.self.now.end c.next_event-size.new.self c.args.piece.now c.next_event-size.result.size c.next_event-size.result.outcome
-    (Err c.in-Err.fault) c.next_event-size.ensures.nexts c.in-Err.is asks octets told g) (sym c.of_fault.ensures ∙ failed)
+    (Err c.in-Err.fault) c.next_event-size.ensures.nexts c.in-Err.is asks octets told g) (sym c.from_fault.ensures ∙ failed)

@@ -22,6 +22,6 @@ returns-in-Ok c = λ cs s. (
 
 pub returns-in-Err : goal.returns-in-Err
 returns-in-Err c = λ cs s.
-    subst (λ (x : EndFault). IsStopFor (refused_reasons c.args.self.now cs c.args.chunk) x) (sym c.of_chunk.ensures)
+    subst (λ (x : EndFault). IsStopFor (refused_reasons c.args.self.now cs c.args.chunk) x) (sym c.from_chunk.ensures)
     (refuses (reasons (octet_limit c.args.self.now.assembler) (chunk_limit c.args.self.now.assembler) (last_number c.args.self.now.assembler) cs c.args.chunk)
     c.in-Err.fault (c.in-Err.ensures.faults cs s))
